@@ -1,0 +1,18 @@
+-- The values of a name among field lines (RFC 9110 section 5.2).
+use Rattle.std.specs.Prelude.{ℕ, Bool, not, List, [], ◌∷◌, filter, if◌then◌else◌}
+use Rattle.std.specs.List.{list_any}
+use Rattle.std.specs.Str.{bytes_eq}
+use Rattle.hc_fields.specs.declared.fields.Field.{Field}
+
+-- the values of the lines of that name, in order
+abbrev pub values_of : List ℕ → List Field → List (List ℕ)
+values_of name [] = []
+values_of name (f ∷ fs) = if bytes_eq f.name name then f.value ∷ values_of name fs else values_of name fs
+
+-- whether a line has that name
+abbrev pub has_name : List ℕ → List Field → Bool
+has_name name fields = list_any (λ f. bytes_eq f.name name) fields
+
+-- the lines of other names, in order
+abbrev pub without : List ℕ → List Field → List Field
+without name fields = filter (λ f. not (bytes_eq f.name name)) fields

@@ -1,0 +1,130 @@
+ghost use Rattle.std.specs.Prelude.{◌≡◌, ◌==◌, ◌++◌, List, [], ◌∷◌, length, OnOk, OnErr};
+ghost use Rattle.std.specs.Iterator.{YieldsFirstRef, item_count};
+ghost use Rattle.hc_fields.specs.Values.{without};
+
+use crate::octets::Octets;
+use std::alloc::{AllocError, Global};
+use std::marker::Model;
+
+/// A field line (RFC 9110 section 5): its name, in lower case, and its value without the white
+/// space around it.
+#[derive(Debug, Drop)]
+pub struct Field {
+    pub name: Octets,
+    pub value: Octets,
+}
+
+/// Field lines in order, which contracts see as the list of them.
+#[derive(Debug, Drop)]
+pub struct Fields {
+    lines: Vec<Field>,
+}
+
+impl Model for Fields {
+    ghost use Rattle.std.specs.Prelude.{List};
+    ghost use Rattle.hc_fields.specs.declared.fields.Field.{Field};
+
+    ghost Value = { List Field };
+
+    ghost view = { λ f. f.lines.items };
+}
+
+fn remove_from(lines: &mut Vec<Field>, name: &[u8])
+    ensures { lines.new.items ≡ without name.now lines.old.items }
+{
+    lines.retain(|line| line.name.as_slice() != name)
+}
+
+impl Fields {
+    ghost use Rattle.hc_fields.specs.Values.{values_of, has_name};
+
+    /// No lines, which take no memory.
+    pub fn new(alloc: Global) -> Self
+        ensures { result ≡ [] }
+    {
+        Fields {
+            lines: Vec::new(alloc),
+        }
+    }
+
+    /// The lines in order.
+    pub fn lines(&self) -> &[Field]
+        ensures { result.now ≡ self.now }
+    {
+        self.lines.as_slice()
+    }
+
+    /// How many lines there are.
+    pub fn len(&self) -> usize
+        ensures { result ≡ length self.now }
+    {
+        self.lines.len()
+    }
+
+    /// Whether there is no line.
+    pub fn is_empty(&self) -> bool
+        ensures { result ≡ (length self.now == 0) }
+    {
+        self.lines.is_empty()
+    }
+
+    /// Adds a line at the end.
+    pub fn push(&mut self, field: Field) -> Result<(), AllocError>
+        ensures ok { OnOk result (self.new ≡ self.old ++ field ∷ []) }
+        ensures err { OnErr result (self.new ≡ self.old) }
+    {
+        self.lines.push(field)?;
+        Ok(())
+    }
+
+    /// Removes the lines of that name.
+    pub fn remove(&mut self, name: &[u8])
+        ensures { self.new ≡ without name.now self.old }
+    {
+        remove_from(&mut self.lines, name)
+    }
+
+    /// Whether there is a line of that name.
+    pub fn contains(&self, name: &[u8]) -> bool
+        ensures { result ≡ has_name name.now self.now }
+    {
+        self.lines.iter().any(|line| line.name.as_slice() == name)
+    }
+
+    /// The values of the lines of that name, in order. The name is one in lower case.
+    pub fn values<'a>(&'a self, name: &'a [u8]) -> Values<'a>
+        ensures { values_of result.name.now result.lines.now ≡ values_of name.now self.now }
+    {
+        Values {
+            name,
+            lines: self.lines.as_slice(),
+        }
+    }
+}
+
+/// An iterator over the values of a name.
+#[derive(Debug, Drop)]
+pub struct Values<'a> {
+    name: &'a [u8],
+    lines: &'a [Field],
+}
+
+impl<'a> Iterator for Values<'a> {
+    ghost use Rattle.hc_fields.specs.Values.{values_of};
+
+    type Item = &'a [u8];
+
+    ghost next_gives = { YieldsFirstRef (λ s. values_of s.name.now s.lines.now) };
+
+    ghost remaining = { item_count (λ s. values_of s.name.now s.lines.now) };
+
+    fn next(&mut self) -> Option<&'a [u8]> {
+        while let Some((first, rest)) = self.lines.split_first() {
+            self.lines = rest;
+            if first.name.as_slice() == self.name {
+                return Some(first.value.as_slice());
+            }
+        }
+        None
+    }
+}

@@ -1,0 +1,13 @@
+//! Octets, the field lines of a message, and the numbers in them.
+#![tactic(auto)]
+
+mod fields;
+mod numbers;
+mod octets;
+
+pub use fields::{Field, Fields, Values};
+pub use numbers::{decimal, number};
+pub use octets::Octets;
+
+#[cfg(test)]
+mod tests;

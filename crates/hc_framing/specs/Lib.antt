@@ -1,0 +1,4 @@
+pub mod Names
+pub mod Lengths
+pub mod Messages
+pub mod Faults

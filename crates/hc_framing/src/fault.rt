@@ -1,0 +1,92 @@
+//! Why a message could not be read.
+
+ghost use Rattle.std.specs.Prelude.{◌≡◌};
+ghost use Rattle.hc_framing.specs.declared.fault.FrameFault.TheVariants.{Memory};
+
+use hc_head::HeadFault;
+use std::alloc::AllocError;
+use thiserror::Error;
+
+/// What is wrong with a message.
+#[derive(Clone, Copy, Debug, PartialEq, Eq, Error)]
+pub enum FrameFault {
+    /// The head can't be read. It never bears `Memory`.
+    #[error("{0}")]
+    Head(HeadFault),
+    /// Transfer-Encoding and Content-Length are both there.
+    #[error("the message has both Transfer-Encoding and Content-Length")]
+    BothLengths,
+    /// Content-Length is no length, or octets follow the message.
+    #[error("the length of the body is wrong")]
+    BadLength,
+    /// The transfer coding isn't known.
+    #[error("the transfer coding is not known")]
+    BadCoding,
+    /// A chunked body breaks the syntax.
+    #[error("a chunk breaks the syntax of messages")]
+    BadChunk,
+    /// The body is longer than a message may have.
+    #[error("the body is too long")]
+    BodyTooLong,
+    /// The octets end before the message.
+    #[error("the message is cut off")]
+    Truncated,
+    /// Memory was refused.
+    #[error("out of memory")]
+    Memory,
+    /// A fault was answered before.
+    #[error("a fault was met before")]
+    Failed,
+    /// The body is framed in a way that isn't read yet.
+    #[error("the framing is not supported")]
+    Unsupported,
+}
+
+impl FrameFault {
+    ghost use Rattle.std.specs.Prelude.{◌≡◌};
+    ghost use Rattle.hc_framing.specs.Names.{fault_number, fault_name};
+
+    /// The number that stands for the fault in reports.
+    pub fn number(&self) -> u32
+        ensures { result ≡ fault_number self.now }
+    {
+        match self {
+            FrameFault::Head(_) => 1,
+            FrameFault::BothLengths => 2,
+            FrameFault::BadLength => 3,
+            FrameFault::BadCoding => 4,
+            FrameFault::BadChunk => 5,
+            FrameFault::BodyTooLong => 6,
+            FrameFault::Truncated => 7,
+            FrameFault::Memory => 8,
+            FrameFault::Failed => 9,
+            FrameFault::Unsupported => 10,
+        }
+    }
+
+    /// The name that stands for the fault in reports.
+    pub fn name(&self) -> &'static str
+        ensures { result.now ≡ fault_name self.now }
+    {
+        match self {
+            FrameFault::Head(_) => "Head",
+            FrameFault::BothLengths => "BothLengths",
+            FrameFault::BadLength => "BadLength",
+            FrameFault::BadCoding => "BadCoding",
+            FrameFault::BadChunk => "BadChunk",
+            FrameFault::BodyTooLong => "BodyTooLong",
+            FrameFault::Truncated => "Truncated",
+            FrameFault::Memory => "Memory",
+            FrameFault::Failed => "Failed",
+            FrameFault::Unsupported => "Unsupported",
+        }
+    }
+}
+
+impl From<AllocError> for FrameFault {
+    ghost from_gives = { λ _ e. e ≡ Memory };
+
+    fn from(_e: AllocError) -> FrameFault {
+        FrameFault::Memory
+    }
+}

@@ -1,0 +1,3 @@
+pub mod ReadingLemmas
+pub mod RequestLemmas
+pub mod ResponseLemmas

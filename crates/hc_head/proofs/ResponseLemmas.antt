@@ -1,0 +1,106 @@
+-- The head of a response is read in one way, whatever follows it.
+use Rattle.std.proofs.Common.{◌≡◌, ℕ, ◌+◌, ◌-◌, ◌≤◌, ◌<◌, List, [], ◌++◌, length, take, drop, map, sym, ap, subst, ◌∙◌, arith, length-append, length-take}
+use Rattle.std.proofs.lemmas.List.{take-append-drop, length-map}
+use Rattle.std.proofs.Math.Seq.{take-append-add}
+use Rattle.httparse.specs.declared.spans.HeaderSpan.{HeaderSpan}
+use Rattle.httparse.specs.declared.spans.ResponseSpans.{ResponseSpans}
+use Rattle.httparse.specs.Grammar
+use Rattle.httparse.specs.Grammar.{ResponseHead as SyntaxTree, ReadsResponse, print_response, print_version, print_reason, print_end, print_section, print_blank, status_code}
+use Rattle.httparse.specs.Spans.{header_bytes, name_and_value, IsResponseAt, IsResponseOf, IsResponseWithin, ResponseOverflows}
+use Rattle.httparse.proofs.GrammarLemmas.{print_response-append, ReadsResponse-append, response_prefix_free}
+use Rattle.hc_head.specs.declared.head.ResponseHead.{ResponseHead}
+use Rattle.hc_head.specs.declared.head.Room.{Room}
+use Rattle.hc_head.specs.Heads.{field_at, field_of, version_of, response_head_of, response_field_count, BeginsResponseHead}
+use Rattle.hc_head.specs.Reading.{IsWholeHead, HasNoHead, NeverHasHead, HasManyFields}
+use Rattle.hc_head.proofs.ReadingLemmas.{fields_same}
+
+-- ---- from the spans to the head
+
+pub head_same : (octets : List ℕ) (spans : List HeaderSpan) (found : ResponseSpans) (syntax : SyntaxTree) (head : ResponseHead)
+    → IsResponseAt octets spans found syntax
+    → head.status ≡ found.code
+    → head.version ≡ version_of found.version → head.fields ≡ map (field_at octets) (take found.headers spans)
+    → head ≡ response_head_of syntax
+head_same octets spans found syntax head at status version fields =
+    let status-is = status ∙ at.code in
+    let version-is = version ∙ ap version_of at.version in
+    let fields-is = fields ∙ fields_same octets (take found.headers spans) syntax.fields at.fields in
+    λ i. record { status = status-is i; version = version-is i; fields = fields-is i }
+
+-- ---- laws of the relation
+
+pub begins-append : (octets more : List ℕ) (h : ResponseHead) (n : ℕ) → BeginsResponseHead octets h n → BeginsResponseHead (octets ++ more) h n
+begins-append octets more h n p = record {
+  syntax = p.syntax;
+  rest = p.rest ++ more;
+  reads = ReadsResponse-append octets p.syntax p.rest more p.reads;
+  len_is = p.len_is;
+  head_is = p.head_is;
+  has_status = p.has_status;
+}
+
+pub begins_within : (octets : List ℕ) (h : ResponseHead) (n : ℕ) → BeginsResponseHead octets h n → n ≤ length octets
+begins_within octets h n p = omega (arith, p.len_is, ap length p.reads.1, length-append (print_response p.syntax) p.rest)
+
+pub begins_some : (octets : List ℕ) (h : ResponseHead) (n : ℕ) → BeginsResponseHead octets h n → 0 < n
+begins_some octets h n p =
+    omega (arith, p.len_is, ap length (print_response-append p.syntax []), length-append {A = ℕ}, p.reads.0.digits.0)
+
+pub begins-take : (octets : List ℕ) (m : ℕ) (h : ResponseHead) (n : ℕ) → n ≤ m → BeginsResponseHead octets h n → BeginsResponseHead (take m octets) h n
+begins-take octets m h n le p =
+    let printed = print_response p.syntax in
+    let enough : m ≡ length printed + (m - n) = omega (arith, p.len_is) in
+    let front : take m octets ≡ printed ++ take (m - n) p.rest =
+    ap (take m) p.reads.1 ∙ ap (λ (k : ℕ). take k (printed ++ p.rest)) enough ∙ take-append-add printed p.rest (m - n) in
+    record { syntax = p.syntax; rest = take (m - n) p.rest; reads = (p.reads.0, front); len_is = p.len_is; head_is = p.head_is; has_status = p.has_status }
+
+pub begins_from_take : (octets : List ℕ) (m : ℕ) (h : ResponseHead) (n : ℕ) → BeginsResponseHead (take m octets) h n → BeginsResponseHead octets h n
+begins_from_take octets m h n p =
+    subst (λ (o : List ℕ). BeginsResponseHead o h n) (take-append-drop m octets) (begins-append (take m octets) (drop m octets) h n p)
+
+-- ---- where the answers of a reader stand
+
+pub whole_head : (octets front : List ℕ) (room : Room) (spans : List HeaderSpan) (found : ResponseSpans) (head : ResponseHead)
+    → front ≡ take room.octets octets → length spans ≡ room.fields → IsResponseWithin front spans found → IsResponseOf front spans found
+    → ((syntax : SyntaxTree) → IsResponseAt front spans found syntax → head ≡ response_head_of syntax)
+    → 100 ≤ head.status
+    → IsWholeHead BeginsResponseHead response_field_count octets room head found.len
+whole_head octets front room spans found head front-is full within of head-is has-status =
+    let syntax = of.0 in
+    let at = of.1 in
+    let same = head-is syntax at in
+    let begins : BeginsResponseHead front head found.len = record { syntax = syntax; rest = drop found.len front; reads = at.reads; len_is = at.len; head_is = same; has_status = has-status } in
+    let begins' = subst (λ (o : List ℕ). BeginsResponseHead o head found.len) front-is begins in
+    record {
+      begins = begins_from_take octets room.octets head found.len begins';
+      octets_fit = omega (arith, within.section.len_fits, ap length front-is, length-take room.octets octets);
+      fields_fit =
+          omega (arith, ap response_field_count same, length-map syntax.fields field_of, ap length at.fields, length-map (take found.headers spans) (header_bytes front), length-map syntax.fields name_and_value, length-take found.headers spans);
+    }
+
+-- no head in the grammar, so none at all
+no_head : (octets : List ℕ) → Grammar.HasNoResponse octets → (head : ResponseHead) (len : ℕ) → ¬ (BeginsResponseHead octets head len)
+no_head octets none head len begins = none begins.syntax begins.rest begins.reads
+
+pub no_head_in_room : (octets front : List ℕ) (room : Room) → front ≡ take room.octets octets → Grammar.HasNoResponse front
+    → HasNoHead BeginsResponseHead response_field_count octets room
+no_head_in_room octets front room front-is none head len le begins =
+    no_head front none head len
+    (subst (λ (o : List ℕ). BeginsResponseHead o head len) (sym front-is) (begins-take octets room.octets head len le begins))
+
+pub many_fields : (octets front : List ℕ) (room : Room) (limit : ℕ) → front ≡ take room.octets octets → limit ≡ room.fields → ResponseOverflows limit front
+    → HasManyFields BeginsResponseHead response_field_count octets room
+many_fields octets front room limit front-is limit-is over head len begins =
+    let whole : front ++ drop room.octets octets ≡ octets = ap (λ (o : List ℕ). o ++ drop room.octets octets) front-is ∙ take-append-drop room.octets octets in
+    let more = over (drop room.octets octets) begins.syntax begins.rest (subst (λ (o : List ℕ). ReadsResponse o begins.syntax begins.rest) (sym whole) begins.reads) in
+    omega (arith, more, ap response_field_count begins.head_is, length-map begins.syntax.fields field_of, limit-is)
+
+-- a status under 100 makes no head, whatever follows
+pub no_status : (octets front : List ℕ) (room : Room) (spans : List HeaderSpan) (found : ResponseSpans)
+    → front ≡ take room.octets octets → IsResponseOf front spans found → found.code < 100
+    → NeverHasHead BeginsResponseHead response_field_count octets room
+no_status octets front room spans found front-is of low more head len begins =
+    let at = of.1 in
+    let begins' = subst (λ (o : List ℕ). BeginsResponseHead (o ++ more) head len) (sym front-is) begins in
+    let same = response_prefix_free front more of.0 begins'.syntax (drop found.len front) begins'.rest at.reads begins'.reads in
+    absurd (omega (arith, low, at.code, ap status_code same.0, ap (λ (h : ResponseHead). h.status) begins'.head_is, begins'.has_status))

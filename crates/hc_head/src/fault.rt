@@ -1,0 +1,79 @@
+//! Why a head could not be read.
+
+ghost use Rattle.std.specs.Prelude.{◌≡◌};
+ghost use Rattle.hc_head.specs.declared.fault.HeadFault.TheVariants.{Memory};
+
+use std::alloc::{AllocError, AllocFailed};
+use thiserror::Error;
+
+/// What is wrong with a head.
+#[derive(Clone, Copy, Debug, PartialEq, Eq, Error)]
+pub enum HeadFault {
+    /// No octets that follow make a head.
+    #[error("the head breaks the syntax of messages")]
+    Syntax,
+    /// The head has more fields than the room.
+    #[error("the head has too many fields")]
+    TooManyFields,
+    /// No head is whole within the octets of the room.
+    #[error("the head is too long")]
+    TooLong,
+    /// There is not exactly one valid Host line (RFC 9112 section 3.2).
+    #[error("there is not exactly one valid Host line")]
+    Host,
+    /// The target is none of this origin (RFC 9112 section 3.3).
+    #[error("the target is none of this origin")]
+    Target,
+    /// Memory was refused.
+    #[error("out of memory")]
+    Memory,
+}
+
+impl HeadFault {
+    ghost use Rattle.std.specs.Prelude.{◌≡◌, codes};
+    ghost use Rattle.hc_head.specs.Faults.{fault_number, fault_name};
+
+    /// The number that stands for the fault in reports.
+    pub fn number(&self) -> u32
+        ensures { result ≡ fault_number self.now }
+    {
+        match self {
+            HeadFault::Syntax => 1,
+            HeadFault::TooManyFields => 2,
+            HeadFault::TooLong => 3,
+            HeadFault::Host => 4,
+            HeadFault::Target => 5,
+            HeadFault::Memory => 6,
+        }
+    }
+
+    /// The name that stands for the fault in reports.
+    pub fn name(&self) -> &'static str
+        ensures { result.now ≡ fault_name self.now }
+    {
+        match self {
+            HeadFault::Syntax => "Syntax",
+            HeadFault::TooManyFields => "TooManyFields",
+            HeadFault::TooLong => "TooLong",
+            HeadFault::Host => "Host",
+            HeadFault::Target => "Target",
+            HeadFault::Memory => "Memory",
+        }
+    }
+}
+
+impl From<AllocError> for HeadFault {
+    ghost from_gives = { λ _ e. e ≡ Memory };
+
+    fn from(_e: AllocError) -> HeadFault {
+        HeadFault::Memory
+    }
+}
+
+impl<T: Drop> From<AllocFailed<T>> for HeadFault {
+    ghost from_gives = { λ _ e. e ≡ Memory };
+
+    fn from(_e: AllocFailed<T>) -> HeadFault {
+        HeadFault::Memory
+    }
+}

@@ -1,0 +1,87 @@
+//! Heads of requests.
+
+ghost use Rattle.std.specs.Prelude.{◌≡◌, ℕ, List, ◌++◌, length, take, IfOk};
+ghost use Rattle.httparse.specs.Grammar.{RequestHead as Syntax, MayBecomeRequest};
+ghost use Rattle.httparse.specs.Spans.{IsRequestWithin, IsRequestAt, RequestExceeds};
+ghost use Rattle.hc_head.specs.declared.head.RequestHead.{RequestHead};
+ghost use Rattle.hc_head.specs.Heads.{BeginsRequestHead, request_field_count, request_head_of};
+ghost use Rattle.hc_head.specs.Reading.{IsWholeHead, GivesHead, FindsHead, OnUnfinished, OnTooManyFields};
+
+use crate::fault::HeadFault;
+use crate::head::{RequestHead, Room, Step};
+use crate::parts::{fields_at, front_of, version_of};
+use hc_fields::Octets;
+use httparse::spans::{EMPTY_HEADER_SPAN, HeaderSpan, RequestSpans, parse_request};
+use httparse::{Error, Status};
+use std::alloc::{AllocError, Global};
+
+/// The head that the spans cover.
+fn head_at(
+    alloc: Global,
+    bytes: &[u8],
+    found: RequestSpans,
+    spans: &[HeaderSpan],
+) -> Result<RequestHead, AllocError>
+    requires { IsRequestWithin bytes.now spans.now found }
+    ensures { (syntax : Syntax) → IsRequestAt bytes.now spans.now found syntax
+        → IfOk result (λ head. head ≡ request_head_of syntax) }
+{
+    Ok(RequestHead {
+        method: Octets::from_slice(alloc, found.method.of(bytes))?,
+        target: Octets::from_slice(alloc, found.path.of(bytes))?,
+        version: version_of(found.version),
+        fields: fields_at(alloc, bytes, &spans[..found.headers])?,
+    })
+}
+
+fn read_into(
+    alloc: Global,
+    bytes: &[u8],
+    room: Room,
+    spans: &mut [HeaderSpan],
+) -> Result<Step<RequestHead>, HeadFault>
+    requires { length spans.old ≡ room.fields }
+    ensures gives { GivesHead BeginsRequestHead request_field_count result bytes.now room }
+    ensures unfinished { OnUnfinished result (MayBecomeRequest (take room.octets bytes.now)) }
+    ensures too_many { OnTooManyFields result (RequestExceeds room.fields (take room.octets bytes.now)) }
+{
+    let front = front_of(bytes, room.octets);
+    match parse_request(front, spans) {
+        Ok(Status::Complete(found)) => {
+            let head = head_at(alloc, front, found, spans)?;
+            Ok(Step::Whole(head, found.len))
+        }
+        Ok(Status::Partial) => {
+            if bytes.len() < room.octets {
+                Ok(Step::More)
+            } else {
+                Err(HeadFault::TooLong)
+            }
+        }
+        Err(Error::TooManyHeaders) => Err(HeadFault::TooManyFields),
+        Err(_) => Err(HeadFault::Syntax),
+    }
+}
+
+/// Reads the head of a request that begins the octets, of which no more than the room are looked at.
+pub fn read_request(alloc: Global, bytes: &[u8], room: Room) -> Result<Step<RequestHead>, HeadFault>
+    // Each answer stands only where it says so.
+    ensures gives { GivesHead BeginsRequestHead request_field_count result bytes.now room }
+    // A whole head is found, unless memory runs out.
+    ensures found { (head : RequestHead) (len : ℕ)
+        → IsWholeHead BeginsRequestHead request_field_count bytes.now room head len → FindsHead result head len }
+    // More octets are wanted only where they can make a head, or where a target is being read.
+    ensures unfinished { OnUnfinished result (MayBecomeRequest (take room.octets bytes.now)) }
+    // Too many fields are told only behind a start line and more fields than the room, each of them valid.
+    ensures too_many { OnTooManyFields result (RequestExceeds room.fields (take room.octets bytes.now)) }
+{
+    let mut spans = vec![in alloc; EMPTY_HEADER_SPAN; room.fields]?;
+    read_into(alloc, bytes, room, &mut spans)
+}
+
+/// Octets begin with one head of a request at most, and what follows doesn't change it.
+pub fn one_request_head()
+    ensures { (octets more : List ℕ) (head other : RequestHead) (m n : ℕ)
+        → BeginsRequestHead octets head m → BeginsRequestHead (octets ++ more) other n
+        → (head ≡ other) × (m ≡ n) }
+{}

@@ -1,0 +1,96 @@
+//! Heads of responses.
+
+ghost use Rattle.std.specs.Prelude.{◌≡◌, ℕ, List, ◌++◌, length, take, IfOk};
+ghost use Rattle.httparse.specs.Grammar.{ResponseHead as Syntax, MayBecomeResponse};
+ghost use Rattle.httparse.specs.Spans.{IsResponseWithin, IsResponseAt, ResponseExceeds};
+ghost use Rattle.hc_head.specs.declared.head.ResponseHead.{ResponseHead};
+ghost use Rattle.hc_head.specs.Heads.{BeginsResponseHead, response_field_count, response_head_of};
+ghost use Rattle.hc_head.specs.Reading.{IsWholeHead, GivesHead, FindsHead, OnUnfinished, OnTooManyFields};
+
+use crate::fault::HeadFault;
+use crate::head::{ResponseHead, Room, Step};
+use crate::parts::{fields_at, front_of, version_of};
+use httparse::spans::{EMPTY_HEADER_SPAN, HeaderSpan, ResponseSpans, parse_response};
+use httparse::{Error, Status};
+use std::alloc::{AllocError, Global};
+
+/// The least status of a response (RFC 9110 section 15).
+const LEAST_STATUS: u16 = 100;
+
+/// The head that the spans cover.
+fn head_at(
+    alloc: Global,
+    bytes: &[u8],
+    found: ResponseSpans,
+    spans: &[HeaderSpan],
+) -> Result<ResponseHead, AllocError>
+    requires { IsResponseWithin bytes.now spans.now found }
+    ensures status { IfOk result (λ head. head.status ≡ found.code) }
+    ensures head { (syntax : Syntax) → IsResponseAt bytes.now spans.now found syntax
+        → IfOk result (λ head. head ≡ response_head_of syntax) }
+{
+    Ok(ResponseHead {
+        status: found.code,
+        version: version_of(found.version),
+        fields: fields_at(alloc, bytes, &spans[..found.headers])?,
+    })
+}
+
+fn read_into(
+    alloc: Global,
+    bytes: &[u8],
+    room: Room,
+    spans: &mut [HeaderSpan],
+) -> Result<Step<ResponseHead>, HeadFault>
+    requires { length spans.old ≡ room.fields }
+    ensures gives { GivesHead BeginsResponseHead response_field_count result bytes.now room }
+    ensures unfinished { OnUnfinished result (MayBecomeResponse (take room.octets bytes.now)) }
+    ensures too_many { OnTooManyFields result (ResponseExceeds room.fields (take room.octets bytes.now)) }
+{
+    let front = front_of(bytes, room.octets);
+    match parse_response(front, spans) {
+        Ok(Status::Complete(found)) => {
+            if found.code < LEAST_STATUS {
+                return Err(HeadFault::Syntax);
+            }
+            let head = head_at(alloc, front, found, spans)?;
+            Ok(Step::Whole(head, found.len))
+        }
+        Ok(Status::Partial) => {
+            if bytes.len() < room.octets {
+                Ok(Step::More)
+            } else {
+                Err(HeadFault::TooLong)
+            }
+        }
+        Err(Error::TooManyHeaders) => Err(HeadFault::TooManyFields),
+        Err(_) => Err(HeadFault::Syntax),
+    }
+}
+
+/// Reads the head of a response that begins the octets, of which no more than the room are looked at.
+pub fn read_response(
+    alloc: Global,
+    bytes: &[u8],
+    room: Room,
+) -> Result<Step<ResponseHead>, HeadFault>
+    // Each answer stands only where it says so.
+    ensures gives { GivesHead BeginsResponseHead response_field_count result bytes.now room }
+    // A whole head is found, unless memory runs out.
+    ensures found { (head : ResponseHead) (len : ℕ)
+        → IsWholeHead BeginsResponseHead response_field_count bytes.now room head len → FindsHead result head len }
+    // More octets are wanted only where they can make a head of some status.
+    ensures unfinished { OnUnfinished result (MayBecomeResponse (take room.octets bytes.now)) }
+    // Too many fields are told only behind a start line and more fields than the room, each of them valid.
+    ensures too_many { OnTooManyFields result (ResponseExceeds room.fields (take room.octets bytes.now)) }
+{
+    let mut spans = vec![in alloc; EMPTY_HEADER_SPAN; room.fields]?;
+    read_into(alloc, bytes, room, &mut spans)
+}
+
+/// Octets begin with one head of a response at most, and what follows doesn't change it.
+pub fn one_response_head()
+    ensures { (octets more : List ℕ) (head other : ResponseHead) (m n : ℕ)
+        → BeginsResponseHead octets head m → BeginsResponseHead (octets ++ more) other n
+        → (head ≡ other) × (m ≡ n) }
+{}

@@ -1,0 +1,130 @@
+-- What a line that passes the checks is, and what may follow.
+use Rattle.std.proofs.Common.{◌≡◌, ℕ, ◌<◌, ◌≤◌, Bool, true, false, not, cond, ◌&&◌, List, Option, Some, None, is_some, refl, sym, ap, subst, ◌∙◌, arith}
+use Rattle.std.specs.Prelude.{nat_le, nat_lt, IsSome}
+use Rattle.std.specs.Option.{option_map}
+use Rattle.std.specs.Ordering.{nat_cmp}
+use Rattle.std.specs.BTreeMap.{get}
+use Rattle.std.proofs.lemmas.Bool.Decides.{nat_tests}
+use Rattle.hc_transcript.specs.declared.fault.RecordFault.{RecordFault}
+use Rattle.hc_transcript.specs.declared.fault.RecordFault.TheVariants as fault
+use Rattle.hc_transcript.specs.declared.line.Kind.{Kind}
+use Rattle.hc_transcript.specs.declared.line.Kind.TheVariants as kind
+use Rattle.hc_transcript.specs.declared.line.Line.{Line}
+use Rattle.hc_transcript.specs.declared.open_numbers.Standing.{Standing}
+use Rattle.hc_transcript.specs.Items.{Item}
+use Rattle.hc_transcript.specs.History.{exchange_of, forward_of}
+use Rattle.hc_transcript.specs.Checks.{has_right_length, has_right_number, answers_open, first_fault, line_fault}
+use Rattle.hc_transcript.specs.Records.{line_text}
+use Rattle.hc_transcript.specs.Lines.{IsLineText}
+use Rattle.hc_transcript.proofs.LineLaws.{line_text_written}
+use Rattle.hc_transcript.specs.Standing.{StandsAs, standing_fault, CanFollowAs, exchange_head, forward_head}
+
+-- a test that has to hold before the next
+passes : (b : Bool) (f : RecordFault) (rest : Option RecordFault) → cond (not b) (Some f) rest ≡ None → (b ≡ true) × (rest ≡ None)
+passes true f rest e = (refl, e)
+passes false f rest e = cc
+
+-- a test that must not hold before the next
+passes_not : (b : Bool) (f : RecordFault) (rest : Option RecordFault) → cond b (Some f) rest ≡ None → (b ≡ false) × (rest ≡ None)
+passes_not false f rest e = (refl, e)
+passes_not true f rest e = cc
+
+both : (a b : Bool) → (a && b) ≡ true → (a ≡ true) × (b ≡ true)
+both true b e = (refl, e)
+both false b e = cc
+
+-- what a line that passes the checks is
+pub record IsInOrder (l : Line) (moment exchange forward : ℕ) (has_exchange has_forward : Bool) : Type 0 where
+  pub moment_fits : l.moment ≤ 253402300799
+  pub right_length : has_right_length l.kind l.size ≡ true
+  pub size_fits : l.size ≤ 16908288
+  pub right_number : has_right_number l.kind exchange forward l.number ≡ true
+  pub is_open : answers_open l.kind has_exchange has_forward ≡ true
+
+pub in_order : (l : Line) (m e f : ℕ) (he hf : Bool) → first_fault l m e f he hf ≡ None → IsInOrder l m e f he hf
+in_order l m e f he hf none =
+    let a = passes (nat_le l.moment 253402300799 && has_right_length l.kind l.size) fault.Line _ none in
+    let b = both (nat_le l.moment 253402300799) (has_right_length l.kind l.size) a.0 in
+    let c = passes (nat_le l.size 16908288) fault.TooLong _ a.1 in
+    let d = passes_not (nat_lt l.moment m) fault.MomentBack _ c.1 in
+    let g = passes (has_right_number l.kind e f l.number) fault.Number _ d.1 in
+    let i = passes (answers_open l.kind he hf) fault.NothingOpen _ g.1 in
+    record { moment_fits = grind (arith, nat_tests, b.0); right_length = b.1; size_fits = grind (arith, nat_tests, c.0); right_number = g.0; is_open = i.0 }
+
+number_in_range : (k : Kind) (e f n : ℕ) → has_right_number k e f n ≡ true → n ≤ 999999999999
+number_in_range kind.ClientRequest e f n right = let b = both (nat_lt e n) (nat_le n 999999999999) right in grind (arith, nat_tests, b.1)
+number_in_range kind.OriginRequest e f n right = let b = both (nat_lt f n) (nat_le n 999999999999) right in grind (arith, nat_tests, b.1)
+number_in_range kind.OriginResponse e f n right = let b = both (nat_lt 0 n) (nat_le n 999999999999) right in grind (arith, nat_tests, b.1)
+number_in_range kind.OriginFailure e f n right = let b = both (nat_lt 0 n) (nat_le n 999999999999) right in grind (arith, nat_tests, b.1)
+number_in_range kind.ClientReply e f n right = let b = both (nat_lt 0 n) (nat_le n 999999999999) right in grind (arith, nat_tests, b.1)
+
+pub number_fits : (l : Line) (m e f : ℕ) (he hf : Bool) → IsInOrder l m e f he hf → l.number ≤ 999999999999
+number_fits l m e f he hf o = number_in_range l.kind e f l.number o.right_number
+
+is_there : (o : Option Bool) → is_some o ≡ true → IsSome o
+is_there (Some b) e = e
+is_there None e = cc
+
+opens : (last n : ℕ) → (nat_lt last n && nat_le n 999999999999) ≡ true → (last < n) × (n ≤ 999999999999)
+opens last n right = let b = both (nat_lt last n) (nat_le n 999999999999) right in (grind (arith, nat_tests, b.0), grind (arith, nat_tests, b.1))
+
+follows : (k : Kind) (s : Standing) (n : ℕ) → has_right_number k s.exchange s.forward n ≡ true
+    → answers_open k (is_some (get nat_cmp s.exchanges n)) (is_some (get nat_cmp s.forwards n)) ≡ true → CanFollowAs k s n
+follows kind.ClientRequest s n right is = opens s.exchange n right
+follows kind.OriginRequest s n right is = opens s.forward n right
+follows kind.OriginResponse s n right is = is_there (get nat_cmp s.forwards n) is
+follows kind.OriginFailure s n right is = is_there (get nat_cmp s.forwards n) is
+follows kind.ClientReply s n right is = is_there (get nat_cmp s.exchanges n) is
+
+-- a line that passes the checks may follow
+pub can_follow : (s : Standing) (l : Line) (k : Kind) (n : ℕ) → standing_fault s l ≡ None → k ≡ l.kind → n ≡ l.number → CanFollowAs k s n
+can_follow s l k n none k-is n-is =
+    let o = in_order l s.moment s.exchange s.forward (is_some (get nat_cmp s.exchanges l.number)) (is_some (get nat_cmp s.forwards l.number)) none in
+    subst (λ (j : Kind). CanFollowAs j s n) (sym k-is) (subst (λ (m : ℕ). CanFollowAs l.kind s m) (sym n-is) (follows l.kind s l.number o.right_number o.is_open))
+
+is_some-map : {A B : Type 0} (f : A → B) (o : Option A) → is_some (option_map f o) ≡ is_some o
+is_some-map f None = refl
+is_some-map f (Some x) = refl
+
+-- the checks by what is kept of a history are those after it
+pub standing_fault_is : (s : Standing) (h : List Item) (l : Line) → StandsAs s h → standing_fault s l ≡ line_fault h l
+standing_fault_is s h l stands =
+    let moment = stands.moment in
+    let exchange = stands.exchange in
+    let forward = stands.forward in
+    let exchanges : is_some (get nat_cmp s.exchanges l.number) ≡ is_some (exchange_of l.number h) = ap is_some (stands.exchanges l.number) ∙ is_some-map exchange_head (exchange_of l.number h) in
+    let forwards : is_some (get nat_cmp s.forwards l.number) ≡ is_some (forward_of l.number h) = ap is_some (stands.forwards l.number) ∙ is_some-map forward_head (forward_of l.number h) in
+    λ i. first_fault l (moment i) (exchange i) (forward i) (exchanges i) (forwards i)
+
+-- a line in order is written in one way
+pub written_line : (s : Standing) (text : List ℕ) (l : Line) → standing_fault s l ≡ None → IsLineText text l → text ≡ line_text l
+written_line s text l none is =
+    let o = in_order l s.moment s.exchange s.forward (is_some (get nat_cmp s.exchanges l.number)) (is_some (get nat_cmp s.forwards l.number)) none in
+    let number : l.number ≤ 999999999999 = number_fits l s.moment s.exchange s.forward _ _ o in
+    line_text_written text l is (omega arith) (omega (arith, o.moment_fits)) (omega (arith, o.size_fits))
+
+-- the checks of a line say nothing of its message
+not_some : (b : Bool) (f g : RecordFault) (rest : Option RecordFault) → (Some f ≡ Some g → ⊥) → (rest ≡ Some g → ⊥) → cond b (Some f) rest ≡ Some g → ⊥
+not_some true f g rest one other e = one e
+not_some false f g rest one other e = other e
+
+none_is_some : (g : RecordFault) → None ≡ Some g → ⊥
+none_is_some g e = cc
+
+abbrev Differs : RecordFault → Type 0
+Differs g =
+    (Some fault.Line ≡ Some g → ⊥) × (Some fault.TooLong ≡ Some g → ⊥) × (Some fault.MomentBack ≡ Some g → ⊥) × (Some fault.Number ≡ Some g → ⊥) × (Some fault.NothingOpen ≡ Some g → ⊥)
+
+no_check : (g : RecordFault) (l : Line) (m e f : ℕ) (he hf : Bool) → Differs g → first_fault l m e f he hf ≡ Some g → ⊥
+no_check g l m e f he hf d =
+    not_some (not (nat_le l.moment 253402300799 && has_right_length l.kind l.size)) fault.Line g _ d.0
+    (not_some (not (nat_le l.size 16908288)) fault.TooLong g _ d.1
+    (not_some (nat_lt l.moment m) fault.MomentBack g _ d.2
+    (not_some (not (has_right_number l.kind e f l.number)) fault.Number g _ d.3
+    (not_some (not (answers_open l.kind he hf)) fault.NothingOpen g _ d.4 (none_is_some g)))))
+
+pub no_message_check : (l : Line) (m e f : ℕ) (he hf : Bool) → first_fault l m e f he hf ≡ Some fault.Message → ⊥
+no_message_check l m e f he hf = no_check fault.Message l m e f he hf (λ e. cc, λ e. cc, λ e. cc, λ e. cc, λ e. cc)
+
+pub no_unsupported_check : (l : Line) (m e f : ℕ) (he hf : Bool) → first_fault l m e f he hf ≡ Some fault.Unsupported → ⊥
+no_unsupported_check l m e f he hf = no_check fault.Unsupported l m e f he hf (λ e. cc, λ e. cc, λ e. cc, λ e. cc, λ e. cc)

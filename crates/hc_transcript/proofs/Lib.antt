@@ -1,0 +1,9 @@
+pub mod MarkLemmas
+pub mod NumeralLemmas
+pub mod LineLemmas
+pub mod FirstLineLemmas
+pub mod LineLaws
+pub mod ReadingLemmas
+pub mod CheckLemmas
+pub mod FrameLemmas
+pub mod ReaderLemmas

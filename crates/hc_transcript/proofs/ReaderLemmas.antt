@@ -1,0 +1,150 @@
+-- What a reader of records keeps, from call to call.
+use Rattle.std.proofs.Common.{◌≡◌, ◌≢◌, ℕ, ◌+◌, Bool, true, false, cond, List, [], ◌∷◌, ◌++◌, length, take, drop, Option, Some, None, is_some, refl, sym, ap, subst, ◌∙◌, arith, inl, inr, append_assoc, length-append, length-drop, ◌<◌}
+use Rattle.std.specs.Ordering.{nat_cmp}
+use Rattle.std.specs.BTreeMap.{get}
+use Rattle.std.proofs.Math.Seq.{drop-append_seam}
+use Rattle.std.proofs.lemmas.List.{take-append-drop, append-nil}
+use Rattle.std.proofs.lemmas.Slice.Eq.{bytes_eq-Decides}
+use Rattle.std.specs.Prelude.{nat_eq}
+use Rattle.std.specs.List.{starts_with}
+use Rattle.hc_transcript.specs.declared.fault.RecordFault.{RecordFault}
+use Rattle.hc_transcript.specs.declared.fault.RecordFault.TheVariants as fault
+use Rattle.hc_transcript.specs.declared.item.OwnedItem.{OwnedItem}
+use Rattle.hc_transcript.specs.declared.line.Line.{Line}
+use Rattle.hc_transcript.specs.declared.reader.Found.{Found}
+use Rattle.hc_transcript.specs.declared.reader.RecordReader.{RecordReader}
+use Rattle.hc_transcript.specs.declared.record.Record.{Record}
+use Rattle.hc_transcript.specs.Items.{Item, item_of}
+use Rattle.hc_transcript.specs.History.{next_position}
+use Rattle.hc_transcript.specs.Records.{opening, line_text, line_of, message_of, record_text, records_text}
+use Rattle.hc_transcript.specs.Checks.{line_fault}
+use Rattle.hc_transcript.specs.Transcript.{answers_head, IsItemOf, IsReadAs, Splits}
+use Rattle.hc_transcript.specs.Reading.{Refuses}
+use Rattle.hc_transcript.specs.Standing.{StandsAs, standing_fault}
+use Rattle.hc_transcript.specs.Frames.{IsFramed, IsUnfinished, FailsCheck, Breaks}
+use Rattle.hc_transcript.specs.Reader.{BreaksRecord, ReadsTo, Agrees, WaitsBy, Waits, Lends, Stops, Advances, reader_position, HasNoItem, IsUnfinishedOpening}
+use Rattle.hc_transcript.proofs.CheckLemmas.{standing_fault_is, no_message_check, no_unsupported_check}
+
+-- the checks by what the reader keeps are those after the history
+checks_same : (r : RecordReader) (octets : List ℕ) (records : List Record) (h : List Item) → Agrees r octets records h → standing_fault r.standing ≡ line_fault h
+checks_same r octets records h agrees = λ i. λ l. standing_fault_is r.standing h l agrees.stands i
+
+opened : (r : RecordReader) (octets : List ℕ) (records : List Record) (h : List Item) → r.is_open ≡ true → Agrees r octets records h → Splits octets records h r.held
+opened r octets records h is agrees = subst (λ (b : Bool). ReadsTo b octets records h r.held) is agrees.reads
+
+position_of : (r : RecordReader) (h : List Item) → r.is_open ≡ true → StandsAs r.standing h → reader_position r ≡ next_position h
+position_of r h is stands = ap (λ (b : Bool). cond b (r.standing.records + 1) 0) is ∙ ap (λ (n : ℕ). n + 1) stands.records
+
+-- a line that fails a check breaks the record
+record_breaks : (s : RecordReader) (f : RecordFault) (h : List Item) (octets : List ℕ) → Breaks (line_fault h) f octets → BreaksRecord f h octets
+record_breaks s fault.Message h octets b = absurd (no_message_check b.line _ _ _ _ _ b.fails)
+record_breaks s fault.Unsupported h octets b = absurd (no_unsupported_check b.line _ _ _ _ _ b.fails)
+record_breaks s fault.Opening h octets b = b
+record_breaks s fault.Line h octets b = b
+record_breaks s fault.Torn h octets b = b
+record_breaks s fault.MomentBack h octets b = b
+record_breaks s fault.Number h octets b = b
+record_breaks s fault.NothingOpen h octets b = b
+record_breaks s fault.TooLong h octets b = b
+record_breaks s fault.Memory h octets b = b
+
+pub stops_by_line : (r : RecordReader) (octets : List ℕ) (records : List Record) (h : List Item) (f : RecordFault) → r.is_open ≡ true → Agrees r octets records h
+    → Breaks (standing_fault r.standing) f r.held → Stops r octets h f
+stops_by_line r octets records h f is agrees breaks =
+    let b : Breaks (line_fault h) f r.held = subst (λ (check : Line → Option RecordFault). Breaks check f r.held) (checks_same r octets records h agrees) breaks in
+    inr (record { records = records; rest = r.held; splits = opened r octets records h is agrees; breaks = record_breaks r f h r.held b }, position_of r h is agrees.stands)
+
+-- a message that is read as nothing breaks the record
+item_breaks : (f : RecordFault) (h : List Item) (octets : List ℕ) (Nothing : Type 0) → (Nothing → HasNoItem h octets) → Refuses f Nothing → f ≢ fault.Memory → BreaksRecord f h octets
+item_breaks fault.Message h octets Nothing so refuses other = so refuses
+item_breaks fault.Unsupported h octets Nothing so refuses other = so refuses
+item_breaks fault.Memory h octets Nothing so refuses other = absurd (other refl)
+item_breaks fault.Opening h octets Nothing so refuses other = absurd refuses
+item_breaks fault.Line h octets Nothing so refuses other = absurd refuses
+item_breaks fault.Torn h octets Nothing so refuses other = absurd refuses
+item_breaks fault.MomentBack h octets Nothing so refuses other = absurd refuses
+item_breaks fault.Number h octets Nothing so refuses other = absurd refuses
+item_breaks fault.NothingOpen h octets Nothing so refuses other = absurd refuses
+item_breaks fault.TooLong h octets Nothing so refuses other = absurd refuses
+
+pub stops_by_item : (r : RecordReader) (octets : List ℕ) (records : List Record) (h : List Item) (f : RecordFault) (l : Line) (message : List ℕ) (len : ℕ) (to_head : Bool)
+    → r.is_open ≡ true → Agrees r octets records h → IsFramed (standing_fault r.standing) r.held l message len → to_head ≡ answers_head l.kind l.number h
+    → Refuses f ((item : Item) → ¬ (IsItemOf l.kind l.number l.moment to_head message item)) → f ≢ fault.Memory → Stops r octets h f
+stops_by_item r octets records h f l message len to_head is agrees framed head-is refuses other =
+    let framed' : IsFramed (line_fault h) r.held l message len = subst (λ (check : Line → Option RecordFault). IsFramed check r.held l message len) (checks_same r octets records h agrees) framed in
+    let none : ((item : Item) → ¬ (IsItemOf l.kind l.number l.moment to_head message item)) → HasNoItem h r.held =
+    λ none. record { line = l; message = message; len = len; framed = framed'; none = subst (λ (b : Bool). (item : Item) → ¬ (IsItemOf l.kind l.number l.moment b message item)) head-is none } in
+    inr (
+      record { records = records; rest = r.held; splits = opened r octets records h is agrees; breaks = item_breaks f h r.held _ none refuses other },
+      position_of r h is agrees.stands,
+    )
+
+pub waits_on : (r : RecordReader) (octets : List ℕ) (records : List Record) (h : List Item) → r.is_open ≡ true → Agrees r octets records h → IsUnfinished (standing_fault r.standing) r.held → Waits r h
+waits_on r octets records h is agrees waits =
+    subst (λ (b : Bool). WaitsBy b h r.held) (sym is)
+    (subst (λ (check : Line → Option RecordFault). IsUnfinished check r.held) (checks_same r octets records h agrees) waits)
+
+-- the text of a record, as it stands in the octets
+text_is : (one : Record) (l : Line) (message rest : List ℕ) → line_of one ≡ l → message_of one ≡ message → line_text l ++ 10 ∷ (message ++ 10 ∷ rest) ≡ record_text one ++ rest
+text_is one l message rest line-is message-is =
+    ap (λ (k : Line). line_text k ++ 10 ∷ (message ++ 10 ∷ rest)) (sym line-is) ∙ ap (λ (m : List ℕ). line_text (line_of one) ++ 10 ∷ (m ++ 10 ∷ rest)) (sym message-is)
+    ∙ sym (append_assoc (line_text (line_of one)) (10 ∷ (message_of one ++ 10 ∷ [])) rest ∙ ap (λ (t : List ℕ). line_text (line_of one) ++ 10 ∷ t) (append_assoc (message_of one) (10 ∷ []) rest))
+
+record_len : (one : Record) (l : Line) (message : List ℕ) (len : ℕ) → line_of one ≡ l → message_of one ≡ message → length message ≡ l.size → len ≡ length (line_text l) + l.size + 2
+    → len ≡ length (record_text one)
+record_len one l message len line-is message-is size-is len-is =
+    omega (arith, len-is, size-is, ap (λ (k : Line). length (line_text k)) line-is, ap length message-is, length-append (line_text (line_of one)) (10 ∷ (message_of one ++ 10 ∷ [])), length-append (message_of one) (10 ∷ []))
+
+pub advances : (old new : RecordReader) (octets : List ℕ) (records : List Record) (h : List Item) (l : Line) (message : List ℕ) (len : ℕ) (to_head : Bool) (one : Record) (item : OwnedItem)
+    → old.is_open ≡ true → Agrees old octets records h → IsFramed (standing_fault old.standing) old.held l message len → to_head ≡ answers_head l.kind l.number h
+    → IsItemOf l.kind l.number l.moment to_head message (item_of item) → line_of one ≡ l → message_of one ≡ message
+    → new.held ≡ drop len old.held → new.is_open ≡ true → new.fault ≡ old.fault → StandsAs new.standing (item_of item ∷ h)
+    → (found : Found) → new.current ≡ Some found → found.record ≡ one → found.item ≡ item → Advances new octets records h
+advances old new octets records h l message len to_head one item is agrees framed head-is reads line-is message-is held-is is' fault-is stands found current-is record-is item-is =
+    let splits = opened old octets records h is agrees in
+    let text : old.held ≡ record_text one ++ framed.rest = framed.octets_are ∙ text_is one l message framed.rest line-is message-is in
+    let len-is : len ≡ length (record_text one) = record_len one l message len line-is message-is framed.size_is framed.len_is in
+    let rest : new.held ≡ framed.rest = held-is ∙ ap (drop len) text ∙ ap (λ (k : ℕ). drop k (record_text one ++ framed.rest)) len-is ∙ drop-append_seam (record_text one) framed.rest in
+    let octets-are : octets ≡ opening ++ (records_text (one ∷ records) ++ new.held) =
+    splits.octets_are ∙ ap (λ (t : List ℕ). opening ++ (records_text records ++ t)) text ∙ ap (λ (t : List ℕ). opening ++ t) (sym (append_assoc (records_text records) (record_text one) framed.rest))
+    ∙ ap (λ (t : List ℕ). opening ++ (records_text (one ∷ records) ++ t)) (sym rest) in
+    let keeps : line_fault h (line_of one) ≡ None =
+    ap (line_fault h) line-is ∙ sym (ap (λ (check : Line → Option RecordFault). check l) (checks_same old octets records h agrees)) ∙ framed.keeps in
+    let reads' : IsItemOf l.kind l.number l.moment (answers_head l.kind l.number h) message (item_of item) = subst (λ (b : Bool). IsItemOf l.kind l.number l.moment b message (item_of item)) head-is reads in
+    let reads-one : IsReadAs h one (item_of item) =
+    subst (λ (k : Line). IsItemOf k.kind k.number k.moment (answers_head k.kind k.number h) (message_of one) (item_of item)) (sym line-is)
+    (subst (λ (m : List ℕ). IsItemOf l.kind l.number l.moment (answers_head l.kind l.number h) m (item_of item)) (sym message-is) reads') in
+    let whole : Splits octets (one ∷ records) (item_of item ∷ h) new.held = record { octets_are = octets-are; are_read = (splits.are_read, record { keeps = keeps; reads = reads-one }) } in
+    record {
+      one = one;
+      item = item_of item;
+      agrees = record {
+        unfailed = fault-is ∙ agrees.unfailed;
+        reads = subst (λ (b : Bool). ReadsTo b octets (one ∷ records) (item_of item ∷ h) new.held) (sym is') whole;
+        stands = stands;
+      };
+      lends = record { found = found; is_found = current-is; record_is = record-is; item_is = ap item_of item-is };
+    }
+
+-- ---- the opening
+
+not_both : true ≡ false → ⊥
+not_both e = cc
+
+-- octets that the opening begins with, but that don't begin with it
+pub unfinished_opening : (held : List ℕ) → starts_with nat_eq opening held ≡ true → starts_with nat_eq held opening ≡ false → IsUnfinishedOpening held
+unfinished_opening held front not_whole =
+    let same : held ≡ take (length held) opening = (bytes_eq-Decides held (take (length held) opening)).0 front in
+    let parts : opening ≡ held ++ drop (length held) opening =
+    sym (take-append-drop (length held) opening) ∙ ap (λ (t : List ℕ). t ++ drop (length held) opening) (sym same) in (
+      drop (length held) opening,
+      parts,
+      λ none.
+        let whole : held ≡ opening = sym (append-nil held) ∙ ap (λ (t : List ℕ). held ++ t) (sym none) ∙ sym parts in
+        not_both (sym (ap (λ (t : List ℕ). starts_with nat_eq t opening) whole) ∙ not_whole),
+    )
+
+-- a record takes octets
+pub shrinks : (check : Line → Option RecordFault) (held : List ℕ) (l : Line) (message : List ℕ) (len : ℕ) → IsFramed check held l message len → length (drop len held) < length held
+shrinks check held l message len framed =
+    omega (arith, framed.len_is, length-drop len held, ap length framed.octets_are, length-append (line_text l) (10 ∷ (message ++ 10 ∷ framed.rest)), length-append message (10 ∷ framed.rest))

@@ -1,0 +1,29 @@
+use Rattle.std.proofs.Common.{refl, sym, ap, ◌∙◌}
+use Rattle.hc_transcript.proofs.ReaderLemmas.{stops_by_line, stops_by_item, waits_on, advances, shrinks}
+use Rattle.hc_transcript.specs.Standing.{standing_fault}
+use Rattle.hc_transcript.proofs.reader.RecordReader.read_record.Goals as goal
+
+pub returns-in-Err-clause-gives : goal.returns-in-Err-clause-gives
+returns-in-Err-clause-gives c = λ octets records h agrees other.
+    stops_by_line c.args.self.now octets records h c.in-Err.fault c.requires agrees (rw c.as_slice.ensures at c.in-Err.ensures)
+
+pub returns-in-Ok-None-clause-gives : goal.returns-in-Ok-None-clause-gives
+returns-in-Ok-None-clause-gives c = λ octets records h agrees.
+    (agrees, waits_on c.args.self.now octets records h c.requires agrees (rw (c.as_slice.ensures, c.in-Ok-None.field-0-is) at c.in-Ok-None.ensures))
+
+pub returns-in-Err-item_of-clause-gives : goal.returns-in-Err-item_of-clause-gives
+returns-in-Err-item_of-clause-gives c = λ octets records h agrees other.
+    stops_by_item c.args.self.now octets records h c.in-Err-item_of.fault c.in-Ok-Some.framed.line c.in-Ok-Some.framed.message.now c.in-Ok-Some.framed.len c.answers_head-to_head.result
+    c.requires agrees (rw (c.as_slice.ensures, c.in-Ok-Some.field-0-is) at c.in-Ok-Some.ensures) (c.answers_head-to_head.ensures h agrees.stands) c.in-Err-item_of.ensures.gives other
+
+pub returns-clause-gives : goal.returns-clause-gives
+returns-clause-gives c = λ octets records h agrees.
+    advances c.args.self.now _ octets records h c.in-Ok-Some.framed.line c.in-Ok-Some.framed.message.now c.in-Ok-Some.framed.len c.answers_head-to_head.result c.in_ok-record.record c.in-Ok.item
+    c.requires agrees (rw (c.as_slice.ensures, c.in-Ok-Some.field-0-is) at c.in-Ok-Some.ensures) (c.answers_head-to_head.ensures h agrees.stands) c.in-Ok.ensures.gives
+    c.in_ok-record.ensures.0 c.in_ok-record.ensures.1 c.skip.ensures c.requires refl (c.in_ok-note.ensures.ok h agrees.stands)
+    (record { «record» = c.in_ok-record.record; item = c.in-Ok.item }) refl refl refl
+
+pub returns-clause-shrinks : goal.returns-clause-shrinks
+returns-clause-shrinks c = λ read.
+    rw c.skip.ensures (shrinks (standing_fault c.args.self.now.standing) c.args.self.now.held c.in-Ok-Some.framed.line c.in-Ok-Some.framed.message.now c.in-Ok-Some.framed.len
+    (rw (c.as_slice.ensures, c.in-Ok-Some.field-0-is) at c.in-Ok-Some.ensures))

@@ -1,0 +1,12 @@
+pub mod Names
+pub mod Records
+pub mod Lines
+pub mod Numerals
+pub mod Items
+pub mod History
+pub mod Checks
+pub mod Transcript
+pub mod Reading
+pub mod Standing
+pub mod Frames
+pub mod Reader

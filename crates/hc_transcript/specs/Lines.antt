@@ -1,0 +1,37 @@
+-- The line that begins a record, as it is read: over all numbers, of which one over 10 ^ 18 is read as that number, out of every range.
+use Rattle.std.specs.Prelude.{◌≡◌, ℕ, ◌<◌, ◌≤◌, Bool, false, List, ◌∷◌, ◌++◌, length, take, slice_index, Some, ◌==◌}
+use Rattle.std.specs.List.{list_any}
+use Rattle.hc_fields.specs.Numbers.{decimal_of}
+use Rattle.hc_transcript.specs.declared.line.Line.{Line}
+use Rattle.hc_transcript.specs.Records.{letter}
+
+-- a decimal without a leading zero writes the number
+pub record Writes (text : List ℕ) (n : ℕ) : Type 0 where
+  pub number : decimal_of text ≡ Some n
+  pub no_leading_zero : slice_index text 0 ≡ 48 → length text ≡ 1
+
+-- the text is the line, without its line feed
+pub record IsLineText (text : List ℕ) (l : Line) : Type 0 where
+  pub number : List ℕ
+  pub moment : List ℕ
+  pub size : List ℕ
+  pub text_is : text ≡ letter l.kind ∷ 32 ∷ (number ++ 32 ∷ (moment ++ 32 ∷ size))
+  pub writes_number : Writes number l.number
+  pub writes_moment : Writes moment l.moment
+  pub writes_size : Writes size l.size
+
+-- whether an octet is a line feed
+abbrev pub is_feed : ℕ → Bool
+is_feed c = c == 10
+
+-- the octets begin with that text and a line feed, within the 64 octets that a line may have
+pub record BeginsLine (octets text : List ℕ) : Type 0 where
+  pub after : List ℕ
+  pub octets_are : octets ≡ text ++ 10 ∷ after
+  pub no_feed : list_any is_feed text ≡ false
+  pub short : length text < 64
+
+-- 64 octets and no line feed among them
+pub record HasLongLine (octets : List ℕ) : Type 0 where
+  pub long : 64 ≤ length octets
+  pub no_feed : list_any is_feed (take 64 octets) ≡ false

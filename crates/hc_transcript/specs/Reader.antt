@@ -1,0 +1,120 @@
+-- A reader of records, and the octets that it was given.
+use Rattle.std.specs.Prelude.{◌≡◌, ◌≢◌, ℕ, ◌+◌, ◌⊎◌, Bool, true, false, List, [], ◌∷◌, ◌++◌, length, Option, Some, None, Result, Ok, Err, IsSome, if◌then◌else◌}
+use Rattle.hc_transcript.specs.declared.fault.RecordFault.{RecordFault}
+use Rattle.hc_transcript.specs.declared.fault.RecordFault.TheVariants as fault
+use Rattle.hc_transcript.specs.declared.line.Line.{Line}
+use Rattle.hc_transcript.specs.declared.reader.Found.{Found}
+use Rattle.hc_transcript.specs.declared.reader.RecordReader.{RecordReader}
+use Rattle.hc_transcript.specs.declared.record.Record.{Record}
+use Rattle.hc_transcript.specs.Items.{Item, item_of}
+use Rattle.hc_transcript.specs.History.{next_position}
+use Rattle.hc_transcript.specs.Records.{opening}
+use Rattle.hc_transcript.specs.Checks.{line_fault}
+use Rattle.hc_transcript.specs.Transcript.{answers_head, IsItemOf, Splits}
+use Rattle.hc_transcript.specs.Standing.{StandsAs}
+use Rattle.hc_transcript.specs.Frames.{IsFramed, IsUnfinished, Breaks}
+
+-- the octets, with whatever follows, don't begin with the opening
+abbrev pub HasNoOpening : List ℕ → Type 0
+HasNoOpening octets = (more rest : List ℕ) → octets ++ more ≢ opening ++ rest
+
+-- the octets may go on to the opening
+abbrev pub IsUnfinishedOpening : List ℕ → Type 0
+IsUnfinishedOpening octets = (more : List ℕ) × (opening ≡ octets ++ more) × (more ≢ [])
+
+-- a record stands there after the history, whose octets are read as nothing
+pub record HasNoItem (h : List Item) (octets : List ℕ) : Type 0 where
+  pub line : Line
+  pub message : List ℕ
+  pub len : ℕ
+  pub framed : IsFramed (line_fault h) octets line message len
+  pub none : (item : Item) → ¬ (IsItemOf line.kind line.number line.moment (answers_head line.kind line.number h) message item)
+
+-- where a fault of the next record stands, in the order of the checks
+abbrev pub BreaksRecord : RecordFault → List Item → List ℕ → Type 0
+BreaksRecord fault.Message h octets = HasNoItem h octets
+BreaksRecord fault.Unsupported h octets = HasNoItem h octets
+BreaksRecord f h octets = Breaks (line_fault h) f octets
+
+-- after these records the octets break by the fault, however they go on
+pub record BreaksAfter (octets : List ℕ) (h : List Item) (f : RecordFault) : Type 0 where
+  pub records : List Record
+  pub rest : List ℕ
+  pub splits : Splits octets records h rest
+  pub breaks : BreaksRecord f h rest
+
+-- what the octets are to a reader before the opening was read, and after it
+abbrev pub ReadsTo : Bool → List ℕ → List Record → List Item → List ℕ → Type 0
+ReadsTo false octets records h held = (records ≡ []) × ((h ≡ []) × (octets ≡ held))
+ReadsTo true octets records h held = Splits octets records h held
+
+-- the reader was given these octets, and has read of them these records, the newest first, as these items
+pub record Agrees (r : RecordReader) (octets : List ℕ) (records : List Record) (h : List Item) : Type 0 where
+  pub unfailed : r.fault ≡ None
+  pub reads : ReadsTo r.is_open octets records h r.held
+  pub stands : StandsAs r.standing h
+
+-- what is still unread is less than the opening, or than a record
+abbrev pub WaitsBy : Bool → List Item → List ℕ → Type 0
+WaitsBy false h held = IsUnfinishedOpening held
+WaitsBy true h held = IsUnfinished (line_fault h) held
+
+abbrev pub Waits : RecordReader → List Item → Type 0
+Waits r h = WaitsBy r.is_open h r.held
+
+-- how many octets wait to be read
+abbrev pub unread : RecordReader → ℕ
+unread r = length r.held
+
+-- how many records were read
+abbrev pub records_read : RecordReader → ℕ
+records_read r = r.standing.records
+
+-- the opening isn't read, or octets are left
+abbrev pub HasUnread : RecordReader → Type 0
+HasUnread r = (r.is_open ≡ false) ⊎ (r.held ≢ [])
+
+-- the reader lends a record, and what it means
+pub record Lends (r : RecordReader) (one : Record) (item : Item) : Type 0 where
+  pub found : Found
+  pub is_found : r.current ≡ Some found
+  pub record_is : found.record ≡ one
+  pub item_is : item_of found.item ≡ item
+
+-- the reader has a record to lend
+abbrev pub HasRecord : RecordReader → Type 0
+HasRecord r = IsSome r.current
+
+-- the reader answers the fault for ever
+abbrev pub HasFailed : RecordReader → RecordFault → Type 0
+HasFailed r f = r.fault ≡ Some f
+
+-- the position of what is read next: 0 while the opening isn't whole, the first record has 1
+abbrev pub reader_position : RecordReader → ℕ
+reader_position r = if r.is_open then r.standing.records + 1 else 0
+
+-- the octets break where the reader stands, behind the records of the history
+abbrev pub Stops : RecordReader → List ℕ → List Item → RecordFault → Type 0
+Stops r octets h f =
+    (HasNoOpening octets × ((f ≡ fault.Opening) × (reader_position r ≡ 0)))
+    ⊎ (BreaksAfter octets h f × (reader_position r ≡ next_position h))
+
+-- one record more
+pub record Advances (r : RecordReader) (octets : List ℕ) (records : List Record) (h : List Item) : Type 0 where
+  pub one : Record
+  pub item : Item
+  pub agrees : Agrees r octets (one ∷ records) (item ∷ h)
+  pub lends : Lends r one item
+
+-- what the answer to a call of `advance` says
+abbrev pub GivesAdvance : Result Bool RecordFault → RecordReader → List ℕ → List Record → List Item → Type 0
+GivesAdvance (Ok true) r octets records h = Advances r octets records h
+GivesAdvance (Ok false) r octets records h = Agrees r octets records h × Waits r h
+GivesAdvance (Err f) r octets records h = f ≢ fault.Memory → Stops r octets h f
+
+-- what the answer to a reading of the opening says
+abbrev pub GivesOpening : Result Bool RecordFault → RecordReader → RecordReader → Type 0
+GivesOpening (Ok true) old new =
+    (old.held ≡ opening ++ new.held) × ((new.is_open ≡ true) × ((new.standing ≡ old.standing) × (new.fault ≡ old.fault)))
+GivesOpening (Ok false) old new = (new ≡ old) × IsUnfinishedOpening old.held
+GivesOpening (Err f) old new = (f ≡ fault.Opening) × ((new.is_open ≡ false) × HasNoOpening old.held)

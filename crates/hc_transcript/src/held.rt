@@ -1,0 +1,75 @@
+//! The octets that were fed and not yet read.
+
+ghost use Rattle.std.specs.Prelude.{◌≡◌, ◌≤◌, ◌++◌, ◌==◌, List, ℕ, [], length, drop, OnOk, OnErr};
+
+use std::alloc::{AllocError, Global};
+use std::marker::Model;
+
+/// Octets in one buffer, of which those before `start` were read. Contracts see the rest of them.
+/// What was read is dropped once it is more than half, so each octet is moved at most once for
+/// each octet that was read.
+#[derive(Debug, Drop)]
+pub(crate) struct Held {
+    alloc: Global,
+    bytes: Vec<u8>,
+    start: usize,
+}
+
+impl Model for Held {
+    ghost use Rattle.std.specs.Prelude.{List, ℕ, drop, length, ◌≤◌};
+
+    ghost Value = { List ℕ };
+
+    ghost view = { λ h. drop h.start h.bytes.items };
+
+    ghost invariant = { λ h. h.start ≤ length h.bytes.items };
+}
+
+impl Held {
+    pub(crate) fn new(alloc: Global) -> Self
+        ensures { result ≡ [] }
+    {
+        Held {
+            alloc,
+            bytes: Vec::new(alloc),
+            start: 0,
+        }
+    }
+
+    pub(crate) fn as_slice(&self) -> &[u8]
+        ensures { result.now ≡ self.now }
+    {
+        let (_, rest) = self.bytes.as_slice().split_at(self.start);
+        rest
+    }
+
+    /// Puts a piece at the end.
+    pub(crate) fn push(&mut self, piece: &[u8]) -> Result<(), AllocError>
+        ensures ok { OnOk result (self.new ≡ self.old ++ piece.now) }
+        ensures err { OnErr result (self.new ≡ self.old) }
+    {
+        self.compact()?;
+        self.bytes.extend_from_slice(piece)
+    }
+
+    /// Drops what was read, once it is more than half.
+    fn compact(&mut self) -> Result<(), AllocError>
+        ensures { self.new ≡ self.old }
+    {
+        if self.start <= self.bytes.len() / 2 {
+            return Ok(());
+        }
+        let (_, rest) = self.bytes.as_slice().split_at(self.start);
+        self.bytes = Vec::from_slice(self.alloc, rest)?;
+        self.start = 0;
+        Ok(())
+    }
+
+    /// Reads so many octets off the front.
+    pub(crate) fn skip(&mut self, count: usize)
+        requires { count ≤ length self.old }
+        ensures { self.new ≡ drop count self.old }
+    {
+        self.start += count;
+    }
+}

@@ -1,0 +1,20 @@
+//! Transcripts: recordings of what a cache received and sent.
+#![tactic(auto)]
+
+mod fault;
+mod first_line;
+mod framed;
+mod held;
+mod item;
+mod line;
+mod numeral;
+mod open_numbers;
+mod reader;
+mod reading;
+mod record;
+
+pub use fault::RecordFault;
+pub use item::OwnedItem;
+pub use line::{Kind, Line};
+pub use reader::RecordReader;
+pub use record::Record;

@@ -1,0 +1,204 @@
+//! What is open after the records so far, and the last moment and numbers.
+
+ghost use Rattle.std.specs.Prelude.{◌≡◌, ℕ, ◌+◌, ◌*◌, ◌<◌, ◌≤◌, List, [], ◌∷◌, OnOk, OnErr, IsSome};
+ghost use Rattle.std.specs.Ordering.{nat_cmp};
+ghost use Rattle.std.specs.BTreeMap.{get, btree_map_len};
+ghost use Rattle.hc_transcript.specs.Items.{Item, item_of, is_head};
+ghost use Rattle.hc_transcript.specs.Checks.{has_right_length, has_right_number, answers_open};
+ghost use Rattle.hc_transcript.specs.Transcript.{answers_head};
+
+use crate::fault::RecordFault;
+use crate::item::OwnedItem;
+use crate::line::{Kind, Line};
+use hc_framing::Message;
+use hc_head::RequestHead;
+use std::alloc::{AllocError, Global};
+use std::collections::BTreeMap;
+
+/// No exchange and no forward has a greater number.
+const GREATEST_NUMBER: u64 = 999_999_999_999;
+
+/// No moment is later: the end of the year 9999, in whole seconds since 1970.
+const GREATEST_MOMENT: u64 = 253_402_300_799;
+
+/// No message is longer, in octets.
+const LONGEST_MESSAGE: u64 = 16_908_288;
+
+/// What a beginning of a transcript leaves for the records after it. The maps tell of each open
+/// number whether its request is HEAD.
+#[derive(Debug, Drop)]
+pub(crate) struct Standing {
+    records: u64,
+    moment: u64,
+    exchange: u64,
+    forward: u64,
+    exchanges: BTreeMap<u64, bool>,
+    forwards: BTreeMap<u64, bool>,
+    ghost exchange_in_range: { exchange ≤ 999999999999 },
+    ghost forward_in_range: { forward ≤ 999999999999 },
+    // Each record opens a number or closes one, so records can't overflow.
+    ghost few: { records + (btree_map_len exchanges + btree_map_len forwards) ≤ 2 * (exchange + forward) },
+}
+
+fn has_right_length(kind: Kind, size: u64) -> bool
+    ensures { result ≡ has_right_length kind size }
+{
+    match kind {
+        Kind::OriginFailure => size == 0,
+        _ => true,
+    }
+}
+
+fn has_right_number(kind: Kind, exchange: u64, forward: u64, number: u64) -> bool
+    ensures { result ≡ has_right_number kind exchange forward number }
+{
+    let last = match kind {
+        Kind::ClientRequest => exchange,
+        Kind::OriginRequest => forward,
+        _ => 0,
+    };
+    last < number && number <= GREATEST_NUMBER
+}
+
+fn answers_open(kind: Kind, has_exchange: bool, has_forward: bool) -> bool
+    ensures { result ≡ answers_open kind has_exchange has_forward }
+{
+    match kind {
+        Kind::ClientRequest | Kind::OriginRequest => true,
+        Kind::OriginResponse | Kind::OriginFailure => has_forward,
+        Kind::ClientReply => has_exchange,
+    }
+}
+
+fn is_head(request: &Message<RequestHead>) -> bool
+    ensures { result ≡ is_head request.now }
+{
+    request.head.method.as_slice() == b"HEAD".as_slice()
+}
+
+impl Standing {
+    ghost use Rattle.hc_transcript.specs.Standing.{StandsAs, standing_fault, CanFollow, OpensExchange, OpensForward, ClosesExchange, ClosesForward};
+
+    pub(crate) fn new(alloc: Global) -> Self
+        ensures { StandsAs result [] }
+    {
+        Standing {
+            records: 0,
+            moment: 0,
+            exchange: 0,
+            forward: 0,
+            exchanges: BTreeMap::new(alloc),
+            forwards: BTreeMap::new(alloc),
+        }
+    }
+
+    /// How many records there were.
+    pub(crate) fn records(&self) -> u64
+        ensures value { result ≡ self.now.records }
+        ensures few { result ≤ 4000000000000 }
+    {
+        self.records
+    }
+
+    /// The first check that a line fails.
+    pub(crate) fn fault(&self, line: &Line) -> Option<RecordFault>
+        ensures { result ≡ standing_fault self.now line.now }
+    {
+        let has_exchange = self.exchanges.contains_key(&line.number);
+        let has_forward = self.forwards.contains_key(&line.number);
+        if line.moment > GREATEST_MOMENT || !has_right_length(line.kind, line.size) {
+            Some(RecordFault::Line)
+        } else if line.size > LONGEST_MESSAGE {
+            Some(RecordFault::TooLong)
+        } else if line.moment < self.moment {
+            Some(RecordFault::MomentBack)
+        } else if !has_right_number(line.kind, self.exchange, self.forward, line.number) {
+            Some(RecordFault::Number)
+        } else if !answers_open(line.kind, has_exchange, has_forward) {
+            Some(RecordFault::NothingOpen)
+        } else {
+            None
+        }
+    }
+
+    /// Whether what a record of that kind bears answers HEAD.
+    pub(crate) fn answers_head(&self, kind: Kind, number: u64) -> bool
+        ensures { (h : List Item) → StandsAs self.now h → result ≡ answers_head kind number h }
+    {
+        match kind {
+            Kind::OriginResponse => self.forwards.get(&number).copied().unwrap_or(false),
+            Kind::ClientReply => self.exchanges.get(&number).copied().unwrap_or(false),
+            _ => false,
+        }
+    }
+
+    /// Notes the next record. An `Err` changes nothing.
+    pub(crate) fn note(&mut self, item: &OwnedItem) -> Result<(), AllocError>
+        requires { CanFollow self.old item.now }
+        ensures ok { (h : List Item) → StandsAs self.old h → OnOk result (StandsAs self.new (item_of item.now ∷ h)) }
+    {
+        match item {
+            OwnedItem::ClientRequest {
+                exchange,
+                moment,
+                request,
+                ..
+            } => self.open_exchange(*exchange, *moment, is_head(request)),
+            OwnedItem::OriginRequest {
+                forward,
+                moment,
+                request,
+                ..
+            } => self.open_forward(*forward, *moment, is_head(request)),
+            OwnedItem::OriginResponse {
+                forward, moment, ..
+            } => Ok(self.close_forward(*forward, *moment)),
+            OwnedItem::OriginFailure { forward, moment } => {
+                Ok(self.close_forward(*forward, *moment))
+            }
+            OwnedItem::ClientReply {
+                exchange, moment, ..
+            } => Ok(self.close_exchange(*exchange, *moment)),
+        }
+    }
+
+    fn open_exchange(&mut self, number: u64, moment: u64, is_head: bool) -> Result<(), AllocError>
+        requires { (self.old.exchange < number) × (number ≤ 999999999999) }
+        ensures { OnOk result (OpensExchange self.old self.new number moment is_head) }
+    {
+        self.exchanges.insert(number, is_head)?;
+        self.exchange = number;
+        self.moment = moment;
+        self.records += 1;
+        Ok(())
+    }
+
+    fn open_forward(&mut self, number: u64, moment: u64, is_head: bool) -> Result<(), AllocError>
+        requires { (self.old.forward < number) × (number ≤ 999999999999) }
+        ensures { OnOk result (OpensForward self.old self.new number moment is_head) }
+    {
+        self.forwards.insert(number, is_head)?;
+        self.forward = number;
+        self.moment = moment;
+        self.records += 1;
+        Ok(())
+    }
+
+    fn close_exchange(&mut self, number: u64, moment: u64)
+        requires { IsSome (get nat_cmp self.old.exchanges number) }
+        ensures { ClosesExchange self.old self.new number moment }
+    {
+        let _ = self.exchanges.remove(&number);
+        self.moment = moment;
+        self.records += 1;
+    }
+
+    fn close_forward(&mut self, number: u64, moment: u64)
+        requires { IsSome (get nat_cmp self.old.forwards number) }
+        ensures { ClosesForward self.old self.new number moment }
+    {
+        let _ = self.forwards.remove(&number);
+        self.moment = moment;
+        self.records += 1;
+    }
+}

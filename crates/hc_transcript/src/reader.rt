@@ -1,0 +1,213 @@
+//! A reader of the records of a transcript.
+
+ghost use Rattle.std.specs.Prelude.{◌≡◌, ◌≢◌, ℕ, ◌+◌, ◌<◌, ◌≤◌, ◌⊎◌, List, [], ◌∷◌, ◌++◌, OnOk, OnErr, IfErr, Ok, Err, true, false};
+ghost use Rattle.hc_transcript.specs.declared.record.Record.{Record};
+ghost use Rattle.hc_transcript.specs.Items.{Item, item_of};
+ghost use Rattle.hc_transcript.specs.Transcript.{IsTranscript};
+
+use crate::fault::RecordFault;
+use crate::framed::record_at;
+use crate::held::Held;
+use crate::item::OwnedItem;
+use crate::open_numbers::Standing;
+use crate::reading::{item_of, record_of};
+use crate::record::Record;
+use std::alloc::Global;
+
+/// What stands at the front of a transcript.
+const OPENING: &[u8] = b"HCT1\n";
+
+/// A record that was read, and what it means.
+#[derive(Debug, Drop)]
+struct Found {
+    record: Record,
+    item: OwnedItem,
+}
+
+/// Reads the records of a transcript that comes in pieces. It holds the octets that were fed and
+/// not yet read, and the last record.
+#[derive(Debug, Drop)]
+pub struct RecordReader {
+    alloc: Global,
+    held: Held,
+    is_open: bool,
+    standing: Standing,
+    current: Option<Found>,
+    fault: Option<RecordFault>,
+}
+
+impl RecordReader {
+    ghost use Rattle.hc_transcript.specs.Reader.{Agrees, GivesAdvance, HasFailed, HasRecord, Lends, HasUnread, unread, records_read, reader_position, GivesOpening};
+
+    /// A reader that was given nothing.
+    pub fn new(alloc: Global) -> Self
+        ensures { Agrees result [] [] [] }
+    {
+        RecordReader {
+            alloc,
+            held: Held::new(alloc),
+            is_open: false,
+            standing: Standing::new(alloc),
+            current: None,
+            fault: None,
+        }
+    }
+
+    /// Takes the next piece. After a fault that fault is answered again.
+    pub fn feed(&mut self, piece: &[u8]) -> Result<(), RecordFault>
+        ensures ok { (octets : List ℕ) (records : List Record) (h : List Item) → Agrees self.old octets records h
+            → OnOk result (Agrees self.new (octets ++ piece.now) records h) }
+        // Only memory can fail, unless a fault was answered before.
+        ensures err { IfErr result (λ f. HasFailed self.new f × ((f ≡ RecordFault.Memory) ⊎ HasFailed self.old f)) }
+        ensures failed { (f : RecordFault) → HasFailed self.old f → result ≡ Err f }
+    {
+        if let Some(fault) = self.fault {
+            return Err(fault);
+        }
+        if self.held.push(piece).is_err() {
+            self.fault = Some(RecordFault::Memory);
+            return Err(RecordFault::Memory);
+        }
+        Ok(())
+    }
+
+    /// Reads the next record, if it is whole: `true` where one was read, which `current` then lends.
+    /// After a fault that fault is answered again.
+    pub fn advance(&mut self) -> Result<bool, RecordFault>
+        // Which records were read of which octets, and where each fault stands.
+        ensures gives { (octets : List ℕ) (records : List Record) (h : List Item) → Agrees self.old octets records h
+            → GivesAdvance result self.new octets records h }
+        ensures lends { result ≡ Ok true → HasRecord self.new }
+        ensures shrinks { result ≡ Ok true → unread self.new < unread self.old }
+        ensures err { IfErr result (HasFailed self.new) }
+        ensures failed { (f : RecordFault) → HasFailed self.old f → result ≡ Err f }
+    {
+        if let Some(fault) = self.fault {
+            return Err(fault);
+        }
+        match self.step() {
+            Ok(found) => Ok(found),
+            Err(fault) => {
+                self.fault = Some(fault);
+                Err(fault)
+            }
+        }
+    }
+
+    /// The record that was read last.
+    pub fn current(&self) -> &Record
+        requires { HasRecord self.now }
+        ensures { (one : Record) (item : Item) → Lends self.now one item → result.now ≡ one }
+    {
+        &self.current.as_ref().unwrap().record
+    }
+
+    /// What the record that was read last means.
+    pub fn item(&self) -> &OwnedItem
+        requires { HasRecord self.now }
+        ensures { (one : Record) (item : Item) → Lends self.now one item → item_of result.now ≡ item }
+    {
+        &self.current.as_ref().unwrap().item
+    }
+
+    /// How many records were read, at most 4 * 10 ^ 12.
+    pub fn records(&self) -> u64
+        ensures value { result ≡ records_read self.now }
+        ensures few { result ≤ 4000000000000 }
+    {
+        self.standing.records()
+    }
+
+    /// The position of what is read next, or of what broke: 0 is the opening, the first record has 1.
+    pub fn position(&self) -> u64
+        ensures { result ≡ reader_position self.now }
+    {
+        if self.is_open {
+            self.standing.records() + 1
+        } else {
+            0
+        }
+    }
+
+    /// Ends the transcript: `Torn` where the opening isn't whole, or octets are left after the last
+    /// record that was read. After a fault that fault is answered again.
+    pub fn finish(&mut self) -> Result<(), RecordFault>
+        ensures ok { (octets : List ℕ) (records : List Record) (h : List Item) → Agrees self.old octets records h
+            → OnOk result (IsTranscript octets records h) }
+        ensures err { IfErr result (λ f. HasFailed self.new f × ((f ≡ RecordFault.Torn) ⊎ HasFailed self.old f)) }
+        ensures torn { (octets : List ℕ) (records : List Record) (h : List Item) → Agrees self.old octets records h
+            → OnErr result (HasUnread self.old) }
+        ensures failed { (f : RecordFault) → HasFailed self.old f → result ≡ Err f }
+    {
+        if let Some(fault) = self.fault {
+            return Err(fault);
+        }
+        if !self.is_open || !self.held.as_slice().is_empty() {
+            self.fault = Some(RecordFault::Torn);
+            return Err(RecordFault::Torn);
+        }
+        Ok(())
+    }
+
+    fn step(&mut self) -> Result<bool, RecordFault>
+        ensures gives { (octets : List ℕ) (records : List Record) (h : List Item) → Agrees self.old octets records h
+            → GivesAdvance result self.new octets records h }
+        ensures lends { result ≡ Ok true → HasRecord self.new }
+        ensures shrinks { result ≡ Ok true → unread self.new < unread self.old }
+    {
+        if !self.is_open {
+            match self.read_opening() {
+                Err(fault) => return Err(fault),
+                Ok(false) => return Ok(false),
+                Ok(true) => {}
+            }
+        }
+        self.read_record()
+    }
+
+    /// Reads the opening, if it is whole.
+    fn read_opening(&mut self) -> Result<bool, RecordFault>
+        requires { self.old.is_open ≡ false }
+        ensures { GivesOpening result self.old self.new }
+    {
+        let held = self.held.as_slice();
+        if !held.starts_with(OPENING) {
+            return if OPENING.starts_with(held) {
+                Ok(false)
+            } else {
+                Err(RecordFault::Opening)
+            };
+        }
+        self.held.skip(OPENING.len());
+        self.is_open = true;
+        Ok(true)
+    }
+
+    /// Reads the record behind the opening, if it is whole.
+    fn read_record(&mut self) -> Result<bool, RecordFault>
+        requires { self.old.is_open ≡ true }
+        ensures gives { (octets : List ℕ) (records : List Record) (h : List Item) → Agrees self.old octets records h
+            → GivesAdvance result self.new octets records h }
+        ensures lends { result ≡ Ok true → HasRecord self.new }
+        ensures shrinks { result ≡ Ok true → unread self.new < unread self.old }
+    {
+        let framed = match record_at(self.held.as_slice(), &self.standing) {
+            Err(fault) => return Err(fault),
+            Ok(None) => return Ok(false),
+            Ok(Some(framed)) => framed,
+        };
+        let to_head = self
+            .standing
+            .answers_head(framed.line.kind, framed.line.number);
+        let item = match item_of(self.alloc, &framed.line, framed.message, to_head) {
+            Err(fault) => return Err(fault),
+            Ok(item) => item,
+        };
+        let record = record_of(self.alloc, &framed.line, framed.message)?;
+        let len = framed.len;
+        self.standing.note(&item)?;
+        self.current = Some(Found { record, item });
+        self.held.skip(len);
+        Ok(true)
+    }
+}
