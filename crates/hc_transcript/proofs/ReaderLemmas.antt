@@ -5,7 +5,8 @@ use Rattle.std.specs.BTreeMap.{get}
 use Rattle.std.proofs.Math.Seq.{drop-append_seam}
 use Rattle.std.proofs.lemmas.List.{take-append-drop, append-nil}
 use Rattle.std.proofs.lemmas.Slice.Eq.{bytes_eq-Decides}
-use Rattle.std.specs.Prelude.{nat_eq}
+use Rattle.std.specs.Prelude.{nat_eq, ◌==◌}
+use Rattle.std.proofs.lemmas.Bool.{eqb-true, eqb-false}
 use Rattle.std.specs.List.{starts_with}
 use Rattle.hc_transcript.specs.declared.fault.RecordFault.{RecordFault}
 use Rattle.hc_transcript.specs.declared.fault.RecordFault.TheVariants as fault
@@ -18,11 +19,11 @@ use Rattle.hc_transcript.specs.Items.{Item, item_of}
 use Rattle.hc_transcript.specs.History.{next_position}
 use Rattle.hc_transcript.specs.Records.{opening, line_text, line_of, message_of, record_text, records_text}
 use Rattle.hc_transcript.specs.Checks.{line_fault}
-use Rattle.hc_transcript.specs.Transcript.{answers_head, IsItemOf, IsReadAs, Splits}
+use Rattle.hc_transcript.specs.Transcript.{answers_head, IsItemOf, IsReadAs, Splits, IsTranscript}
 use Rattle.hc_transcript.specs.Reading.{Refuses}
 use Rattle.hc_transcript.specs.Standing.{StandsAs, standing_fault}
 use Rattle.hc_transcript.specs.Frames.{IsFramed, IsUnfinished, FailsCheck, Breaks}
-use Rattle.hc_transcript.specs.Reader.{BreaksRecord, ReadsTo, Agrees, WaitsBy, Waits, Lends, Stops, Advances, reader_position, HasNoItem, IsUnfinishedOpening}
+use Rattle.hc_transcript.specs.Reader.{BreaksRecord, ReadsTo, Agrees, WaitsBy, Waits, Lends, Stops, Advances, reader_position, HasNoItem, IsUnfinishedOpening, HasUnreadBy, is_whole_by}
 use Rattle.hc_transcript.proofs.CheckLemmas.{standing_fault_is, no_message_check, no_unsupported_check}
 
 -- the checks by what the reader keeps are those after the history
@@ -140,11 +141,34 @@ unfinished_opening held front not_whole =
       drop (length held) opening,
       parts,
       λ none.
-        let whole : held ≡ opening = sym (append-nil held) ∙ ap (λ (t : List ℕ). held ++ t) (sym none) ∙ sym parts in
-        not_both (sym (ap (λ (t : List ℕ). starts_with nat_eq t opening) whole) ∙ not_whole),
+          let whole : held ≡ opening = sym (append-nil held) ∙ ap (λ (t : List ℕ). held ++ t) (sym none) ∙ sym parts in
+          not_both (sym (ap (λ (t : List ℕ). starts_with nat_eq t opening) whole) ∙ not_whole),
     )
 
 -- a record takes octets
 pub shrinks : (check : Line → Option RecordFault) (held : List ℕ) (l : Line) (message : List ℕ) (len : ℕ) → IsFramed check held l message len → length (drop len held) < length held
 shrinks check held l message len framed =
     omega (arith, framed.len_is, length-drop len held, ap length framed.octets_are, length-append (line_text l) (10 ∷ (message ++ 10 ∷ framed.rest)), length-append message (10 ∷ framed.rest))
+
+-- ---- the end
+
+empty_of : (held : List ℕ) → (length held == 0) ≡ true → held ≡ []
+empty_of [] e = refl
+empty_of (b ∷ held) e = absurd (omega (arith, eqb-true (length (b ∷ held)) 0 e))
+
+not_empty_of : (held : List ℕ) → (length held == 0) ≡ false → held ≢ []
+not_empty_of held e is = eqb-false (length held) 0 e (ap length is)
+
+pub whole_is : (r : RecordReader) (octets : List ℕ) (records : List Record) (h : List Item) → Agrees r octets records h → is_whole_by r.is_open r.held ≡ true → IsTranscript octets records h
+whole_is r octets records h agrees whole = go r.is_open agrees.reads whole
+  where
+    go : (b : Bool) → ReadsTo b octets records h r.held → is_whole_by b r.held ≡ true → IsTranscript octets records h
+    go true reads whole = subst (λ (rest : List ℕ). Splits octets records h rest) (empty_of r.held whole) reads
+    go false reads whole =
+        let octets-are : octets ≡ opening ++ ([] ++ []) = reads.1.1 ∙ (bytes_eq-Decides r.held opening).0 whole in
+        subst (λ (rs : List Record). Splits octets rs h []) (sym reads.0)
+        (subst (λ (k : List Item). Splits octets [] k []) (sym reads.1.0) (record { octets_are = octets-are; are_read = tt }))
+
+pub unread_left : (b : Bool) (held : List ℕ) → is_whole_by b held ≡ false → HasUnreadBy b held
+unread_left true held e = not_empty_of held e
+unread_left false held e = λ is. not_both (sym ((bytes_eq-Decides held opening).1 is) ∙ e)

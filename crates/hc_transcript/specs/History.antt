@@ -39,7 +39,7 @@ abbrev pub last_moment : List Item → ℕ
 last_moment [] = 0
 last_moment (i ∷ h) = moment_of i
 
--- the number of the newest exchange; 0 where there is none
+-- what an item makes of the number of the newest exchange
 abbrev pub exchange_number_after : Item → ℕ → ℕ
 exchange_number_after (ClientRequest number moment request target) before = number
 exchange_number_after (OriginRequest number moment request target) before = before
@@ -47,11 +47,12 @@ exchange_number_after (OriginResponse number moment response) before = before
 exchange_number_after (OriginFailure number moment) before = before
 exchange_number_after (ClientReply number moment reply) before = before
 
+-- the number of the newest exchange; 0 where there is none
 abbrev pub last_exchange : List Item → ℕ
 last_exchange [] = 0
 last_exchange (i ∷ h) = exchange_number_after i (last_exchange h)
 
--- the number of the newest forward; 0 where there is none
+-- what an item makes of the number of the newest forward
 abbrev pub forward_number_after : Item → ℕ → ℕ
 forward_number_after (ClientRequest number moment request target) before = before
 forward_number_after (OriginRequest number moment request target) before = number
@@ -59,6 +60,7 @@ forward_number_after (OriginResponse number moment response) before = before
 forward_number_after (OriginFailure number moment) before = before
 forward_number_after (ClientReply number moment reply) before = before
 
+-- the number of the newest forward; 0 where there is none
 abbrev pub last_forward : List Item → ℕ
 last_forward [] = 0
 last_forward (i ∷ h) = forward_number_after i (last_forward h)

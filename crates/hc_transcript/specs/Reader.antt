@@ -1,5 +1,5 @@
 -- A reader of records, and the octets that it was given.
-use Rattle.std.specs.Prelude.{◌≡◌, ◌≢◌, ℕ, ◌+◌, ◌⊎◌, Bool, true, false, List, [], ◌∷◌, ◌++◌, length, Option, Some, None, Result, Ok, Err, IsSome, if◌then◌else◌}
+use Rattle.std.specs.Prelude.{◌≡◌, ◌≢◌, ℕ, ◌+◌, ◌⊎◌, Bool, true, false, List, [], ◌∷◌, ◌++◌, length, Option, Some, None, Result, Ok, Err, IsSome, bytes_eq, ◌==◌, if◌then◌else◌}
 use Rattle.hc_transcript.specs.declared.fault.RecordFault.{RecordFault}
 use Rattle.hc_transcript.specs.declared.fault.RecordFault.TheVariants as fault
 use Rattle.hc_transcript.specs.declared.line.Line.{Line}
@@ -36,7 +36,7 @@ BreaksRecord fault.Message h octets = HasNoItem h octets
 BreaksRecord fault.Unsupported h octets = HasNoItem h octets
 BreaksRecord f h octets = Breaks (line_fault h) f octets
 
--- after these records the octets break by the fault, however they go on
+-- after these records the octets break by the fault
 pub record BreaksAfter (octets : List ℕ) (h : List Item) (f : RecordFault) : Type 0 where
   pub records : List Record
   pub rest : List ℕ
@@ -70,9 +70,24 @@ unread r = length r.held
 abbrev pub records_read : RecordReader → ℕ
 records_read r = r.standing.records
 
--- the opening isn't read, or octets are left
+-- a record is counted where one was read
+abbrev pub CountsRecord : Result Bool RecordFault → ℕ → ℕ → Type 0
+CountsRecord (Ok true) old new = new ≡ old + 1
+CountsRecord (Ok false) old new = new ≡ old
+CountsRecord (Err f) old new = new ≡ old
+
+-- the opening is there, and no octet behind what was read
+abbrev pub is_whole_by : Bool → List ℕ → Bool
+is_whole_by false held = bytes_eq held opening
+is_whole_by true held = length held == 0
+
+-- octets are left, or the opening isn't there
+abbrev pub HasUnreadBy : Bool → List ℕ → Type 0
+HasUnreadBy false held = held ≢ opening
+HasUnreadBy true held = held ≢ []
+
 abbrev pub HasUnread : RecordReader → Type 0
-HasUnread r = (r.is_open ≡ false) ⊎ (r.held ≢ [])
+HasUnread r = HasUnreadBy r.is_open r.held
 
 -- the reader lends a record, and what it means
 pub record Lends (r : RecordReader) (one : Record) (item : Item) : Type 0 where
@@ -117,4 +132,4 @@ abbrev pub GivesOpening : Result Bool RecordFault → RecordReader → RecordRea
 GivesOpening (Ok true) old new =
     (old.held ≡ opening ++ new.held) × ((new.is_open ≡ true) × ((new.standing ≡ old.standing) × (new.fault ≡ old.fault)))
 GivesOpening (Ok false) old new = (new ≡ old) × IsUnfinishedOpening old.held
-GivesOpening (Err f) old new = (f ≡ fault.Opening) × ((new.is_open ≡ false) × HasNoOpening old.held)
+GivesOpening (Err f) old new = (f ≡ fault.Opening) × ((new.is_open ≡ false) × ((new.standing ≡ old.standing) × HasNoOpening old.held))

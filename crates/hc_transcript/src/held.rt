@@ -10,7 +10,6 @@ use std::marker::Model;
 /// each octet that was read.
 #[derive(Debug, Drop)]
 pub(crate) struct Held {
-    alloc: Global,
     bytes: Vec<u8>,
     start: usize,
 }
@@ -30,7 +29,6 @@ impl Held {
         ensures { result ≡ [] }
     {
         Held {
-            alloc,
             bytes: Vec::new(alloc),
             start: 0,
         }
@@ -48,21 +46,22 @@ impl Held {
         ensures ok { OnOk result (self.new ≡ self.old ++ piece.now) }
         ensures err { OnErr result (self.new ≡ self.old) }
     {
-        self.compact()?;
+        self.compact();
         self.bytes.extend_from_slice(piece)
     }
 
     /// Drops what was read, once it is more than half.
-    fn compact(&mut self) -> Result<(), AllocError>
+    fn compact(&mut self)
         ensures { self.new ≡ self.old }
     {
-        if self.start <= self.bytes.len() / 2 {
-            return Ok(());
+        let start = self.start;
+        if start <= self.bytes.len() / 2 {
+            return;
         }
-        let (_, rest) = self.bytes.as_slice().split_at(self.start);
-        self.bytes = Vec::from_slice(self.alloc, rest)?;
+        let left = self.bytes.len() - start;
+        self.bytes.as_mut_slice().rotate_left(start);
+        self.bytes.truncate(left);
         self.start = 0;
-        Ok(())
     }
 
     /// Reads so many octets off the front.

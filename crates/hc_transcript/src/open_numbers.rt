@@ -1,6 +1,6 @@
 //! What is open after the records so far, and the last moment and numbers.
 
-ghost use Rattle.std.specs.Prelude.{◌≡◌, ℕ, ◌+◌, ◌*◌, ◌<◌, ◌≤◌, List, [], ◌∷◌, OnOk, OnErr, IsSome};
+ghost use Rattle.std.specs.Prelude.{◌≡◌, ℕ, ◌+◌, ◌*◌, ◌<◌, ◌≤◌, List, [], ◌∷◌, OnOk, OnErr, IsSome, is_ok, if◌then◌else◌};
 ghost use Rattle.std.specs.Ordering.{nat_cmp};
 ghost use Rattle.std.specs.BTreeMap.{get, btree_map_len};
 ghost use Rattle.hc_transcript.specs.Items.{Item, item_of, is_head};
@@ -132,10 +132,11 @@ impl Standing {
         }
     }
 
-    /// Notes the next record. An `Err` changes nothing.
+    /// Notes the next record. After an `Err` it counts as many records as before.
     pub(crate) fn note(&mut self, item: &OwnedItem) -> Result<(), AllocError>
         requires { CanFollow self.old item.now }
         ensures ok { (h : List Item) → StandsAs self.old h → OnOk result (StandsAs self.new (item_of item.now ∷ h)) }
+        ensures records { self.new.records ≡ (if is_ok result then self.old.records + 1 else self.old.records) }
     {
         match item {
             OwnedItem::ClientRequest {
@@ -151,20 +152,25 @@ impl Standing {
                 ..
             } => self.open_forward(*forward, *moment, is_head(request)),
             OwnedItem::OriginResponse {
-                forward, moment, ..
+                forward,
+                moment,
+                ..
             } => Ok(self.close_forward(*forward, *moment)),
             OwnedItem::OriginFailure { forward, moment } => {
                 Ok(self.close_forward(*forward, *moment))
             }
             OwnedItem::ClientReply {
-                exchange, moment, ..
+                exchange,
+                moment,
+                ..
             } => Ok(self.close_exchange(*exchange, *moment)),
         }
     }
 
     fn open_exchange(&mut self, number: u64, moment: u64, is_head: bool) -> Result<(), AllocError>
         requires { (self.old.exchange < number) × (number ≤ 999999999999) }
-        ensures { OnOk result (OpensExchange self.old self.new number moment is_head) }
+        ensures ok { OnOk result (OpensExchange self.old self.new number moment is_head) }
+        ensures err { OnErr result (self.new.records ≡ self.old.records) }
     {
         self.exchanges.insert(number, is_head)?;
         self.exchange = number;
@@ -175,7 +181,8 @@ impl Standing {
 
     fn open_forward(&mut self, number: u64, moment: u64, is_head: bool) -> Result<(), AllocError>
         requires { (self.old.forward < number) × (number ≤ 999999999999) }
-        ensures { OnOk result (OpensForward self.old self.new number moment is_head) }
+        ensures ok { OnOk result (OpensForward self.old self.new number moment is_head) }
+        ensures err { OnErr result (self.new.records ≡ self.old.records) }
     {
         self.forwards.insert(number, is_head)?;
         self.forward = number;

@@ -37,7 +37,7 @@ pub struct RecordReader {
 }
 
 impl RecordReader {
-    ghost use Rattle.hc_transcript.specs.Reader.{Agrees, GivesAdvance, HasFailed, HasRecord, Lends, HasUnread, unread, records_read, reader_position, GivesOpening};
+    ghost use Rattle.hc_transcript.specs.Reader.{Agrees, GivesAdvance, HasFailed, HasRecord, Lends, CountsRecord, HasUnread, unread, records_read, reader_position, is_whole_by, GivesOpening};
 
     /// A reader that was given nothing.
     pub fn new(alloc: Global) -> Self
@@ -57,6 +57,10 @@ impl RecordReader {
     pub fn feed(&mut self, piece: &[u8]) -> Result<(), RecordFault>
         ensures ok { (octets : List ℕ) (records : List Record) (h : List Item) → Agrees self.old octets records h
             → OnOk result (Agrees self.new (octets ++ piece.now) records h) }
+        ensures counted { records_read self.new ≡ records_read self.old }
+        // A record that was read is lent as before.
+        ensures keeps { (one : Record) (item : Item) → Lends self.old one item → Lends self.new one item }
+        ensures lends { HasRecord self.old → HasRecord self.new }
         // Only memory can fail, unless a fault was answered before.
         ensures err { IfErr result (λ f. HasFailed self.new f × ((f ≡ RecordFault.Memory) ⊎ HasFailed self.old f)) }
         ensures failed { (f : RecordFault) → HasFailed self.old f → result ≡ Err f }
@@ -79,6 +83,7 @@ impl RecordReader {
             → GivesAdvance result self.new octets records h }
         ensures lends { result ≡ Ok true → HasRecord self.new }
         ensures shrinks { result ≡ Ok true → unread self.new < unread self.old }
+        ensures counted { CountsRecord result (records_read self.old) (records_read self.new) }
         ensures err { IfErr result (HasFailed self.new) }
         ensures failed { (f : RecordFault) → HasFailed self.old f → result ≡ Err f }
     {
@@ -135,6 +140,8 @@ impl RecordReader {
         ensures ok { (octets : List ℕ) (records : List Record) (h : List Item) → Agrees self.old octets records h
             → OnOk result (IsTranscript octets records h) }
         ensures err { IfErr result (λ f. HasFailed self.new f × ((f ≡ RecordFault.Torn) ⊎ HasFailed self.old f)) }
+        ensures keeps { (one : Record) (item : Item) → Lends self.old one item → Lends self.new one item }
+        ensures position { reader_position self.new ≡ reader_position self.old }
         ensures torn { (octets : List ℕ) (records : List Record) (h : List Item) → Agrees self.old octets records h
             → OnErr result (HasUnread self.old) }
         ensures failed { (f : RecordFault) → HasFailed self.old f → result ≡ Err f }
@@ -142,11 +149,23 @@ impl RecordReader {
         if let Some(fault) = self.fault {
             return Err(fault);
         }
-        if !self.is_open || !self.held.as_slice().is_empty() {
+        if !self.is_whole() {
             self.fault = Some(RecordFault::Torn);
             return Err(RecordFault::Torn);
         }
         Ok(())
+    }
+
+    /// Whether the opening is there, and no octet after the last record that was read.
+    fn is_whole(&self) -> bool
+        ensures { result ≡ is_whole_by self.now.is_open self.now.held }
+    {
+        let left = self.held.as_slice();
+        if self.is_open {
+            left.is_empty()
+        } else {
+            left == OPENING
+        }
     }
 
     fn step(&mut self) -> Result<bool, RecordFault>
@@ -154,6 +173,7 @@ impl RecordReader {
             → GivesAdvance result self.new octets records h }
         ensures lends { result ≡ Ok true → HasRecord self.new }
         ensures shrinks { result ≡ Ok true → unread self.new < unread self.old }
+        ensures counted { CountsRecord result (records_read self.old) (records_read self.new) }
     {
         if !self.is_open {
             match self.read_opening() {
@@ -190,6 +210,7 @@ impl RecordReader {
             → GivesAdvance result self.new octets records h }
         ensures lends { result ≡ Ok true → HasRecord self.new }
         ensures shrinks { result ≡ Ok true → unread self.new < unread self.old }
+        ensures counted { CountsRecord result (records_read self.old) (records_read self.new) }
     {
         let framed = match record_at(self.held.as_slice(), &self.standing) {
             Err(fault) => return Err(fault),

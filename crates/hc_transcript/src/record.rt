@@ -23,7 +23,10 @@ pub enum Record {
         message: Octets,
     },
     /// The origin gave no answer.
-    OriginFailure { forward: u64, moment: u64 },
+    OriginFailure {
+        forward: u64,
+        moment: u64,
+    },
     /// What the client was answered.
     ClientReply {
         exchange: u64,

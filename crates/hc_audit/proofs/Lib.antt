@@ -1,0 +1,2 @@
+pub mod ReuseLemmas
+pub mod JudgeLemmas

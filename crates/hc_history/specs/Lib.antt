@@ -1,0 +1,3 @@
+pub mod Marks
+pub mod Reuse
+pub mod Verdicts

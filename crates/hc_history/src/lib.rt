@@ -1,0 +1,10 @@
+//! What the history of a transcript means: marks, the thin test of a reused response, the verdict.
+#![tactic(auto)]
+
+mod marks;
+mod max_age;
+mod verdicts;
+
+pub use marks::{Mark, mark_of};
+pub use max_age::plain_max_age;
+pub use verdicts::{Counts, Verdict};
