@@ -56,9 +56,14 @@ impl Auditor {
         ensures verdict { (octets : List ℕ) → AgreesWith self octets → GivesVerdict result octets }
         ensures failed { HasFailed self → result ≡ Err AuditFault.Failed }
     {
-        if self.has_failed {
+        let Auditor {
+            alloc,
+            reader,
+            has_failed,
+        } = self;
+        if has_failed {
             return Err(AuditFault::Failed);
         }
-        Judge::new(self.alloc, self.reader).verdict()
+        Judge::new(alloc, reader).verdict()
     }
 }

@@ -11,3 +11,6 @@ pub use auditor::Auditor;
 pub use fault::AuditFault;
 pub use hc_history::{Counts, Verdict};
 pub use hc_transcript::RecordFault;
+
+#[cfg(test)]
+mod tests;

@@ -9,3 +9,6 @@ mod whole;
 pub use fault::FrameFault;
 pub use message::Message;
 pub use whole::{one_request, one_response, whole_request, whole_response};
+
+#[cfg(test)]
+mod tests;

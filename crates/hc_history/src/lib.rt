@@ -8,3 +8,6 @@ mod verdicts;
 pub use marks::{Mark, mark_of};
 pub use max_age::plain_max_age;
 pub use verdicts::{Counts, Verdict};
+
+#[cfg(test)]
+mod tests;

@@ -17,10 +17,7 @@ use Rattle.hc_transcript.specs.declared.line.Kind.{Kind}
 use Rattle.hc_transcript.specs.declared.line.Kind.TheVariants as kind
 use Rattle.hc_transcript.specs.Items.{Item}
 use Rattle.hc_transcript.specs.Transcript.{ReadsRequest, ReadsResponse, IsItemOf}
-use Rattle.hc_transcript.specs.Reading.{Refuses}
-
-abbrev pub IsKnown : RecordFault → Type 0
-IsKnown f = (f ≡ fault.Message) ⊎ ((f ≡ fault.Unsupported) ⊎ (f ≡ fault.Memory))
+use Rattle.hc_transcript.specs.Reading.{IsKnown, Refuses}
 
 not_memory : fault.Message ≡ fault.Memory → ⊥
 not_memory e = cc

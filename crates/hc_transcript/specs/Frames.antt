@@ -1,4 +1,4 @@
--- Where a record stands at the front of octets: its line, that many octets, and a line feed.
+-- For the reader's own functions and for its faults: where a record stands at the front of octets, which is its line, that many octets, and a line feed.
 use Rattle.std.specs.Prelude.{◌≡◌, ◌≢◌, ℕ, ◌+◌, ◌<◌, ◌≤◌, ◌⊎◌, List, ◌∷◌, ◌++◌, length, slice_index, Option, Some, None, Result, Ok, Err}
 use Rattle.hc_transcript.specs.declared.fault.RecordFault.{RecordFault}
 use Rattle.hc_transcript.specs.declared.fault.RecordFault.TheVariants as fault

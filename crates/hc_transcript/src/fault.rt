@@ -36,7 +36,7 @@ pub enum RecordFault {
     /// Memory was refused.
     #[error("out of memory")]
     Memory,
-    /// The message is framed, or its target written, in a way that isn't read yet.
+    /// The message is framed in a way, or its target has a form, that isn't read yet.
     #[error("a message of this form is not supported")]
     Unsupported,
 }

@@ -18,3 +18,6 @@ pub use item::OwnedItem;
 pub use line::{Kind, Line};
 pub use reader::RecordReader;
 pub use record::Record;
+
+#[cfg(test)]
+mod tests;

@@ -1,10 +1,10 @@
 //! What the octets of a record are read as.
 
-ghost use Rattle.std.specs.Prelude.{◌≡◌, ◌⊎◌, IfOk, true, length};
+ghost use Rattle.std.specs.Prelude.{◌≡◌, IfOk, true, length};
 ghost use Rattle.hc_transcript.specs.Records.{line_of, message_of};
 ghost use Rattle.hc_transcript.specs.Items.{item_kind, item_number};
 ghost use Rattle.hc_transcript.specs.Checks.{has_right_length};
-ghost use Rattle.hc_transcript.specs.Reading.{GivesRequest, GivesResponse, GivesItem};
+ghost use Rattle.hc_transcript.specs.Reading.{message_fault, is_other_form, target_fault, IsKnown, GivesRequest, GivesResponse, GivesItem};
 
 use crate::fault::RecordFault;
 use crate::item::OwnedItem;
@@ -15,12 +15,16 @@ use hc_framing::{FrameFault, Message, whole_request, whole_response};
 use hc_head::{HeadFault, RequestHead, ResponseHead, Target, target};
 use std::alloc::{AllocError, Global};
 
+/// What begins a URI of the scheme http.
+const SCHEME: &[u8] = b"http://";
+
 /// The least status of a final response (RFC 9110 section 15).
 const LEAST_FINAL: u16 = 200;
 
 /// A fault of a message as one of a record.
 fn message_fault(fault: FrameFault) -> RecordFault
-    ensures known { (result ≡ RecordFault.Message) ⊎ ((result ≡ RecordFault.Unsupported) ⊎ (result ≡ RecordFault.Memory)) }
+    ensures exact { result ≡ message_fault fault }
+    ensures known { IsKnown result }
     ensures memory { fault ≡ FrameFault.Memory → result ≡ RecordFault.Memory }
 {
     match fault {
@@ -30,14 +34,32 @@ fn message_fault(fault: FrameFault) -> RecordFault
     }
 }
 
-/// A fault of a target as one of a record. A target that isn't a path isn't read yet.
-fn target_fault(fault: HeadFault, is_path: bool) -> RecordFault
-    ensures known { (result ≡ RecordFault.Message) ⊎ ((result ≡ RecordFault.Unsupported) ⊎ (result ≡ RecordFault.Memory)) }
+/// Whether the target has a form that isn't read yet: `*` of OPTIONS, or a URI of the scheme http
+/// (RFC 9112 sections 3.2.2 and 3.2.4).
+fn is_other_form(head: &RequestHead) -> bool
+    ensures { result ≡ is_other_form head.now }
+{
+    let method = head.method.as_slice();
+    let target = head.target.as_slice();
+    if target == b"*".as_slice() {
+        return method == b"OPTIONS".as_slice();
+    }
+    if target.len() < SCHEME.len() || method == b"CONNECT".as_slice() {
+        return false;
+    }
+    let (scheme, _) = target.split_at(SCHEME.len());
+    scheme.eq_ignore_ascii_case(SCHEME)
+}
+
+/// A fault of a target as one of a record.
+fn target_fault(fault: HeadFault, is_other_form: bool) -> RecordFault
+    ensures exact { result ≡ target_fault fault is_other_form }
+    ensures known { IsKnown result }
     ensures memory { fault ≡ HeadFault.Memory → result ≡ RecordFault.Memory }
 {
     match fault {
         HeadFault::Memory => RecordFault::Memory,
-        HeadFault::Target if !is_path => RecordFault::Unsupported,
+        HeadFault::Target if is_other_form => RecordFault::Unsupported,
         _ => RecordFault::Message,
     }
 }
@@ -50,10 +72,10 @@ fn request_of(alloc: Global, octets: &[u8]) -> Result<(Message<RequestHead>, Tar
         Ok(request) => request,
         Err(fault) => return Err(message_fault(fault)),
     };
-    let is_path = request.head.target.as_slice().first() == Some(&b'/');
+    let is_other = is_other_form(&request.head);
     match target(alloc, &request.head) {
         Ok(target) => Ok((request, target)),
-        Err(fault) => Err(target_fault(fault, is_path)),
+        Err(fault) => Err(target_fault(fault, is_other)),
     }
 }
 

@@ -6,4 +6,4 @@ use Rattle.hc_framing.proofs.MessageLemmas.{message_unique}
 use Rattle.hc_framing.proofs.whole.one_request.Goals as goal
 
 pub returns : goal.returns
-returns c =  message_unique BeginsRequestHead request_field_count length_of_request request_without_framing request_unique begins_within
+returns c = message_unique BeginsRequestHead request_field_count length_of_request request_without_framing request_unique begins_within

@@ -1,0 +1,228 @@
+use super::*;
+use std::alloc::{AllocError, Global};
+use std::test::*;
+
+/// The opening of a transcript.
+const OPENING: &[u8] = b"HCT1\n";
+
+/// What was asked for: 28 octets.
+const ASKED: &[u8] = b"GET /a HTTP/1.1\r\nhost: h\r\n\r\n";
+
+/// The lines that a hit has more, after 59 seconds.
+const HIT: &str = "age: 59\r\ncache-status: hcache;hit\r\n";
+
+/// The same after 60 seconds.
+const LATE: &str = "age: 60\r\ncache-status: hcache;hit\r\n";
+
+/// The counts of the first transcript.
+const FIRST_COUNTS: Counts = Counts {
+    records: 6,
+    replies: 2,
+    hits: 1,
+    forwarded: 0,
+    unmarked: 1,
+};
+
+/// The counts of a transcript without records.
+const NO_COUNTS: Counts = Counts {
+    records: 0,
+    replies: 0,
+    hits: 0,
+    forwarded: 0,
+    unmarked: 0,
+};
+
+/// Adds a record: its line up to the length, and its message.
+fn add(alloc: Global, octets: &mut Vec<u8>, line: &str, message: &[u8]) -> Result<(), AllocError> {
+    let size = format!(in alloc; " {}\n", message.len())?;
+    octets.extend_from_slice(line.as_bytes())?;
+    octets.extend_from_slice(size.as_bytes())?;
+    octets.extend_from_slice(message)?;
+    octets.extend_from_slice(b"\n")?;
+    Ok(())
+}
+
+/// A response with that status, these lines more and that body.
+fn response(alloc: Global, status: &str, lines: &str, body: &str) -> Result<String, AllocError> {
+    format!(in alloc;
+        "HTTP/1.1 {status} \r\ndate: Thu, 01 Jan 1970 00:16:40 GMT\r\ncache-control: max-age=60\r\n{lines}content-length: 5\r\n\r\n{body}"
+    )
+}
+
+/// A transcript of one exchange with one forward.
+fn one_exchange(alloc: Global, asked: &[u8], answered: &[u8]) -> Result<Vec<u8>, AllocError> {
+    let mut octets = Vec::from_slice(alloc, OPENING)?;
+    add(alloc, &mut octets, "q 1 1000", asked)?;
+    add(alloc, &mut octets, "f 1 1000", asked)?;
+    add(alloc, &mut octets, "r 1 1000", answered)?;
+    add(alloc, &mut octets, "a 1 1000", answered)?;
+    Ok(octets)
+}
+
+/// One exchange, and behind it a request and its reply at a moment.
+fn two_exchanges(
+    alloc: Global,
+    first: &[u8],
+    second: &[u8],
+    moment: &str,
+    replied: &str,
+) -> Result<Vec<u8>, AllocError> {
+    let answered = response(alloc, "200", "", "hello")?;
+    let asks = format!(in alloc; "q 2 {moment}")?;
+    let replies = format!(in alloc; "a 2 {moment}")?;
+    let mut octets = one_exchange(alloc, first, answered.as_bytes())?;
+    add(alloc, &mut octets, &asks, second)?;
+    add(alloc, &mut octets, &replies, replied.as_bytes())?;
+    Ok(octets)
+}
+
+/// The first transcript, of 520 octets.
+fn first_transcript(alloc: Global) -> Result<Vec<u8>, AllocError> {
+    let again = response(alloc, "200", HIT, "hello")?;
+    two_exchanges(alloc, ASKED, ASKED, "1059", &again)
+}
+
+/// A transcript of two responses, and of a hit of the first.
+fn two_responses(alloc: Global) -> Result<Vec<u8>, AllocError> {
+    let older = response(alloc, "200", "", "hello")?;
+    let newer = response(alloc, "200", "", "world")?;
+    let again = response(alloc, "200", HIT, "hello")?;
+    let mut octets = one_exchange(alloc, ASKED, older.as_bytes())?;
+    add(alloc, &mut octets, "q 2 1010", ASKED)?;
+    add(alloc, &mut octets, "f 2 1010", ASKED)?;
+    add(alloc, &mut octets, "r 2 1010", newer.as_bytes())?;
+    add(alloc, &mut octets, "a 2 1010", newer.as_bytes())?;
+    add(alloc, &mut octets, "q 3 1059", ASKED)?;
+    add(alloc, &mut octets, "a 3 1059", again.as_bytes())?;
+    Ok(octets)
+}
+
+/// A transcript of a reply to nothing.
+fn lone_reply(alloc: Global) -> Result<Vec<u8>, AllocError> {
+    let answered = response(alloc, "200", "", "hello")?;
+    let mut octets = Vec::from_slice(alloc, OPENING)?;
+    add(alloc, &mut octets, "q 1 1000", ASKED)?;
+    add(alloc, &mut octets, "a 7 1000", answered.as_bytes())?;
+    Ok(octets)
+}
+
+/// The verdict on the octets, fed in one piece.
+fn audit(alloc: Global, octets: &[u8]) -> Result<Verdict, AuditFault> {
+    let mut auditor = Auditor::new(alloc);
+    auditor.feed(octets)?;
+    auditor.finish()
+}
+
+/// The same, fed octet by octet.
+fn audit_octets(alloc: Global, octets: &[u8]) -> Result<Verdict, AuditFault> {
+    let mut auditor = Auditor::new(alloc);
+    for octet in octets.chunks(1) {
+        auditor.feed(octet)?;
+    }
+    auditor.finish()
+}
+
+/// The same, fed in two pieces.
+fn audit_pieces(alloc: Global, front: &[u8], back: &[u8]) -> Result<Verdict, AuditFault> {
+    let mut auditor = Auditor::new(alloc);
+    auditor.feed(front)?;
+    auditor.feed(back)?;
+    auditor.finish()
+}
+
+#[test]
+fn a_hit_in_any_pieces(rt: HostRuntime) -> Result<(), Fail> {
+    let octets = first_transcript(rt.alloc())?;
+    assert_eq!(rt; octets.len(), 520);
+    let yes = Ok(Verdict::Yes(FIRST_COUNTS));
+    assert!(rt; audit(rt.alloc(), &octets) == yes);
+    assert!(rt; audit_octets(rt.alloc(), &octets) == yes);
+    for cut in 1..octets.len() {
+        let (front, back) = octets.split_at(cut);
+        assert!(rt;
+            audit_pieces(rt.alloc(), front, back) == yes,
+            "cut at {cut}"
+        );
+    }
+    Ok(())
+}
+
+#[test]
+fn broken_transcripts(rt: HostRuntime) -> Result<(), Fail> {
+    let mut cut = first_transcript(rt.alloc())?;
+    cut.truncate(517);
+    let lone = lone_reply(rt.alloc())?;
+    for (octets, position, fault) in [
+        (b"".as_slice(), 0, RecordFault::Torn),
+        (b"HCT2\n".as_slice(), 0, RecordFault::Opening),
+        (b"HCT1\nq 01 1000 28\n".as_slice(), 1, RecordFault::Line),
+        (lone.as_slice(), 2, RecordFault::NothingOpen),
+        (cut.as_slice(), 6, RecordFault::Torn),
+    ] {
+        let verdict = audit(rt.alloc(), octets)?;
+        assert_eq!(rt; verdict, Verdict::Malformed(position, fault));
+    }
+    let opened = audit(rt.alloc(), OPENING)?;
+    assert_eq!(rt; opened, Verdict::Yes(NO_COUNTS));
+    Ok(())
+}
+
+#[test]
+fn replies_that_are_not_supported(rt: HostRuntime) -> Result<(), Fail> {
+    for (moment, status, lines, body) in [
+        ("1060", "200", LATE, "hello"),
+        ("1059", "200", HIT, "hellp"),
+        ("1059", "404", HIT, "hello"),
+        ("1059", "200", "cache-status: a;hit;ttl=1\r\n", "hello"),
+    ] {
+        let replied = response(rt.alloc(), status, lines, body)?;
+        let octets = two_exchanges(rt.alloc(), ASKED, ASKED, moment, &replied)?;
+        let fault = audit(rt.alloc(), &octets).err();
+        assert_eq!(rt; fault, Some(AuditFault::Unsupported(6)), "{replied}");
+    }
+    Ok(())
+}
+
+#[test]
+fn targets_that_are_not_supported(rt: HostRuntime) -> Result<(), Fail> {
+    let again = response(rt.alloc(), "200", HIT, "hello")?;
+    for (first, second) in [
+        (ASKED, b"GET /b HTTP/1.1\r\nhost: h\r\n\r\n".as_slice()),
+        (ASKED, b"GET /a HTTP/1.1\r\nhost: i\r\n\r\n".as_slice()),
+        (b"POST /a HTTP/1.1\r\nhost: h\r\n\r\n".as_slice(), ASKED),
+    ] {
+        let octets = two_exchanges(rt.alloc(), first, second, "1059", &again)?;
+        let fault = audit(rt.alloc(), &octets).err();
+        assert_eq!(rt; fault, Some(AuditFault::Unsupported(6)), "{first:?}");
+    }
+    Ok(())
+}
+
+#[test]
+fn a_hit_of_either_response(rt: HostRuntime) -> Result<(), Fail> {
+    let octets = two_responses(rt.alloc())?;
+    let counts = Counts {
+        records: 10,
+        replies: 3,
+        hits: 1,
+        forwarded: 0,
+        unmarked: 2,
+    };
+    assert_eq!(rt; audit(rt.alloc(), &octets)?, Verdict::Yes(counts));
+    Ok(())
+}
+
+#[test]
+fn faults_are_told(rt: HostRuntime) -> Result<(), Fail> {
+    for (fault, number, name) in [
+        (AuditFault::from(AllocError), 1, "Memory"),
+        (AuditFault::Failed, 2, "Failed"),
+        (AuditFault::Unsupported(6), 3, "Unsupported"),
+    ] {
+        assert_eq!(rt; fault.number(), number);
+        assert_eq!(rt; fault.name(), name);
+    }
+    let text = format!(in rt.alloc(); "{}", AuditFault::Unsupported(6))?;
+    assert_eq!(rt; text.as_str(), "the record at position 6 is not supported");
+    Ok(())
+}

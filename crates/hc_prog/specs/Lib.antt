@@ -1,0 +1,4 @@
+pub mod Audit
+pub mod Command
+pub mod Line
+pub mod Trouble

@@ -1,0 +1,67 @@
+//! Why there is no verdict, and what the program says of it.
+ghost use Rattle.std.specs.Prelude.{◌≡◌};
+ghost use Rattle.hc_prog.specs.Trouble.{trouble_line};
+ghost use Rattle.hc_prog.specs.declared.trouble.Trouble.TheVariants.{Memory, Unsupported};
+
+use crate::print::printed;
+use hc_audit::AuditFault;
+use std::alloc::AllocError;
+use std::io::Write;
+
+/// Why the program gives no verdict.
+#[derive(Clone, Copy, Debug, PartialEq, Eq)]
+pub enum Trouble {
+    /// A record of the transcript can't be judged yet.
+    Unsupported,
+    /// Memory was refused.
+    Memory,
+    /// The transcript can't be opened or read to its end.
+    Input,
+    /// The answer can't be written.
+    Output,
+}
+
+impl Trouble {
+    /// The exit status of a program that gives no verdict.
+    pub const STATUS: u8 = 3;
+
+    /// The line that says it, with its line feed.
+    pub fn line(self) -> &'static str
+        ensures { result.now ≡ trouble_line self }
+    {
+        match self {
+            Trouble::Unsupported => "error: unsupported\n",
+            Trouble::Memory => "error: memory\n",
+            Trouble::Input | Trouble::Output => "error: device\n",
+        }
+    }
+
+    /// Says it on `faults`, and answers the exit status. A write that fails is passed over.
+    pub fn told<E: Write>(self, faults: &mut E) -> u8
+        ensures { result ≡ 3 }
+    {
+        let _ = printed(self.line(), faults);
+        Trouble::STATUS
+    }
+}
+
+impl From<AllocError> for Trouble {
+    ghost from_gives = { λ _ t. t ≡ Memory };
+
+    fn from(_error: AllocError) -> Trouble {
+        Trouble::Memory
+    }
+}
+
+impl From<AuditFault> for Trouble {
+    ghost from_gives = { λ f t. t ≡ trouble_of f };
+
+    ghost use Rattle.hc_prog.specs.Trouble.{trouble_of};
+
+    fn from(fault: AuditFault) -> Trouble {
+        match fault {
+            AuditFault::Memory | AuditFault::Failed => Trouble::Memory,
+            AuditFault::Unsupported(_) => Trouble::Unsupported,
+        }
+    }
+}
