@@ -24,9 +24,6 @@ use Rattle.hc_audit.specs.Notes.{IsSeenAs}
 
 -- ---- a fault of the transcript
 
-not_opening : faults.Unsupported ≡ faults.Opening → ⊥
-not_opening e = cc
-
 malformed : (r : RecordReader) (octets : List ℕ) (h : List Item) (f : RecordFault) → AllRight h → Stops r octets h f → IsVerdict octets (Malformed (reader_position r) f)
 malformed r octets h f right stops = elim stops [
   | inl opening ↦ inl (opening.1.1, inl (opening.0, opening.1.0))
@@ -35,10 +32,6 @@ malformed r octets h f right stops = elim stops [
 
 pub stops_give : (r : RecordReader) (octets : List ℕ) (h : List Item) (f : RecordFault) → AllRight h → (f ≢ faults.Memory → Stops r octets h f) → GivesVerdict (stopped f (reader_position r)) octets
 stops_give r octets h faults.Memory right stops = tt
-stops_give r octets h faults.Unsupported right stops = elim (stops (λ e. cc)) [
-  | inl opening ↦ absurd (not_opening opening.1.0)
-  | inr behind ↦ record { history = h; all_right = right; position_is = behind.1; stands = inl behind.0 }
-]
 stops_give r octets h faults.Opening right stops = malformed r octets h faults.Opening right (stops (λ e. cc))
 stops_give r octets h faults.Line right stops = malformed r octets h faults.Line right (stops (λ e. cc))
 stops_give r octets h faults.Torn right stops = malformed r octets h faults.Torn right (stops (λ e. cc))
@@ -61,20 +54,31 @@ splits_of r octets one records h agrees = go r.is_open agrees.reads
     go true reads = reads
     go false reads = absurd (not_empty one records reads.0)
 
-pub wrong_gives : (r : RecordReader) (octets : List ℕ) (records : List Record) (h : List Item) (a : Advances r octets records h) (item : Item) (position : ℕ)
-    → item ≡ a.item → AllRight h → ¬ (IsRight h item) → position ≡ next_position h → IsUnsupportedAt octets position
-wrong_gives r octets records h a item position item-is right wrong position-is = record {
+-- only a reply can be wrong
+wrong_reply : (octets : List ℕ) (records : List Record) (h : List Item) (item : Item) (rest : List ℕ) (position : ℕ) → Splits octets records (item ∷ h) rest
+    → AllRight h → ¬ (IsRight h item) → position ≡ next_position h → IsUnsupportedAt octets position
+wrong_reply octets records h (ClientRequest number moment request target) rest position splits right wrong position-is = absurd (wrong tt)
+wrong_reply octets records h (OriginRequest number moment request target) rest position splits right wrong position-is = absurd (wrong tt)
+wrong_reply octets records h (OriginResponse number moment response) rest position splits right wrong position-is = absurd (wrong tt)
+wrong_reply octets records h (OriginFailure number moment) rest position splits right wrong position-is = absurd (wrong tt)
+wrong_reply octets records h (ClientReply number moment reply) rest position splits right wrong position-is = record {
   history = h;
   all_right = right;
   position_is = position-is;
-  stands = inr (record {
-    records = a.one ∷ records;
-    item = a.item;
-    rest = r.held;
-    splits = splits_of r octets a.one records (a.item ∷ h) a.agrees;
-    wrong = λ is. wrong (subst (λ (i : Item). IsRight h i) (sym item-is) is);
-  });
+  records = records;
+  number = number;
+  moment = moment;
+  reply = reply;
+  rest = rest;
+  splits = splits;
+  wrong = wrong;
 }
+
+pub wrong_gives : (r : RecordReader) (octets : List ℕ) (records : List Record) (h : List Item) (a : Advances r octets records h) (item : Item) (position : ℕ)
+    → item ≡ a.item → AllRight h → ¬ (IsRight h item) → position ≡ next_position h → IsUnsupportedAt octets position
+wrong_gives r octets records h a item position item-is right wrong position-is =
+    wrong_reply octets (a.one ∷ records) h a.item r.held position (splits_of r octets a.one records (a.item ∷ h) a.agrees)
+    right (λ is. wrong (subst (λ (i : Item). IsRight h i) (sym item-is) is)) position-is
 
 pub right_goes_on : (j : Judge) (octets : List ℕ) (records : List Record) (h : List Item) (a : Advances j.reader octets records h) (item : Item) (counts : Counts)
     → item ≡ a.item → AllRight h → IsRight h item → IsSeenAs j.notes (item ∷ h) → counts ≡ one_more (counts_of h) → j.counts ≡ marked item counts → IsJudging j octets

@@ -29,7 +29,7 @@ pub record IsEnding (j : Judge) (octets : List ℕ) : Type 0 where
   pub judging : IsJudging j octets
   pub waits : Waits j.reader judging.history
 
--- what the answer of an audit says; a verdict is withheld only for want of memory, or where something can't be judged yet
+-- what the answer of an audit says; a verdict is withheld only for want of memory, or at a reply that can't be judged yet
 abbrev pub GivesVerdict : Result Verdict AuditFault → List ℕ → Type 0
 GivesVerdict (Ok verdict) octets = IsVerdict octets verdict
 GivesVerdict (Err Memory) octets = Unit {0}
@@ -39,7 +39,6 @@ GivesVerdict (Err (Unsupported position)) octets = IsUnsupportedAt octets positi
 -- what a fault of the transcript at a position is to the auditor
 abbrev pub stopped : RecordFault → ℕ → Result Verdict AuditFault
 stopped faults.Memory position = Err Memory
-stopped faults.Unsupported position = Err (Unsupported position)
 stopped faults.Opening position = Ok (Malformed position faults.Opening)
 stopped faults.Line position = Ok (Malformed position faults.Line)
 stopped faults.Torn position = Ok (Malformed position faults.Torn)

@@ -48,8 +48,8 @@ impl Auditor {
         Ok(())
     }
 
-    /// The verdict on all octets that were fed. `Unsupported` tells the position of the first record
-    /// that can't be read or judged yet.
+    /// The verdict on all octets that were fed. `Unsupported` tells the position of the first reply
+    /// that can't be judged yet.
     pub fn finish(self) -> Result<Verdict, AuditFault>
         // `Yes` only where the octets fed, in whatever pieces, are a transcript and every reply in it is
         // right; `Malformed` only where they break at that position by that fault.

@@ -15,7 +15,7 @@ pub enum AuditFault {
     /// A fault was answered before.
     #[error("a fault was met before")]
     Failed,
-    /// The record at this position, the first has 1, can't be read or judged yet.
+    /// The reply at this position, the first record has 1, can't be judged yet.
     #[error("the record at position {0} is not supported")]
     Unsupported(u64),
 }

@@ -15,7 +15,6 @@ pub(crate) fn stopped(fault: RecordFault, position: u64) -> Result<Verdict, Audi
 {
     match fault {
         RecordFault::Memory => Err(AuditFault::Memory),
-        RecordFault::Unsupported => Err(AuditFault::Unsupported(position)),
         other => Ok(Verdict::Malformed(position, other)),
     }
 }

@@ -76,6 +76,20 @@ fn two_exchanges(
     Ok(octets)
 }
 
+/// One exchange that is answered so, and behind it a request and a hit after 59 seconds.
+fn hit_of(
+    alloc: Global,
+    first: &[u8],
+    answered: &[u8],
+    second: &[u8],
+) -> Result<Vec<u8>, AllocError> {
+    let again = response(alloc, "200", HIT, "hello")?;
+    let mut octets = one_exchange(alloc, first, answered)?;
+    add(alloc, &mut octets, "q 2 1059", second)?;
+    add(alloc, &mut octets, "a 2 1059", again.as_bytes())?;
+    Ok(octets)
+}
+
 /// The first transcript, of 520 octets.
 fn first_transcript(alloc: Global) -> Result<Vec<u8>, AllocError> {
     let again = response(alloc, "200", HIT, "hello")?;
@@ -184,17 +198,61 @@ fn replies_that_are_not_supported(rt: HostRuntime) -> Result<(), Fail> {
 }
 
 #[test]
-fn targets_that_are_not_supported(rt: HostRuntime) -> Result<(), Fail> {
+fn hits_of_other_targets_are_not_supported(rt: HostRuntime) -> Result<(), Fail> {
     let again = response(rt.alloc(), "200", HIT, "hello")?;
     for (first, second) in [
         (ASKED, b"GET /b HTTP/1.1\r\nhost: h\r\n\r\n".as_slice()),
         (ASKED, b"GET /a HTTP/1.1\r\nhost: i\r\n\r\n".as_slice()),
+        (
+            ASKED,
+            b"GET http://i/a HTTP/1.1\r\nhost: h\r\n\r\n".as_slice(),
+        ),
         (b"POST /a HTTP/1.1\r\nhost: h\r\n\r\n".as_slice(), ASKED),
     ] {
         let octets = two_exchanges(rt.alloc(), first, second, "1059", &again)?;
         let fault = audit(rt.alloc(), &octets).err();
         assert_eq!(rt; fault, Some(AuditFault::Unsupported(6)), "{first:?}");
     }
+    Ok(())
+}
+
+#[test]
+fn hits_of_bodies_in_each_framing(rt: HostRuntime) -> Result<(), Fail> {
+    for answered in [
+        b"HTTP/1.1 200 \r\ncache-control: max-age=60\r\ntransfer-encoding: chunked\r\n\r\n2\r\nhe\r\n3\r\nllo\r\n0\r\n\r\n".as_slice(),
+        b"HTTP/1.1 200 \r\ncache-control: max-age=60\r\ncontent-length: 5, 5\r\n\r\nhello".as_slice(),
+        b"HTTP/1.0 200 \r\ncache-control: max-age=60\r\n\r\nhello".as_slice(),
+    ] {
+        let octets = hit_of(rt.alloc(), ASKED, answered, ASKED)?;
+        let verdict = audit(rt.alloc(), &octets)?;
+        assert_eq!(rt; verdict, Verdict::Yes(FIRST_COUNTS), "{answered:?}");
+    }
+    Ok(())
+}
+
+#[test]
+fn hits_of_targets_in_each_form(rt: HostRuntime) -> Result<(), Fail> {
+    let answered = response(rt.alloc(), "200", "", "hello")?;
+    for second in [
+        b"GET http://h/a HTTP/1.1\r\nhost: i\r\n\r\n".as_slice(),
+        b"GET HTTP://H:80/a HTTP/1.1\r\nhost: h\r\n\r\n".as_slice(),
+    ] {
+        for (one, other) in [(ASKED, second), (second, ASKED)] {
+            let octets = hit_of(rt.alloc(), one, answered.as_bytes(), other)?;
+            let verdict = audit(rt.alloc(), &octets)?;
+            assert_eq!(rt; verdict, Verdict::Yes(FIRST_COUNTS), "{second:?}");
+        }
+    }
+    let star = b"OPTIONS * HTTP/1.1\r\nhost: h\r\n\r\n".as_slice();
+    let octets = one_exchange(rt.alloc(), star, b"HTTP/1.1 204 \r\n\r\n")?;
+    let counts = Counts {
+        records: 4,
+        replies: 1,
+        hits: 0,
+        forwarded: 0,
+        unmarked: 1,
+    };
+    assert_eq!(rt; audit(rt.alloc(), &octets)?, Verdict::Yes(counts));
     Ok(())
 }
 

@@ -1,1 +1,8 @@
-pub mod MessageLemmas
+pub mod ListLemmas
+pub mod ChunkLineLemmas
+pub mod TrailerLemmas
+pub mod ChunkLemmas
+pub mod BodyLemmas
+pub mod FramingLemmas
+pub mod ReaderLemmas
+pub mod TextLemmas

@@ -1,4 +1,16 @@
 pub mod Names
-pub mod Lengths
+pub mod ChunkLines
+pub mod ChunkLineReading
+pub mod Trailers
+pub mod TrailerReading
+pub mod Chunks
+pub mod Framing
 pub mod Messages
+pub mod Texts
+pub mod FramingLaws
+pub mod Bodies
+pub mod BodyReading
 pub mod Faults
+pub mod Reader
+pub mod ReaderParts
+pub mod Written

@@ -1,39 +1,71 @@
--- A message: a head, and the octets of its body (RFC 9112 section 2.1).
-use Rattle.std.specs.Prelude.{◌≡◌, ℕ, ◌+◌, ◌≤◌, Bool, List, length, take, drop, Result, Ok, codes}
+-- A message: a head, and a body that is framed as the head says (RFC 9112 sections 2.1 and 6).
+use Rattle.std.specs.Prelude.{◌≡◌, ℕ, ◌+◌, ◌≤◌, ◌<◌, Bool, false, List, [], length, take, drop, codes, Result, Ok}
 use Rattle.hc_fields.specs.declared.fields.Field.{Field}
 use Rattle.hc_fields.specs.Values.{without}
 use Rattle.hc_head.specs.declared.head.RequestHead.{RequestHead}
 use Rattle.hc_head.specs.declared.head.ResponseHead.{ResponseHead}
+use Rattle.hc_head.specs.Heads.{BeginsRequestHead, BeginsResponseHead}
 use Rattle.hc_head.specs.declared.head.Room.{Room}
-use Rattle.hc_head.specs.Heads.{BeginsRequestHead, request_field_count, BeginsResponseHead, response_field_count}
 use Rattle.hc_framing.specs.declared.message.Message.{Message}
 use Rattle.hc_framing.specs.declared.fault.FrameFault.{FrameFault}
-use Rattle.hc_framing.specs.Lengths.{request_length, response_length}
+use Rattle.hc_framing.specs.declared.framing.Framing.{Framing}
+use Rattle.hc_framing.specs.declared.framing.Framing.TheVariants.{Nothing, Sized, Chunked, UntilClose}
+use Rattle.hc_framing.specs.declared.kind.Kind.{Kind}
+use Rattle.hc_framing.specs.declared.kind.Kind.TheVariants.{Request, Response}
+use Rattle.hc_framing.specs.Framing.{request_framing, response_framing}
+use Rattle.hc_framing.specs.Chunks.{longest_body, IsChunkedThen}
 
--- the octets begin with a body of that many octets
-pub record BeginsBody (octets : List ℕ) (size : ℕ) (body : List ℕ) (len : ℕ) : Type 0 where
-  pub len_is : len ≡ size
+-- the octets begin with so many octets of a body
+pub record BeginsSized (size : ℕ) (octets body : List ℕ) (len : ℕ) : Type 0 where
   pub enough : size ≤ length octets
   pub body_is : body ≡ take size octets
+  pub len_is : len ≡ size
 
-module _ {H : Type 0} (Begins : List ℕ → H → ℕ → Type 0) (field_count : H → ℕ) (body_length : H → Result ℕ FrameFault) (without_framing : H → H) where
+-- the octets begin with a chunked body
+pub record BeginsChunked (octets body : List ℕ) (len : ℕ) : Type 0 where
+  pub within : len ≤ length octets
+  pub is : IsChunkedThen octets body (drop len octets)
+  pub short : length body ≤ longest_body
+
+-- the octets begin with a body that is framed so, which takes len of them; one that lasts until the close has no end of its own
+abbrev pub BeginsBody : Framing → List ℕ → List ℕ → ℕ → Type 0
+BeginsBody Nothing octets body len = (body ≡ []) × (len ≡ 0)
+BeginsBody (Sized size) octets body len = BeginsSized size octets body len
+BeginsBody Chunked octets body len = BeginsChunked octets body len
+BeginsBody UntilClose octets body len = ⊥
+
+-- all of the octets are the body, and there are no more
+abbrev pub IsWholeBody : Framing → List ℕ → List ℕ → Type 0
+IsWholeBody Nothing octets body = BeginsBody Nothing octets body (length octets)
+IsWholeBody (Sized size) octets body = BeginsBody (Sized size) octets body (length octets)
+IsWholeBody Chunked octets body = BeginsBody Chunked octets body (length octets)
+IsWholeBody UntilClose octets body = (body ≡ octets) × (length octets ≤ longest_body)
+
+-- by what octets begin with a head, how its body is framed, and the head without the fields that frame it
+module _ {H : Type 0} (Begins : List ℕ → H → ℕ → Type 0) (framing : H → Result Framing FrameFault) (bare : H → H) where
   -- the octets begin with the message, which takes len of them
   pub record BeginsMessage (octets : List ℕ) (message : Message H) (len : ℕ) : Type 0 where
     pub head : H
     pub head_len : ℕ
     pub begins : Begins octets head head_len
-    pub size : ℕ
-    pub framed : body_length head ≡ Ok size
+    pub frame : Framing
+    pub framed : framing head ≡ Ok frame
     pub body_len : ℕ
-    pub body : BeginsBody (drop head_len octets) size message.body body_len
-    pub head_is : message.head ≡ without_framing head
+    pub body : BeginsBody frame (drop head_len octets) message.body body_len
+    pub head_is : message.head ≡ bare head
     pub len_is : len ≡ head_len + body_len
 
-  -- all of the octets are the message, and its head keeps to the room
-  pub record IsWholeMessage (octets : List ℕ) (room : Room) (message : Message H) : Type 0 where
-    pub is : BeginsMessage octets message (length octets)
-    pub octets_fit : is.head_len ≤ room.octets
-    pub fields_fit : field_count is.head ≤ room.fields
+  -- all of the octets are the message, and there are no more
+  pub record IsWholeMessage (octets : List ℕ) (message : Message H) : Type 0 where
+    pub head : H
+    pub head_len : ℕ
+    pub begins : Begins octets head head_len
+    pub frame : Framing
+    pub framed : framing head ≡ Ok frame
+    pub body : IsWholeBody frame (drop head_len octets) message.body
+    pub head_is : message.head ≡ bare head
+
+-- ---- requests and responses
 
 -- the fields that don't frame the body
 abbrev pub fields_without_framing : List Field → List Field
@@ -45,24 +77,21 @@ request_without_framing head = record head { fields = fields_without_framing hea
 abbrev pub response_without_framing : ResponseHead → ResponseHead
 response_without_framing head = record head { fields = fields_without_framing head.fields }
 
-abbrev pub length_of_request : RequestHead → Result ℕ FrameFault
-length_of_request head = request_length head.fields
+-- whether what is read answers HEAD
+abbrev pub answers_head : Kind → Bool
+answers_head Request = false
+answers_head (Response to_head) = to_head
 
-abbrev pub length_of_response : Bool → ResponseHead → Result ℕ FrameFault
-length_of_response to_head head = response_length to_head head.status head.fields
+abbrev pub framing_of_request : Kind → RequestHead → Result Framing FrameFault
+framing_of_request kind head = request_framing head.version head.fields
+
+abbrev pub framing_of_response : Kind → ResponseHead → Result Framing FrameFault
+framing_of_response kind head = response_framing (answers_head kind) head.status head.version head.fields
 
 -- the octets begin with the request, which takes len of them
 abbrev pub BeginsRequest : List ℕ → Message RequestHead → ℕ → Type 0
-BeginsRequest = BeginsMessage BeginsRequestHead request_field_count length_of_request request_without_framing
+BeginsRequest = BeginsMessage BeginsRequestHead (framing_of_request Request) request_without_framing
 
 -- the octets begin with the response, to a HEAD request or another, which takes len of them
 abbrev pub BeginsResponse : Bool → List ℕ → Message ResponseHead → ℕ → Type 0
-BeginsResponse to_head = BeginsMessage BeginsResponseHead response_field_count (length_of_response to_head) response_without_framing
-
--- all of the octets are the request, and its head keeps to the room
-abbrev pub IsWholeRequest : List ℕ → Room → Message RequestHead → Type 0
-IsWholeRequest = IsWholeMessage BeginsRequestHead request_field_count length_of_request request_without_framing
-
--- all of the octets are the response, to a HEAD request or another, and its head keeps to the room
-abbrev pub IsWholeResponse : Bool → List ℕ → Room → Message ResponseHead → Type 0
-IsWholeResponse to_head = IsWholeMessage BeginsResponseHead response_field_count (length_of_response to_head) response_without_framing
+BeginsResponse to_head = BeginsMessage BeginsResponseHead (framing_of_response (Response to_head)) response_without_framing

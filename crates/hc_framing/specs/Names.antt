@@ -1,7 +1,7 @@
 -- The numbers and the names of the faults of a message.
 use Rattle.std.specs.Prelude.{ℕ, List, codes}
 use Rattle.hc_framing.specs.declared.fault.FrameFault.{FrameFault}
-use Rattle.hc_framing.specs.declared.fault.FrameFault.TheVariants.{Head, BothLengths, BadLength, BadCoding, BadChunk, BodyTooLong, Truncated, Memory, Failed, Unsupported}
+use Rattle.hc_framing.specs.declared.fault.FrameFault.TheVariants.{Head, BothLengths, BadLength, BadCoding, BadChunk, BodyTooLong, Truncated, Memory, Failed}
 
 abbrev pub fault_number : FrameFault → ℕ
 fault_number (Head fault) = 1
@@ -13,7 +13,6 @@ fault_number BodyTooLong = 6
 fault_number Truncated = 7
 fault_number Memory = 8
 fault_number Failed = 9
-fault_number Unsupported = 10
 
 abbrev pub fault_name : FrameFault → List ℕ
 fault_name (Head fault) = codes "Head"
@@ -25,4 +24,3 @@ fault_name BodyTooLong = codes "BodyTooLong"
 fault_name Truncated = codes "Truncated"
 fault_name Memory = codes "Memory"
 fault_name Failed = codes "Failed"
-fault_name Unsupported = codes "Unsupported"

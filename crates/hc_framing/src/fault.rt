@@ -37,9 +37,6 @@ pub enum FrameFault {
     /// A fault was answered before.
     #[error("a fault was met before")]
     Failed,
-    /// The body is framed in a way that isn't read yet.
-    #[error("the framing is not supported")]
-    Unsupported,
 }
 
 impl FrameFault {
@@ -60,7 +57,6 @@ impl FrameFault {
             FrameFault::Truncated => 7,
             FrameFault::Memory => 8,
             FrameFault::Failed => 9,
-            FrameFault::Unsupported => 10,
         }
     }
 
@@ -78,7 +74,6 @@ impl FrameFault {
             FrameFault::Truncated => "Truncated",
             FrameFault::Memory => "Memory",
             FrameFault::Failed => "Failed",
-            FrameFault::Unsupported => "Unsupported",
         }
     }
 }

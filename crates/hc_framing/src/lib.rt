@@ -1,14 +1,30 @@
 //! Messages: a head, and the body that its fields announce (RFC 9112 section 6).
 #![tactic(auto)]
 
+mod body;
+mod chunk_line;
 mod fault;
-mod lengths;
+mod framing;
+mod head;
+mod kind;
 mod message;
+mod progress;
+mod reader;
+mod trailer;
 mod whole;
+mod writing;
 
 pub use fault::FrameFault;
+pub use framing::Framing;
+pub use head::MessageHead;
+pub use kind::Kind;
 pub use message::Message;
+pub use progress::Progress;
+pub use reader::MessageReader;
 pub use whole::{one_request, one_response, whole_request, whole_response};
+pub use writing::{write_message, written_request_read_back, written_response_read_back};
 
 #[cfg(test)]
 mod tests;
+#[cfg(test)]
+mod writing_tests;

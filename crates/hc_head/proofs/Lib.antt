@@ -1,3 +1,9 @@
+pub mod FrontLemmas
 pub mod ReadingLemmas
 pub mod RequestLemmas
 pub mod ResponseLemmas
+pub mod TextLemmas
+pub mod UnfinishedLemmas
+pub mod WrittenLemmas
+pub mod HostLemmas
+pub mod TargetLemmas

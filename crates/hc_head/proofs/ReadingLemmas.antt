@@ -34,7 +34,9 @@ module _ {H : Type 0} (Begins : List ℕ → H → ℕ → Type 0) (field_count 
       gives (drop room.octets octets) head len
       (subst (λ (o : List ℕ). Begins o head len) (sym (take-append-drop room.octets octets)) whole.begins)
   finds_head unique append octets room (Err TooManyFields) head len gives whole =
-      let over = gives head len whole.begins in absurd (omega (arith, over, whole.fields_fit))
+      let over = gives (drop room.octets octets) head len
+      (subst (λ (o : List ℕ). Begins o head len) (sym (take-append-drop room.octets octets)) whole.begins) in
+      absurd (omega (arith, over, whole.fields_fit))
   finds_head unique append octets room (Err TooLong) head len gives whole = gives.0 head len whole.octets_fit whole.begins
   finds_head unique append octets room (Err Host) head len gives whole = gives
   finds_head unique append octets room (Err Target) head len gives whole = gives

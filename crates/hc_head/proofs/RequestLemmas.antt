@@ -1,18 +1,20 @@
 -- The head of a request is read in one way, whatever follows it.
-use Rattle.std.proofs.Common.{◌≡◌, ℕ, ◌+◌, ◌-◌, ◌≤◌, ◌<◌, List, [], ◌++◌, length, take, drop, map, sym, ap, subst, ◌∙◌, arith, length-append, length-take}
+use Rattle.std.proofs.Common.{◌≡◌, ℕ, List, ◌++◌, length, take, drop, map, sym, ap, subst, ◌∙◌, arith, length-take}
 use Rattle.std.proofs.lemmas.List.{take-append-drop, length-map}
-use Rattle.std.proofs.Math.Seq.{take-append-add}
 use Rattle.httparse.specs.declared.spans.HeaderSpan.{HeaderSpan}
 use Rattle.httparse.specs.declared.spans.RequestSpans.{RequestSpans}
 use Rattle.httparse.specs.Grammar
-use Rattle.httparse.specs.Grammar.{RequestHead as SyntaxTree, ReadsRequest, print_request}
+use Rattle.httparse.specs.Grammar.{RequestHead as SyntaxTree, ReadsRequest, print_request, MayBecomeRequest}
 use Rattle.httparse.specs.Spans.{header_bytes, name_and_value, span_bytes, IsRequestAt, IsRequestOf, IsRequestWithin, RequestOverflows}
-use Rattle.httparse.proofs.GrammarLemmas.{print_request-append, ReadsRequest-append}
 use Rattle.hc_head.specs.declared.head.RequestHead.{RequestHead}
 use Rattle.hc_head.specs.declared.head.Room.{Room}
 use Rattle.hc_head.specs.Heads.{field_at, field_of, version_of, request_head_of, request_field_count, BeginsRequestHead}
-use Rattle.hc_head.specs.Reading.{IsWholeHead, HasNoHead, HasManyFields}
+-- other names of its laws
+pub use Rattle.hc_head.specs.Laws.{request_goes_on as begins-append, request_within as begins_within, request_some as begins_some, request_front as begins-take}
+use Rattle.hc_head.specs.Reading.{IsWholeHead, HasNoHead, NeverHasHead, HasManyFields, CanBecomeHead}
+use Rattle.hc_head.specs.Unfinished.{HasHopelessTarget, MayHaveTarget}
 use Rattle.hc_head.proofs.ReadingLemmas.{fields_same}
+use Rattle.hc_head.proofs.UnfinishedLemmas.{never_request, can_request}
 
 -- ---- from the spans to the head
 
@@ -29,30 +31,6 @@ head_same octets spans found syntax head at method target version fields =
     λ i. record { method = method-is i; target = target-is i; version = version-is i; fields = fields-is i }
 
 -- ---- laws of the relation
-
-pub begins-append : (octets more : List ℕ) (h : RequestHead) (n : ℕ) → BeginsRequestHead octets h n → BeginsRequestHead (octets ++ more) h n
-begins-append octets more h n p = record {
-  syntax = p.syntax;
-  rest = p.rest ++ more;
-  reads = ReadsRequest-append octets p.syntax p.rest more p.reads;
-  len_is = p.len_is;
-  head_is = p.head_is;
-}
-
-pub begins_within : (octets : List ℕ) (h : RequestHead) (n : ℕ) → BeginsRequestHead octets h n → n ≤ length octets
-begins_within octets h n p = omega (arith, p.len_is, ap length p.reads.1, length-append (print_request p.syntax) p.rest)
-
-pub begins_some : (octets : List ℕ) (h : RequestHead) (n : ℕ) → BeginsRequestHead octets h n → 0 < n
-begins_some octets h n p =
-    omega (arith, p.len_is, ap length (print_request-append p.syntax []), length-append {A = ℕ}, p.reads.0.method.0)
-
-pub begins-take : (octets : List ℕ) (m : ℕ) (h : RequestHead) (n : ℕ) → n ≤ m → BeginsRequestHead octets h n → BeginsRequestHead (take m octets) h n
-begins-take octets m h n le p =
-    let printed = print_request p.syntax in
-    let enough : m ≡ length printed + (m - n) = omega (arith, p.len_is) in
-    let front : take m octets ≡ printed ++ take (m - n) p.rest =
-    ap (take m) p.reads.1 ∙ ap (λ (k : ℕ). take k (printed ++ p.rest)) enough ∙ take-append-add printed p.rest (m - n) in
-    record { syntax = p.syntax; rest = take (m - n) p.rest; reads = (p.reads.0, front); len_is = p.len_is; head_is = p.head_is }
 
 pub begins_from_take : (octets : List ℕ) (m : ℕ) (h : RequestHead) (n : ℕ) → BeginsRequestHead (take m octets) h n → BeginsRequestHead octets h n
 begins_from_take octets m h n p =
@@ -89,7 +67,18 @@ no_head_in_room octets front room front-is none head len le begins =
 
 pub many_fields : (octets front : List ℕ) (room : Room) (limit : ℕ) → front ≡ take room.octets octets → limit ≡ room.fields → RequestOverflows limit front
     → HasManyFields BeginsRequestHead request_field_count octets room
-many_fields octets front room limit front-is limit-is over head len begins =
-    let whole : front ++ drop room.octets octets ≡ octets = ap (λ (o : List ℕ). o ++ drop room.octets octets) front-is ∙ take-append-drop room.octets octets in
-    let more = over (drop room.octets octets) begins.syntax begins.rest (subst (λ (o : List ℕ). ReadsRequest o begins.syntax begins.rest) (sym whole) begins.reads) in
-    omega (arith, more, ap request_field_count begins.head_is, length-map begins.syntax.fields field_of, limit-is)
+many_fields octets front room limit front-is limit-is over more head len begins =
+    let many = over more begins.syntax begins.rest (subst (λ (o : List ℕ). ReadsRequest (o ++ more) begins.syntax begins.rest) (sym front-is) begins.reads) in
+    omega (arith, many, ap request_field_count begins.head_is, length-map begins.syntax.fields field_of, limit-is)
+
+-- a target that is no text makes no head, whatever follows
+pub no_text : (octets front : List ℕ) (room : Room) → front ≡ take room.octets octets → HasHopelessTarget front
+    → NeverHasHead BeginsRequestHead request_field_count octets room
+no_text octets front room front-is hopeless more head len begins =
+    let begins' = subst (λ (o : List ℕ). BeginsRequestHead (o ++ more) head len) (sym front-is) begins in
+    never_request front hopeless more begins'.syntax begins'.rest begins'.reads
+
+pub may_become : (octets front : List ℕ) (room : Room) → front ≡ take room.octets octets → MayBecomeRequest front → MayHaveTarget front
+    → CanBecomeHead BeginsRequestHead (take room.octets octets)
+may_become octets front room front-is may target =
+    subst (CanBecomeHead BeginsRequestHead) front-is (can_request front may target)

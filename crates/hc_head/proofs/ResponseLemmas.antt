@@ -1,18 +1,21 @@
 -- The head of a response is read in one way, whatever follows it.
-use Rattle.std.proofs.Common.{◌≡◌, ℕ, ◌+◌, ◌-◌, ◌≤◌, ◌<◌, List, [], ◌++◌, length, take, drop, map, sym, ap, subst, ◌∙◌, arith, length-append, length-take}
+use Rattle.std.proofs.Common.{◌≡◌, ℕ, ◌≤◌, ◌<◌, true, false, List, ◌++◌, length, take, drop, map, sym, ap, subst, ◌∙◌, arith, length-take}
 use Rattle.std.proofs.lemmas.List.{take-append-drop, length-map}
-use Rattle.std.proofs.Math.Seq.{take-append-add}
 use Rattle.httparse.specs.declared.spans.HeaderSpan.{HeaderSpan}
 use Rattle.httparse.specs.declared.spans.ResponseSpans.{ResponseSpans}
 use Rattle.httparse.specs.Grammar
-use Rattle.httparse.specs.Grammar.{ResponseHead as SyntaxTree, ReadsResponse, print_response, print_version, print_reason, print_end, print_section, print_blank, status_code}
+use Rattle.httparse.specs.Grammar.{ResponseHead as SyntaxTree, ReadsResponse, print_response, print_version, print_reason, print_end, print_section, print_blank, status_code, MayBecomeResponse}
 use Rattle.httparse.specs.Spans.{header_bytes, name_and_value, IsResponseAt, IsResponseOf, IsResponseWithin, ResponseOverflows}
-use Rattle.httparse.proofs.GrammarLemmas.{print_response-append, ReadsResponse-append, response_prefix_free}
+use Rattle.httparse.proofs.GrammarLemmas.{response_prefix_free}
 use Rattle.hc_head.specs.declared.head.ResponseHead.{ResponseHead}
 use Rattle.hc_head.specs.declared.head.Room.{Room}
 use Rattle.hc_head.specs.Heads.{field_at, field_of, version_of, response_head_of, response_field_count, BeginsResponseHead}
-use Rattle.hc_head.specs.Reading.{IsWholeHead, HasNoHead, NeverHasHead, HasManyFields}
+-- other names of its laws
+pub use Rattle.hc_head.specs.Laws.{response_goes_on as begins-append, response_within as begins_within, response_some as begins_some, response_front as begins-take}
+use Rattle.hc_head.specs.Reading.{IsWholeHead, HasNoHead, NeverHasHead, HasManyFields, CanBecomeHead}
+use Rattle.hc_head.specs.Unfinished.{has_low_status}
 use Rattle.hc_head.proofs.ReadingLemmas.{fields_same}
+use Rattle.hc_head.proofs.UnfinishedLemmas.{never_response, can_response}
 
 -- ---- from the spans to the head
 
@@ -28,31 +31,6 @@ head_same octets spans found syntax head at status version fields =
     λ i. record { status = status-is i; version = version-is i; fields = fields-is i }
 
 -- ---- laws of the relation
-
-pub begins-append : (octets more : List ℕ) (h : ResponseHead) (n : ℕ) → BeginsResponseHead octets h n → BeginsResponseHead (octets ++ more) h n
-begins-append octets more h n p = record {
-  syntax = p.syntax;
-  rest = p.rest ++ more;
-  reads = ReadsResponse-append octets p.syntax p.rest more p.reads;
-  len_is = p.len_is;
-  head_is = p.head_is;
-  has_status = p.has_status;
-}
-
-pub begins_within : (octets : List ℕ) (h : ResponseHead) (n : ℕ) → BeginsResponseHead octets h n → n ≤ length octets
-begins_within octets h n p = omega (arith, p.len_is, ap length p.reads.1, length-append (print_response p.syntax) p.rest)
-
-pub begins_some : (octets : List ℕ) (h : ResponseHead) (n : ℕ) → BeginsResponseHead octets h n → 0 < n
-begins_some octets h n p =
-    omega (arith, p.len_is, ap length (print_response-append p.syntax []), length-append {A = ℕ}, p.reads.0.digits.0)
-
-pub begins-take : (octets : List ℕ) (m : ℕ) (h : ResponseHead) (n : ℕ) → n ≤ m → BeginsResponseHead octets h n → BeginsResponseHead (take m octets) h n
-begins-take octets m h n le p =
-    let printed = print_response p.syntax in
-    let enough : m ≡ length printed + (m - n) = omega (arith, p.len_is) in
-    let front : take m octets ≡ printed ++ take (m - n) p.rest =
-    ap (take m) p.reads.1 ∙ ap (λ (k : ℕ). take k (printed ++ p.rest)) enough ∙ take-append-add printed p.rest (m - n) in
-    record { syntax = p.syntax; rest = take (m - n) p.rest; reads = (p.reads.0, front); len_is = p.len_is; head_is = p.head_is; has_status = p.has_status }
 
 pub begins_from_take : (octets : List ℕ) (m : ℕ) (h : ResponseHead) (n : ℕ) → BeginsResponseHead (take m octets) h n → BeginsResponseHead octets h n
 begins_from_take octets m h n p =
@@ -90,10 +68,9 @@ no_head_in_room octets front room front-is none head len le begins =
 
 pub many_fields : (octets front : List ℕ) (room : Room) (limit : ℕ) → front ≡ take room.octets octets → limit ≡ room.fields → ResponseOverflows limit front
     → HasManyFields BeginsResponseHead response_field_count octets room
-many_fields octets front room limit front-is limit-is over head len begins =
-    let whole : front ++ drop room.octets octets ≡ octets = ap (λ (o : List ℕ). o ++ drop room.octets octets) front-is ∙ take-append-drop room.octets octets in
-    let more = over (drop room.octets octets) begins.syntax begins.rest (subst (λ (o : List ℕ). ReadsResponse o begins.syntax begins.rest) (sym whole) begins.reads) in
-    omega (arith, more, ap response_field_count begins.head_is, length-map begins.syntax.fields field_of, limit-is)
+many_fields octets front room limit front-is limit-is over more head len begins =
+    let many = over more begins.syntax begins.rest (subst (λ (o : List ℕ). ReadsResponse (o ++ more) begins.syntax begins.rest) (sym front-is) begins.reads) in
+    omega (arith, many, ap response_field_count begins.head_is, length-map begins.syntax.fields field_of, limit-is)
 
 -- a status under 100 makes no head, whatever follows
 pub no_status : (octets front : List ℕ) (room : Room) (spans : List HeaderSpan) (found : ResponseSpans)
@@ -104,3 +81,14 @@ no_status octets front room spans found front-is of low more head len begins =
     let begins' = subst (λ (o : List ℕ). BeginsResponseHead (o ++ more) head len) (sym front-is) begins in
     let same = response_prefix_free front more of.0 begins'.syntax (drop found.len front) begins'.rest at.reads begins'.reads in
     absurd (omega (arith, low, at.code, ap status_code same.0, ap (λ (h : ResponseHead). h.status) begins'.head_is, begins'.has_status))
+
+-- a status that begins with 0 makes none either
+pub low_status : (octets front : List ℕ) (room : Room) → front ≡ take room.octets octets → has_low_status front ≡ true
+    → NeverHasHead BeginsResponseHead response_field_count octets room
+low_status octets front room front-is low more head len begins =
+    never_response front low more head len (subst (λ (o : List ℕ). BeginsResponseHead (o ++ more) head len) (sym front-is) begins)
+
+pub may_become : (octets front : List ℕ) (room : Room) → front ≡ take room.octets octets → MayBecomeResponse front → has_low_status front ≡ false
+    → CanBecomeHead BeginsResponseHead (take room.octets octets)
+may_become octets front room front-is may status =
+    subst (CanBecomeHead BeginsResponseHead) front-is (can_response front may status)

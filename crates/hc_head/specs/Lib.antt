@@ -2,5 +2,13 @@ pub mod Faults
 pub mod Heads
 pub mod Reading
 pub mod Hosts
+pub mod HostScan
 pub mod Targets
+pub mod EmptyLine
+pub mod EmptyLineLaws
+pub mod Unfinished
 pub mod Laws
+pub mod Texts
+pub mod Writable
+pub mod Plain
+pub mod Methods

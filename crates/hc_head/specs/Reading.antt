@@ -21,9 +21,9 @@ module _ {H : Type 0} (Begins : List ℕ → H → ℕ → Type 0) (field_count 
   abbrev pub NeverHasHead : List ℕ → Room → Type 0
   NeverHasHead octets room = (more : List ℕ) (head : H) (len : ℕ) → ¬ (Begins (take room.octets octets ++ more) head len)
 
-  -- no head of so few fields begins the octets
+  -- whatever follows the octets of the room, no head of so few fields begins them
   abbrev pub HasManyFields : List ℕ → Room → Type 0
-  HasManyFields octets room = (head : H) (len : ℕ) → Begins octets head len → room.fields < field_count head
+  HasManyFields octets room = (more : List ℕ) (head : H) (len : ℕ) → Begins (take room.octets octets ++ more) head len → room.fields < field_count head
 
   -- each answer stands only where this says so
   abbrev pub GivesHead : Result (Step H) HeadFault → List ℕ → Room → Type 0
@@ -46,6 +46,10 @@ FindsHead (Err TooLong) head len = ⊥
 FindsHead (Err Host) head len = ⊥
 FindsHead (Err Target) head len = ⊥
 FindsHead (Err Memory) head len = Unit {0}
+
+-- some octets can follow that make them a head
+abbrev pub CanBecomeHead : {H : Type 0} → (List ℕ → H → ℕ → Type 0) → List ℕ → Type 0
+CanBecomeHead {H} begins octets = (more : List ℕ) × (head : H) × begins (octets ++ more) head (length (octets ++ more))
 
 -- the claim stands where more octets are wanted: the answer is More, or that the room is too short for them
 abbrev pub OnUnfinished : {H : Type 0} → Result (Step H) HeadFault → Type 0 → Type 0

@@ -1,15 +1,23 @@
-//! The value of a Host line.
+//! Hosts with their ports, as Host lines and the authorities of URIs have them.
 
-ghost use Rattle.std.specs.Prelude.{◌≡◌, ℕ, ◌+◌, ◌<◌, ◌≤◌, ◌==◌, length, take, drop, slice_index, nat_lt, ◌&&◌, IfOk, IfSome, IfNone, true, false};
-ghost use Rattle.std.specs.List.{list_all};
+ghost use Rattle.std.specs.Prelude.{◌≡◌, ℕ, ◌<◌, ◌≤◌, ◌==◌, ◌&&◌, nat_lt, slice_index, length, IfOk, IfSome, IfNone, List};
+ghost use Rattle.std.specs.List.{list_all, prefix_len};
 ghost use Rattle.std.specs.Char.{is_ascii_digit};
-ghost use Rattle.hc_head.specs.Hosts.{is_name_octet, is_address_octet, name_length, address_length, name_end, address_end, host_end, is_port, is_valid_host, is_default_port, without_default_port, normal_host};
+ghost use Rattle.hc_head.specs.HostScan.{FindsFront, authority_of};
+ghost use Rattle.hc_head.specs.Hosts.{Authority, HasAuthority, IsAddress, IsHost, IsName, is_address_octet, is_default_port, is_name_octet, is_port, normal_host};
 
 use hc_fields::Octets;
 use std::alloc::{AllocError, Global};
 
 /// The longest host, its brackets included and its port not.
 const LONGEST_HOST: usize = 255;
+
+/// A host, and its port with the colon, or nothing.
+#[derive(Clone, Copy, Debug)]
+pub(crate) struct HostAndPort<'a> {
+    pub host: &'a [u8],
+    pub port: &'a [u8],
+}
 
 fn is_name_octet(octet: u8) -> bool
     ensures { result ≡ is_name_octet octet }
@@ -29,8 +37,8 @@ fn are_digits(text: &[u8]) -> bool
     text.iter().all(|octet| octet.is_ascii_digit())
 }
 
-fn name_length(text: &[u8]) -> usize
-    ensures value { result ≡ name_length text.now }
+fn name_len(text: &[u8]) -> usize
+    ensures value { result ≡ prefix_len is_name_octet text.now }
     ensures within { result ≤ length text.now }
 {
     text.iter()
@@ -38,8 +46,8 @@ fn name_length(text: &[u8]) -> usize
         .count()
 }
 
-fn address_length(behind: &[u8]) -> usize
-    ensures value { result ≡ address_length behind.now }
+fn address_len(behind: &[u8]) -> usize
+    ensures value { result ≡ prefix_len is_address_octet behind.now }
     ensures within { result ≤ length behind.now }
 {
     behind
@@ -49,20 +57,26 @@ fn address_length(behind: &[u8]) -> usize
 }
 
 fn name_end(text: &[u8]) -> Option<usize>
-    ensures value { result ≡ name_end text.now }
-    ensures within { IfSome result (λ end. end ≤ length text.now) }
+    ensures { FindsFront IsName text.now result }
 {
-    let length = name_length(text);
-    if length > 0 { Some(length) } else { None }
+    let len = name_len(text);
+    if len > 0 { Some(len) } else { None }
 }
 
-fn address_end(behind: &[u8]) -> Option<usize>
-    ensures value { result ≡ address_end behind.now }
-    ensures within { IfSome result (λ end. end ≤ length behind.now + 1) }
+/// Whether the bracket that closes an address stands behind so many octets.
+fn is_closed(behind: &[u8], len: usize) -> bool
+    ensures { result ≡ (nat_lt len (length behind.now) && slice_index behind.now len == 93) }
 {
-    let length = address_length(behind);
-    if length > 0 && length < behind.len() && behind[length] == b']' {
-        Some(length + 2)
+    len < behind.len() && behind[len] == b']'
+}
+
+fn address_end(text: &[u8]) -> Option<usize>
+    ensures { FindsFront IsAddress text.now result }
+{
+    let (first, behind) = text.split_first()?;
+    let len = address_len(behind);
+    if *first == b'[' && len > 0 && is_closed(behind, len) {
+        Some(len + 2)
     } else {
         None
     }
@@ -70,14 +84,11 @@ fn address_end(behind: &[u8]) -> Option<usize>
 
 /// Where the host at the front ends, if one stands there.
 fn host_end(text: &[u8]) -> Option<usize>
-    ensures value { result ≡ host_end text.now }
-    ensures within { IfSome result (λ end. end ≤ length text.now) }
+    ensures { FindsFront IsHost text.now result }
 {
-    let end = if !text.is_empty() && text[0] == b'[' {
-        let (_, behind) = text.split_at(1);
-        address_end(behind)?
-    } else {
-        name_end(text)?
+    let end = match name_end(text) {
+        Some(end) => end,
+        None => address_end(text)?,
     };
     if end <= LONGEST_HOST { Some(end) } else { None }
 }
@@ -91,16 +102,16 @@ fn is_port(text: &[u8]) -> bool
     }
 }
 
-/// Whether the value of a Host line is a host, and a port or none.
-pub(crate) fn is_valid_host(text: &[u8]) -> bool
-    ensures { result ≡ is_valid_host text.now }
+/// The host and the port that the text consists of.
+pub(crate) fn host_and_port(text: &[u8]) -> Option<HostAndPort<'_>>
+    ensures found { IfSome result (λ a. HasAuthority text.now (authority_of a)) }
+    ensures none { IfNone result ((a : Authority) → ¬ (HasAuthority text.now a)) }
 {
-    match host_end(text) {
-        None => false,
-        Some(end) => {
-            let (_, port) = text.split_at(end);
-            is_port(port)
-        }
+    let (host, port) = text.split_at(host_end(text)?);
+    if is_port(port) {
+        Some(HostAndPort { host, port })
+    } else {
+        None
     }
 }
 
@@ -110,22 +121,13 @@ fn is_default_port(port: &[u8]) -> bool
     port == b":".as_slice() || port == b":80".as_slice()
 }
 
-/// The text without a port that says nothing.
-fn without_default_port(text: &[u8]) -> &[u8]
-    ensures { result.now ≡ without_default_port (host_end text.now) text.now }
+/// The host in lower case, with its port where that says something.
+pub(crate) fn normal_host(alloc: Global, from: HostAndPort<'_>) -> Result<Octets, AllocError>
+    ensures { IfOk result (λ host. host ≡ normal_host (authority_of from.entry)) }
 {
-    match host_end(text) {
-        None => text,
-        Some(end) => {
-            let (host, port) = text.split_at(end);
-            if is_default_port(port) { host } else { text }
-        }
+    let mut text = from.host.to_ascii_lowercase(alloc)?;
+    if !is_default_port(from.port) {
+        text.extend_from_slice(from.port)?;
     }
-}
-
-/// The host in lower case, without a port that says nothing.
-pub(crate) fn normal_host(alloc: Global, text: &[u8]) -> Result<Octets, AllocError>
-    ensures { IfOk result (λ host. host ≡ normal_host text.now) }
-{
-    Ok(Octets::from_vec(without_default_port(text).to_ascii_lowercase(alloc)?))
+    Ok(Octets::from_vec(text))
 }

@@ -1,15 +1,16 @@
 //! Heads of requests.
 
 ghost use Rattle.std.specs.Prelude.{◌≡◌, ℕ, List, ◌++◌, length, take, IfOk};
-ghost use Rattle.httparse.specs.Grammar.{RequestHead as Syntax, MayBecomeRequest};
+ghost use Rattle.httparse.specs.Grammar.{RequestHead as Syntax};
 ghost use Rattle.httparse.specs.Spans.{IsRequestWithin, IsRequestAt, RequestExceeds};
 ghost use Rattle.hc_head.specs.declared.head.RequestHead.{RequestHead};
 ghost use Rattle.hc_head.specs.Heads.{BeginsRequestHead, request_field_count, request_head_of};
-ghost use Rattle.hc_head.specs.Reading.{IsWholeHead, GivesHead, FindsHead, OnUnfinished, OnTooManyFields};
+ghost use Rattle.hc_head.specs.Reading.{IsWholeHead, GivesHead, FindsHead, CanBecomeHead, OnUnfinished, OnTooManyFields};
 
 use crate::fault::HeadFault;
 use crate::head::{RequestHead, Room, Step};
 use crate::parts::{fields_at, front_of, version_of};
+use crate::unfinished::has_hopeless_target;
 use hc_fields::Octets;
 use httparse::spans::{EMPTY_HEADER_SPAN, HeaderSpan, RequestSpans, parse_request};
 use httparse::{Error, Status};
@@ -42,7 +43,7 @@ fn read_into(
 ) -> Result<Step<RequestHead>, HeadFault>
     requires { length spans.old ≡ room.fields }
     ensures gives { GivesHead BeginsRequestHead request_field_count result bytes.now room }
-    ensures unfinished { OnUnfinished result (MayBecomeRequest (take room.octets bytes.now)) }
+    ensures unfinished { OnUnfinished result (CanBecomeHead BeginsRequestHead (take room.octets bytes.now)) }
     ensures too_many { OnTooManyFields result (RequestExceeds room.fields (take room.octets bytes.now)) }
 {
     let front = front_of(bytes, room.octets);
@@ -52,7 +53,9 @@ fn read_into(
             Ok(Step::Whole(head, found.len))
         }
         Ok(Status::Partial) => {
-            if bytes.len() < room.octets {
+            if has_hopeless_target(front) {
+                Err(HeadFault::Syntax)
+            } else if bytes.len() < room.octets {
                 Ok(Step::More)
             } else {
                 Err(HeadFault::TooLong)
@@ -70,8 +73,8 @@ pub fn read_request(alloc: Global, bytes: &[u8], room: Room) -> Result<Step<Requ
     // A whole head is found, unless memory runs out.
     ensures found { (head : RequestHead) (len : ℕ)
         → IsWholeHead BeginsRequestHead request_field_count bytes.now room head len → FindsHead result head len }
-    // More octets are wanted only where they can make a head, or where a target is being read.
-    ensures unfinished { OnUnfinished result (MayBecomeRequest (take room.octets bytes.now)) }
+    // More octets are wanted only where they can make a head.
+    ensures unfinished { OnUnfinished result (CanBecomeHead BeginsRequestHead (take room.octets bytes.now)) }
     // Too many fields are told only behind a start line and more fields than the room, each of them valid.
     ensures too_many { OnTooManyFields result (RequestExceeds room.fields (take room.octets bytes.now)) }
 {

@@ -1,15 +1,16 @@
 //! Heads of responses.
 
 ghost use Rattle.std.specs.Prelude.{◌≡◌, ℕ, List, ◌++◌, length, take, IfOk};
-ghost use Rattle.httparse.specs.Grammar.{ResponseHead as Syntax, MayBecomeResponse};
+ghost use Rattle.httparse.specs.Grammar.{ResponseHead as Syntax};
 ghost use Rattle.httparse.specs.Spans.{IsResponseWithin, IsResponseAt, ResponseExceeds};
 ghost use Rattle.hc_head.specs.declared.head.ResponseHead.{ResponseHead};
 ghost use Rattle.hc_head.specs.Heads.{BeginsResponseHead, response_field_count, response_head_of};
-ghost use Rattle.hc_head.specs.Reading.{IsWholeHead, GivesHead, FindsHead, OnUnfinished, OnTooManyFields};
+ghost use Rattle.hc_head.specs.Reading.{IsWholeHead, GivesHead, FindsHead, CanBecomeHead, OnUnfinished, OnTooManyFields};
 
 use crate::fault::HeadFault;
 use crate::head::{ResponseHead, Room, Step};
 use crate::parts::{fields_at, front_of, version_of};
+use crate::unfinished::has_low_status;
 use httparse::spans::{EMPTY_HEADER_SPAN, HeaderSpan, ResponseSpans, parse_response};
 use httparse::{Error, Status};
 use std::alloc::{AllocError, Global};
@@ -44,7 +45,7 @@ fn read_into(
 ) -> Result<Step<ResponseHead>, HeadFault>
     requires { length spans.old ≡ room.fields }
     ensures gives { GivesHead BeginsResponseHead response_field_count result bytes.now room }
-    ensures unfinished { OnUnfinished result (MayBecomeResponse (take room.octets bytes.now)) }
+    ensures unfinished { OnUnfinished result (CanBecomeHead BeginsResponseHead (take room.octets bytes.now)) }
     ensures too_many { OnTooManyFields result (ResponseExceeds room.fields (take room.octets bytes.now)) }
 {
     let front = front_of(bytes, room.octets);
@@ -57,7 +58,9 @@ fn read_into(
             Ok(Step::Whole(head, found.len))
         }
         Ok(Status::Partial) => {
-            if bytes.len() < room.octets {
+            if has_low_status(front) {
+                Err(HeadFault::Syntax)
+            } else if bytes.len() < room.octets {
                 Ok(Step::More)
             } else {
                 Err(HeadFault::TooLong)
@@ -79,8 +82,8 @@ pub fn read_response(
     // A whole head is found, unless memory runs out.
     ensures found { (head : ResponseHead) (len : ℕ)
         → IsWholeHead BeginsResponseHead response_field_count bytes.now room head len → FindsHead result head len }
-    // More octets are wanted only where they can make a head of some status.
-    ensures unfinished { OnUnfinished result (MayBecomeResponse (take room.octets bytes.now)) }
+    // More octets are wanted only where they can make a head.
+    ensures unfinished { OnUnfinished result (CanBecomeHead BeginsResponseHead (take room.octets bytes.now)) }
     // Too many fields are told only behind a start line and more fields than the room, each of them valid.
     ensures too_many { OnTooManyFields result (ResponseExceeds room.fields (take room.octets bytes.now)) }
 {

@@ -1,45 +1,193 @@
 //! The target of a request.
 
-ghost use Rattle.std.specs.Prelude.{◌≡◌, ℕ, List, IfOk, IfErr, IfSome, IfNone, true, false};
-ghost use Rattle.hc_fields.specs.Values.{values_of};
+ghost use Rattle.std.specs.Prelude.{◌≡◌, ◌≤◌, ◌⊎◌, ◌↔◌, ℕ, not, List, [], length, IfOk, IfErr, IfSome, IfNone, IsTrue};
+ghost use Rattle.std.specs.List.{prefix_len};
+ghost use Rattle.http_uri.specs.Grammar.{IsAuthority, IsPathInput};
+ghost use Rattle.hc_head.specs.declared.head.RequestHead.{RequestHead};
 ghost use Rattle.hc_head.specs.declared.head.Target.{Target};
 ghost use Rattle.hc_head.specs.declared.fault.HeadFault.TheVariants.{Memory};
-ghost use Rattle.hc_head.specs.Targets.{HasHost, HasTarget, IsOriginForm, NamesPath, GivesTarget, FindsTarget};
+ghost use Rattle.hc_head.specs.HostScan.{authority_of};
+ghost use Rattle.hc_head.specs.Hosts.{Authority, HasAuthority};
+ghost use Rattle.hc_head.specs.Targets.{Asterisk, FindsTarget, FollowsScheme, GivesTarget, HasForm, HasHost, HasTarget, IsAbsoluteForm, IsOriginForm, MayName, absolute_path, is_path_start};
 
 use crate::fault::HeadFault;
 use crate::head::{RequestHead, Target};
-use crate::hosts::{is_valid_host, normal_host};
+use crate::hosts::{HostAndPort, host_and_port, normal_host};
 use hc_fields::Octets;
 use http_uri::{PathAndQuery, UriError};
-use std::alloc::Global;
+use std::alloc::{AllocError, Global};
 
-/// The value of the one Host line, where it is valid.
-fn host_line(head: &RequestHead) -> Option<&[u8]>
-    ensures found { IfSome result (λ host. HasHost head.now host.now) }
-    ensures none { IfNone result ((host : List ℕ) → ¬ (HasHost head.now host)) }
-{
-    let mut values = head.fields.values(b"host");
-    let host = values.next()?;
-    if values.next().is_some() || !is_valid_host(host) {
-        return None;
-    }
-    Some(host)
+/// The most octets of a target.
+const LONGEST_TARGET: usize = 65_534;
+
+/// What begins the absolute form, in any case.
+const SCHEME: &[u8] = b"http://";
+
+/// A target in absolute form.
+#[derive(Clone, Copy, Debug)]
+struct AbsoluteForm<'a> {
+    authority: HostAndPort<'a>,
+    /// What follows the authority.
+    rest: &'a [u8],
 }
 
-/// Whether the text is a path from the root, with a query or none.
-fn is_origin_form(alloc: Global, text: &[u8]) -> Result<bool, HeadFault>
-    ensures yes { IfOk result (λ is. is ≡ true → IsOriginForm text.now) }
-    ensures no { IfOk result (λ is. is ≡ false → ¬ (IsOriginForm text.now)) }
+/// The one Host line.
+fn host_line(head: &RequestHead) -> Option<HostAndPort<'_>>
+    ensures found { IfSome result (λ host. HasHost head.now (authority_of host)) }
+    ensures none { IfNone result ((host : Authority) → ¬ (HasHost head.now host)) }
+{
+    let mut values = head.fields.values(b"host");
+    let line = values.next()?;
+    if values.next().is_some() {
+        return None;
+    }
+    host_and_port(line)
+}
+
+fn is_path(alloc: Global, text: &[u8]) -> Result<bool, HeadFault>
+    ensures answer { IfOk result (λ is. IsTrue is ↔ IsPathInput text.now) }
     ensures memory { IfErr result (λ fault. fault ≡ Memory) }
 {
-    if text.first() != Some(&b'/') || text.contains(&b'#') {
-        return Ok(false);
-    }
     match PathAndQuery::from_bytes(alloc, text) {
         Ok(_) => Ok(true),
         Err(UriError::OutOfMemory) => Err(HeadFault::Memory),
         Err(UriError::Invalid(_)) => Ok(false),
     }
+}
+
+fn is_path_or_nothing(alloc: Global, rest: &[u8]) -> Result<bool, HeadFault>
+    ensures answer { IfOk result (λ is. IsTrue is ↔ ((rest.now ≡ []) ⊎ IsPathInput rest.now)) }
+    ensures memory { IfErr result (λ fault. fault ≡ Memory) }
+{
+    if rest.is_empty() {
+        Ok(true)
+    } else {
+        is_path(alloc, rest)
+    }
+}
+
+fn is_authority(alloc: Global, text: &[u8]) -> Result<bool, HeadFault>
+    ensures answer { IfOk result (λ is. IsTrue is ↔ IsAuthority text.now) }
+    ensures memory { IfErr result (λ fault. fault ≡ Memory) }
+{
+    match http_uri::Authority::from_bytes(alloc, text) {
+        Ok(_) => Ok(true),
+        Err(UriError::OutOfMemory) => Err(HeadFault::Memory),
+        Err(UriError::Invalid(_)) => Ok(false),
+    }
+}
+
+fn is_origin_form(alloc: Global, text: &[u8]) -> Result<bool, HeadFault>
+    ensures answer { IfOk result (λ is. IsTrue is ↔ IsOriginForm text.now) }
+    ensures memory { IfErr result (λ fault. fault ≡ Memory) }
+{
+    if text.first() == Some(&b'/') {
+        is_path(alloc, text)
+    } else {
+        Ok(false)
+    }
+}
+
+fn is_asterisk_form(head: &RequestHead) -> bool
+    ensures { IsTrue result ↔ HasForm head.now Asterisk }
+{
+    head.target.as_slice() == b"*".as_slice() && head.method.as_slice() == b"OPTIONS".as_slice()
+}
+
+/// What follows the scheme.
+fn behind_scheme(text: &[u8]) -> Option<&[u8]>
+    ensures found { IfSome result (λ behind. FollowsScheme text.now behind.now) }
+    ensures none { IfNone result ((behind : List ℕ) → ¬ (FollowsScheme text.now behind)) }
+{
+    let (scheme, behind) = text.split_at_checked(SCHEME.len())?;
+    if scheme.eq_ignore_ascii_case(SCHEME) {
+        Some(behind)
+    } else {
+        None
+    }
+}
+
+fn is_path_start(octet: u8) -> bool
+    ensures { result ≡ is_path_start octet }
+{
+    octet == b'/' || octet == b'?'
+}
+
+/// How many octets stand before the path and the query.
+fn authority_len(text: &[u8]) -> usize
+    ensures value { result ≡ prefix_len (λ b. not (is_path_start b)) text.now }
+    ensures within { result ≤ length text.now }
+{
+    text.iter()
+        .take_while(|octet| !is_path_start(**octet))
+        .count()
+}
+
+fn absolute_form(alloc: Global, text: &[u8]) -> Result<Option<AbsoluteForm<'_>>, HeadFault>
+    ensures found { IfOk result (λ form. IfSome form
+        (λ f. IsAbsoluteForm text.now (authority_of f.authority) f.rest.now)) }
+    ensures none { IfOk result (λ form. IfNone form
+        ((authority : Authority) (rest : List ℕ) → ¬ (IsAbsoluteForm text.now authority rest))) }
+    ensures memory { IfErr result (λ fault. fault ≡ Memory) }
+{
+    let Some(behind) = behind_scheme(text) else {
+        return Ok(None);
+    };
+    let (name, rest) = behind.split_at(authority_len(behind));
+    let Some(authority) = host_and_port(name) else {
+        return Ok(None);
+    };
+    if !is_authority(alloc, name)? || !is_path_or_nothing(alloc, rest)? {
+        return Ok(None);
+    }
+    Ok(Some(AbsoluteForm { authority, rest }))
+}
+
+fn absolute_path(alloc: Global, method: &[u8], rest: &[u8]) -> Result<Octets, AllocError>
+    ensures { IfOk result (λ path. path ≡ absolute_path method.now rest.now) }
+{
+    match rest.first() {
+        None if method == b"OPTIONS".as_slice() => Octets::from_slice(alloc, b"*"),
+        None => Octets::from_slice(alloc, b"/"),
+        Some(b'?') => {
+            let mut path = Octets::from_slice(alloc, b"/")?;
+            path.extend_from_slice(rest)?;
+            Ok(path)
+        }
+        Some(_) => Octets::from_slice(alloc, rest),
+    }
+}
+
+fn may_name(head: &RequestHead) -> bool
+    ensures { IsTrue result ↔ MayName head.now }
+{
+    head.method.as_slice() != b"CONNECT".as_slice()
+        && !head.target.as_slice().contains(&b'#')
+        && head.target.len() <= LONGEST_TARGET
+}
+
+fn read_target(alloc: Global, head: &RequestHead) -> Result<Target, HeadFault>
+    ensures { GivesTarget result head.now }
+{
+    let Some(host) = host_line(head) else {
+        return Err(HeadFault::Host);
+    };
+    if !may_name(head) {
+        return Err(HeadFault::Target);
+    }
+    if is_asterisk_form(head) || is_origin_form(alloc, head.target.as_slice())? {
+        return Ok(Target {
+            host: normal_host(alloc, host)?,
+            path: head.target.copy(alloc)?,
+        });
+    }
+    let Some(form) = absolute_form(alloc, head.target.as_slice())? else {
+        return Err(HeadFault::Target);
+    };
+    Ok(Target {
+        host: normal_host(alloc, form.authority)?,
+        path: absolute_path(alloc, head.method.as_slice(), form.rest)?,
+    })
 }
 
 /// The target of a request. A wrong Host line is told before a wrong target.
@@ -49,15 +197,14 @@ pub fn target(alloc: Global, head: &RequestHead) -> Result<Target, HeadFault>
     // A target that is there is found, unless memory runs out.
     ensures found { (target : Target) → HasTarget head.now target → FindsTarget result target }
 {
-    let Some(line) = host_line(head) else {
-        return Err(HeadFault::Host);
-    };
-    let path = head.target.as_slice();
-    if head.method.as_slice() == b"CONNECT".as_slice() || !is_origin_form(alloc, path)? {
-        return Err(HeadFault::Target);
-    }
-    Ok(Target {
-        host: normal_host(alloc, line)?,
-        path: Octets::from_slice(alloc, path)?,
-    })
+    read_target(alloc, head)
 }
+
+/// A request has one target at most.
+pub fn one_target()
+    ensures target { (head : RequestHead) (one other : Target)
+        → HasTarget head one → HasTarget head other → one ≡ other }
+    // A text is a host and a port in one way.
+    ensures authority { (text : List ℕ) (one other : Authority)
+        → HasAuthority text one → HasAuthority text other → one ≡ other }
+{}

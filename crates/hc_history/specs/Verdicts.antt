@@ -103,17 +103,15 @@ abbrev pub IsVerdict : List ℕ → Verdict → Type 0
 IsVerdict octets (Yes counts) = IsYes octets counts
 IsVerdict octets (Malformed position f) = ((position ≡ 0) × BreaksOpening octets f) ⊎ BreaksAt octets position f
 
--- behind the items stands a reply that isn't right
-pub record EndsWrong (octets : List ℕ) (h : List Item) : Type 0 where
-  pub records : List Record
-  pub item : Item
-  pub rest : List ℕ
-  pub splits : Splits octets records (item ∷ h) rest
-  pub wrong : ¬ (IsRight h item)
-
--- behind right records stands one that is framed or addressed in a way that isn't read yet, or a reply that isn't right as far as it can be judged yet
+-- behind records of which every reply is right stands a whole reply that isn't right, as far as it can be judged yet
 pub record IsUnsupportedAt (octets : List ℕ) (position : ℕ) : Type 0 where
   pub history : List Item
   pub all_right : AllRight history
   pub position_is : position ≡ next_position history
-  pub stands : BreaksAfter octets history fault.Unsupported ⊎ EndsWrong octets history
+  pub records : List Record
+  pub number : ℕ
+  pub moment : ℕ
+  pub reply : Message ResponseHead
+  pub rest : List ℕ
+  pub splits : Splits octets records (ClientReply number moment reply ∷ history) rest
+  pub wrong : ¬ (IsRight history (ClientReply number moment reply))

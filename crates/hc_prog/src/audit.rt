@@ -23,7 +23,7 @@ pub const READS: u64 = 4_294_967_296;
 ///
 /// A verdict is one line on `output`, and the status is 0 for a transcript that is right and 2 for
 /// one that is malformed. Where there is none, by a read or a write that fails, by memory or by a
-/// record that can't be judged yet, the status is 3, and one line on `faults` says why. A write to
+/// reply that can't be judged yet, the status is 3, and one line on `faults` says why. A write to
 /// `faults` that fails is passed over.
 pub fn audit<R: Read, W: Write, E: Write>(
     alloc: Global,

@@ -26,6 +26,44 @@ HTTP/1.1 200 \r\ndate: Thu, 01 Jan 1970 00:16:40 GMT\r\ncache-control: max-age=6
 
 const RIGHT_LINE: &[u8] = b"yes records=6 replies=2 hits=1 forwarded=0 unmarked=1\n";
 
+// A chunked body, one that lasts until the close, targets in absolute form and `*`, and two hits.
+const FORMS: &[u8] = b"HCT1
+q 1 1000 36
+GET http://h/a HTTP/1.1\r\nhost: h\r\n\r\n
+f 1 1000 28
+GET /a HTTP/1.1\r\nhost: h\r\n\r\n
+r 1 1000 92
+HTTP/1.1 200 \r\ncache-control: max-age=60\r\ntransfer-encoding: chunked\r\n\r\n2\r\nhe\r\n3\r\nllo\r\n0\r\n\r\n
+a 1 1000 92
+HTTP/1.1 200 \r\ncache-control: max-age=60\r\ntransfer-encoding: chunked\r\n\r\n2\r\nhe\r\n3\r\nllo\r\n0\r\n\r\n
+q 2 1059 28
+GET /a HTTP/1.1\r\nhost: h\r\n\r\n
+a 2 1059 102
+HTTP/1.1 200 \r\ncache-control: max-age=60\r\nage: 59\r\ncache-status: cache;hit\r\ncontent-length: 5\r\n\r\nhello
+q 3 1060 28
+GET /b HTTP/1.0\r\nhost: h\r\n\r\n
+f 2 1060 47
+GET /b HTTP/1.1\r\nhost: h\r\nconnection: close\r\n\r\n
+r 2 1060 49
+HTTP/1.0 200 \r\ncache-control: max-age=60\r\n\r\nworld
+a 3 1060 49
+HTTP/1.1 200 \r\ncache-control: max-age=60\r\n\r\nworld
+q 4 1070 36
+GET http://h/b HTTP/1.1\r\nhost: h\r\n\r\n
+a 4 1070 121
+HTTP/1.1 200 \r\ncache-control: max-age=60\r\nage: 10\r\ncache-status: cache;hit\r\ntransfer-encoding: chunked\r\n\r\n5\r\nworld\r\n0\r\n\r\n
+q 5 1080 31
+OPTIONS * HTTP/1.1\r\nhost: h\r\n\r\n
+f 3 1080 31
+OPTIONS * HTTP/1.1\r\nhost: h\r\n\r\n
+r 3 1080 38
+HTTP/1.1 204 \r\nallow: GET, OPTIONS\r\n\r\n
+a 5 1080 38
+HTTP/1.1 204 \r\nallow: GET, OPTIONS\r\n\r\n
+";
+
+const FORMS_LINE: &[u8] = b"yes records=16 replies=5 hits=2 forwarded=0 unmarked=3\n";
+
 // Where the opening and each record of it end, and the line there.
 const ENDS: [(usize, &[u8]); 7] = [
     (
@@ -201,6 +239,33 @@ fn a_verdict_is_one_line(rt: HostRuntime) -> Result<(), Fail> {
         ),
     ] {
         let changed = replaced(&rt, RIGHT, old, new)?;
+        wants(&rt, &mut changed.as_slice(), 2, line, b"");
+    }
+    Ok(())
+}
+
+#[test]
+fn messages_of_each_form_are_read(rt: HostRuntime) -> Result<(), Fail> {
+    assert_eq!(rt; FORMS.len(), 1061);
+    wants(&rt, &mut FORMS, 0, FORMS_LINE, b"");
+    for (old, new, line) in [
+        (
+            b"GET http://h/a".as_slice(),
+            b"GET ftps://h/a".as_slice(),
+            b"malformed 1 7 Message\n".as_slice(),
+        ),
+        (
+            b"2\r\nhe\r\n".as_slice(),
+            b"2\r\nhe\n\n".as_slice(),
+            b"malformed 3 7 Message\n".as_slice(),
+        ),
+        (
+            b"OPTIONS *".as_slice(),
+            b"DELETES *".as_slice(),
+            b"malformed 13 7 Message\n".as_slice(),
+        ),
+    ] {
+        let changed = replaced(&rt, FORMS, old, new)?;
         wants(&rt, &mut changed.as_slice(), 2, line, b"");
     }
     Ok(())

@@ -11,7 +11,7 @@ use std::io::Write;
 /// Why the program gives no verdict.
 #[derive(Clone, Copy, Debug, PartialEq, Eq)]
 pub enum Trouble {
-    /// A record of the transcript can't be judged yet.
+    /// A reply of the transcript can't be judged yet.
     Unsupported,
     /// Memory was refused.
     Memory,

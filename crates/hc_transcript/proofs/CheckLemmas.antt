@@ -125,6 +125,3 @@ no_check g l m e f he hf d =
 
 pub no_message_check : (l : Line) (m e f : ℕ) (he hf : Bool) → first_fault l m e f he hf ≡ Some fault.Message → ⊥
 no_message_check l m e f he hf = no_check fault.Message l m e f he hf (λ e. cc, λ e. cc, λ e. cc, λ e. cc, λ e. cc)
-
-pub no_unsupported_check : (l : Line) (m e f : ℕ) (he hf : Bool) → first_fault l m e f he hf ≡ Some fault.Unsupported → ⊥
-no_unsupported_check l m e f he hf = no_check fault.Unsupported l m e f he hf (λ e. cc, λ e. cc, λ e. cc, λ e. cc, λ e. cc)

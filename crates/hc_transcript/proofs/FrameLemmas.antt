@@ -1,14 +1,14 @@
 -- A record in its place.
-use Rattle.std.proofs.Common.{◌≡◌, ◌≢◌, ℕ, suc, ◌+◌, ◌-◌, ◌<◌, ◌≤◌, List, [], ◌∷◌, ◌++◌, length, get_or, take, drop, Option, Some, None, refl, sym, ap, subst, ◌∙◌, arith, add-one, inl, inr, length-append, length-drop, length-take}
+use Rattle.std.proofs.Common.{◌≡◌, ◌≢◌, ℕ, suc, ◌+◌, ◌<◌, ◌≤◌, List, ◌∷◌, ◌++◌, length, get_or, take, drop, Option, Some, None, sym, ap, subst, ◌∙◌, arith, add-one, inl, inr, length-drop, length-take}
 use Rattle.std.proofs.lemmas.List.{take-append-drop}
-use Rattle.std.proofs.Math.Seq.{drop-append_seam, drop-cons, get_or-append_seam}
+use Rattle.std.proofs.Math.Seq.{drop-append_seam, drop-cons}
 use Rattle.std.proofs.lemmas.List.{get_or-append-add}
 use Rattle.hc_transcript.specs.declared.fault.RecordFault.{RecordFault}
 use Rattle.hc_transcript.specs.declared.fault.RecordFault.TheVariants as fault
 use Rattle.hc_transcript.specs.declared.line.Line.{Line}
 use Rattle.hc_transcript.specs.Records.{line_text}
 use Rattle.hc_transcript.specs.Lines.{IsLineText, BeginsLine}
-use Rattle.hc_transcript.specs.Frames.{HasLine, IsFramed, IsUnfinished, FailsCheck, Breaks}
+use Rattle.hc_transcript.specs.Frames.{IsFramed, IsUnfinished, FailsCheck, Breaks}
 
 -- a line that fails a check breaks the octets
 pub breaks_by_check : (check : Line → Option RecordFault) (f : RecordFault) (octets : List ℕ) → FailsCheck check f octets → Breaks check f octets
@@ -21,7 +21,6 @@ breaks_by_check check fault.NothingOpen octets fails = fails
 breaks_by_check check fault.Message octets fails = fails
 breaks_by_check check fault.TooLong octets fails = fails
 breaks_by_check check fault.Memory octets fails = fails
-breaks_by_check check fault.Unsupported octets fails = fails
 
 -- what stands behind the line's text
 pub behind_line : (octets text : List ℕ) (end : ℕ) → text ≡ take end octets → end < length octets → (b : BeginsLine octets text) → drop end octets ≡ 10 ∷ b.after

@@ -7,3 +7,4 @@ pub mod ReadingLemmas
 pub mod CheckLemmas
 pub mod FrameLemmas
 pub mod ReaderLemmas
+pub mod ItemLemmas

@@ -1,7 +1,5 @@
 -- What a reader of records keeps, from call to call.
-use Rattle.std.proofs.Common.{◌≡◌, ◌≢◌, ℕ, ◌+◌, Bool, true, false, cond, List, [], ◌∷◌, ◌++◌, length, take, drop, Option, Some, None, is_some, refl, sym, ap, subst, ◌∙◌, arith, inl, inr, append_assoc, length-append, length-drop, ◌<◌}
-use Rattle.std.specs.Ordering.{nat_cmp}
-use Rattle.std.specs.BTreeMap.{get}
+use Rattle.std.proofs.Common.{◌≡◌, ◌≢◌, ℕ, ◌+◌, Bool, true, false, cond, List, [], ◌∷◌, ◌++◌, length, take, drop, Option, Some, None, refl, sym, ap, subst, ◌∙◌, arith, inr, append_assoc, length-append, length-drop, ◌<◌}
 use Rattle.std.proofs.Math.Seq.{drop-append_seam}
 use Rattle.std.proofs.lemmas.List.{take-append-drop, append-nil}
 use Rattle.std.proofs.lemmas.Slice.Eq.{bytes_eq-Decides}
@@ -20,11 +18,12 @@ use Rattle.hc_transcript.specs.History.{next_position}
 use Rattle.hc_transcript.specs.Records.{opening, line_text, line_of, message_of, record_text, records_text}
 use Rattle.hc_transcript.specs.Checks.{line_fault}
 use Rattle.hc_transcript.specs.Transcript.{answers_head, IsItemOf, IsReadAs, Splits, IsTranscript}
+use Rattle.hc_transcript.specs.MessageFaults.{IsNoMessage}
 use Rattle.hc_transcript.specs.Reading.{Refuses}
 use Rattle.hc_transcript.specs.Standing.{StandsAs, standing_fault}
-use Rattle.hc_transcript.specs.Frames.{IsFramed, IsUnfinished, FailsCheck, Breaks}
-use Rattle.hc_transcript.specs.Reader.{BreaksRecord, ReadsTo, Agrees, WaitsBy, Waits, Lends, Stops, Advances, reader_position, HasNoItem, IsUnfinishedOpening, HasUnreadBy, is_whole_by}
-use Rattle.hc_transcript.proofs.CheckLemmas.{standing_fault_is, no_message_check, no_unsupported_check}
+use Rattle.hc_transcript.specs.Frames.{IsFramed, IsUnfinished, Breaks}
+use Rattle.hc_transcript.specs.Reader.{BreaksRecord, ReadsTo, Agrees, WaitsBy, Waits, Stops, Advances, reader_position, HasNoMessage, IsUnfinishedOpening, HasUnreadBy, is_whole_by}
+use Rattle.hc_transcript.proofs.CheckLemmas.{standing_fault_is, no_message_check}
 
 -- the checks by what the reader keeps are those after the history
 checks_same : (r : RecordReader) (octets : List ℕ) (records : List Record) (h : List Item) → Agrees r octets records h → standing_fault r.standing ≡ line_fault h
@@ -39,7 +38,6 @@ position_of r h is stands = ap (λ (b : Bool). cond b (r.standing.records + 1) 0
 -- a line that fails a check breaks the record
 record_breaks : (s : RecordReader) (f : RecordFault) (h : List Item) (octets : List ℕ) → Breaks (line_fault h) f octets → BreaksRecord f h octets
 record_breaks s fault.Message h octets b = absurd (no_message_check b.line _ _ _ _ _ b.fails)
-record_breaks s fault.Unsupported h octets b = absurd (no_unsupported_check b.line _ _ _ _ _ b.fails)
 record_breaks s fault.Opening h octets b = b
 record_breaks s fault.Line h octets b = b
 record_breaks s fault.Torn h octets b = b
@@ -55,10 +53,9 @@ stops_by_line r octets records h f is agrees breaks =
     let b : Breaks (line_fault h) f r.held = subst (λ (check : Line → Option RecordFault). Breaks check f r.held) (checks_same r octets records h agrees) breaks in
     inr (record { records = records; rest = r.held; splits = opened r octets records h is agrees; breaks = record_breaks r f h r.held b }, position_of r h is agrees.stands)
 
--- a message that is read as nothing breaks the record
-item_breaks : (f : RecordFault) (h : List Item) (octets : List ℕ) (Nothing : Type 0) → (Nothing → HasNoItem h octets) → Refuses f Nothing → f ≢ fault.Memory → BreaksRecord f h octets
+-- octets that are no message break the record
+item_breaks : (f : RecordFault) (h : List Item) (octets : List ℕ) (Nothing : Type 0) → (Nothing → HasNoMessage h octets) → Refuses f Nothing → f ≢ fault.Memory → BreaksRecord f h octets
 item_breaks fault.Message h octets Nothing so refuses other = so refuses
-item_breaks fault.Unsupported h octets Nothing so refuses other = so refuses
 item_breaks fault.Memory h octets Nothing so refuses other = absurd (other refl)
 item_breaks fault.Opening h octets Nothing so refuses other = absurd refuses
 item_breaks fault.Line h octets Nothing so refuses other = absurd refuses
@@ -70,11 +67,11 @@ item_breaks fault.TooLong h octets Nothing so refuses other = absurd refuses
 
 pub stops_by_item : (r : RecordReader) (octets : List ℕ) (records : List Record) (h : List Item) (f : RecordFault) (l : Line) (message : List ℕ) (len : ℕ) (to_head : Bool)
     → r.is_open ≡ true → Agrees r octets records h → IsFramed (standing_fault r.standing) r.held l message len → to_head ≡ answers_head l.kind l.number h
-    → Refuses f ((item : Item) → ¬ (IsItemOf l.kind l.number l.moment to_head message item)) → f ≢ fault.Memory → Stops r octets h f
+    → Refuses f (IsNoMessage l.kind to_head message) → f ≢ fault.Memory → Stops r octets h f
 stops_by_item r octets records h f l message len to_head is agrees framed head-is refuses other =
     let framed' : IsFramed (line_fault h) r.held l message len = subst (λ (check : Line → Option RecordFault). IsFramed check r.held l message len) (checks_same r octets records h agrees) framed in
-    let none : ((item : Item) → ¬ (IsItemOf l.kind l.number l.moment to_head message item)) → HasNoItem h r.held =
-    λ none. record { line = l; message = message; len = len; framed = framed'; none = subst (λ (b : Bool). (item : Item) → ¬ (IsItemOf l.kind l.number l.moment b message item)) head-is none } in
+    let none : IsNoMessage l.kind to_head message → HasNoMessage h r.held =
+    λ none. record { line = l; message = message; len = len; framed = framed'; none = subst (λ (b : Bool). IsNoMessage l.kind b message) head-is none } in
     inr (
       record { records = records; rest = r.held; splits = opened r octets records h is agrees; breaks = item_breaks f h r.held _ none refuses other },
       position_of r h is agrees.stands,

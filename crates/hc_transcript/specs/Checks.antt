@@ -1,5 +1,5 @@
 -- The checks of a record's line after a history, in their order.
-use Rattle.std.specs.Prelude.{ℕ, Bool, true, false, ◌&&◌, ◌||◌, List, length, Option, Some, None, is_some, ◌==◌, nat_lt, nat_le, not, if◌then◌else◌}
+use Rattle.std.specs.Prelude.{ℕ, Bool, true, ◌&&◌, List, Option, Some, None, is_some, ◌==◌, nat_lt, nat_le, not, if◌then◌else◌}
 use Rattle.hc_transcript.specs.declared.fault.RecordFault.{RecordFault}
 use Rattle.hc_transcript.specs.declared.fault.RecordFault.TheVariants as fault
 use Rattle.hc_transcript.specs.declared.line.Kind.{Kind}

@@ -1,5 +1,5 @@
 -- What a record means: an item, with its message read and, for a request, its target.
-use Rattle.std.specs.Prelude.{◌≡◌, ℕ, ◌≤◌, Bool, false, List, codes, Option, Some, None}
+use Rattle.std.specs.Prelude.{ℕ, Bool, false, codes, Option, Some, None}
 use Rattle.std.specs.Str.{bytes_eq}
 use Rattle.hc_head.specs.declared.head.RequestHead.{RequestHead}
 use Rattle.hc_head.specs.declared.head.ResponseHead.{ResponseHead}

@@ -6,6 +6,7 @@ pub mod Items
 pub mod History
 pub mod Checks
 pub mod Transcript
+pub mod MessageFaults
 pub mod Reading
 pub mod Standing
 pub mod Frames

@@ -1,5 +1,5 @@
 -- A reader of records, and the octets that it was given.
-use Rattle.std.specs.Prelude.{◌≡◌, ◌≢◌, ℕ, ◌+◌, ◌⊎◌, Bool, true, false, List, [], ◌∷◌, ◌++◌, length, Option, Some, None, Result, Ok, Err, IsSome, bytes_eq, ◌==◌, if◌then◌else◌}
+use Rattle.std.specs.Prelude.{◌≡◌, ◌≢◌, ℕ, ◌+◌, ◌⊎◌, Bool, true, false, List, [], ◌∷◌, ◌++◌, length, Some, None, Result, Ok, Err, IsSome, bytes_eq, ◌==◌, if◌then◌else◌}
 use Rattle.hc_transcript.specs.declared.fault.RecordFault.{RecordFault}
 use Rattle.hc_transcript.specs.declared.fault.RecordFault.TheVariants as fault
 use Rattle.hc_transcript.specs.declared.line.Line.{Line}
@@ -10,7 +10,8 @@ use Rattle.hc_transcript.specs.Items.{Item, item_of}
 use Rattle.hc_transcript.specs.History.{next_position}
 use Rattle.hc_transcript.specs.Records.{opening}
 use Rattle.hc_transcript.specs.Checks.{line_fault}
-use Rattle.hc_transcript.specs.Transcript.{answers_head, IsItemOf, Splits}
+use Rattle.hc_transcript.specs.Transcript.{answers_head, Splits}
+use Rattle.hc_transcript.specs.MessageFaults.{IsNoMessage}
 use Rattle.hc_transcript.specs.Standing.{StandsAs}
 use Rattle.hc_transcript.specs.Frames.{IsFramed, IsUnfinished, Breaks}
 
@@ -22,18 +23,17 @@ HasNoOpening octets = (more rest : List ℕ) → octets ++ more ≢ opening ++ r
 abbrev pub IsUnfinishedOpening : List ℕ → Type 0
 IsUnfinishedOpening octets = (more : List ℕ) × (opening ≡ octets ++ more) × (more ≢ [])
 
--- a record stands there after the history, whose octets are read as nothing
-pub record HasNoItem (h : List Item) (octets : List ℕ) : Type 0 where
+-- a record stands there after the history, whose octets are no message of its kind
+pub record HasNoMessage (h : List Item) (octets : List ℕ) : Type 0 where
   pub line : Line
   pub message : List ℕ
   pub len : ℕ
   pub framed : IsFramed (line_fault h) octets line message len
-  pub none : (item : Item) → ¬ (IsItemOf line.kind line.number line.moment (answers_head line.kind line.number h) message item)
+  pub none : IsNoMessage line.kind (answers_head line.kind line.number h) message
 
 -- where a fault of the next record stands, in the order of the checks
 abbrev pub BreaksRecord : RecordFault → List Item → List ℕ → Type 0
-BreaksRecord fault.Message h octets = HasNoItem h octets
-BreaksRecord fault.Unsupported h octets = HasNoItem h octets
+BreaksRecord fault.Message h octets = HasNoMessage h octets
 BreaksRecord f h octets = Breaks (line_fault h) f octets
 
 -- after these records the octets break by the fault

@@ -6,7 +6,7 @@ use Rattle.hc_head.specs.declared.head.Target.{Target}
 use Rattle.hc_head.specs.declared.head.TheConstants.Room.{RECORDED}
 use Rattle.hc_head.specs.Targets.{HasTarget}
 use Rattle.hc_framing.specs.declared.message.Message.{Message}
-use Rattle.hc_framing.specs.Messages.{IsWholeRequest, IsWholeResponse}
+use Rattle.hc_framing.specs.Faults.{IsWholeRequest, IsWholeResponse}
 use Rattle.hc_transcript.specs.declared.record.Record.{Record}
 use Rattle.hc_transcript.specs.declared.line.Kind.{Kind}
 use Rattle.hc_transcript.specs.declared.line.Kind.TheVariants as kind

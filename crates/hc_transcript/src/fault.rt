@@ -2,7 +2,10 @@
 
 ghost use Rattle.std.specs.Prelude.{◌≡◌};
 ghost use Rattle.hc_transcript.specs.declared.fault.RecordFault.TheVariants.{Memory};
+ghost use Rattle.hc_transcript.specs.MessageFaults.{message_fault, target_fault};
 
+use hc_framing::FrameFault;
+use hc_head::HeadFault;
 use std::alloc::{AllocError, AllocFailed};
 use thiserror::Error;
 
@@ -27,7 +30,7 @@ pub enum RecordFault {
     /// No exchange or forward of that number is open.
     #[error("nothing of that number is open")]
     NothingOpen,
-    /// The octets are not one message of that kind.
+    /// The octets are not one message of that kind: a request with a target, or a final response.
     #[error("the octets are not one message")]
     Message,
     /// The message is too long.
@@ -36,9 +39,6 @@ pub enum RecordFault {
     /// Memory was refused.
     #[error("out of memory")]
     Memory,
-    /// The message is framed in a way, or its target has a form, that isn't read yet.
-    #[error("a message of this form is not supported")]
-    Unsupported,
 }
 
 impl RecordFault {
@@ -59,7 +59,6 @@ impl RecordFault {
             RecordFault::Message => 7,
             RecordFault::TooLong => 8,
             RecordFault::Memory => 9,
-            RecordFault::Unsupported => 10,
         }
     }
 
@@ -77,7 +76,30 @@ impl RecordFault {
             RecordFault::Message => "Message",
             RecordFault::TooLong => "TooLong",
             RecordFault::Memory => "Memory",
-            RecordFault::Unsupported => "Unsupported",
+        }
+    }
+}
+
+/// A fault of the message that a record bears.
+impl From<FrameFault> for RecordFault {
+    ghost from_gives = { λ fault broken. broken ≡ message_fault fault };
+
+    fn from(fault: FrameFault) -> RecordFault {
+        match fault {
+            FrameFault::Memory => RecordFault::Memory,
+            _ => RecordFault::Message,
+        }
+    }
+}
+
+/// A fault of the target of the request that a record bears.
+impl From<HeadFault> for RecordFault {
+    ghost from_gives = { λ fault broken. broken ≡ target_fault fault };
+
+    fn from(fault: HeadFault) -> RecordFault {
+        match fault {
+            HeadFault::Memory => RecordFault::Memory,
+            _ => RecordFault::Message,
         }
     }
 }

@@ -6,6 +6,7 @@ mod first_line;
 mod framed;
 mod held;
 mod item;
+mod laws;
 mod line;
 mod numeral;
 mod open_numbers;
@@ -15,6 +16,7 @@ mod record;
 
 pub use fault::RecordFault;
 pub use item::OwnedItem;
+pub use laws::one_item;
 pub use line::{Kind, Line};
 pub use reader::RecordReader;
 pub use record::Record;

@@ -4,79 +4,27 @@ ghost use Rattle.std.specs.Prelude.{◌≡◌, IfOk, true, length};
 ghost use Rattle.hc_transcript.specs.Records.{line_of, message_of};
 ghost use Rattle.hc_transcript.specs.Items.{item_kind, item_number};
 ghost use Rattle.hc_transcript.specs.Checks.{has_right_length};
-ghost use Rattle.hc_transcript.specs.Reading.{message_fault, is_other_form, target_fault, IsKnown, GivesRequest, GivesResponse, GivesItem};
+ghost use Rattle.hc_transcript.specs.Reading.{GivesRequest, GivesResponse, GivesItem};
 
 use crate::fault::RecordFault;
 use crate::item::OwnedItem;
 use crate::line::{Kind, Line};
 use crate::record::Record;
 use hc_fields::Octets;
-use hc_framing::{FrameFault, Message, whole_request, whole_response};
-use hc_head::{HeadFault, RequestHead, ResponseHead, Target, target};
+use hc_framing::{Message, whole_request, whole_response};
+use hc_head::{RequestHead, ResponseHead, Target, target};
 use std::alloc::{AllocError, Global};
-
-/// What begins a URI of the scheme http.
-const SCHEME: &[u8] = b"http://";
 
 /// The least status of a final response (RFC 9110 section 15).
 const LEAST_FINAL: u16 = 200;
-
-/// A fault of a message as one of a record.
-fn message_fault(fault: FrameFault) -> RecordFault
-    ensures exact { result ≡ message_fault fault }
-    ensures known { IsKnown result }
-    ensures memory { fault ≡ FrameFault.Memory → result ≡ RecordFault.Memory }
-{
-    match fault {
-        FrameFault::Memory => RecordFault::Memory,
-        FrameFault::Unsupported => RecordFault::Unsupported,
-        _ => RecordFault::Message,
-    }
-}
-
-/// Whether the target has a form that isn't read yet: `*` of OPTIONS, or a URI of the scheme http
-/// (RFC 9112 sections 3.2.2 and 3.2.4).
-fn is_other_form(head: &RequestHead) -> bool
-    ensures { result ≡ is_other_form head.now }
-{
-    let method = head.method.as_slice();
-    let target = head.target.as_slice();
-    if target == b"*".as_slice() {
-        return method == b"OPTIONS".as_slice();
-    }
-    if target.len() < SCHEME.len() || method == b"CONNECT".as_slice() {
-        return false;
-    }
-    let (scheme, _) = target.split_at(SCHEME.len());
-    scheme.eq_ignore_ascii_case(SCHEME)
-}
-
-/// A fault of a target as one of a record.
-fn target_fault(fault: HeadFault, is_other_form: bool) -> RecordFault
-    ensures exact { result ≡ target_fault fault is_other_form }
-    ensures known { IsKnown result }
-    ensures memory { fault ≡ HeadFault.Memory → result ≡ RecordFault.Memory }
-{
-    match fault {
-        HeadFault::Memory => RecordFault::Memory,
-        HeadFault::Target if is_other_form => RecordFault::Unsupported,
-        _ => RecordFault::Message,
-    }
-}
 
 /// The one request that the octets are, and its target.
 fn request_of(alloc: Global, octets: &[u8]) -> Result<(Message<RequestHead>, Target), RecordFault>
     ensures { GivesRequest result octets.now }
 {
-    let request = match whole_request(alloc, octets) {
-        Ok(request) => request,
-        Err(fault) => return Err(message_fault(fault)),
-    };
-    let is_other = is_other_form(&request.head);
-    match target(alloc, &request.head) {
-        Ok(target) => Ok((request, target)),
-        Err(fault) => Err(target_fault(fault, is_other)),
-    }
+    let request = whole_request(alloc, octets)?;
+    let target = target(alloc, &request.head)?;
+    Ok((request, target))
 }
 
 /// The one final response that the octets are.
@@ -87,11 +35,11 @@ fn response_of(
 ) -> Result<Message<ResponseHead>, RecordFault>
     ensures { GivesResponse to_head result octets.now }
 {
-    match whole_response(alloc, octets, to_head) {
-        Ok(response) if response.head.status < LEAST_FINAL => Err(RecordFault::Message),
-        Ok(response) => Ok(response),
-        Err(fault) => Err(message_fault(fault)),
+    let response = whole_response(alloc, octets, to_head)?;
+    if response.head.status < LEAST_FINAL {
+        return Err(RecordFault::Message);
     }
+    Ok(response)
 }
 
 /// What a record with that line and those octets means; `to_head` tells whether a response answers

@@ -1,4 +1,7 @@
 use super::*;
+use hc_fields::Octets;
+use hc_head::Target;
+use std::alloc::{AllocError, Global};
 use std::test::*;
 
 /// A request of a path, and the failure of its forward.
@@ -44,6 +47,157 @@ fn records_are_read_in_any_pieces(rt: HostRuntime) {
     assert_eq!(rt; reader.finish(), Ok(()));
 }
 
+/// Adds a record: its line up to the length, and its message.
+fn add(alloc: Global, octets: &mut Vec<u8>, line: &str, message: &[u8]) -> Result<(), AllocError> {
+    let size = format!(in alloc; " {}\n", message.len())?;
+    octets.extend_from_slice(line.as_bytes())?;
+    octets.extend_from_slice(size.as_bytes())?;
+    octets.extend_from_slice(message)?;
+    octets.extend_from_slice(b"\n")
+}
+
+/// The body of a response to a request of that method, as it is recorded.
+fn body_of(alloc: Global, method: &str, response: &[u8]) -> Result<Octets, RecordFault> {
+    let request = format!(in alloc; "{method} /a HTTP/1.1\r\nhost: h\r\n\r\n")?;
+    let mut octets = Vec::from_slice(alloc, b"HCT1\n")?;
+    add(alloc, &mut octets, "f 1 1000", request.as_bytes())?;
+    add(alloc, &mut octets, "r 1 1001", response)?;
+    let mut reader = RecordReader::new(alloc);
+    reader.feed(&octets)?;
+    reader.advance()?;
+    if reader.advance()? {
+        if let OwnedItem::OriginResponse { response, .. } = reader.item() {
+            return Ok(response.body.copy(alloc)?);
+        }
+    }
+    Err(RecordFault::Torn)
+}
+
+/// The target of a request, as it is recorded.
+fn target_of(alloc: Global, request: &[u8]) -> Result<Target, RecordFault> {
+    let mut octets = Vec::from_slice(alloc, b"HCT1\n")?;
+    add(alloc, &mut octets, "q 1 1000", request)?;
+    let mut reader = RecordReader::new(alloc);
+    reader.feed(&octets)?;
+    if reader.advance()? {
+        if let OwnedItem::ClientRequest { target, .. } = reader.item() {
+            return Ok(target.copy(alloc)?);
+        }
+    }
+    Err(RecordFault::Torn)
+}
+
+#[test]
+fn bodies_end_as_their_heads_say(rt: HostRuntime) -> Result<(), Fail> {
+    for (method, response, body) in [
+        // Without a length a body lasts to the end of the record.
+        (
+            "GET",
+            b"HTTP/1.1 200 \r\n\r\nhello".as_slice(),
+            b"hello".as_slice(),
+        ),
+        (
+            "GET",
+            b"HTTP/1.1 200 \r\ncontent-length: 5, 5\r\n\r\nhello".as_slice(),
+            b"hello".as_slice(),
+        ),
+        (
+            "GET",
+            b"HTTP/1.1 200 \r\ncontent-length: 5\r\nContent-Length: 05\r\n\r\nhello".as_slice(),
+            b"hello".as_slice(),
+        ),
+        (
+            "GET",
+            b"HTTP/1.1 200 \r\ntransfer-encoding: Chunked\r\n\r\n2\r\nhe\r\n3;last\r\nllo\r\n0\r\na: b\r\n\r\n".as_slice(),
+            b"hello".as_slice(),
+        ),
+        // What answers HEAD, or has a status without a body, ends with its head.
+        (
+            "HEAD",
+            b"HTTP/1.1 200 \r\ntransfer-encoding: chunked\r\n\r\n".as_slice(),
+            b"".as_slice(),
+        ),
+        (
+            "GET",
+            b"HTTP/1.1 204 \r\ncontent-length: x\r\n\r\n".as_slice(),
+            b"".as_slice(),
+        ),
+    ] {
+        let read = body_of(rt.alloc(), method, response)?;
+        assert_eq!(rt; read.as_slice(), body, "{response:?}");
+    }
+    Ok(())
+}
+
+#[test]
+fn octets_that_are_no_response(rt: HostRuntime) {
+    for response in [
+        b"HTTP/1.1 200 \r\ncontent-length: 5, 6\r\n\r\nhello".as_slice(),
+        b"HTTP/1.1 200 \r\ncontent-length: +5\r\n\r\nhello".as_slice(),
+        b"HTTP/1.1 200 \r\ncontent-length: 4\r\n\r\nhello".as_slice(),
+        b"HTTP/1.1 200 \r\ncontent-length: 0\r\ntransfer-encoding: chunked\r\n\r\n0\r\n\r\n".as_slice(),
+        b"HTTP/1.1 200 \r\ntransfer-encoding: gzip, chunked\r\n\r\n0\r\n\r\n".as_slice(),
+        b"HTTP/1.0 200 \r\ntransfer-encoding: chunked\r\n\r\n0\r\n\r\n".as_slice(),
+        b"HTTP/1.1 200 \r\ntransfer-encoding: chunked\r\n\r\n0\n\n".as_slice(),
+        b"HTTP/1.1 200 \r\ntransfer-encoding: chunked\r\n\r\n5\r\nhello\r\n".as_slice(),
+        b"HTTP/1.1 204 \r\n\r\nhello".as_slice(),
+        b"HTTP/1.1 103 \r\n\r\n".as_slice(),
+    ] {
+        let fault = body_of(rt.alloc(), "GET", response).err();
+        assert_eq!(rt; fault, Some(RecordFault::Message), "{response:?}");
+    }
+}
+
+#[test]
+fn targets_of_each_form(rt: HostRuntime) -> Result<(), Fail> {
+    for (request, host, path) in [
+        (
+            b"GET /a?b HTTP/1.1\r\nhost: H:80\r\n\r\n".as_slice(),
+            b"h".as_slice(),
+            b"/a?b".as_slice(),
+        ),
+        (
+            b"GET http://i:8080/a?b HTTP/1.1\r\nhost: h\r\n\r\n".as_slice(),
+            b"i:8080".as_slice(),
+            b"/a?b".as_slice(),
+        ),
+        (
+            b"GET HTTP://I: HTTP/1.1\r\nhost: h\r\n\r\n".as_slice(),
+            b"i".as_slice(),
+            b"/".as_slice(),
+        ),
+        (
+            b"OPTIONS * HTTP/1.1\r\nhost: h\r\n\r\n".as_slice(),
+            b"h".as_slice(),
+            b"*".as_slice(),
+        ),
+        (
+            b"OPTIONS http://i HTTP/1.1\r\nhost: h\r\n\r\n".as_slice(),
+            b"i".as_slice(),
+            b"*".as_slice(),
+        ),
+    ] {
+        let target = target_of(rt.alloc(), request)?;
+        assert_eq!(rt; target.host.as_slice(), host, "{request:?}");
+        assert_eq!(rt; target.path.as_slice(), path, "{request:?}");
+    }
+    Ok(())
+}
+
+#[test]
+fn requests_without_a_target(rt: HostRuntime) {
+    for request in [
+        b"GET * HTTP/1.1\r\nhost: h\r\n\r\n".as_slice(),
+        b"GET https://h/a HTTP/1.1\r\nhost: h\r\n\r\n".as_slice(),
+        b"GET http://h/a#b HTTP/1.1\r\nhost: h\r\n\r\n".as_slice(),
+        b"GET http://h/a HTTP/1.1\r\n\r\n".as_slice(),
+        b"CONNECT h:80 HTTP/1.1\r\nhost: h\r\n\r\n".as_slice(),
+    ] {
+        let fault = target_of(rt.alloc(), request).err();
+        assert_eq!(rt; fault, Some(RecordFault::Message), "{request:?}");
+    }
+}
+
 #[test]
 fn a_fault_is_answered_again(rt: HostRuntime) {
     let mut reader = RecordReader::new(rt.alloc());
@@ -67,7 +221,6 @@ fn faults_are_told(rt: HostRuntime) {
         (RecordFault::Message, 7, "Message"),
         (RecordFault::TooLong, 8, "TooLong"),
         (RecordFault::Memory, 9, "Memory"),
-        (RecordFault::Unsupported, 10, "Unsupported"),
     ];
     for (fault, number, name) in told {
         assert_eq!(rt; fault.number(), number);

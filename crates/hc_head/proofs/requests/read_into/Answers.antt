@@ -1,5 +1,5 @@
 use Rattle.std.proofs.Common.{arith}
-use Rattle.hc_head.proofs.RequestLemmas.{whole_head, no_head_in_room, many_fields}
+use Rattle.hc_head.proofs.RequestLemmas.{whole_head, no_head_in_room, many_fields, no_text, may_become}
 use Rattle.hc_head.proofs.requests.read_into.Goals as goal
 
 pub returns-in_ok-head-in-Ok-Complete-clause-gives : goal.returns-in_ok-head-in-Ok-Complete-clause-gives
@@ -14,3 +14,17 @@ returns-else-bytes-room-clause-gives c =
 pub returns-in-Err-TooManyHeaders-clause-gives : goal.returns-in-Err-TooManyHeaders-clause-gives
 returns-in-Err-TooManyHeaders-clause-gives c =
     many_fields c.args.bytes.now c.front_of-front.result.now c.args.room _ c.front_of-front.ensures c.requires c.in-Err-TooManyHeaders.ensures.no_room
+
+pub returns-then-has_hopeless_target-clause-gives : goal.returns-then-has_hopeless_target-clause-gives
+returns-then-has_hopeless_target-clause-gives c =
+    no_text c.args.bytes.now c.front_of-front.result.now c.args.room c.front_of-front.ensures c.if-has_hopeless_target.ensures
+
+pub returns-then-bytes-room-clause-unfinished : goal.returns-then-bytes-room-clause-unfinished
+returns-then-bytes-room-clause-unfinished c =
+    may_become c.args.bytes.now c.front_of-front.result.now c.args.room c.front_of-front.ensures
+    (rw c.in-Ok-Partial.field-0-is at c.in-Ok-Partial.ensures.unfinished) c.if-has_hopeless_target.ensures
+
+pub returns-else-bytes-room-clause-unfinished : goal.returns-else-bytes-room-clause-unfinished
+returns-else-bytes-room-clause-unfinished c =
+    may_become c.args.bytes.now c.front_of-front.result.now c.args.room c.front_of-front.ensures
+    (rw c.in-Ok-Partial.field-0-is at c.in-Ok-Partial.ensures.unfinished) c.if-has_hopeless_target.ensures

@@ -1,5 +1,5 @@
-use Rattle.std.proofs.Common.{arith}
-use Rattle.hc_head.proofs.ResponseLemmas.{whole_head, no_head_in_room, many_fields, no_status}
+use Rattle.std.proofs.Common.{sym, ◌∙◌, arith}
+use Rattle.hc_head.proofs.ResponseLemmas.{whole_head, no_head_in_room, many_fields, no_status, low_status, may_become}
 use Rattle.hc_head.proofs.responses.read_into.Goals as goal
 
 pub returns-in_ok-head-in-Ok-Complete-clause-gives : goal.returns-in_ok-head-in-Ok-Complete-clause-gives
@@ -19,3 +19,17 @@ pub returns-then-found-lt-LEAST_STATUS-clause-gives : goal.returns-then-found-lt
 returns-then-found-lt-LEAST_STATUS-clause-gives c =
     no_status c.args.bytes.now c.front_of-front.result.now c.args.room c.parse_response.new.headers c.in-Ok-Complete.found
     c.front_of-front.ensures (rw c.in-Ok-Complete.field-0-is at c.in-Ok-Complete.ensures.complete) c.if-found-lt-LEAST_STATUS.true
+
+pub returns-then-has_low_status-clause-gives : goal.returns-then-has_low_status-clause-gives
+returns-then-has_low_status-clause-gives c =
+    low_status c.args.bytes.now c.front_of-front.result.now c.args.room c.front_of-front.ensures (sym c.has_low_status.ensures ∙ c.if-has_low_status.true)
+
+pub returns-then-bytes-room-clause-unfinished : goal.returns-then-bytes-room-clause-unfinished
+returns-then-bytes-room-clause-unfinished c =
+    may_become c.args.bytes.now c.front_of-front.result.now c.args.room c.front_of-front.ensures
+    (rw c.in-Ok-Partial.field-0-is at c.in-Ok-Partial.ensures.unfinished) (sym c.has_low_status.ensures ∙ c.if-has_low_status.false)
+
+pub returns-else-bytes-room-clause-unfinished : goal.returns-else-bytes-room-clause-unfinished
+returns-else-bytes-room-clause-unfinished c =
+    may_become c.args.bytes.now c.front_of-front.result.now c.args.room c.front_of-front.ensures
+    (rw c.in-Ok-Partial.field-0-is at c.in-Ok-Partial.ensures.unfinished) (sym c.has_low_status.ensures ∙ c.if-has_low_status.false)

@@ -1,4 +1,4 @@
-use Rattle.std.proofs.Common.{refl, sym, ap, ◌∙◌}
+use Rattle.std.proofs.Common.{refl, sym, ◌∙◌}
 use Rattle.hc_transcript.proofs.ReaderLemmas.{unfinished_opening}
 use Rattle.hc_transcript.proofs.reader.RecordReader.read_opening.Goals as goal
 

@@ -1,4 +1,4 @@
-use Rattle.std.proofs.Common.{refl, sym, ap, ◌∙◌}
+use Rattle.std.proofs.Common.{refl}
 use Rattle.hc_transcript.proofs.ReaderLemmas.{stops_by_line, stops_by_item, waits_on, advances, shrinks}
 use Rattle.hc_transcript.specs.Standing.{standing_fault}
 use Rattle.hc_transcript.proofs.reader.RecordReader.read_record.Goals as goal

@@ -1,0 +1,36 @@
+use Rattle.std.proofs.Common.{◌≡◌, ◌+◌, ap, subst, sym, refl, arith, ◌++◌, take, length, drop, List, ℕ, Some, None, Ok, Err, Option, Result}
+use Rattle.hc_framing.specs.declared.body.Stage.{Stage}
+use Rattle.hc_framing.specs.declared.body.Stage.TheVariants as at
+use Rattle.hc_framing.specs.declared.framing.Framing.{Framing}
+use Rattle.hc_framing.specs.declared.framing.Framing.TheVariants.{Chunked}
+use Rattle.hc_framing.specs.Messages.{BeginsBody}
+use Rattle.hc_framing.specs.BodyReading.{AgreesAt, AgreesBody}
+use Rattle.hc_framing.specs.TrailerReading.{GivesTrailer}
+use Rattle.hc_framing.proofs.BodyLemmas.{at_stage, trailer_faults, trailer_goes_on, trailer_ends, whole_piece}
+use Rattle.hc_framing.proofs.body.BodyReader.take_trailer.Goals as goal
+
+pub returns-in-Err : goal.returns-in-Err
+returns-in-Err c = λ framing octets agrees.
+    let a = at_stage framing c.args.self.now octets at.Trailer c.requires.stage agrees in
+    trailer_faults c.args.self.now c.feed.new.self octets c.args.piece.now framing c.in-Err.fault a.0 a.1 (c.in-Err.ensures (drop a.1.len a.1.last) a.1.trailer)
+
+pub returns-in-Ok-None : goal.returns-in-Ok-None
+returns-in-Ok-None c = λ framing octets agrees.
+    let a = at_stage framing c.args.self.now octets at.Trailer c.requires.stage agrees in
+    let gives = rw c.in-Ok-None.field-0-is at (c.in-Ok-None.ensures (drop a.1.len a.1.last) a.1.trailer) in
+    let s = record c.args.self.now { trailer = c.feed.new.self } in (
+      c.requires.some,
+      omega arith,
+      whole_piece (AgreesBody framing s) octets c.args.piece.now
+          (subst (λ (t : Stage). AgreesAt t framing s (octets ++ c.args.piece.now)) (sym c.requires.stage) (a.0, trailer_goes_on c.args.self.now s octets c.args.piece.now a.1 refl gives)),
+    )
+
+pub returns-in-Ok-Some : goal.returns-in-Ok-Some
+returns-in-Ok-Some c = λ framing octets agrees.
+    let a = at_stage framing c.args.self.now octets at.Trailer c.requires.stage agrees in
+    let gives = rw c.in-Ok-Some.field-0-is at (c.in-Ok-Some.ensures (drop a.1.len a.1.last) a.1.trailer) in
+    let s = record c.args.self.now { trailer = c.feed.new.self } in (
+      gives.0,
+      subst (λ (f : Framing). BeginsBody f (octets ++ take c.in-Ok-Some.used c.args.piece.now) c.args.self.now.octets (length octets + c.in-Ok-Some.used)) (sym a.0)
+          (trailer_ends c.args.self.now s octets c.args.piece.now c.in-Ok-Some.used a.1 gives.0 refl gives.1),
+    )

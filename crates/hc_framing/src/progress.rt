@@ -1,0 +1,8 @@
+/// How far a message has come.
+#[derive(Clone, Copy, Debug, PartialEq, Eq)]
+pub enum Progress {
+    /// Its end hasn't come.
+    More,
+    /// It is whole, with so many octets of the last piece.
+    Whole(usize),
+}

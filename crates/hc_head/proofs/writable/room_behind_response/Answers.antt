@@ -1,0 +1,9 @@
+use Rattle.std.proofs.Common.{arith}
+use Rattle.hc_head.proofs.WrittenLemmas.{length-response_text}
+use Rattle.hc_head.proofs.writable.room_behind_response.Goals as goal
+
+pub returns-in_err-room : goal.returns-in_err-room
+returns-in_err-room c = grind (arith, length-response_text c.args.head.now c.requires.least c.requires.greatest)
+
+pub returns : goal.returns
+returns c = grind (arith, length-response_text c.args.head.now c.requires.least c.requires.greatest)
