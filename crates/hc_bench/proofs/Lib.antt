@@ -1,0 +1,2 @@
+pub mod CommandLemmas
+pub mod FeedingLemmas

@@ -1,0 +1,5 @@
+pub mod Command
+pub mod Feeding
+pub mod Lines
+pub mod Messages
+pub mod Rates

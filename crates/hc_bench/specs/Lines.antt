@@ -1,0 +1,26 @@
+-- The lines that the program prints.
+use Rattle.std.specs.Prelude.{ℕ, List, [], ◌∷◌, ◌++◌, length, codes, decimal}
+use Rattle.hc_bench.specs.declared.feeding.Fed.{Fed}
+use Rattle.hc_bench.specs.declared.rate.Rate.{Rate}
+use Rattle.hc_bench.specs.Rates.{octets_per_second, percent_of}
+
+-- what was read, and in pieces of how many octets
+abbrev pub start : List ℕ → ℕ → List ℕ → List ℕ
+start name size rest = name ++ (codes " piece=" ++ (decimal size ++ rest))
+
+-- what was counted
+abbrev pub counts_line : {H : Type 0} → List ℕ → ℕ → Fed H → List ℕ
+counts_line name size fed = start name size
+    (codes " octets=" ++ (decimal fed.octets ++ (codes " body=" ++ (decimal (length fed.message.body)
+    ++ (codes " calls=" ++ (decimal fed.calls ++ 10 ∷ []))))))
+
+-- how fast they were read
+abbrev pub rate_line : List ℕ → ℕ → Rate → List ℕ
+rate_line name size rate = start name size
+    (codes " messages=" ++ (decimal rate.messages ++ (codes " octets=" ++ (decimal rate.octets
+    ++ (codes " octets_per_second=" ++ (decimal (octets_per_second rate) ++ 10 ∷ []))))))
+
+-- what an octet of the long ones cost, in percent of what an octet of the short ones cost
+abbrev pub cost_line : List ℕ → ℕ → Rate → Rate → List ℕ
+cost_line name size short long =
+    start name size (codes " cost_percent=" ++ (decimal (percent_of long short) ++ 10 ∷ []))

@@ -1,0 +1,115 @@
+//! Long messages and short ones, and how fast they are read.
+ghost use Rattle.std.specs.Prelude.{◌<◌, IfOk};
+ghost use Rattle.hc_bench.specs.Feeding.{IsRateOf};
+
+use crate::feeding::feed_all;
+use crate::lines::{cost_line, rate_line};
+use crate::messages::{chunked_response, long_request};
+use crate::print::printed;
+use crate::rate::Rate;
+use crate::trouble::Trouble;
+use hc_framing::{Kind, MessageHead};
+use hc_head::{RequestHead, ResponseHead, Room};
+use std::alloc::Global;
+use std::io::Write;
+use std::rt::Clock;
+use std::time::Instant;
+
+/// How often messages are read. The fastest time counts.
+const ROUNDS: u32 = 9;
+
+/// Two texts of about as many octets, which are short messages and long ones of a kind.
+#[derive(Clone, Copy, Debug)]
+pub struct Pair<'a> {
+    pub name: &'a str,
+    pub kind: Kind,
+    pub short: &'a [u8],
+    pub long: &'a [u8],
+}
+
+/// Reads heads and bodies in pieces, and says how fast that was.
+pub fn measure<C: Clock, W: Write>(
+    alloc: Global,
+    clock: &C,
+    output: &mut W,
+) -> Result<(), Trouble> {
+    heads(alloc, clock, output)?;
+    bodies(alloc, clock, output)
+}
+
+// 16 MiB of heads of 8 KiB and of heads of 64 KiB, octet by octet and whole.
+fn heads<C: Clock, W: Write>(alloc: Global, clock: &C, output: &mut W) -> Result<(), Trouble> {
+    let short = long_request(alloc, 8, 1_008)?;
+    let short = short.as_str().repeat(alloc, 2_048)?;
+    let long = long_request(alloc, 64, 1_015)?;
+    let long = long.as_str().repeat(alloc, 256)?;
+    let pair = Pair {
+        name: "head",
+        kind: Kind::Request,
+        short: short.as_bytes(),
+        long: long.as_bytes(),
+    };
+    compare::<RequestHead, _, _>(alloc, clock, &pair, 1, output)?;
+    compare::<RequestHead, _, _>(alloc, clock, &pair, 65_536, output)
+}
+
+// Sixteen chunked bodies of 1 MiB and one of 16 MiB.
+fn bodies<C: Clock, W: Write>(alloc: Global, clock: &C, output: &mut W) -> Result<(), Trouble> {
+    let short = chunked_response(alloc, 256, 4_096)?;
+    let short = short.as_str().repeat(alloc, 16)?;
+    let long = chunked_response(alloc, 4_096, 4_096)?;
+    let pair = Pair {
+        name: "chunked",
+        kind: Kind::Response { to_head: false },
+        short: short.as_bytes(),
+        long: long.as_bytes(),
+    };
+    compare::<ResponseHead, _, _>(alloc, clock, &pair, 1, output)?;
+    compare::<ResponseHead, _, _>(alloc, clock, &pair, 7, output)?;
+    compare::<ResponseHead, _, _>(alloc, clock, &pair, 8_192, output)
+}
+
+/// Reads both texts in pieces of that size, and says how fast that was, and what an octet of the
+/// long messages cost beside an octet of the short ones.
+pub fn compare<H: MessageHead, C: Clock, W: Write>(
+    alloc: Global,
+    clock: &C,
+    pair: &Pair<'_>,
+    size: usize,
+    output: &mut W,
+) -> Result<(), Trouble>
+    requires { 0 < size }
+{
+    let mut short = timed::<H, _>(alloc, clock, pair.kind, pair.short, size)?;
+    let mut long = timed::<H, _>(alloc, clock, pair.kind, pair.long, size)?;
+    for _ in 1..ROUNDS {
+        short = short.faster(timed::<H, _>(alloc, clock, pair.kind, pair.short, size)?);
+        long = long.faster(timed::<H, _>(alloc, clock, pair.kind, pair.long, size)?);
+    }
+    printed(rate_line(alloc, pair.name, size, &short)?.as_str(), output)?;
+    printed(rate_line(alloc, pair.name, size, &long)?.as_str(), output)?;
+    printed(
+        cost_line(alloc, pair.name, size, &short, &long)?.as_str(),
+        output,
+    )?;
+    Ok(())
+}
+
+// How fast the messages of a text are read. Each is kept until all are, so that short ones and long
+// ones take as much memory.
+fn timed<H: MessageHead, C: Clock>(
+    alloc: Global,
+    clock: &C,
+    kind: Kind,
+    octets: &[u8],
+    size: usize,
+) -> Result<Rate, Trouble>
+    requires { 0 < size }
+    ensures { IfOk result (IsRateOf H.begins H.field_count H.framing_of H.without_framing
+        kind Room.RECORDED octets.now) }
+{
+    let start = Instant::now(clock)?;
+    let messages = feed_all::<H>(alloc, kind, Room::RECORDED, octets, size)?;
+    let time = start.elapsed(clock)?;
+    Ok(Rate::new(messages.len(), octets.len(), time))
+}
