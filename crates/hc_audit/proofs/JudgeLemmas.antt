@@ -1,8 +1,7 @@
 -- What one record more makes of a judgement, and what its end.
-use Rattle.std.proofs.Common.{◌≡◌, ◌≢◌, ℕ, ◌+◌, Bool, true, false, cond, List, [], ◌∷◌, ◌++◌, length, Option, Some, None, Result, Ok, Err, refl, sym, ap, subst, ◌∙◌, arith, ◌⊎◌, inl, inr}
+use Rattle.std.proofs.Common.{◌≡◌, ◌≢◌, ℕ, ◌+◌, Bool, true, false, cond, List, [], ◌∷◌, length, Option, Some, None, refl, sym, ap, subst, ◌∙◌, arith, ◌⊎◌, inl, inr}
 use Rattle.hc_transcript.specs.declared.fault.RecordFault.{RecordFault}
 use Rattle.hc_transcript.specs.declared.fault.RecordFault.TheVariants as faults
-use Rattle.hc_transcript.specs.declared.item.OwnedItem.{OwnedItem}
 use Rattle.hc_transcript.specs.declared.reader.RecordReader.{RecordReader}
 use Rattle.hc_transcript.specs.declared.record.Record.{Record}
 use Rattle.hc_transcript.specs.Items.{Item, ClientRequest, OriginRequest, OriginResponse, OriginFailure, ClientReply}
@@ -13,13 +12,10 @@ use Rattle.hc_history.specs.declared.marks.Mark.{Mark}
 use Rattle.hc_history.specs.declared.marks.Mark.TheVariants.{Hit, Unmarked, Other}
 use Rattle.hc_history.specs.declared.verdicts.Counts.{Counts}
 use Rattle.hc_history.specs.Marks.{mark_of}
-use Rattle.hc_history.specs.declared.verdicts.Verdict.{Verdict}
 use Rattle.hc_history.specs.declared.verdicts.Verdict.TheVariants.{Yes, Malformed}
-use Rattle.hc_history.specs.Verdicts.{IsRight, AllRight, counts_of, marked, marked_by, one_more, IsVerdict, BreaksAt, IsUnsupportedAt}
-use Rattle.hc_audit.specs.declared.fault.AuditFault.{AuditFault}
+use Rattle.hc_history.specs.Verdicts.{IsRight, AllRight, counts_of, marked, marked_by, one_more, IsVerdict, IsUnsupportedAt}
 use Rattle.hc_audit.specs.declared.judge.Judge.{Judge}
-use Rattle.hc_audit.specs.declared.notes.Notes.{Notes}
-use Rattle.hc_audit.specs.Judging.{IsJudging, IsEnding, GivesVerdict, stopped}
+use Rattle.hc_audit.specs.Judging.{IsJudging, GivesVerdict, stopped}
 use Rattle.hc_audit.specs.Notes.{IsSeenAs}
 
 -- ---- a fault of the transcript

@@ -1,5 +1,5 @@
 -- What a reader of bodies keeps, from part to part.
-use Rattle.std.proofs.Common.{◌≡◌, ◌≢◌, ℕ, zero, suc, ◌+◌, ◌-◌, ◌≤◌, ◌<◌, Bool, true, false, List, [], ◌∷◌, ◌++◌, length, take, drop, min, Result, Ok, Err, Option, Some, None, rules, refl, sym, ap, subst, ◌∙◌, arith, append_assoc, append-nil, length-append, length-drop, length-take, inl, inr, slice_index}
+use Rattle.std.proofs.Common.{◌≡◌, ◌≢◌, ℕ, zero, suc, ◌+◌, ◌-◌, ◌≤◌, ◌<◌, Bool, true, false, List, [], ◌∷◌, ◌++◌, length, take, drop, min, Ok, Err, rules, refl, sym, ap, subst, ◌∙◌, arith, append_assoc, append-nil, length-append, length-drop, length-take, inl, inr, slice_index}
 use Rattle.std.specs.List.{concat}
 use Rattle.std.proofs.lemmas.List.{drop-append-le, take-append-drop, drop_all, take_all, take-append-le}
 use Rattle.std.proofs.lemmas.List.Folds.{concat-append}
@@ -17,14 +17,15 @@ use Rattle.hc_framing.specs.ChunkLines.{BeginsChunkLine, NeverHasChunkLine}
 use Rattle.hc_framing.specs.ChunkLineReading.{AgreesLine}
 use Rattle.hc_framing.specs.Trailers.{IsTrailerThen, NeverHasTrailer, IsOpenTrailer}
 use Rattle.hc_framing.specs.TrailerReading.{end_of, AgreesTrailer, GivesTrailer}
-use Rattle.hc_framing.specs.Chunks.{longest_body, IsChunkThen, AreChunksThen, IsChunkedThen, NeverHasChunked, IsTooLong, OpenLine, OpenData, OpenTrailer, IsOpenChunked}
+use Rattle.hc_head.specs.Writable.{longest_body}
+use Rattle.hc_framing.specs.Chunks.{IsChunkThen, AreChunksThen, IsChunkedThen, NeverHasChunked, IsTooLong, OpenLine, OpenData, OpenTrailer, IsOpenChunked}
 use Rattle.std.specs.Prelude.{◌⊎◌}
 use Rattle.hc_framing.specs.Messages.{BeginsBody, BeginsChunked, IsWholeBody}
 use Rattle.hc_framing.specs.Bodies.{IsOpenBody, BreaksBody}
 use Rattle.hc_framing.specs.BodyReading.{AtLine, AtData, AtLineFeed, AtTrailer, AgreesAt, AgreesBody, FaultsBody, GivesPart, with_data}
-use Rattle.hc_framing.proofs.ChunkLineLemmas.{chunk_line_unique, chunk_line-append, chunk_line_within, agrees_none, agrees_can}
+use Rattle.hc_framing.proofs.ChunkLineLemmas.{chunk_line-append, chunk_line_within, agrees_none, agrees_can}
 use Rattle.hc_framing.proofs.ListLemmas.{tail_is, fronts}
-use Rattle.hc_framing.proofs.ChunkLemmas.{chunk-append, chunks-append, chunks_more, BodyBehind, body_behind, begins_with_line, chunk_behind, trailer_behind, open_chunked_has_none, chunked_unique, chunked-append}
+use Rattle.hc_framing.proofs.ChunkLemmas.{chunks-append, chunks_more, BodyBehind, body_behind, begins_with_line, chunk_behind, trailer_behind, open_chunked_has_none, chunked_unique, chunked-append}
 
 -- ---- octets behind a line
 

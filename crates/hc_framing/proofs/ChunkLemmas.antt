@@ -1,10 +1,10 @@
 -- Chunks stand in octets in one way.
-use Rattle.std.proofs.Common.{◌≡◌, ℕ, ◌+◌, ◌≤◌, ◌<◌, List, [], ◌∷◌, ◌++◌, length, drop, refl, sym, ap, subst, ◌∙◌, arith, append_assoc, append-nil, length-append, length-drop, inl, inr}
+use Rattle.std.proofs.Common.{◌≡◌, ℕ, ◌<◌, List, [], ◌∷◌, ◌++◌, length, drop, refl, sym, ap, subst, ◌∙◌, arith, append_assoc, append-nil, length-append, inl, inr}
 use Rattle.std.specs.List.{concat}
 use Rattle.std.proofs.lemmas.List.{drop-append-le}
-use Rattle.hc_framing.specs.ChunkLines.{BeginsChunkLine, CanBecomeChunkLine, NeverHasChunkLine}
-use Rattle.hc_framing.specs.Trailers.{IsTrailerThen, IsOpenTrailer, NeverHasTrailer}
-use Rattle.hc_framing.specs.Chunks.{longest_body, IsChunkThen, AreChunksThen, IsChunkedThen, NeverHasChunked, IsTooLong, IsOpenData, IsOpenPart, OpenLine, OpenData, OpenTrailer, IsOpenChunked}
+use Rattle.hc_framing.specs.ChunkLines.{BeginsChunkLine}
+use Rattle.hc_framing.specs.Trailers.{IsTrailerThen}
+use Rattle.hc_framing.specs.Chunks.{IsChunkThen, AreChunksThen, IsChunkedThen, IsOpenPart, OpenLine, OpenData, OpenTrailer, IsOpenChunked}
 use Rattle.hc_framing.proofs.ListLemmas.{tail_is, fronts}
 use Rattle.hc_framing.proofs.ChunkLineLemmas.{chunk_line_unique, chunk_line-append, chunk_line_within}
 use Rattle.hc_framing.proofs.TrailerLemmas.{trailer_unique, trailer-append, open_has_none}

@@ -1,5 +1,5 @@
 -- Lists that are equal are so piece by piece.
-use Rattle.std.proofs.Common.{◌≡◌, ℕ, zero, List, [], ◌∷◌, ◌++◌, length, refl, ap, arith}
+use Rattle.std.proofs.Common.{◌≡◌, ℕ, List, [], ◌∷◌, ◌++◌, length, refl, ap, arith}
 
 -- the first number, and those behind it
 abbrev pub first : List ℕ → ℕ

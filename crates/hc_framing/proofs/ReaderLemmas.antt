@@ -1,12 +1,12 @@
 -- What a reader of messages keeps, from piece to piece.
-use Rattle.std.proofs.Common.{◌≡◌, ◌≢◌, ℕ, zero, suc, ◌+◌, ◌-◌, ◌≤◌, ◌<◌, Bool, true, false, List, [], ◌∷◌, ◌++◌, length, take, drop, Result, Ok, Err, Option, Some, None, rules, refl, sym, ap, subst, ◌∙◌, arith, append_assoc, append-nil, length-append, length-drop, length-take, inl, inr}
-use Rattle.std.specs.Prelude.{◌⊎◌, IfErr}
+use Rattle.std.proofs.Common.{◌≡◌, ◌≢◌, ℕ, ◌+◌, ◌-◌, ◌≤◌, ◌<◌, List, [], ◌∷◌, ◌++◌, length, take, drop, Result, Ok, Err, Option, Some, None, rules, refl, sym, ap, subst, ◌∙◌, arith, append_assoc, append-nil, length-append, length-drop, length-take, inl, inr}
+use Rattle.std.specs.Prelude.{IfErr}
 use Rattle.std.proofs.lemmas.Bool.{cases_lt}
 use Rattle.std.proofs.lemmas.List.{drop-append-le, take-append-drop, drop_all, take_all, take-append-le}
 use Rattle.std.proofs.Math.Seq.{take-append-add, take-add, take-append_seam}
 use Rattle.hc_head.specs.declared.head.Room.{Room}
 use Rattle.hc_head.specs.declared.empty_line.Search.{Search}
-use Rattle.hc_head.specs.declared.empty_line.Search.TheVariants.{Blank, Line, Start, Return, Found}
+use Rattle.hc_head.specs.declared.empty_line.Search.TheVariants.{Blank, Found}
 use Rattle.hc_head.specs.declared.fault.HeadFault.{HeadFault}
 use Rattle.hc_head.specs.declared.fault.HeadFault.TheVariants as heads
 use Rattle.hc_head.specs.EmptyLine.{searched}
@@ -17,28 +17,28 @@ use Rattle.hc_framing.specs.declared.kind.Kind.{Kind}
 use Rattle.hc_framing.specs.declared.fault.FrameFault.{FrameFault}
 use Rattle.hc_framing.specs.declared.fault.FrameFault.TheVariants as faults
 use Rattle.hc_framing.specs.declared.framing.Framing.{Framing}
-use Rattle.hc_framing.specs.declared.framing.Framing.TheVariants.{Nothing, Sized, Chunked, UntilClose}
+use Rattle.hc_framing.specs.declared.framing.Framing.TheVariants.{UntilClose}
 use Rattle.hc_framing.specs.declared.reader.MessageReader.{MessageReader}
 use Rattle.hc_framing.specs.declared.reader.Stage.{Stage}
 use Rattle.hc_framing.specs.declared.reader.Stage.TheVariants as at
 use Rattle.hc_framing.specs.declared.progress.Progress.{Progress}
 use Rattle.hc_framing.specs.declared.progress.Progress.TheVariants.{More, Whole}
-use Rattle.hc_framing.specs.Messages.{BeginsMessage, IsWholeMessage, BeginsBody, IsWholeBody}
-use Rattle.hc_framing.specs.Bodies.{IsOpenBody, BreaksBody}
+use Rattle.hc_framing.specs.Messages.{BeginsMessage, BeginsBody, IsWholeBody}
+use Rattle.hc_framing.specs.Bodies.{BreaksBody}
 use Rattle.hc_framing.specs.Framing.{IsFramingFault}
-use Rattle.hc_framing.specs.BodyReading.{AgreesBody, FaultsBody, GivesBody}
-use Rattle.hc_framing.specs.Faults.{ShowsFault, BreaksBehind, StandsIn, AwaitsHead, AwaitsBody, StandsAtEnd, GoesOnBehind, StandsInWhole, IsWholeIn, GivesMessage, FindsMessage}
-use Rattle.hc_framing.specs.Reader.{HasFailed, Holds, HasMessage, KeepsHead, KeepsBody, AgreesAt, Agrees, IsAgreeing, CanFeed, HasNoMessage, BeginsIn, EndsAfter, FeedGives, FeedFinds, IsInTime, EndsHere, EndGives, OnWhole, IsHeadOf, ShowsHead, UnlessMemory}
-use Rattle.hc_framing.specs.ReaderParts.{SameHead, HasRead, FaultsHead, ReadsHead, SameBody, FeedsBody, BeginsBodyGives}
+use Rattle.hc_framing.specs.BodyReading.{AgreesBody, FaultsBody}
+use Rattle.hc_framing.specs.Faults.{ShowsFault, BreaksBehind, StandsIn, StandsAtEnd, GoesOnBehind, IsWholeIn, GivesMessage, FindsMessage}
+use Rattle.hc_framing.specs.Reader.{HasFailed, Holds, HasMessage, HasRoomLeft, KeepsHead, KeepsBody, AgreesAt, Agrees, CanFeed, HasNoMessage, BeginsIn, EndsAfter, FeedGives, FeedFinds, IsInTime, EndsHere, EndGives, OnWhole, IsHeadOf, ShowsHead, UnlessMemory}
+use Rattle.hc_framing.specs.ReaderParts.{HasRead, FaultsHead, ReadsHead, FeedsBody, BeginsBodyGives}
 use Rattle.hc_head.specs.declared.head.Step.TheVariants as steps
 use Rattle.hc_framing.specs.declared.body.Stage as bodies
 use Rattle.hc_framing.specs.declared.body.Stage.TheVariants as stages
 use Rattle.hc_framing.specs.declared.body.BodyReader.{BodyReader}
-use Rattle.hc_framing.specs.Chunks.{longest_body}
+use Rattle.hc_head.specs.Writable.{longest_body}
 use Rattle.hc_framing.specs.BodyReading.{AgreesAt as BodyAgreesAt}
 use Rattle.hc_framing.specs.Faults.{head_fault}
 use Rattle.hc_head.proofs.ReadingLemmas.{finds_head}
-use Rattle.hc_framing.proofs.BodyLemmas.{body_is_open, open_has_no_body, broken_has_no_body, body_unique, body-append, body_within, whole_body, one_whole_body, broken_is_not_whole, open_is_not_whole, shorter_is_not_whole}
+use Rattle.hc_framing.proofs.BodyLemmas.{body_is_open, open_has_no_body, broken_has_no_body, body_unique, body-append, whole_body, one_whole_body, broken_is_not_whole, open_is_not_whole, shorter_is_not_whole}
 use Rattle.hc_head.specs.Heads.{BeginsRequestHead, BeginsResponseHead}
 use Rattle.hc_head.specs.Laws.{request_unique, request_goes_on, request_within, request_front, request_ends_with_empty_line, request_at_its_first, response_unique, response_goes_on, response_within, response_front, response_ends_with_empty_line, response_at_its_first}
 
@@ -63,6 +63,10 @@ pub record Searches (before after : Search) (piece near : List ℕ) (most used :
 take_near : (most k : ℕ) (piece near : List ℕ) → near ≡ take most piece → k ≤ length near → take k near ≡ take k piece
 take_near most k piece near is within =
     ap (take k) is ∙ sym (take-append-le k (take most piece) (drop most piece) (omega (arith, within, ap length is))) ∙ ap (take k) (take-append-drop most piece)
+
+within_room : (octets : List ℕ) (room : Room) → HasRoomLeft octets room → length octets ≤ room.octets
+within_room octets room (inl none) = omega (arith, ap length none)
+within_room octets room (inr left) = omega (arith, left)
 
 -- what is found in a front stays found
 found_on : (front rest : List ℕ) → searched Blank front ≡ Found → searched Blank (front ++ rest) ≡ Found
@@ -101,7 +105,7 @@ module _ {H : Type 0} (Begins : List ℕ → H → ℕ → Type 0) (field_count 
       → Searches r.search after piece near most used → most ≡ room.octets - length octets → after ≢ Found → length (octets ++ take used piece) < room.octets
       → used ≡ length piece
   all_seen r room octets piece near after most used k s most-is none short =
-      omega (arith, s.all none, s.within, ap length s.near_is, length-take most piece, most-is, short, length-append octets (take used piece), length-take used piece, k.fits)
+      omega (arith, s.all none, s.within, ap length s.near_is, length-take most piece, most-is, short, length-append octets (take used piece), length-take used piece, within_room octets room k.fits)
 
   pub keeps_on : (r q : MessageReader H) (room : Room) (octets piece near : List ℕ) (most used : ℕ) → KeepsHead Begins field_count framing bare room r octets
       → Searches r.search q.search piece near most used → most ≡ room.octets - length octets → q.search ≢ Found
@@ -115,7 +119,7 @@ module _ {H : Type 0} (Begins : List ℕ → H → ℕ → Type 0) (field_count 
         start_is = start ∙ joined;
         search_is = seen_is r room octets piece near q.search most used k s ∙ ap (searched Blank) joined;
         none_yet = none;
-        fits = omega (arith, short, ap length (start ∙ joined));
+        fits = inr (omega (arith, short, ap length (start ∙ joined)));
         no_head = head-is ∙ k.no_head;
       }
 
@@ -375,7 +379,7 @@ module _ {H : Type 0} (Begins : List ℕ → H → ℕ → Type 0) (field_count 
       let k = keeps kind room r q octets piece near rest most used p in
       let start = seen_start kind room r q octets piece near rest most used p in
       let left = room_left kind room r q octets piece near rest most used p in
-      let fits : length (octets ++ take used piece) ≤ room.octets = omega (arith, length-append octets (take used piece), length-take used piece, p.searches.within, ap length p.searches.near_is, length-take most piece, left, k.fits) in
+      let fits : length (octets ++ take used piece) ≤ room.octets = omega (arith, length-append octets (take used piece), length-take used piece, p.searches.within, ap length p.searches.near_is, length-take most piece, left, within_room octets room k.fits) in
       subst (λ (o : List ℕ). StandsIn Begins field_count (framing kind) bare fault o room) (joined octets piece rest used p.rest_is)
       (read_faults kind q (octets ++ take used piece) rest room fault (p.kind_is ∙ p.agrees.0) (p.room_is ∙ p.agrees.1) start fits stands)
 
@@ -533,7 +537,7 @@ module _ {H : Type 0} (Begins : List ℕ → H → ℕ → Type 0) (field_count 
   agreeing_in_time kind room r octets agrees = go r.stage agrees.2
     where
       go : (stage : Stage) → AgreesAt Begins field_count framing bare stage kind room r octets → IsInTime Begins field_count framing bare kind room octets
-      go at.Head k = inl (λ head len le begins. no_head_before octets (λ found. k.none_yet (k.search_is ∙ found)) head len begins)
+      go at.Head k = inl (λ head len le begins. no_head_before octets (λ found. k.none_yet (k.search_is ∙ found)) head len begins, k.fits)
       go at.Body k = inr (record { head = k.head; len = k.len; begins = k.begins; frame = k.frame; framed = k.framed; is_open = body_is_open k.frame r.body (drop k.len octets) k.body })
       go at.End k = absurd k
       go at.Failed k = absurd k
@@ -695,17 +699,27 @@ module _ {H : Type 0} (Begins : List ℕ → H → ℕ → Type 0) (field_count 
   -- octets follow the message
   pub goes_on_behind : (kind : Kind) (room : Room) (r : MessageReader H) (octets : List ℕ) (used : ℕ) → EndsAfter Begins field_count framing bare kind room r [] octets used → used < length octets
       → GoesOnBehind Begins field_count (framing kind) bare octets room
-  goes_on_behind kind room r octets used e less = record {
-    message = e.message;
-    len = used;
-    begins =
-        subst (λ (x : List ℕ × ℕ). BeginsMessage Begins (framing kind) bare x.0 e.message x.1) (λ i. (take-append-drop used octets i, zero_more i))
-        (message-append kind (take used octets) (drop used octets) e.message (0 + used) e.begins.begins);
-    more = less;
-  }
+  goes_on_behind kind room r octets used e less =
+      let b = e.begins.begins in
+      let on : Begins octets b.head b.head_len =
+      subst (λ (o : List ℕ). Begins o b.head b.head_len) (take-append-drop used octets) (laws.goes_on (take used octets) (drop used octets) b.head b.head_len b.begins) in
+      let same = same_head octets whole.head b.head whole.head_len b.head_len whole.begins on in
+      record {
+        message = e.message;
+        len = used;
+        begins = whole;
+        octets_fit = subst (λ (n : ℕ). n ≤ room.octets) (sym same.1) e.begins.octets_fit;
+        fields_fit = subst (λ (h : H). field_count h ≤ room.fields) (sym same.0) e.begins.fields_fit;
+        more = less;
+      }
     where
       zero_more : 0 + used ≡ used
       zero_more = omega arith
+
+      whole : BeginsMessage Begins (framing kind) bare octets e.message used
+      whole =
+          subst (λ (x : List ℕ × ℕ). BeginsMessage Begins (framing kind) bare x.0 e.message x.1) (λ i. (take-append-drop used octets i, zero_more i))
+          (message-append kind (take used octets) (drop used octets) e.message (0 + used) e.begins.begins)
 
   pub ends_with_all : (kind : Kind) (room : Room) (r : MessageReader H) (octets : List ℕ) (used : ℕ) → (e : EndsAfter Begins field_count framing bare kind room r [] octets used) → length octets ≤ used
       → IsWholeIn Begins field_count (framing kind) bare octets room e.message
@@ -751,7 +765,7 @@ module _ {H : Type 0} (Begins : List ℕ → H → ℕ → Type 0) (field_count 
       one_ok : ◌≡◌ {A = Result Framing FrameFault} (Ok w.is.frame) (Ok frame) → w.is.frame ≡ frame
       one_ok same = search (rules, same)
 
-  one_whole : (kind : Kind) (octets : List ℕ) (room : Room) (message other : Message H) → IsWholeIn Begins field_count (framing kind) bare octets room message
+  pub one_whole : (kind : Kind) (octets : List ℕ) (room : Room) (message other : Message H) → IsWholeIn Begins field_count (framing kind) bare octets room message
       → IsWholeIn Begins field_count (framing kind) bare octets room other → message ≡ other
   one_whole kind octets room message other p q =
       let same = same_head octets p.is.head q.is.head p.is.head_len q.is.head_len p.is.begins q.is.begins in

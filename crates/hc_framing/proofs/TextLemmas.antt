@@ -36,7 +36,7 @@ use Rattle.hc_framing.specs.declared.fault.FrameFault.{FrameFault}
 use Rattle.hc_framing.specs.declared.framing.Framing.{Framing}
 use Rattle.hc_framing.specs.declared.framing.Framing.TheVariants.{Nothing, Sized, UntilClose}
 use Rattle.hc_framing.specs.ChunkLines.{is_blank}
-use Rattle.hc_framing.specs.Chunks.{longest_body}
+use Rattle.hc_head.specs.Writable.{longest_body}
 use Rattle.hc_framing.specs.Framing.{without_leading_blanks, without_trailing_blanks, trimmed, is_comma, members_of, member_length, common_length, sized_by, sized, framing_by, ends_with_head, response_framing}
 use Rattle.hc_framing.specs.Messages.{BeginsBody, fields_without_framing, request_without_framing, response_without_framing, framing_of_request, framing_of_response, BeginsRequest, BeginsResponse}
 use Rattle.hc_framing.specs.Reader.{BeginsIn}

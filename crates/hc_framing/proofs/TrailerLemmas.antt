@@ -1,5 +1,5 @@
 -- A trailer section stands in octets in one way, and its lines are told by their ends.
-use Rattle.std.proofs.Common.{◌≡◌, ◌≢◌, ℕ, ◌+◌, ◌-◌, ◌<◌, ◌≤◌, min, Bool, true, false, List, [], ◌∷◌, ◌++◌, length, take, drop, All, Result, Ok, Err, get_or, refl, sym, ap, subst, ◌∙◌, arith, append_assoc, append-nil, length-append, length-take, length-drop, inl, inr}
+use Rattle.std.proofs.Common.{◌≡◌, ◌≢◌, ℕ, ◌+◌, ◌<◌, ◌≤◌, min, Bool, true, false, List, [], ◌∷◌, ◌++◌, length, take, drop, All, Result, Ok, Err, get_or, refl, sym, ap, subst, ◌∙◌, arith, append_assoc, append-nil, length-append, length-take, inl, inr}
 use Rattle.std.specs.Prelude.{◌⊎◌, ◌||◌, ◌==◌, IsTrue}
 use Rattle.std.specs.List.{flat_map}
 use Rattle.std.proofs.lemmas.Bool.Decides.{nat_tests}
@@ -7,7 +7,7 @@ use Rattle.std.proofs.lemmas.Bool.{false≢true, ne_eqb}
 use Rattle.std.proofs.lemmas.List.Concat.{flat_map-append}
 use Rattle.std.proofs.lemmas.List.Elements.{All-head, All-tail, All-append, All-push, All-nil, All-cons}
 use Rattle.httparse.specs.Grammar.{Field, IsField, print_field, LineEnd, crlf, lf, print_end, print_section, ReadsSection, AllPass, is_token_byte, is_value_byte}
-use Rattle.httparse.specs.Pieces.{Stops, Section}
+use Rattle.httparse.specs.Pieces.{Stops}
 use Rattle.httparse.specs.Spans.{header_bytes, name_and_value, IsSectionWithin, IsSectionAt, IsSectionOf, FindsSection}
 use Rattle.httparse.specs.Outcome.{IfComplete, IsCompleteAnd}
 use Rattle.httparse.specs.declared.spans.HeaderSpan.{HeaderSpan}
@@ -22,8 +22,8 @@ use Rattle.hc_framing.specs.Trailers.{AreTrailerLines, IsTrailerThen, NeverHasTr
 use Rattle.hc_framing.specs.declared.trailer.TrailerReader.{TrailerReader}
 use Rattle.hc_framing.specs.declared.fault.FrameFault.{FrameFault}
 use Rattle.hc_framing.specs.declared.fault.FrameFault.TheVariants.{Head, BothLengths, BadLength, BadCoding, BadChunk, BodyTooLong, Truncated, Memory, Failed}
-use Rattle.hc_framing.specs.TrailerReading.{FaultsTrailer, IsFieldLine, end_of, end_with_feed, has_room, may_return, AgreesTrailer, GivesOctet, GivesTrailer}
-use Rattle.hc_framing.proofs.ListLemmas.{first, behind, tail_is, fronts}
+use Rattle.hc_framing.specs.TrailerReading.{FaultsTrailer, IsFieldLine, end_of, end_with_feed, has_room, may_return, AgreesTrailer}
+use Rattle.hc_framing.proofs.ListLemmas.{first, tail_is, fronts}
 
 -- ---- sections of httparse
 

@@ -4,7 +4,8 @@ use Rattle.hc_framing.specs.declared.fault.FrameFault.{FrameFault}
 use Rattle.hc_framing.specs.declared.fault.FrameFault.TheVariants.{BadChunk, BodyTooLong}
 use Rattle.hc_framing.specs.declared.framing.Framing.{Framing}
 use Rattle.hc_framing.specs.declared.framing.Framing.TheVariants.{Nothing, Sized, Chunked, UntilClose}
-use Rattle.hc_framing.specs.Chunks.{longest_body, IsOpenChunked, NeverHasChunked, IsTooLong}
+use Rattle.hc_head.specs.Writable.{longest_body}
+use Rattle.hc_framing.specs.Chunks.{IsOpenChunked, NeverHasChunked, IsTooLong}
 
 -- whether a body that is framed so takes octets, for its data or its framing
 abbrev pub has_octets : Framing → Bool

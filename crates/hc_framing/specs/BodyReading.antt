@@ -1,9 +1,8 @@
 -- For the reader's own functions: a reader of bodies and the octets that it was given, of which it keeps those of the body.
-use Rattle.std.specs.Prelude.{◌≡◌, ℕ, ◌+◌, ◌-◌, ◌<◌, ◌≤◌, List, [], ◌∷◌, ◌++◌, length, take, drop, min, Option, Some, None, Result, Ok, Err}
-use Rattle.std.specs.List.{concat, flat_map}
-use Rattle.httparse.specs.Grammar.{Field, print_field}
+use Rattle.std.specs.Prelude.{◌≡◌, ℕ, ◌+◌, ◌-◌, ◌<◌, ◌≤◌, List, [], ◌∷◌, ◌++◌, length, take, drop, min, Result, Ok, Err}
+use Rattle.std.specs.List.{concat}
 use Rattle.hc_framing.specs.declared.fault.FrameFault.{FrameFault}
-use Rattle.hc_framing.specs.declared.fault.FrameFault.TheVariants.{Memory, BadChunk}
+use Rattle.hc_framing.specs.declared.fault.FrameFault.TheVariants.{Memory}
 use Rattle.hc_framing.specs.declared.framing.Framing.{Framing}
 use Rattle.hc_framing.specs.declared.framing.Framing.TheVariants.{Sized, Chunked, UntilClose}
 use Rattle.hc_framing.specs.declared.body.Stage.{Stage}
@@ -16,7 +15,8 @@ use Rattle.hc_framing.specs.declared.progress.Progress.TheVariants.{More, Whole}
 use Rattle.hc_framing.specs.ChunkLines.{BeginsChunkLine}
 use Rattle.hc_framing.specs.ChunkLineReading.{AgreesLine}
 use Rattle.hc_framing.specs.TrailerReading.{AgreesTrailer}
-use Rattle.hc_framing.specs.Chunks.{longest_body, AreChunksThen}
+use Rattle.hc_head.specs.Writable.{longest_body}
+use Rattle.hc_framing.specs.Chunks.{AreChunksThen}
 use Rattle.hc_framing.specs.Messages.{BeginsBody}
 use Rattle.hc_framing.specs.Bodies.{BreaksBody}
 

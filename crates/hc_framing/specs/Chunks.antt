@@ -1,12 +1,9 @@
 -- A chunked body: chunks, a last one without data, and a section of trailer fields (RFC 9112 section 7.1).
 use Rattle.std.specs.Prelude.{◌≡◌, ℕ, ◌+◌, ◌<◌, ◌≤◌, ◌⊎◌, List, [], ◌∷◌, ◌++◌, length, drop}
 use Rattle.std.specs.List.{concat}
+use Rattle.hc_head.specs.Writable.{longest_body}
 use Rattle.hc_framing.specs.ChunkLines.{BeginsChunkLine, CanBecomeChunkLine, HasNoChunkLine}
 use Rattle.hc_framing.specs.Trailers.{IsTrailerThen, IsOpenTrailer}
-
--- the most octets of a body
-abbrev pub longest_body : ℕ
-longest_body = 16777216
 
 -- the octets are a chunk of that data, and then rest
 pub record IsChunkThen (octets chunk rest : List ℕ) : Type 0 where

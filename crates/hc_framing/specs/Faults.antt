@@ -81,6 +81,8 @@ module _ {H : Type 0} (Begins : List ℕ → H → ℕ → Type 0) (field_count 
     pub message : Message H
     pub len : ℕ
     pub begins : BeginsMessage Begins framing bare octets message len
+    pub octets_fit : begins.head_len ≤ room.octets
+    pub fields_fit : field_count begins.head ≤ room.fields
     pub more : len < length octets
 
   -- where a fault of octets stands that are to be one message and no more

@@ -11,6 +11,7 @@ use Rattle.hc_fields.specs.Values.{values_of, has_name}
 use Rattle.hc_fields.specs.Numbers.{is_number}
 use Rattle.hc_head.specs.declared.head.Version.{Version}
 use Rattle.hc_head.specs.declared.head.Version.TheVariants.{Http10, Http11}
+use Rattle.hc_head.specs.Writable.{longest_body}
 use Rattle.hc_framing.specs.declared.fault.FrameFault.{FrameFault}
 use Rattle.hc_framing.specs.declared.fault.FrameFault.TheVariants.{BothLengths, BadLength, BadCoding, BodyTooLong}
 use Rattle.hc_framing.specs.declared.framing.Framing.{Framing}
@@ -72,12 +73,12 @@ is_number_of size (Some number) = number == size
 abbrev pub each_writes : ℕ → List (List ℕ) → Bool
 each_writes size members = list_all (λ member. is_number_of size (member_length member)) members
 
--- the length that each of the members writes, at most 16777216
+-- the length that each of the members writes, at most that of the longest body
 abbrev pub common_length : List (List ℕ) → Result ℕ FrameFault
 common_length members = do
   size ← ok_or (first_length members) BadLength
   _ ← refuse (not (each_writes size members)) BadLength
-  _ ← refuse (nat_lt 16777216 size) BodyTooLong
+  _ ← refuse (nat_lt longest_body size) BodyTooLong
   Ok size
 
 -- the framing by the values of Content-Length, or the default where there are none

@@ -10,6 +10,7 @@ use Rattle.hc_fields.specs.Values.{values_of, has_name}
 use Rattle.hc_head.specs.declared.head.Version.{Version}
 use Rattle.hc_head.specs.declared.head.RequestHead.{RequestHead}
 use Rattle.hc_head.specs.declared.head.ResponseHead.{ResponseHead}
+use Rattle.hc_head.specs.Writable.{longest_body}
 use Rattle.hc_framing.specs.declared.kind.Kind.{Kind}
 use Rattle.hc_framing.specs.declared.fault.FrameFault.{FrameFault}
 use Rattle.hc_framing.specs.declared.fault.FrameFault.TheVariants.{BothLengths, BadLength, BadCoding, BodyTooLong}
@@ -46,8 +47,8 @@ sized_faults : (default : Framing) (values : List (List ℕ)) → OnlyFramingFau
 sized_faults default [] = tt
 sized_faults default (value ∷ values) =
     bound (common_length members) (λ size. Ok (Sized size))
-    (bound (ok_or (first_length members) BadLength) (λ size. refuse (not (each_writes size members)) BadLength >>= (λ _. refuse (nat_lt 16777216 size) BodyTooLong >>= (λ _. Ok size)))
-    (known (first_length members)) (λ size. refused (not (each_writes size members)) BadLength _ tt (refused (nat_lt 16777216 size) BodyTooLong _ tt tt)))
+    (bound (ok_or (first_length members) BadLength) (λ size. refuse (not (each_writes size members)) BadLength >>= (λ _. refuse (nat_lt longest_body size) BodyTooLong >>= (λ _. Ok size)))
+    (known (first_length members)) (λ size. refused (not (each_writes size members)) BadLength _ tt (refused (nat_lt longest_body size) BodyTooLong _ tt tt)))
     (λ size. tt)
   where
     members : List (List ℕ)

@@ -1,11 +1,10 @@
 -- A message: a head, and a body that is framed as the head says (RFC 9112 sections 2.1 and 6).
-use Rattle.std.specs.Prelude.{◌≡◌, ℕ, ◌+◌, ◌≤◌, ◌<◌, Bool, false, List, [], length, take, drop, codes, Result, Ok}
+use Rattle.std.specs.Prelude.{◌≡◌, ℕ, ◌+◌, ◌≤◌, Bool, false, List, [], length, take, drop, codes, Result, Ok}
 use Rattle.hc_fields.specs.declared.fields.Field.{Field}
 use Rattle.hc_fields.specs.Values.{without}
 use Rattle.hc_head.specs.declared.head.RequestHead.{RequestHead}
 use Rattle.hc_head.specs.declared.head.ResponseHead.{ResponseHead}
 use Rattle.hc_head.specs.Heads.{BeginsRequestHead, BeginsResponseHead}
-use Rattle.hc_head.specs.declared.head.Room.{Room}
 use Rattle.hc_framing.specs.declared.message.Message.{Message}
 use Rattle.hc_framing.specs.declared.fault.FrameFault.{FrameFault}
 use Rattle.hc_framing.specs.declared.framing.Framing.{Framing}
@@ -13,7 +12,8 @@ use Rattle.hc_framing.specs.declared.framing.Framing.TheVariants.{Nothing, Sized
 use Rattle.hc_framing.specs.declared.kind.Kind.{Kind}
 use Rattle.hc_framing.specs.declared.kind.Kind.TheVariants.{Request, Response}
 use Rattle.hc_framing.specs.Framing.{request_framing, response_framing}
-use Rattle.hc_framing.specs.Chunks.{longest_body, IsChunkedThen}
+use Rattle.hc_head.specs.Writable.{longest_body}
+use Rattle.hc_framing.specs.Chunks.{IsChunkedThen}
 
 -- the octets begin with so many octets of a body
 pub record BeginsSized (size : ℕ) (octets body : List ℕ) (len : ℕ) : Type 0 where

@@ -1,7 +1,6 @@
 -- A reader of messages in pieces, and the octets that it was given, of which it keeps those of the head or of the body.
-use Rattle.std.specs.Prelude.{◌≡◌, ◌≢◌, ℕ, ◌+◌, ◌-◌, ◌<◌, ◌≤◌, ◌⊎◌, List, [], ◌++◌, length, take, drop, Option, Some, None, Result, Ok, Err}
+use Rattle.std.specs.Prelude.{◌≡◌, ◌≢◌, ℕ, ◌+◌, ◌<◌, ◌≤◌, ◌⊎◌, List, [], ◌++◌, length, take, drop, Option, Some, None, Result, Ok, Err}
 use Rattle.hc_head.specs.declared.head.Room.{Room}
-use Rattle.hc_head.specs.declared.empty_line.Search.{Search}
 use Rattle.hc_head.specs.declared.empty_line.Search.TheVariants.{Blank, Found}
 use Rattle.hc_head.specs.EmptyLine.{searched}
 use Rattle.hc_head.specs.Reading.{IsWholeHead, HasNoHead}
@@ -15,7 +14,7 @@ use Rattle.hc_framing.specs.declared.reader.Stage.{Stage}
 use Rattle.hc_framing.specs.declared.reader.Stage.TheVariants.{Head, Body, End, Failed}
 use Rattle.hc_framing.specs.declared.progress.Progress.{Progress}
 use Rattle.hc_framing.specs.declared.progress.Progress.TheVariants.{More, Whole}
-use Rattle.hc_framing.specs.Messages.{BeginsMessage, IsWholeMessage}
+use Rattle.hc_framing.specs.Messages.{BeginsMessage}
 use Rattle.hc_framing.specs.Faults.{StandsIn, StandsAtEnd, AwaitsBody, IsWholeIn}
 use Rattle.hc_framing.specs.BodyReading.{AgreesBody}
 
@@ -33,13 +32,17 @@ pub record Holds {H : Type 0} (r : MessageReader H) (message : Message H) : Type
 abbrev pub HasMessage : {H : Type 0} → MessageReader H → Type 0
 HasMessage {H} r = (message : Message H) × Holds r message
 
+-- there are fewer octets than the room has, or none
+abbrev pub HasRoomLeft : List ℕ → Room → Type 0
+HasRoomLeft octets room = (octets ≡ []) ⊎ (length octets < room.octets)
+
 module _ {H : Type 0} (Begins : List ℕ → H → ℕ → Type 0) (field_count : H → ℕ) (framing : Kind → H → Result Framing FrameFault) (bare : H → H) where
-  -- no empty line has come, and the reader keeps the octets
+  -- no empty line has come, there is room for more, and the reader keeps the octets
   pub record KeepsHead (room : Room) (r : MessageReader H) (octets : List ℕ) : Type 0 where
     pub start_is : r.start ≡ octets
     pub search_is : r.search ≡ searched Blank octets
     pub none_yet : r.search ≢ Found
-    pub fits : length octets ≤ room.octets
+    pub fits : HasRoomLeft octets room
     pub no_head : r.head ≡ None
 
   -- a whole head begins the octets, and the reader keeps it, without the fields that frame the body, and what has come of the body
@@ -109,9 +112,9 @@ module _ {H : Type 0} (Begins : List ℕ → H → ℕ → Type 0) (field_count 
   ShowsHead kind room octets None = (shown : H) → ¬ (IsHeadOf kind room octets shown)
   ShowsHead kind room octets (Some shown) = IsHeadOf kind room octets shown
 
-  -- behind a head that has come the body is so far within the syntax, line by line
+  -- a head hasn't come and has room left, or the body behind it is so far within the syntax, line by line
   abbrev pub IsInTime : Kind → Room → List ℕ → Type 0
-  IsInTime kind room octets = HasNoHead Begins field_count octets room ⊎ AwaitsBody Begins field_count (framing kind) bare octets room
+  IsInTime kind room octets = (HasNoHead Begins field_count octets room × HasRoomLeft octets room) ⊎ AwaitsBody Begins field_count (framing kind) bare octets room
 
   -- the octets that have ended are that message, and the reader holds it
   pub record EndsHere (kind : Kind) (room : Room) (r : MessageReader H) (octets : List ℕ) : Type 0 where

@@ -1,22 +1,20 @@
 -- For the reader's own functions: what each part of a call does.
-use Rattle.std.specs.Prelude.{◌≡◌, ◌≢◌, ℕ, ◌+◌, ◌-◌, ◌/◌, ◌<◌, ◌≤◌, ◌⊎◌, Bool, ◌||◌, nat_lt, nat_le, true, false, List, [], ◌++◌, length, take, drop, Option, Some, None, Result, Ok, Err}
-use Rattle.hc_head.specs.declared.head.Room.{Room}
+use Rattle.std.specs.Prelude.{◌≡◌, ◌≢◌, ℕ, ◌/◌, Bool, ◌||◌, nat_lt, nat_le, true, false, List, [], length, Option, Some, None, Result, Ok, Err}
 use Rattle.hc_head.specs.declared.fault.HeadFault.TheVariants as heads
 use Rattle.hc_head.specs.declared.empty_line.Search.{Search}
 use Rattle.hc_head.specs.declared.empty_line.Search.TheVariants.{Blank, Line, Start, Return, Found}
-use Rattle.hc_head.specs.Reading.{IsWholeHead, HasNoHead, GivesHead}
+use Rattle.hc_head.specs.Reading.{IsWholeHead, GivesHead}
 use Rattle.hc_framing.specs.declared.kind.Kind.{Kind}
 use Rattle.hc_framing.specs.declared.fault.FrameFault.{FrameFault}
 use Rattle.hc_framing.specs.declared.fault.FrameFault.TheVariants as faults
 use Rattle.hc_framing.specs.declared.framing.Framing.{Framing}
 use Rattle.hc_framing.specs.declared.framing.Framing.TheVariants.{UntilClose}
 use Rattle.hc_framing.specs.declared.reader.MessageReader.{MessageReader}
-use Rattle.hc_framing.specs.declared.reader.Stage.TheVariants.{Head, Body, End}
+use Rattle.hc_framing.specs.declared.reader.Stage.TheVariants.{Body, End}
 use Rattle.hc_framing.specs.declared.progress.Progress.{Progress}
 use Rattle.hc_framing.specs.declared.progress.Progress.TheVariants.{More, Whole}
-use Rattle.hc_framing.specs.Faults.{head_fault, AwaitsHead}
+use Rattle.hc_framing.specs.Faults.{AwaitsHead}
 use Rattle.hc_framing.specs.Framing.{IsFramingFault}
-use Rattle.hc_framing.specs.Bodies.{has_octets}
 use Rattle.hc_framing.specs.BodyReading.{AgreesBody, FaultsBody, GivesBody}
 
 abbrev pub is_found : Search → Bool

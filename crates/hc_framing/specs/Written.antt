@@ -7,7 +7,7 @@ use Rattle.hc_head.specs.Heads.{BeginsRequestHead, request_field_count, BeginsRe
 use Rattle.hc_head.specs.Writable.{IsWritableRequest, IsWritableResponse}
 use Rattle.hc_framing.specs.declared.message.Message.{Message}
 use Rattle.hc_framing.specs.declared.kind.Kind.TheVariants.{Request, Response}
-use Rattle.hc_framing.specs.Chunks.{longest_body}
+use Rattle.hc_head.specs.Writable.{longest_body}
 use Rattle.hc_framing.specs.Framing.{ends_with_head}
 use Rattle.hc_framing.specs.Messages.{framing_of_request, request_without_framing, framing_of_response, response_without_framing}
 use Rattle.hc_framing.specs.Reader.{BeginsIn}

@@ -13,19 +13,22 @@ pub enum FrameFault {
     /// The head can't be read. It never bears `Memory`.
     #[error("{0}")]
     Head(HeadFault),
-    /// Transfer-Encoding and Content-Length are both there.
+    /// Transfer-Encoding and Content-Length are both there (RFC 9112 section 6.3).
     #[error("the message has both Transfer-Encoding and Content-Length")]
     BothLengths,
-    /// Content-Length is no length, or octets follow the message.
+    /// Content-Length is no list of one length, each member of 1 to 18 digits; or Transfer-Encoding
+    /// stands in HTTP/1.0; or octets follow what is to be one whole message.
     #[error("the length of the body is wrong")]
     BadLength,
-    /// The transfer coding isn't known.
+    /// Transfer-Encoding is anything else than one line with the word `chunked`, in any case.
     #[error("the transfer coding is not known")]
     BadCoding,
-    /// A chunked body breaks the syntax.
+    /// A chunked body breaks the syntax of RFC 9112 section 7.1: in the line of a chunk (at most 16
+    /// digits and 4,096 octets), in the CR LF behind its data, or in the trailer section (at most
+    /// 100 lines and 65,536 octets).
     #[error("a chunk breaks the syntax of messages")]
     BadChunk,
-    /// The body is longer than a message may have.
+    /// The body has more than 16,777,216 octets, or a length says that it will have.
     #[error("the body is too long")]
     BodyTooLong,
     /// The octets end before the message.
@@ -34,7 +37,7 @@ pub enum FrameFault {
     /// Memory was refused.
     #[error("out of memory")]
     Memory,
-    /// A fault was answered before.
+    /// The reader answered a fault before, and reads no more.
     #[error("a fault was met before")]
     Failed,
 }

@@ -21,7 +21,7 @@ pub use kind::Kind;
 pub use message::Message;
 pub use progress::Progress;
 pub use reader::MessageReader;
-pub use whole::{one_request, one_response, whole_request, whole_response};
+pub use whole::{one_request, one_response, one_whole_response, whole_request, whole_response};
 pub use writing::{write_message, written_request_read_back, written_response_read_back};
 
 #[cfg(test)]

@@ -227,6 +227,7 @@ fn fronts_are_truncated(rt: HostRuntime) -> Result<(), Fail> {
 #[test]
 fn what_follows_is_not_taken(rt: HostRuntime) -> Result<(), Fail> {
     one_response();
+    one_whole_response();
     let octets = b"HTTP/1.1 200 \r\ncontent-length: 5\r\n\r\nhello!".as_slice();
     let mut reader = MessageReader::<ResponseHead>::new(rt.alloc(), TO_GET, Room::RECEIVED);
     let progress = reader.feed(octets)?;
@@ -263,5 +264,86 @@ fn a_fault_is_final(rt: HostRuntime) -> Result<(), Fail> {
     let mut reader = MessageReader::<RequestHead>::new(rt.alloc(), Kind::Request, Room::RECEIVED);
     let fault = reader.end().err();
     assert_eq!(rt; fault, Some(FrameFault::Truncated));
+    Ok(())
+}
+
+/// The longest body, in octets.
+const LONGEST: usize = 16_777_216;
+
+/// A piece of a body.
+const PIECE: [u8; 4096] = [b'a'; 4096];
+
+/// So many pieces are the longest body.
+const PIECES: usize = 4096;
+
+/// The pieces of a response: a head, so many pieces of its body, and the octets behind them.
+fn piece_at<'a>(head: &'a [u8], pieces: usize, behind: &'a [u8], index: usize) -> &'a [u8] {
+    if index == 0 {
+        head
+    } else if index <= pieces {
+        &PIECE
+    } else {
+        behind
+    }
+}
+
+/// How long the body of the response of those pieces is.
+fn long_body(
+    alloc: Global,
+    head: &[u8],
+    pieces: usize,
+    behind: &[u8],
+) -> Result<usize, FrameFault> {
+    let mut reader = MessageReader::<ResponseHead>::new(alloc, TO_GET, Room::RECEIVED);
+    for index in 0..pieces.saturating_add(2) {
+        if let Progress::Whole(_) = reader.feed(piece_at(head, pieces, behind, index))? {
+            return Ok(reader.take().body.len());
+        }
+    }
+    reader.end()?;
+    Ok(reader.take().body.len())
+}
+
+#[test]
+fn the_longest_body_passes_and_no_longer_one(rt: HostRuntime) -> Result<(), Fail> {
+    let chunked = b"HTTP/1.1 200 \r\ntransfer-encoding: chunked\r\n\r\n1000000\r\n".as_slice();
+    let until_close = b"HTTP/1.1 200 \r\n\r\n".as_slice();
+    for (head, pieces, behind, want) in [
+        (
+            b"HTTP/1.1 200 \r\ncontent-length: 16777216\r\n\r\n".as_slice(),
+            PIECES,
+            b"".as_slice(),
+            Ok(LONGEST),
+        ),
+        (
+            b"HTTP/1.1 200 \r\ncontent-length: 16777217\r\n\r\n".as_slice(),
+            0,
+            b"".as_slice(),
+            Err(FrameFault::BodyTooLong),
+        ),
+        (chunked, PIECES, b"\r\n0\r\n\r\n".as_slice(), Ok(LONGEST)),
+        (
+            chunked,
+            PIECES,
+            b"\r\n1\r".as_slice(),
+            Err(FrameFault::Truncated),
+        ),
+        (
+            chunked,
+            PIECES,
+            b"\r\n1\r\n".as_slice(),
+            Err(FrameFault::BodyTooLong),
+        ),
+        (until_close, PIECES, b"".as_slice(), Ok(LONGEST)),
+        (
+            until_close,
+            PIECES,
+            b"a".as_slice(),
+            Err(FrameFault::BodyTooLong),
+        ),
+    ] {
+        let found = long_body(rt.alloc(), head, pieces, behind);
+        assert_eq!(rt; found, want, "{behind:?} behind {head:?}");
+    }
     Ok(())
 }

@@ -3,6 +3,7 @@
 ghost use Rattle.std.specs.Prelude.{◌≡◌, ℕ, Bool, List, ◌++◌, OnOk};
 ghost use Rattle.hc_head.specs.declared.head.RequestHead.{RequestHead};
 ghost use Rattle.hc_head.specs.declared.head.ResponseHead.{ResponseHead};
+ghost use Rattle.hc_head.specs.declared.head.Room.{Room};
 ghost use Rattle.hc_framing.specs.declared.message.Message.{Message};
 ghost use Rattle.hc_framing.specs.Messages.{BeginsRequest, BeginsResponse};
 ghost use Rattle.hc_framing.specs.Faults.{FindsMessage, GivesMessage, GivesRequest, GivesResponse, IsWholeRequest, IsWholeResponse};
@@ -81,4 +82,11 @@ pub fn one_response()
     ensures { (to_head : Bool) (octets more : List ℕ) (message other : Message ResponseHead) (m n : ℕ)
         → BeginsResponse to_head octets message m → BeginsResponse to_head (octets ++ more) other n
         → (message ≡ other) × (m ≡ n) }
+{}
+
+/// Octets are one response at most, also where it lasts until the close.
+pub fn one_whole_response()
+    ensures { (to_head : Bool) (octets : List ℕ) (room : Room) (message other : Message ResponseHead)
+        → IsWholeResponse to_head octets room message → IsWholeResponse to_head octets room other
+        → message ≡ other }
 {}

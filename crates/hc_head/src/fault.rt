@@ -21,7 +21,9 @@ pub enum HeadFault {
     /// There is not exactly one valid Host line (RFC 9112 section 3.2).
     #[error("there is not exactly one valid Host line")]
     Host,
-    /// The target is none of this origin (RFC 9112 section 3.3).
+    /// The target has none of the forms that name something of an origin: a path from the root, a URI
+    /// of the scheme `http` with a valid authority, or `*` with OPTIONS (RFC 9112 section 3.2). Nor is
+    /// there one with CONNECT, with a fragment, or of more than 65,534 octets.
     #[error("the target is none of this origin")]
     Target,
     /// Memory was refused.

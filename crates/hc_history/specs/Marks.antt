@@ -1,5 +1,5 @@
 -- What a reply says of itself in its Cache-Status line (RFC 9211), as far as it is read: a token with the parameter `hit`.
-use Rattle.std.specs.Prelude.{ℕ, Bool, false, ◌&&◌, ◌||◌, not, List, [], ◌∷◌, drop, codes, bytes_eq, nat_lt, ◌==◌, if◌then◌else◌}
+use Rattle.std.specs.Prelude.{ℕ, Bool, false, ◌&&◌, ◌||◌, List, [], ◌∷◌, drop, codes, bytes_eq, nat_lt, ◌==◌, if◌then◌else◌}
 use Rattle.std.specs.List.{list_any, prefix_len}
 use Rattle.std.specs.Char.{is_ascii_alphanumeric}
 use Rattle.hc_fields.specs.Values.{values_of}

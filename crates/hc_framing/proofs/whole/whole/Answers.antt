@@ -1,4 +1,4 @@
-use Rattle.std.proofs.Common.{List, ℕ, [], sym, subst, refl, ◌∙◌, arith, inl, inr}
+use Rattle.std.proofs.Common.{[], sym, subst, inr}
 use Rattle.hc_framing.specs.declared.message.Message.{Message}
 use Rattle.hc_framing.specs.Faults.{IsWholeIn}
 use Rattle.hc_framing.proofs.ReaderLemmas.{HeadLaws, goes_on_behind, ends_with_all, ended}

@@ -1,6 +1,5 @@
-use Rattle.hc_head.specs.declared.head.Room.{Room}
 use Rattle.hc_head.specs.Heads.{BeginsResponseHead, response_field_count}
-use Rattle.hc_framing.specs.declared.kind.Kind.TheVariants.{Request, Response}
+use Rattle.hc_framing.specs.declared.kind.Kind.TheVariants.{Response}
 use Rattle.hc_framing.specs.Messages.{framing_of_response, response_without_framing}
 use Rattle.hc_framing.proofs.ReaderLemmas.{response_laws, finds_whole}
 use Rattle.hc_framing.proofs.whole.whole_response.Goals as goal

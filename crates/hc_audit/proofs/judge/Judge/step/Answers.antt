@@ -1,4 +1,4 @@
-use Rattle.std.proofs.Common.{sym, ap, subst, ◌∙◌, refl, arith}
+use Rattle.std.proofs.Common.{sym, ap, subst, ◌∙◌, arith}
 use Rattle.std.specs.Prelude.{Result}
 use Rattle.hc_transcript.specs.Items.{item_of}
 use Rattle.hc_history.specs.declared.verdicts.Verdict.{Verdict}

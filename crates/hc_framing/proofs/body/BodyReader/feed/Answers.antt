@@ -1,4 +1,4 @@
-use Rattle.std.proofs.Common.{rules, ◌≡◌, ℕ, ◌+◌, ◌<◌, ◌≤◌, ◌++◌, ap, subst, ◌∙◌, sym, arith, take, drop, length, Ok, Result}
+use Rattle.std.proofs.Common.{rules, ◌+◌, ◌<◌, ◌≤◌, ◌++◌, ap, subst, ◌∙◌, arith, take, length, Ok, Result}
 use Rattle.hc_framing.specs.declared.fault.FrameFault.{FrameFault}
 use Rattle.hc_framing.specs.declared.body.Part.{Part}
 use Rattle.hc_framing.specs.BodyReading.{GivesPart}

@@ -1,4 +1,4 @@
-use Rattle.std.proofs.Common.{◌≡◌, ◌∙◌, ap, subst, sym, refl, arith, ◌++◌, take, length}
+use Rattle.std.proofs.Common.{◌≡◌, ◌∙◌, ap, subst, sym, arith, ◌++◌, take, length}
 use Rattle.hc_framing.specs.declared.body.Stage.{Stage}
 use Rattle.hc_framing.specs.declared.body.Stage.TheVariants as at
 use Rattle.hc_framing.specs.declared.body.BodyReader.{BodyReader}

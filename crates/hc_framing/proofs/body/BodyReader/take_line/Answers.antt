@@ -1,4 +1,4 @@
-use Rattle.std.proofs.Common.{◌≡◌, ℕ, ◌+◌, ◌++◌, length, take, refl, arith, sym, ap, subst, ◌∙◌}
+use Rattle.std.proofs.Common.{ℕ, ◌+◌, ◌++◌, length, take, refl, arith, sym, subst}
 use Rattle.hc_framing.specs.declared.fault.FrameFault.{FrameFault}
 use Rattle.hc_framing.specs.declared.framing.Framing.{Framing}
 use Rattle.hc_framing.specs.declared.body.Stage.{Stage}

@@ -1,11 +1,9 @@
-use Rattle.std.proofs.Common.{◌≡◌, ◌+◌, ap, subst, sym, refl, arith, ◌++◌, take, length, drop, List, ℕ, Some, None, Ok, Err, Option, Result}
+use Rattle.std.proofs.Common.{◌+◌, subst, sym, refl, arith, ◌++◌, take, length, drop}
 use Rattle.hc_framing.specs.declared.body.Stage.{Stage}
 use Rattle.hc_framing.specs.declared.body.Stage.TheVariants as at
 use Rattle.hc_framing.specs.declared.framing.Framing.{Framing}
-use Rattle.hc_framing.specs.declared.framing.Framing.TheVariants.{Chunked}
 use Rattle.hc_framing.specs.Messages.{BeginsBody}
 use Rattle.hc_framing.specs.BodyReading.{AgreesAt, AgreesBody}
-use Rattle.hc_framing.specs.TrailerReading.{GivesTrailer}
 use Rattle.hc_framing.proofs.BodyLemmas.{at_stage, trailer_faults, trailer_goes_on, trailer_ends, whole_piece}
 use Rattle.hc_framing.proofs.body.BodyReader.take_trailer.Goals as goal
 

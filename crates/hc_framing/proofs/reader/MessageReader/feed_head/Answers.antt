@@ -1,4 +1,4 @@
-use Rattle.std.proofs.Common.{◌≡◌, ℕ, ◌+◌, ◌-◌, ◌≤◌, List, ◌++◌, length, take, refl, sym, ap, subst, ◌∙◌, arith, rules, Ok, Err, Some, None}
+use Rattle.std.proofs.Common.{ℕ, ◌-◌, List, ◌++◌, refl, ap, ◌∙◌}
 use Rattle.hc_framing.proofs.ReaderLemmas.{HeadLaws, head_awaited, head_faulty, body_begun, body_broken, body_whole, head_faulty_shows, body_broken_shows}
 use Rattle.hc_framing.proofs.reader.MessageReader.feed_head.Given.{Over}
 use Rattle.hc_framing.proofs.reader.MessageReader.feed_head.Goals as goal

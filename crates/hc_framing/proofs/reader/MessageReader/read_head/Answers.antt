@@ -1,4 +1,4 @@
-use Rattle.std.proofs.Common.{◌≡◌, refl, sym, ◌∙◌, ap, subst, Some, List, ℕ}
+use Rattle.std.proofs.Common.{refl, sym, ◌∙◌, ap, subst, Some, List, ℕ}
 use Rattle.hc_head.specs.Reading.{IsWholeHead}
 use Rattle.hc_framing.proofs.ReaderLemmas.{HeadLaws, framing_fault_told}
 use Rattle.hc_framing.proofs.reader.MessageReader.read_head.Given.{Over}
