@@ -1,6 +1,6 @@
 -- The values of a name among field lines (RFC 9110 section 5.2).
-use Rattle.std.specs.Prelude.{ℕ, Bool, not, List, [], ◌∷◌, filter, if◌then◌else◌}
-use Rattle.std.specs.List.{list_any}
+use Rattle.std.specs.Prelude.{ℕ, Bool, not, List, [], ◌∷◌, Option, Some, None, filter, if◌then◌else◌, codes}
+use Rattle.std.specs.List.{list_any, join_by}
 use Rattle.std.specs.Str.{bytes_eq}
 use Rattle.hc_fields.specs.declared.fields.Field.{Field}
 
@@ -16,3 +16,8 @@ has_name name fields = list_any (λ f. bytes_eq f.name name) fields
 -- the lines of other names, in order
 abbrev pub without : List ℕ → List Field → List Field
 without name fields = filter (λ f. not (bytes_eq f.name name)) fields
+
+-- several values as one, with a comma and a space between each two (RFC 9110 section 5.3)
+abbrev pub joined_values : List (List ℕ) → Option (List ℕ)
+joined_values [] = None
+joined_values (value ∷ values) = Some (join_by (λ v. v) (codes ", ") (value ∷ values))

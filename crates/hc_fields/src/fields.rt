@@ -36,7 +36,8 @@ fn remove_from(lines: &mut Vec<Field>, name: &[u8])
 }
 
 impl Fields {
-    ghost use Rattle.hc_fields.specs.Values.{values_of, has_name};
+    ghost use Rattle.std.specs.Prelude.{IfOk};
+    ghost use Rattle.hc_fields.specs.Values.{values_of, has_name, joined_values};
 
     /// No lines, which take no memory.
     pub fn new(alloc: Global) -> Self
@@ -99,6 +100,23 @@ impl Fields {
             name,
             lines: self.lines.as_slice(),
         }
+    }
+
+    /// The values of the lines of that name as one (RFC 9110 section 5.3), or `None` where there is
+    /// no such line. The name is one in lower case.
+    pub fn joined(&self, alloc: Global, name: &[u8]) -> Result<Option<Octets>, AllocError>
+        ensures { IfOk result (λ o. o ≡ joined_values (values_of name.now self.now)) }
+    {
+        let mut values = self.values(name);
+        let Some(first) = values.next() else {
+            return Ok(None);
+        };
+        let mut joined = Octets::from_slice(alloc, first)?;
+        for value in values {
+            joined.extend_from_slice(b", ")?;
+            joined.extend_from_slice(value)?;
+        }
+        Ok(Some(joined))
     }
 }
 

@@ -32,6 +32,21 @@ fn fields_by_name(rt: HostRuntime) -> Result<(), Fail> {
 }
 
 #[test]
+fn values_are_joined(rt: HostRuntime) -> Result<(), Fail> {
+    let mut fields = Fields::new(rt.alloc());
+    assert!(rt; fields.joined(rt.alloc(), b"vary")?.is_none());
+    fields.push(field(rt.alloc(), b"vary", b"accept")?)?;
+    fields.push(field(rt.alloc(), b"date", b"")?)?;
+    fields.push(field(rt.alloc(), b"vary", b"")?)?;
+    fields.push(field(rt.alloc(), b"vary", b"origin, te")?)?;
+    let vary = fields.joined(rt.alloc(), b"vary")?.ok_or("no such line")?;
+    assert_eq!(rt; vary.as_slice(), b"accept, , origin, te".as_slice());
+    let date = fields.joined(rt.alloc(), b"date")?.ok_or("no such line")?;
+    assert_eq!(rt; date.as_slice(), b"".as_slice());
+    Ok(())
+}
+
+#[test]
 fn octets_grow_and_copy(rt: HostRuntime) -> Result<(), Fail> {
     let mut octets = Octets::new(rt.alloc());
     assert!(rt; octets.is_empty());
