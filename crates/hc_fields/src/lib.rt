@@ -3,11 +3,13 @@
 
 mod fields;
 mod lists;
+mod members;
 mod numbers;
 mod octets;
 
 pub use fields::{Field, Fields, Values};
 pub use lists::{ListMembers, list_members};
+pub use members::Members;
 pub use numbers::{decimal, number};
 pub use octets::Octets;
 

@@ -1,9 +1,11 @@
 //! The members of lists in the values of fields (RFC 9110 section 5.6.1).
 
-ghost use Rattle.std.specs.Prelude.{◌≡◌, ◌≤◌, ◌+◌, length, take, drop};
+ghost use Rattle.std.specs.Prelude.{◌≡◌, ℕ, List, [], ◌∷◌, ◌≤◌, ◌+◌, MatchOption, length, take, drop};
 ghost use Rattle.std.specs.Iterator.{YieldsFirstRef, item_count};
-ghost use Rattle.hc_fields.specs.Lists.{is_blank, without_leading_blanks, without_trailing_blanks, trimmed, piece_len};
+ghost use Rattle.hc_fields.specs.Lists.{is_blank, without_leading_blanks, without_trailing_blanks, trimmed, piece_len, list_members};
 ghost use Rattle.hc_fields.specs.declared.lists.Quoting.TheVariants.{Outside};
+
+use std::marker::Model;
 
 /// Where an octet of a list stands.
 #[derive(Clone, Copy, Debug, PartialEq, Eq)]
@@ -104,31 +106,45 @@ fn split_first_piece(value: &[u8]) -> (&[u8], &[u8])
     }
 }
 
-/// An iterator over the members of a list.
+/// The first member, and the octets behind it.
+fn split_first_member(mut value: &[u8]) -> Option<(&[u8], &[u8])>
+    ensures { MatchOption result (list_members value.entry.now ≡ [])
+        (λ p. list_members value.entry.now ≡ p.0.now ∷ list_members p.1.now) }
+{
+    while !value.is_empty() {
+        let (piece, rest) = split_first_piece(value);
+        let member = trimmed(piece);
+        if !member.is_empty() {
+            return Some((member, rest));
+        }
+        value = rest;
+    }
+    None
+}
+
+/// An iterator over the members of a list, which contracts see as the list of those that are left.
 #[derive(Debug, Drop)]
 pub struct ListMembers<'a> {
     rest: &'a [u8],
 }
 
-impl<'a> Iterator for ListMembers<'a> {
-    ghost use Rattle.hc_fields.specs.Lists.{list_members};
+impl<'a> Model for ListMembers<'a> {
+    ghost Value = { List (List ℕ) };
 
+    ghost view = { λ m. list_members m.rest.now };
+}
+
+impl<'a> Iterator for ListMembers<'a> {
     type Item = &'a [u8];
 
-    ghost next_gives = { YieldsFirstRef (λ s. list_members s.rest.now) };
+    ghost next_gives = { YieldsFirstRef (λ members. members) };
 
-    ghost remaining = { item_count (λ s. list_members s.rest.now) };
+    ghost remaining = { item_count (λ members. members) };
 
     fn next(&mut self) -> Option<&'a [u8]> {
-        while !self.rest.is_empty() {
-            let (piece, rest) = split_first_piece(self.rest);
-            self.rest = rest;
-            let member = trimmed(piece);
-            if !member.is_empty() {
-                return Some(member);
-            }
-        }
-        None
+        let (member, rest) = split_first_member(self.rest)?;
+        self.rest = rest;
+        Some(member)
     }
 }
 
@@ -136,7 +152,7 @@ impl<'a> Iterator for ListMembers<'a> {
 /// quoted strings, without the spaces and tabs around it. Empty members are passed over, and a
 /// quoted string that isn't closed reaches to the end.
 pub fn list_members(value: &[u8]) -> ListMembers<'_>
-    ensures { result.rest.now ≡ value.now }
+    ensures { result ≡ list_members value.now }
 {
     ListMembers { rest: value }
 }
