@@ -1,6 +1,7 @@
 //! Octets, the field lines of a message, and the numbers in them.
 #![tactic(auto)]
 
+mod connection;
 mod fields;
 mod lists;
 mod members;

@@ -84,3 +84,100 @@ fn numbers_stop_at_their_limits(rt: HostRuntime) {
     );
     assert_eq!(rt; decimal(b"1a"), None);
 }
+
+/// The members of a value.
+fn members(alloc: std::alloc::Global, value: &[u8]) -> Result<Vec<&[u8]>, std::alloc::AllocError> {
+    list_members(value).collect(alloc)
+}
+
+#[test]
+fn lists_are_cut_at_commas(rt: HostRuntime) -> Result<(), Fail> {
+    for value in [b"".as_slice(), b" ", b",", b" ,\t,, "] {
+        assert!(rt; members(rt.alloc(), value)?.is_empty());
+    }
+    for value in [
+        b"a,b".as_slice(),
+        b"a, b",
+        b" a\t,\tb ",
+        b",a,, ,b,",
+        b"a ,b",
+    ] {
+        assert_eq!(rt;
+            members(rt.alloc(), value)?.as_slice(),
+            [b"a".as_slice(), b"b"].as_slice()
+        );
+    }
+    for (value, first, second) in [
+        (
+            b"a b;c=d, e".as_slice(),
+            b"a b;c=d".as_slice(),
+            b"e".as_slice(),
+        ),
+        (b"\"a,b\", c", b"\"a,b\"", b"c"),
+        (b"x=\" a ,\" , c", b"x=\" a ,\"", b"c"),
+        (b"\"a\\\",b\", c", b"\"a\\\",b\"", b"c"),
+        (b"\"a\\\\\", c", b"\"a\\\\\"", b"c"),
+        (b"\"\"\"\", c", b"\"\"\"\"", b"c"),
+        (b"a\\, c", b"a\\", b"c"),
+        (b"a, \"b, c ", b"a", b"\"b, c"),
+        (b"a, \"b\\\", c", b"a", b"\"b\\\", c"),
+        (b"a, \"b\\", b"a", b"\"b\\"),
+        (b"\xff,\x0b", b"\xff", b"\x0b"),
+    ] {
+        assert_eq!(rt;
+            members(rt.alloc(), value)?.as_slice(),
+            [first, second].as_slice()
+        );
+    }
+    let value = b"\\\"a, b".as_slice();
+    assert_eq!(rt; members(rt.alloc(), value)?.as_slice(), [value].as_slice());
+    Ok(())
+}
+
+#[test]
+fn each_line_is_a_list_of_its_own(rt: HostRuntime) -> Result<(), Fail> {
+    let mut fields = Fields::new(rt.alloc());
+    assert!(rt; fields.members(b"vary").next().is_none());
+    fields.push(field(rt.alloc(), b"vary", b" , ")?)?;
+    fields.push(field(rt.alloc(), b"vary", b"a, \"b")?)?;
+    fields.push(field(rt.alloc(), b"date", b"z")?)?;
+    fields.push(field(rt.alloc(), b"vary", b"")?)?;
+    fields.push(field(rt.alloc(), b"vary", b"c\", d,")?)?;
+    let members: Vec<&[u8]> = fields.members(b"vary").collect(rt.alloc())?;
+    let want = [b"a".as_slice(), b"\"b", b"c\", d,"];
+    assert_eq!(rt; members.as_slice(), want.as_slice());
+    Ok(())
+}
+
+#[test]
+fn fields_are_left_out(rt: HostRuntime) -> Result<(), Fail> {
+    let mut fields = Fields::new(rt.alloc());
+    fields.push(field(rt.alloc(), b"connection", b"close, X-One")?)?;
+    fields.push(field(rt.alloc(), b"via", b"x-four")?)?;
+    fields.push(field(rt.alloc(), b"connection", b"x-two,, \"x-three")?)?;
+    for (name, removed, left_out_of_store) in [
+        (b"connection".as_slice(), true, true),
+        (b"proxy-connection", true, true),
+        (b"keep-alive", true, true),
+        (b"te", true, true),
+        (b"transfer-encoding", true, true),
+        (b"upgrade", true, true),
+        (b"trailer", true, true),
+        (b"close", true, true),
+        (b"x-one", true, true),
+        (b"x-two", true, true),
+        (b"x-three", false, false),
+        (b"x-four", false, false),
+        (b"x-o", false, false),
+        (b"proxy-authenticate", false, true),
+        (b"proxy-authentication-info", false, true),
+        (b"proxy-authorization", false, true),
+        (b"authorization", false, false),
+        (b"content-length", false, false),
+        (b"", false, false),
+    ] {
+        assert_eq!(rt; fields.removed(name), removed);
+        assert_eq!(rt; fields.left_out_of_store(name), left_out_of_store);
+    }
+    Ok(())
+}
