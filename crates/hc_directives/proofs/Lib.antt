@@ -1,0 +1,2 @@
+pub mod QuotedLemmas
+pub mod DirectiveLemmas

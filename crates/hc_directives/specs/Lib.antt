@@ -1,0 +1,4 @@
+pub mod Tokens
+pub mod QuotedStrings
+pub mod QuotedSteps
+pub mod Directives

@@ -1,0 +1,95 @@
+//! What the Cache-Control lines of a message say.
+
+ghost use Rattle.std.specs.Prelude.{◌≡◌, min, option_map};
+ghost use Rattle.hc_directives.specs.Directives.{CacheControl, cache_control, has_directive, first_directive, seconds_of, directive_meant};
+
+use crate::spelling::{Spelling, read_directive};
+use hc_fields::Fields;
+use std::marker::Model;
+
+/// What a directive says of seconds.
+#[derive(Clone, Copy, Debug, PartialEq, Eq)]
+pub enum Seconds {
+    /// No directive has the name.
+    Absent,
+    /// The first directive of the name has no argument.
+    Bare,
+    /// Its argument is a number; one over 2147483648 is that number (RFC 9111 section 1.2.2).
+    Value(u32),
+    /// Its argument is no number.
+    Unreadable,
+}
+
+/// The directives in the Cache-Control lines of a message (RFC 9111 section 5.2), which contracts
+/// see as the list of them, with their names in lower case and their arguments unescaped, and the
+/// count of the members that are no directives. It lends the fields and takes no memory.
+#[derive(Debug, Drop)]
+pub struct Directives<'a> {
+    fields: &'a Fields,
+}
+
+impl<'a> Model for Directives<'a> {
+    ghost Value = { CacheControl };
+
+    ghost view = { λ d. cache_control d.fields.now };
+}
+
+impl<'a> Directives<'a> {
+    /// The directives in those fields, which are read anew by each call.
+    pub fn read(fields: &'a Fields) -> Self
+        ensures { result ≡ cache_control fields.now }
+    {
+        Directives { fields }
+    }
+
+    /// The first directive of that name.
+    fn first(&self, name: &[u8]) -> Option<Spelling<'a>>
+        ensures { option_map directive_meant result ≡ first_directive name.now self.now.directives }
+    {
+        for member in self.fields.members(b"cache-control") {
+            if let Some(directive) = read_directive(member)
+                && directive.is_named(name)
+            {
+                return Some(directive);
+            }
+        }
+        None
+    }
+
+    /// Whether there is a directive of that name, whatever its argument. Names are compared in any
+    /// case.
+    pub fn has(&self, name: &[u8]) -> bool
+        ensures { result ≡ has_directive name.now self.now.directives }
+    {
+        self.first(name).is_some()
+    }
+
+    /// The seconds that the first directive of that name says. Names are compared in any case.
+    pub fn seconds(&self, name: &[u8]) -> Seconds
+        ensures { result ≡ seconds_of (first_directive name.now self.now.directives) }
+    {
+        let Some(directive) = self.first(name) else {
+            return Seconds::Absent;
+        };
+        let Some(argument) = directive.argument else {
+            return Seconds::Bare;
+        };
+        match argument.number() {
+            Some(seconds) => Seconds::Value(seconds),
+            None => Seconds::Unreadable,
+        }
+    }
+
+    /// How many members are no directives, at most `usize::MAX`.
+    pub fn unreadable(&self) -> usize
+        ensures { result ≡ min self.now.unreadable usize.MAX }
+    {
+        let mut count: usize = 0;
+        for member in self.fields.members(b"cache-control") {
+            if read_directive(member).is_none() {
+                count = count.saturating_add(1);
+            }
+        }
+        count
+    }
+}
