@@ -1,10 +1,10 @@
 //! What the Cache-Control lines of a message say.
 
 ghost use Rattle.std.specs.Prelude.{◌≡◌, min, option_map};
-ghost use Rattle.hc_directives.specs.Directives.{CacheControl, cache_control, has_directive, first_directive, seconds_of, directive_meant};
+ghost use Rattle.hc_directives.specs.Directives.{CacheControl, cache_control, read_members, has_directive, first_directive, seconds_of, directive_meant};
 
 use crate::spelling::{Spelling, read_directive};
-use hc_fields::Fields;
+use hc_fields::{Fields, Members};
 use std::marker::Model;
 
 /// What a directive says of seconds.
@@ -42,11 +42,17 @@ impl<'a> Directives<'a> {
         Directives { fields }
     }
 
+    fn members(&self) -> Members<'a>
+        ensures { read_members result ≡ self.now }
+    {
+        self.fields.members(b"cache-control")
+    }
+
     /// The first directive of that name.
     fn first(&self, name: &[u8]) -> Option<Spelling<'a>>
         ensures { option_map directive_meant result ≡ first_directive name.now self.now.directives }
     {
-        for member in self.fields.members(b"cache-control") {
+        for member in self.members() {
             if let Some(directive) = read_directive(member)
                 && directive.is_named(name)
             {
@@ -85,7 +91,7 @@ impl<'a> Directives<'a> {
         ensures { result ≡ min self.now.unreadable usize.MAX }
     {
         let mut count: usize = 0;
-        for member in self.fields.members(b"cache-control") {
+        for member in self.members() {
             if read_directive(member).is_none() {
                 count = count.saturating_add(1);
             }
