@@ -1,5 +1,5 @@
 -- The first member of a list, and those behind it.
-use Rattle.std.proofs.Common.{◌≡◌, ℕ, ◌+◌, Bool, true, false, cond, not, List, [], ◌∷◌, length, take, drop, refl, sym, ap, ◌∙◌, add-one}
+use Rattle.std.proofs.Common.{◌≡◌, ℕ, ◌+◌, Bool, true, false, cond, not, List, [], ◌∷◌, take, drop, refl, sym, ap, ◌∙◌, add-one}
 use Rattle.std.specs.Prelude.{map, filter, if◌then◌else◌}
 use Rattle.std.specs.List.{onto_first}
 use Rattle.std.proofs.lemmas.List.{drop-drop}
@@ -16,11 +16,11 @@ abbrev pub kept : List (List ℕ) → List (List ℕ)
 kept parts = filter (λ member. not (is_empty member)) (map trimmed parts)
 
 -- the pieces behind the first one
-parts_behind : Quoting → List ℕ → List (List ℕ)
+pub parts_behind : Quoting → List ℕ → List (List ℕ)
 parts_behind quoting [] = []
 parts_behind quoting (c ∷ cs) = if ends_piece quoting c then pieces Outside cs else parts_behind (quoting_behind quoting c) cs
 
-first_piece : (quoting : Quoting) (value : List ℕ) → pieces quoting value ≡ take (piece_len quoting value) value ∷ parts_behind quoting value
+pub first_piece : (quoting : Quoting) (value : List ℕ) → pieces quoting value ≡ take (piece_len quoting value) value ∷ parts_behind quoting value
 unfolding parts_behind
 first_piece quoting [] = refl
 first_piece quoting (c ∷ cs) = go (ends_piece quoting c) (first_piece (quoting_behind quoting c) cs)

@@ -1,5 +1,5 @@
 -- The members of a list in the value of a field (RFC 9110 section 5.6.1).
-use Rattle.std.specs.Prelude.{ℕ, Bool, false, ◌||◌, ◌+◌, not, ◌==◌, List, [], ◌∷◌, length, reverse, map, filter, if◌then◌else◌}
+use Rattle.std.specs.Prelude.{ℕ, Bool, true, false, ◌||◌, ◌+◌, not, ◌==◌, List, [], ◌∷◌, length, reverse, map, filter, if◌then◌else◌}
 use Rattle.std.specs.List.{flat_map, onto_first}
 use Rattle.hc_fields.specs.declared.fields.Field.{Field}
 use Rattle.hc_fields.specs.declared.lists.Quoting.{Quoting}
@@ -59,7 +59,24 @@ list_members value = filter (λ member. not (is_empty member)) (map trimmed (pie
 abbrev pub members_of : List ℕ → List Field → List (List ℕ)
 members_of name fields = flat_map list_members (values_of name fields)
 
--- ---- what private functions do
+-- ---- lines whose quoted strings are closed
+
+-- where the octet behind the text stands
+abbrev pub quoting_at_end : Quoting → List ℕ → Quoting
+quoting_at_end quoting [] = quoting
+quoting_at_end quoting (c ∷ cs) = quoting_at_end (quoting_behind quoting c) cs
+
+-- whether that is outside quoted strings
+abbrev pub is_outside : Quoting → Bool
+is_outside Outside = true
+is_outside Inside = false
+is_outside Escaped = false
+
+-- whether each quoted string of the value is closed
+abbrev pub closes_quotes : List ℕ → Bool
+closes_quotes value = is_outside (quoting_at_end Outside value)
+
+-- ---- what private functions return
 
 -- how many octets stand before the first comma that ends a piece
 abbrev pub piece_len : Quoting → List ℕ → ℕ

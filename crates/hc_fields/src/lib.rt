@@ -10,7 +10,7 @@ mod octets;
 
 pub use fields::{Field, Fields, Values};
 pub use lists::{ListMembers, list_members};
-pub use members::Members;
+pub use members::{Members, joined_lines_have_the_members};
 pub use numbers::{decimal, number};
 pub use octets::Octets;
 

@@ -1,8 +1,11 @@
 //! The members of all lines of a name.
 
-ghost use Rattle.std.specs.Prelude.{◌≡◌, ◌++◌, ℕ, List};
+ghost use Rattle.std.specs.Prelude.{◌≡◌, ◌++◌, ℕ, List, IsTrue};
 ghost use Rattle.std.specs.Iterator.{YieldsFirstRef, item_count};
-ghost use Rattle.hc_fields.specs.Lists.{members_of};
+ghost use Rattle.std.specs.List.{list_all};
+ghost use Rattle.hc_fields.specs.declared.fields.Field.{Field};
+ghost use Rattle.hc_fields.specs.Values.{values_of, joined_values};
+ghost use Rattle.hc_fields.specs.Lists.{list_members, members_of, closes_quotes};
 
 use crate::fields::{Fields, Values};
 use crate::lists::{ListMembers, list_members};
@@ -52,3 +55,12 @@ impl Fields {
         }
     }
 }
+
+/// Where each line of a name closes its quoted strings, the members of the lines are those of their
+/// values joined (RFC 9110 section 5.3).
+pub fn joined_lines_have_the_members()
+    ensures { (name : List ℕ) (fields : List Field) (value : List ℕ)
+        → IsTrue (list_all closes_quotes (values_of name fields))
+        → joined_values (values_of name fields) ≡ Some value
+        → list_members value ≡ members_of name fields }
+{}
