@@ -1,2 +1,3 @@
 pub mod QuotedLemmas
 pub mod DirectiveLemmas
+pub mod TextLemmas

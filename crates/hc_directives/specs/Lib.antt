@@ -2,3 +2,4 @@ pub mod Tokens
 pub mod QuotedStrings
 pub mod QuotedSteps
 pub mod Directives
+pub mod Texts
