@@ -8,9 +8,6 @@ use Rattle.hc_fields.specs.Lists.{members_of}
 use Rattle.hc_fields.specs.Numbers.{number_of}
 use Rattle.hc_directives.specs.declared.cache_control.Seconds.{Seconds}
 use Rattle.hc_directives.specs.declared.cache_control.Seconds.TheVariants.{Absent, Bare, Value, Unreadable}
-use Rattle.hc_directives.specs.declared.spelling.Argument.{Argument}
-use Rattle.hc_directives.specs.declared.spelling.Argument.TheVariants.{Plain, Quoted}
-use Rattle.hc_directives.specs.declared.spelling.Spelling.{Spelling}
 use Rattle.hc_directives.specs.Tokens.{is_token}
 use Rattle.hc_directives.specs.QuotedStrings.{quoted_text, unescaped}
 
@@ -86,14 +83,3 @@ seconds_of_argument (Some text) = seconds_read (number_of text)
 abbrev pub seconds_of : Option Directive → Seconds
 seconds_of None = Absent
 seconds_of (Some directive) = seconds_of_argument directive.argument
-
--- ---- what private functions return
-
--- what an argument says, by how it is spelled
-abbrev pub argument_meant : Argument → List ℕ
-argument_meant (Plain text) = text.now
-argument_meant (Quoted text) = unescaped text.now
-
--- the directive that is spelled so
-abbrev pub directive_meant : Spelling → Directive
-directive_meant spelling = directive_named spelling.name.now (option_map argument_meant spelling.argument)

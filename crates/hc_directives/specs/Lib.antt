@@ -2,4 +2,5 @@ pub mod Tokens
 pub mod QuotedStrings
 pub mod QuotedSteps
 pub mod Directives
+pub mod Spellings
 pub mod Texts

@@ -1,7 +1,8 @@
 //! What the Cache-Control lines of a message say.
 
 ghost use Rattle.std.specs.Prelude.{◌≡◌, min, option_map};
-ghost use Rattle.hc_directives.specs.Directives.{CacheControl, cache_control, read_members, has_directive, first_directive, seconds_of, directive_meant};
+ghost use Rattle.hc_directives.specs.Directives.{CacheControl, cache_control, read_members, has_directive, first_directive, seconds_of};
+ghost use Rattle.hc_directives.specs.Spellings.{directive_meant};
 
 use crate::spelling::{Spelling, read_directive};
 use hc_fields::{Fields, Members};

@@ -3,7 +3,8 @@
 ghost use Rattle.std.specs.Prelude.{◌≡◌, MatchOption, option_map};
 ghost use Rattle.std.specs.List.{position, before_first, after_first};
 ghost use Rattle.hc_fields.specs.Numbers.{number_of};
-ghost use Rattle.hc_directives.specs.Directives.{is_equals, argument_of, argument_meant, directive_of, directive_meant, is_named};
+ghost use Rattle.hc_directives.specs.Directives.{is_equals, argument_of, directive_of, is_named};
+ghost use Rattle.hc_directives.specs.Spellings.{argument_meant, directive_meant};
 
 use crate::quoted::{quoted_number, quoted_text};
 use crate::tokens::is_token;
@@ -13,7 +14,7 @@ use hc_fields::number;
 #[derive(Clone, Copy, Debug, Drop)]
 pub(crate) enum Argument<'a> {
     /// A token.
-    Plain(&'a [u8]),
+    Token(&'a [u8]),
     /// The text of a quoted string, between its quotes.
     Quoted(&'a [u8]),
 }
@@ -24,7 +25,7 @@ impl Argument<'_> {
         ensures { result ≡ number_of (argument_meant self.entry) }
     {
         match self {
-            Argument::Plain(text) => number(text),
+            Argument::Token(text) => number(text),
             Argument::Quoted(text) => quoted_number(text),
         }
     }
@@ -50,7 +51,7 @@ fn read_argument(text: &[u8]) -> Option<Argument<'_>>
     ensures { option_map argument_meant result ≡ argument_of text.now }
 {
     if is_token(text) {
-        return Some(Argument::Plain(text));
+        return Some(Argument::Token(text));
     }
     Some(Argument::Quoted(quoted_text(text)?))
 }

@@ -102,6 +102,23 @@ fn quoted_arguments_are_read(rt: HostRuntime) -> Result<(), Fail> {
 }
 
 #[test]
+fn names_are_tokens(rt: HostRuntime) -> Result<(), Fail> {
+    let fields = fields(rt.alloc(), &[b"!#$%&'*+-.^_`|~09azAZ=1"])?;
+    let directives = Directives::read(&fields);
+    assert_eq!(rt;
+        directives.seconds(b"!#$%&'*+-.^_`|~09azaz"),
+        Seconds::Value(1)
+    );
+    assert_eq!(rt; directives.unreadable(), 0);
+    for octet in b"\x00\x09\x1f \"(),/:;<=>?@[\\]{}\x7f\x80\xff" {
+        let fields = self::fields(rt.alloc(), &[&[b'a', *octet, b'b']])?;
+        let directives = Directives::read(&fields);
+        assert!(rt; !directives.has(&[b'a', *octet, b'b']));
+    }
+    Ok(())
+}
+
+#[test]
 fn lines_are_read_in_order(rt: HostRuntime) -> Result<(), Fail> {
     for (first, second, seconds, unreadable) in [
         (

@@ -1,5 +1,5 @@
 use Rattle.std.proofs.Common.{◌∙◌}
-use Rattle.hc_directives.specs.Directives.{directive_meant}
+use Rattle.hc_directives.specs.Spellings.{directive_meant}
 use Rattle.hc_directives.proofs.DirectiveLemmas.{first_is_there}
 use Rattle.hc_directives.proofs.cache_control.Directives.has.Goals as goal
 
