@@ -43,6 +43,7 @@ impl<'a> Directives<'a> {
         Directives { fields }
     }
 
+    /// The members of the Cache-Control lines.
     fn members(&self) -> Members<'a>
         ensures { read_members result ≡ self.now }
     {
