@@ -9,7 +9,7 @@ mod numbers;
 mod octets;
 
 pub use fields::{Field, Fields, Values};
-pub use lists::{ListMembers, list_members};
+pub use lists::{ListMembers, list_members, trimmed};
 pub use members::{Members, joined_lines_have_the_members};
 pub use numbers::{decimal, number};
 pub use octets::Octets;

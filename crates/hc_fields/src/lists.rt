@@ -72,8 +72,8 @@ fn without_trailing_blanks(mut text: &[u8]) -> &[u8]
     text
 }
 
-/// The text without the spaces and tabs around it.
-fn trimmed(text: &[u8]) -> &[u8]
+/// The text without the spaces and tabs around it (RFC 9110 section 5.6.3).
+pub fn trimmed(text: &[u8]) -> &[u8]
     ensures { result.now ≡ trimmed text.now }
 {
     without_trailing_blanks(without_leading_blanks(text))

@@ -14,7 +14,8 @@ use Rattle.std.proofs.lemmas.List.Elements.{All-head, All-tail, All-push, All-co
 use Rattle.hc_framing.specs.declared.chunk_line.Stage.{Stage}
 use Rattle.hc_framing.specs.declared.chunk_line.Stage.TheVariants.{Start, Digits, Padding, Extension, CarriageReturn, End}
 use Rattle.hc_framing.specs.declared.chunk_line.ChunkLineReader.{ChunkLineReader}
-use Rattle.hc_framing.specs.ChunkLines.{ChunkLine, line_end, extension_text, chunk_line_text, is_blank, is_extension_octet, IsExtension, IsChunkLine, BeginsChunkLine, HasNoChunkLine, NeverHasChunkLine, CanBecomeChunkLine}
+use Rattle.hc_fields.specs.Lists.{is_blank}
+use Rattle.hc_framing.specs.ChunkLines.{ChunkLine, line_end, extension_text, chunk_line_text, is_extension_octet, IsExtension, IsChunkLine, BeginsChunkLine, HasNoChunkLine, NeverHasChunkLine, CanBecomeChunkLine}
 use Rattle.hc_framing.specs.ChunkLineReading.{stage_behind_digits, stage_after, most_octets, Place, size_with, place_after, last_stage, LeadsIn, Leads, place_of, AgreesLine}
 
 -- ---- the value of the digits fits

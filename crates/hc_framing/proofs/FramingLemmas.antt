@@ -13,7 +13,8 @@ use Rattle.std.proofs.lemmas.List.Splits.{length-slice_split}
 use Rattle.hc_fields.specs.Numbers.{is_number, decimal_of}
 use Rattle.hc_framing.specs.declared.fault.FrameFault.TheVariants.{BadLength}
 use Rattle.hc_framing.specs.declared.framing.Framing.{Framing}
-use Rattle.hc_framing.specs.Framing.{trimmed, is_comma, members_of, member_length, first_length, is_number_of, each_writes, sized_by}
+use Rattle.hc_fields.specs.Lists.{trimmed}
+use Rattle.hc_framing.specs.Framing.{is_comma, members_of, member_length, first_length, is_number_of, each_writes, sized_by}
 
 and_right : (a b : Bool) → (a && b) ≡ true → b ≡ true
 and_right true b e = e

@@ -35,9 +35,9 @@ use Rattle.hc_framing.specs.declared.kind.Kind.TheVariants.{Request, Response}
 use Rattle.hc_framing.specs.declared.fault.FrameFault.{FrameFault}
 use Rattle.hc_framing.specs.declared.framing.Framing.{Framing}
 use Rattle.hc_framing.specs.declared.framing.Framing.TheVariants.{Nothing, Sized, UntilClose}
-use Rattle.hc_framing.specs.ChunkLines.{is_blank}
 use Rattle.hc_head.specs.Writable.{longest_body}
-use Rattle.hc_framing.specs.Framing.{without_leading_blanks, without_trailing_blanks, trimmed, is_comma, members_of, member_length, common_length, sized_by, sized, framing_by, ends_with_head, response_framing}
+use Rattle.hc_fields.specs.Lists.{is_blank, without_leading_blanks, without_trailing_blanks, trimmed}
+use Rattle.hc_framing.specs.Framing.{is_comma, members_of, member_length, common_length, sized_by, sized, framing_by, ends_with_head, response_framing}
 use Rattle.hc_framing.specs.Messages.{BeginsBody, fields_without_framing, request_without_framing, response_without_framing, framing_of_request, framing_of_response, BeginsRequest, BeginsResponse}
 use Rattle.hc_framing.specs.Reader.{BeginsIn}
 use Rattle.hc_framing.specs.Texts.{told, request_length_told, request_text, response_text}

@@ -7,7 +7,8 @@ use Rattle.hc_framing.specs.declared.chunk_line.Stage.TheVariants.{Start, Digits
 use Rattle.hc_framing.specs.declared.chunk_line.ChunkLineReader.{ChunkLineReader}
 use Rattle.hc_framing.specs.declared.fault.FrameFault.{FrameFault}
 use Rattle.hc_framing.specs.declared.fault.FrameFault.TheVariants.{BadChunk}
-use Rattle.hc_framing.specs.ChunkLines.{ChunkLine, line_end, chunk_line_text, is_blank, is_extension_octet, IsChunkLine, BeginsChunkLine, NeverHasChunkLine}
+use Rattle.hc_fields.specs.Lists.{is_blank}
+use Rattle.hc_framing.specs.ChunkLines.{ChunkLine, line_end, chunk_line_text, is_extension_octet, IsChunkLine, BeginsChunkLine, NeverHasChunkLine}
 
 -- ---- one octet
 

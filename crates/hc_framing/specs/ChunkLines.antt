@@ -5,6 +5,7 @@ use Rattle.std.specs.Char.{is_ascii_hexdigit}
 use Rattle.std.specs.Int.{is_in_range}
 use Rattle.std.specs.List.{AllPass}
 use Rattle.std.specs.Str.Parse.{digits_value}
+use Rattle.hc_fields.specs.Lists.{is_blank}
 
 -- the digits of the size, the white space behind them, and what follows a semicolon
 pub record ChunkLine : Type 0 where
@@ -24,10 +25,6 @@ extension_text (Some text) = 59 ∷ text
 -- the octets of a chunk line
 abbrev pub chunk_line_text : ChunkLine → List ℕ
 chunk_line_text line = line.digits ++ (line.padding ++ (extension_text line.extension ++ line_end))
-
--- a space or a tab
-abbrev pub is_blank : ℕ → Bool
-is_blank octet = octet == 32 || octet == 9
 
 -- a tab, or no control
 abbrev pub is_extension_octet : ℕ → Bool

@@ -8,6 +8,7 @@ use Rattle.std.specs.Str.{str_eq_ignore_ascii_case}
 use Rattle.std.specs.Str.Parse.{digits_value}
 use Rattle.hc_fields.specs.declared.fields.Field.{Field}
 use Rattle.hc_fields.specs.Values.{values_of, has_name}
+use Rattle.hc_fields.specs.Lists.{trimmed}
 use Rattle.hc_fields.specs.Numbers.{is_number}
 use Rattle.hc_head.specs.declared.head.Version.{Version}
 use Rattle.hc_head.specs.declared.head.Version.TheVariants.{Http10, Http11}
@@ -16,7 +17,6 @@ use Rattle.hc_framing.specs.declared.fault.FrameFault.{FrameFault}
 use Rattle.hc_framing.specs.declared.fault.FrameFault.TheVariants.{BothLengths, BadLength, BadCoding, BodyTooLong}
 use Rattle.hc_framing.specs.declared.framing.Framing.{Framing}
 use Rattle.hc_framing.specs.declared.framing.Framing.TheVariants.{Nothing, Sized, Chunked, UntilClose}
-use Rattle.hc_framing.specs.ChunkLines.{is_blank}
 
 -- what follows where there is no fault
 infixl 10 ◌>>=◌
@@ -29,19 +29,6 @@ abbrev pub refuse : Bool → FrameFault → Result ⊤ FrameFault
 refuse test fault = if test then Err fault else Ok tt
 
 -- ---- the members of a list
-
--- the text from its first octet on that is no space or tab
-abbrev pub without_leading_blanks : List ℕ → List ℕ
-without_leading_blanks [] = []
-without_leading_blanks (c ∷ cs) = if is_blank c then without_leading_blanks cs else c ∷ cs
-
--- the text up to its last octet that is no space or tab
-abbrev pub without_trailing_blanks : List ℕ → List ℕ
-without_trailing_blanks text = reverse (without_leading_blanks (reverse text))
-
--- the text without the spaces and tabs around it
-abbrev pub trimmed : List ℕ → List ℕ
-trimmed text = without_trailing_blanks (without_leading_blanks text)
 
 -- what parts the members
 abbrev pub is_comma : ℕ → Bool

@@ -16,7 +16,8 @@ use Rattle.hc_framing.specs.declared.fault.FrameFault.{FrameFault}
 use Rattle.hc_framing.specs.declared.fault.FrameFault.TheVariants.{BothLengths, BadLength, BadCoding, BodyTooLong}
 use Rattle.hc_framing.specs.declared.framing.Framing.{Framing}
 use Rattle.hc_framing.specs.declared.framing.Framing.TheVariants.{Nothing, Sized, Chunked, UntilClose}
-use Rattle.hc_framing.specs.Framing.{IsFramingFault, ◌>>=◌, refuse, members_of, first_length, each_writes, common_length, sized_by, sized, trimmed, coded_by, coded, is_http10, framing_by, request_framing, ends_with_head, response_framing}
+use Rattle.hc_fields.specs.Lists.{trimmed}
+use Rattle.hc_framing.specs.Framing.{IsFramingFault, ◌>>=◌, refuse, members_of, first_length, each_writes, common_length, sized_by, sized, coded_by, coded, is_http10, framing_by, request_framing, ends_with_head, response_framing}
 use Rattle.hc_framing.specs.Messages.{answers_head, framing_of_request, framing_of_response}
 
 -- if the result is a fault, it is one of these

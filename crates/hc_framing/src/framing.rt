@@ -3,11 +3,11 @@
 ghost use Rattle.std.specs.Prelude.{◌≡◌, codes};
 ghost use Rattle.std.specs.List.{before_first, flat_map};
 ghost use Rattle.hc_fields.specs.Values.{values_of};
-ghost use Rattle.hc_framing.specs.ChunkLines.{is_blank};
-ghost use Rattle.hc_framing.specs.Framing.{without_leading_blanks, without_trailing_blanks, trimmed, is_comma, members_of, member_length, first_length, each_writes, coded, sized, framing_by, ends_with_head, request_framing, response_framing};
+ghost use Rattle.hc_fields.specs.Lists.{trimmed};
+ghost use Rattle.hc_framing.specs.Framing.{is_comma, members_of, member_length, first_length, each_writes, coded, sized, framing_by, ends_with_head, request_framing, response_framing};
 
 use crate::fault::FrameFault;
-use hc_fields::{Fields, decimal};
+use hc_fields::{Fields, decimal, trimmed};
 use hc_head::Version;
 
 /// No body is longer, in octets.
@@ -27,43 +27,6 @@ pub enum Framing {
     Chunked,
     /// With the connection.
     UntilClose,
-}
-
-fn is_blank(octet: u8) -> bool
-    ensures { result ≡ is_blank octet }
-{
-    octet == b' ' || octet == b'\t'
-}
-
-fn without_leading_blanks(mut text: &[u8]) -> &[u8]
-    ensures { result.now ≡ without_leading_blanks text.entry.now }
-{
-    while let Some((first, rest)) = text.split_first() {
-        if !is_blank(*first) {
-            break;
-        }
-        text = rest;
-    }
-    text
-}
-
-fn without_trailing_blanks(mut text: &[u8]) -> &[u8]
-    ensures { result.now ≡ without_trailing_blanks text.entry.now }
-{
-    while let Some((last, front)) = text.split_last() {
-        if !is_blank(*last) {
-            break;
-        }
-        text = front;
-    }
-    text
-}
-
-/// The text without the spaces and tabs around it.
-fn trimmed(text: &[u8]) -> &[u8]
-    ensures { result.now ≡ trimmed text.now }
-{
-    without_trailing_blanks(without_leading_blanks(text))
 }
 
 /// The length that a member of a list writes.
