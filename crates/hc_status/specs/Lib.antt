@@ -1,0 +1,4 @@
+pub mod Faults
+pub mod Classes
+pub mod Answers
+pub mod Reading
