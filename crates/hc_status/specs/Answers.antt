@@ -1,9 +1,15 @@
--- What the calls that read answer. Private functions alone cite this.
-use Rattle.std.specs.Prelude.{◌≡◌, Result, Ok, Err}
+-- What the functions that read answer. Private functions alone cite this.
+use Rattle.std.specs.Prelude.{◌≡◌, Option, None, Result, Err}
 use Rattle.hc_status.specs.declared.fault.SfFault.{SfFault}
 use Rattle.hc_status.specs.declared.fault.SfFault.TheVariants.{Syntax, InnerList, Memory}
 
--- the fault is what the definition answers, or memory ran out
+-- the fault says that there is nothing such, or memory ran out
+abbrev pub Lacks : {A : Type 0} → SfFault → Option A → Type 0
+Lacks Syntax found = found ≡ None
+Lacks InnerList found = ⊥
+Lacks Memory found = Unit {0}
+
+-- the fault is the one that stands there, or memory ran out
 abbrev pub Fails : {A : Type 0} → SfFault → Result A SfFault → Type 0
 Fails Syntax answer = answer ≡ Err Syntax
 Fails InnerList answer = answer ≡ Err InnerList

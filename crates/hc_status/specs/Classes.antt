@@ -28,6 +28,10 @@ is_token_start b = is_ascii_alphabetic b || b == 42
 abbrev pub is_token_octet : ℕ → Bool
 is_token_octet b = is_ascii_alphanumeric b || list_any (λ c. c == b) (codes "!#$%&'*+-.^_`|~:/")
 
+-- DIGIT / "-"
+abbrev pub is_number_start : ℕ → Bool
+is_number_start b = is_ascii_digit b || b == 45
+
 -- the octets of which a number is made
 abbrev pub is_number_octet : ℕ → Bool
 is_number_octet b = is_ascii_digit b || (b == 45 || b == 46)

@@ -1,9 +1,12 @@
 //! What a list of structured items says.
 
-ghost use Rattle.std.specs.Prelude.{◌≡◌, List};
+ghost use Rattle.std.specs.Prelude.{◌≡◌, ◌<◌, length, position, IfSome};
+ghost use Rattle.std.specs.Str.{bytes_eq};
 
 use hc_fields::Octets;
+use std::alloc::{AllocError, Global};
 use std::marker::Model;
+use std::mem;
 
 /// A bare item (RFC 8941 section 3.3).
 #[derive(Debug, Drop)]
@@ -42,6 +45,45 @@ impl Model for Parameters {
     ghost Value = { List Parameter };
 
     ghost view = { λ p. p.list.items };
+}
+
+fn place_of(params: &[Parameter], key: &[u8]) -> Option<usize>
+    ensures place { result ≡ position (λ param. bytes_eq param.key key.now) params.now }
+    ensures within { IfSome result (λ place. place < length params.now) }
+{
+    params.iter().position(|param| param.key.as_slice() == key)
+}
+
+impl Parameters {
+    ghost use Rattle.std.specs.Prelude.{◌≡◌, [], OnOk};
+    ghost use Rattle.hc_status.specs.Grammar.{with_parameter};
+
+    /// No parameters, which take no memory.
+    pub fn new(alloc: Global) -> Self
+        ensures { result ≡ [] }
+    {
+        Parameters {
+            list: Vec::new(alloc),
+        }
+    }
+
+    /// The parameters in order.
+    pub fn as_slice(&self) -> &[Parameter]
+        ensures { result.now ≡ self.now }
+    {
+        self.list.as_slice()
+    }
+
+    /// Puts the parameter in the place of the one that has its key, or at the end.
+    pub(crate) fn set(&mut self, param: Parameter) -> Result<(), AllocError>
+        ensures { OnOk result (self.new ≡ with_parameter self.old param) }
+    {
+        match place_of(self.list.as_slice(), param.key.as_slice()) {
+            Some(place) => drop(mem::replace(&mut self.list[place], param)),
+            None => self.list.push(param)?,
+        }
+        Ok(())
+    }
 }
 
 /// A member of a list: an item with its parameters (RFC 8941 section 3.3).

@@ -1,11 +1,11 @@
 //! Integers and decimals (RFC 8941 section 4.2.4).
 
-ghost use Rattle.std.specs.Prelude.{◌≡◌, ◌<◌, ◌^◌, IfOk, IfErr, IfSome, Ok, Err, Some, None, if◌then◌else◌};
+ghost use Rattle.std.specs.Prelude.{◌≡◌, ◌<◌, ◌^◌, IfOk, IfErr, IfSome, Some, None, if◌then◌else◌};
 ghost use Rattle.std.specs.List.{list_all};
 ghost use Rattle.std.specs.Char.{is_ascii_digit};
 ghost use Rattle.std.specs.Str.Parse.{digits_value};
 ghost use Rattle.hc_status.specs.Reading.{integer_of, is_digits, is_negative, makes_decimal, number_of, number_with, unsigned};
-ghost use Rattle.hc_status.specs.Answers.{Fails};
+ghost use Rattle.hc_status.specs.Answers.{Lacks};
 
 use crate::fault::SfFault;
 use crate::items::Bare;
@@ -63,8 +63,8 @@ fn magnitude(digits: &[u8]) -> Option<u64>
 }
 
 fn integer(negative: bool, digits: &[u8]) -> Result<Bare, SfFault>
-    ensures ok { IfOk result (λ bare. integer_of negative digits.now ≡ Ok bare) }
-    ensures err { IfErr result (λ fault. Fails fault (integer_of negative digits.now)) }
+    ensures ok { IfOk result (λ bare. integer_of negative digits.now ≡ Some bare) }
+    ensures err { IfErr result (λ fault. Lacks fault (integer_of negative digits.now)) }
 {
     let Some(value) = magnitude(digits) else {
         return Err(SfFault::Syntax);
@@ -85,8 +85,8 @@ fn number_with(
     whole: &[u8],
     behind: &[u8],
 ) -> Result<Bare, SfFault>
-    ensures ok { IfOk result (λ bare. number_with text.now whole.now behind.now ≡ Ok bare) }
-    ensures err { IfErr result (λ fault. Fails fault (number_with text.now whole.now behind.now)) }
+    ensures ok { IfOk result (λ bare. number_with text.now whole.now behind.now ≡ Some bare) }
+    ensures err { IfErr result (λ fault. Lacks fault (number_with text.now whole.now behind.now)) }
 {
     let Some((point, fraction)) = behind.split_first() else {
         return integer(is_negative(text), whole);
@@ -100,8 +100,8 @@ fn number_with(
 /// The number that the text is, all of it.
 #[tactic(auto, unfolding(crate::specs::Reading::number_of))]
 pub(crate) fn number_of(alloc: Global, text: &[u8]) -> Result<Bare, SfFault>
-    ensures ok { IfOk result (λ bare. number_of text.now ≡ Ok bare) }
-    ensures err { IfErr result (λ fault. Fails fault (number_of text.now)) }
+    ensures ok { IfOk result (λ bare. number_of text.now ≡ Some bare) }
+    ensures err { IfErr result (λ fault. Lacks fault (number_of text.now)) }
 {
     let digits = unsigned(text);
     let (whole, behind) = digits.split_at(digits_len(digits));
