@@ -1,7 +1,8 @@
-use Rattle.hc_status.proofs.NumberLemmas.{number_of_sound, integer_is_read, decimal_is_read}
-use Rattle.hc_status.proofs.StringLemmas.{string_sound, string_is_read}
-use Rattle.hc_status.proofs.BareLemmas.{bare_sound}
+use Rattle.hc_status.proofs.ListLemmas.{list_is_read, list_sound, inner_list_is_read, inner_list_sound}
 use Rattle.hc_status.proofs.laws.one_list.Goals as goal
 
 pub returns-clause-list : goal.returns-clause-list
-returns-clause-list c = ?
+returns-clause-list c = λ octets list. (list_is_read octets list, list_sound octets list)
+
+pub returns-clause-inner_list : goal.returns-clause-inner_list
+returns-clause-inner_list c = λ octets. (inner_list_is_read octets, inner_list_sound octets)
