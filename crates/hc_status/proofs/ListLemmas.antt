@@ -35,7 +35,7 @@ never_inner (Some y) whole = cc
 never_inner None whole = cc
 
 -- a member that was read is an item
-member_at_ok : (text : List ℕ) (read : Member × List ℕ) → member_at text ≡ Ok read → item_at text ≡ Some read
+pub member_at_ok : (text : List ℕ) (read : Member × List ℕ) → member_at text ≡ Ok read → item_at text ≡ Some read
 member_at_ok [] read whole = absurd (cc)
 member_at_ok (b ∷ text) read whole =
     elim (split_cond (b == 40) _ _ _ whole) [

@@ -1,5 +1,5 @@
 -- A parameter among others: its place, and what takes it.
-use Rattle.std.proofs.Common.{◌≡◌, ℕ, ◌+◌, ◌<◌, ◌≤◌, Bool, true, false, cond, List, [], ◌∷◌, ◌++◌, length, set, suc, inl, inr, refl, sym, ap, ◌∙◌, arith, rules, Some, None, ltb}
+use Rattle.std.proofs.Common.{◌≡◌, ℕ, ◌+◌, ◌<◌, ◌≤◌, Bool, true, false, cond, List, [], ◌∷◌, ◌++◌, length, set, suc, inl, inr, refl, sym, ap, subst, ◌∙◌, arith, rules, Some, None, ltb}
 use Rattle.std.specs.Prelude.{position}
 use Rattle.std.specs.List.{position_or_len}
 use Rattle.std.specs.Str.{bytes_eq}
@@ -42,7 +42,7 @@ place_new (q ∷ params) p past =
           cond-false (has_key p.key q) _ _ other ∙ ap (λ (l : List Parameter). q ∷ l) later
     ]
 
-pub with_parameter_at : (params : List Parameter) (p : Parameter) (i : ℕ) → position (has_key p.key) params ≡ Some i → with_parameter params p ≡ set params i p
+with_parameter_at : (params : List Parameter) (p : Parameter) (i : ℕ) → position (has_key p.key) params ≡ Some i → with_parameter params p ≡ set params i p
 with_parameter_at params p i found =
     elim (true_or_false (ltb (position_or_len (has_key p.key) params) (length params))) [
       | inl same ↦ let place : position_or_len (has_key p.key) params ≡ i = grind (arith, common_steps) in
@@ -50,9 +50,18 @@ with_parameter_at params p i found =
       | inr other ↦ absurd (grind (arith, common_steps))
     ]
 
-pub with_parameter_new : (params : List Parameter) (p : Parameter) → position (has_key p.key) params ≡ None → with_parameter params p ≡ params ++ p ∷ []
+with_parameter_new : (params : List Parameter) (p : Parameter) → position (has_key p.key) params ≡ None → with_parameter params p ≡ params ++ p ∷ []
 with_parameter_new params p none =
     elim (true_or_false (ltb (position_or_len (has_key p.key) params) (length params))) [
       | inl same ↦ absurd (grind (arith, common_steps))
       | inr other ↦ place_new params p (grind (arith, nat_tests))
     ]
+
+-- the same of a key that is the parameter's
+pub taken_at : (params : List Parameter) (p : Parameter) (key : List ℕ) (i : ℕ) → p.key ≡ key → position (has_key key) params ≡ Some i
+    → with_parameter params p ≡ set params i p
+taken_at params p key i same found = with_parameter_at params p i (subst (λ (k : List ℕ). position (has_key k) params ≡ Some i) (sym same) found)
+
+pub put_last : (params : List Parameter) (p : Parameter) (key : List ℕ) → p.key ≡ key → position (has_key key) params ≡ None
+    → with_parameter params p ≡ params ++ p ∷ []
+put_last params p key same none = with_parameter_new params p (subst (λ (k : List ℕ). position (has_key k) params ≡ None) (sym same) none)

@@ -1,5 +1,5 @@
 -- What the functions that read answer. Private functions alone cite this.
-use Rattle.std.specs.Prelude.{◌≡◌, Option, None, Result, Err}
+use Rattle.std.specs.Prelude.{◌≡◌, ℕ, Bool, false, ◌==◌, List, [], ◌∷◌, Option, None, Result, Err}
 use Rattle.hc_status.specs.declared.fault.SfFault.{SfFault}
 use Rattle.hc_status.specs.declared.fault.SfFault.TheVariants.{Syntax, InnerList, Memory}
 
@@ -14,3 +14,8 @@ abbrev pub Fails : {A : Type 0} → SfFault → Result A SfFault → Type 0
 Fails Syntax answer = answer ≡ Err Syntax
 Fails InnerList answer = answer ≡ Err InnerList
 Fails Memory answer = Unit {0}
+
+-- whether a parameter begins the text
+abbrev pub begins_parameter : List ℕ → Bool
+begins_parameter [] = false
+begins_parameter (b ∷ text) = b == 59

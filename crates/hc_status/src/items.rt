@@ -47,6 +47,7 @@ impl Model for Parameters {
     ghost view = { λ p. p.list.items };
 }
 
+/// Where the parameter of that key stands.
 fn place_of(params: &[Parameter], key: &[u8]) -> Option<usize>
     ensures place { result ≡ position (λ param. bytes_eq param.key key.now) params.now }
     ensures within { IfSome result (λ place. place < length params.now) }

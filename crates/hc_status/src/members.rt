@@ -44,11 +44,13 @@ fn members(alloc: Global, text: &[u8]) -> Result<Vec<Member>, SfFault>
     loop {
         let (member, behind) = member(alloc, rest)?;
         members.push(member)?;
-        match skip_blanks(behind).split_first() {
-            None => return Ok(members),
-            Some((b',', more)) => rest = skip_blanks(more),
-            Some(_) => return Err(SfFault::Syntax),
+        let Some((comma, more)) = skip_blanks(behind).split_first() else {
+            return Ok(members);
+        };
+        if *comma != b',' {
+            return Err(SfFault::Syntax);
         }
+        rest = skip_blanks(more);
     }
 }
 

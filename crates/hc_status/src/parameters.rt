@@ -1,7 +1,7 @@
 //! Parameters (RFC 8941 section 4.2.3.2) and their keys (section 4.2.3.3).
 
-ghost use Rattle.std.specs.Prelude.{◌≡◌, IfOk, IfErr, Some};
-ghost use Rattle.hc_status.specs.Answers.{Lacks};
+ghost use Rattle.std.specs.Prelude.{◌≡◌, ◌∷◌, false, IfOk, IfErr, IfSome, IfNone, Some};
+ghost use Rattle.hc_status.specs.Answers.{Lacks, begins_parameter};
 ghost use Rattle.hc_status.specs.Reading.{behind, key_at, parameter_at, parameters_at, value_at};
 
 use crate::bare_items::bare;
@@ -47,6 +47,17 @@ fn parameter(alloc: Global, text: &[u8]) -> Result<(Parameter, &[u8]), SfFault>
     Ok((Parameter { key, value }, rest))
 }
 
+/// What stands behind the semicolon in front, if one stands there.
+fn behind_semicolon(text: &[u8]) -> Option<&[u8]>
+    ensures found { IfSome result (λ behind. text.now ≡ 59 ∷ behind.now) }
+    ensures none { IfNone result (begins_parameter text.now ≡ false) }
+{
+    match text.split_first() {
+        Some((b';', behind)) => Some(behind),
+        _ => None,
+    }
+}
+
 /// The parameters at the front, and what stands behind them.
 pub(crate) fn parameters(alloc: Global, text: &[u8]) -> Result<(Parameters, &[u8]), SfFault>
     ensures ok { IfOk result (λ read. parameters_at text.now ≡ Some (read.0, read.1.now)) }
@@ -54,7 +65,7 @@ pub(crate) fn parameters(alloc: Global, text: &[u8]) -> Result<(Parameters, &[u8
 {
     let mut params = Parameters::new(alloc);
     let mut rest = text;
-    while let Some((b';', behind)) = rest.split_first() {
+    while let Some(behind) = behind_semicolon(rest) {
         let (param, behind) = parameter(alloc, behind)?;
         params.set(param)?;
         rest = behind;
