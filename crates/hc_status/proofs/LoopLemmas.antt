@@ -6,8 +6,9 @@ use Rattle.hc_status.specs.declared.fault.SfFault.{SfFault}
 use Rattle.hc_status.specs.declared.fault.SfFault.TheVariants.{Syntax, InnerList, Memory}
 use Rattle.hc_status.specs.declared.items.Parameter.{Parameter}
 use Rattle.hc_status.specs.declared.items.Member.{Member}
-use Rattle.hc_status.specs.Answers.{Lacks, Fails, begins_parameter}
+use Rattle.hc_status.specs.Answers.{Lacks, begins_parameter}
 use Rattle.hc_status.specs.Classes.{is_blank}
+use Rattle.hc_status.specs.Faults.{Fails}
 use Rattle.hc_status.specs.Grammar.{with_parameter}
 use Rattle.hc_status.specs.Reading.{◌>>=◌, behind, result_and_then, member_at, after_member, members_from, members_at, parameter_at, parameters_from, parameters_at}
 use Rattle.hc_status.proofs.RunLemmas.{run_spelled}

@@ -1,5 +1,5 @@
 -- What the functions that read answer. Private functions alone cite this.
-use Rattle.std.specs.Prelude.{◌≡◌, ℕ, Bool, false, ◌==◌, List, [], ◌∷◌, Option, None, Result, Err}
+use Rattle.std.specs.Prelude.{◌≡◌, ℕ, Bool, false, ◌==◌, List, [], ◌∷◌, Option, None}
 use Rattle.hc_status.specs.declared.fault.SfFault.{SfFault}
 use Rattle.hc_status.specs.declared.fault.SfFault.TheVariants.{Syntax, InnerList, Memory}
 
@@ -8,12 +8,6 @@ abbrev pub Lacks : {A : Type 0} → SfFault → Option A → Type 0
 Lacks Syntax found = found ≡ None
 Lacks InnerList found = ⊥
 Lacks Memory found = Unit {0}
-
--- the fault is the one that stands there, or memory ran out
-abbrev pub Fails : {A : Type 0} → SfFault → Result A SfFault → Type 0
-Fails Syntax answer = answer ≡ Err Syntax
-Fails InnerList answer = answer ≡ Err InnerList
-Fails Memory answer = Unit {0}
 
 -- whether a parameter begins the text
 abbrev pub begins_parameter : List ℕ → Bool

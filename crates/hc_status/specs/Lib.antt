@@ -1,5 +1,7 @@
 pub mod Faults
 pub mod Classes
-pub mod Answers
-pub mod Reading
 pub mod Grammar
+pub mod Reading
+pub mod Marks
+pub mod Texts
+pub mod Answers

@@ -56,8 +56,9 @@ fn place_of(params: &[Parameter], key: &[u8]) -> Option<usize>
 }
 
 impl Parameters {
-    ghost use Rattle.std.specs.Prelude.{◌≡◌, [], OnOk};
+    ghost use Rattle.std.specs.Prelude.{◌≡◌, [], OnOk, option_copied};
     ghost use Rattle.hc_status.specs.Grammar.{with_parameter};
+    ghost use Rattle.hc_status.specs.Marks.{value_of};
 
     /// No parameters, which take no memory.
     pub fn new(alloc: Global) -> Self
@@ -73,6 +74,16 @@ impl Parameters {
         ensures { result.now ≡ self.now }
     {
         self.list.as_slice()
+    }
+
+    /// The value of the parameter of that key, which is one in lower case.
+    pub fn get(&self, key: &[u8]) -> Option<&Bare>
+        ensures { option_copied result ≡ value_of key.now self.now }
+    {
+        self.list
+            .iter()
+            .find(|param| param.key.as_slice() == key)
+            .map(|param| &param.value)
     }
 
     /// Puts the parameter in the place of the one that has its key, or at the end.

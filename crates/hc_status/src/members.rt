@@ -1,7 +1,8 @@
 //! Members and lists (RFC 8941 section 4.2.1).
 
 ghost use Rattle.std.specs.Prelude.{◌≡◌, IfOk, IfErr, Ok, Some};
-ghost use Rattle.hc_status.specs.Answers.{Fails, Lacks};
+ghost use Rattle.hc_status.specs.Answers.{Lacks};
+ghost use Rattle.hc_status.specs.Faults.{Fails};
 ghost use Rattle.hc_status.specs.Reading.{behind, item_at, list_of, member_at, members_at};
 
 use crate::bare_items::bare;

@@ -1,5 +1,4 @@
 use Rattle.std.proofs.lemmas.Result.{err_from_is_err_and}
-use Rattle.hc_status.specs.Answers.{Lacks}
 use Rattle.hc_status.proofs.LoopLemmas.{parameters_start, parameters_step, parameters_lack, parameters_end, parameter_shortens}
 use Rattle.hc_status.proofs.parameters.parameters.Goals as goal
 

@@ -1,0 +1,57 @@
+-- The member of Cache-Status that the cache writes (RFC 9211 section 2), without spaces.
+use Rattle.std.specs.Prelude.{ℕ, ◌<◌, ◌^◌, Bool, List, [], ◌++◌, ℤ, unsigned_abs, Option, Some, None, codes, decimal, if◌then◌else◌}
+use Rattle.std.specs.Fmt.{signed_decimal}
+use Rattle.hc_status.specs.declared.cache_status.CacheStatus.{CacheStatus}
+use Rattle.hc_status.specs.declared.cache_status.Handling.{Handling}
+use Rattle.hc_status.specs.declared.cache_status.Handling.TheVariants as handling
+use Rattle.hc_status.specs.declared.marks.Mark.{Mark}
+use Rattle.hc_status.specs.declared.marks.Mark.TheVariants as mark
+use Rattle.hc_status.specs.Grammar.{IsToken}
+
+-- the seconds left (RFC 9211 section 2.3)
+abbrev pub ttl_text : Option ℤ → List ℕ
+ttl_text None = []
+ttl_text (Some ttl) = codes ";ttl=" ++ signed_decimal ttl
+
+-- the status that the origin gave (RFC 9211 section 2.4)
+abbrev pub fwd_status_text : Option ℕ → List ℕ
+fwd_status_text None = []
+fwd_status_text (Some status) = codes ";fwd-status=" ++ decimal status
+
+-- whether the response was stored (RFC 9211 section 2.5)
+abbrev pub stored_text : Bool → List ℕ
+stored_text stored = if stored then codes ";stored" else []
+
+-- how the request was handled
+abbrev pub handling_text : Handling → List ℕ
+handling_text (handling.Hit ttl) = codes ";hit" ++ ttl_text ttl
+handling_text (handling.Fwd word status stored) = codes ";fwd=" ++ word ++ fwd_status_text status ++ stored_text stored
+
+-- the cache's name, and how it handled the request
+abbrev pub member_text : CacheStatus → List ℕ
+member_text status = status.name ++ handling_text status.handling
+
+-- ---- reading back
+
+-- the number keeps to the fifteen digits of an Integer
+abbrev pub HasShortTtl : Option ℤ → Type 0
+HasShortTtl None = Unit {0}
+HasShortTtl (Some ttl) = unsigned_abs ttl < 10 ^ 15
+
+abbrev pub HasShortStatus : Option ℕ → Type 0
+HasShortStatus None = Unit {0}
+HasShortStatus (Some status) = status < 10 ^ 15
+
+abbrev pub IsShort : Handling → Type 0
+IsShort (handling.Hit ttl) = HasShortTtl ttl
+IsShort (handling.Fwd word status stored) = IsToken word × HasShortStatus status
+
+-- name and word are Tokens, and numbers have at most fifteen digits
+pub record IsPlain (status : CacheStatus) : Type 0 where
+  pub name : IsToken status.name
+  pub short : IsShort status.handling
+
+-- the mark that the member is written for
+abbrev pub written_mark : Handling → Mark
+written_mark (handling.Hit ttl) = mark.Hit ttl
+written_mark (handling.Fwd word status stored) = mark.Forwarded

@@ -1,0 +1,29 @@
+//! The member of Cache-Status that the cache writes.
+
+use hc_fields::Octets;
+
+/// How a cache handled a request (RFC 9211 section 2).
+#[derive(Debug, Drop)]
+pub enum Handling {
+    /// The reply came out of the cache.
+    Hit {
+        /// The seconds for which it is fresh still, negative where it is stale.
+        ttl: Option<i64>,
+    },
+    /// The request went forward.
+    Fwd {
+        /// Why it did, a Token such as `uri-miss` (RFC 9211 section 2.2).
+        word: Octets,
+        /// The status that the origin gave (RFC 9211 section 2.4).
+        fwd_status: Option<u16>,
+        /// Whether the response was stored (RFC 9211 section 2.5).
+        stored: bool,
+    },
+}
+
+/// A member of Cache-Status: the name of the cache, a Token, and how it handled the request.
+#[derive(Debug, Drop)]
+pub struct CacheStatus {
+    pub name: Octets,
+    pub handling: Handling,
+}

@@ -1,0 +1,17 @@
+//! The mark of a reply.
+
+/// What Cache-Status says of a reply, by the last member of its list (RFC 9211 section 2).
+#[derive(Clone, Copy, Debug, PartialEq, Eq)]
+pub enum Mark {
+    /// The reply came out of the cache (RFC 9211 section 2.1).
+    Hit {
+        /// The seconds for which it is fresh still, negative where it is stale (RFC 9211 section 2.3).
+        ttl: Option<i64>,
+    },
+    /// The request went forward (RFC 9211 section 2.2).
+    Forwarded,
+    /// Both are said, which contradict each other.
+    Both,
+    /// Nothing is said, or nothing that can be read.
+    Unmarked,
+}
