@@ -18,7 +18,7 @@ mod writing;
 pub use cache_status::{CacheStatus, Handling};
 pub use fault::{MarkFault, SfFault};
 pub use items::{Bare, Member, Parameter, Parameters};
-pub use laws::one_list;
+pub use laws::{member_read_back, one_list};
 pub use marking::{mark, read_list};
 pub use marks::Mark;
 pub use writing::write_member;
