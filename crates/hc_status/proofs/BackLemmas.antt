@@ -245,7 +245,7 @@ joined_is_list list octets m text are is =
       blanks = [];
       are_spaces = are.are_spaces;
       have_commas = commas_join are.members are.last are.front are.last_text comma are.have_commas are.is_last
-      (record { before = are.blanks; behind = 32 ∷ []; blank_before = are.are_blanks; blank_behind = pass_more is_blank 32 [] refl (pass_none is_blank); spelled = refl });
+          (record { before = are.blanks; behind = 32 ∷ []; blank_before = are.are_blanks; blank_behind = pass_more is_blank 32 [] refl (pass_none is_blank); spelled = refl });
       is_last = is;
       are_blanks = pass_none is_blank;
       spelled = whole;

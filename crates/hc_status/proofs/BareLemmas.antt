@@ -94,28 +94,28 @@ bare_sound (b ∷ text) read found =
           replaced b 34 text read string.0
           (subst (λ (r : Bare × List ℕ). SpellsBare (34 ∷ text) r) (same_Some _ _ parts.2) (string_spelled text parts.0 (string_sound [] text parts.0 parts.1)))
       | inr more ↦ elim (split_cond (b == 58) _ _ _ more.1) [
-          | inl bytes ↦
-              replaced b 58 text read bytes.0
-              (bytes_spelled text _ _ read (run_spelled is_base64_octet text) (run_passes is_base64_octet text) bytes.1)
-          | inr more ↦ elim (split_cond (b == 63) _ _ _ more.1) [
-              | inl boolean ↦ replaced b 63 text read boolean.0 (boolean_spelled text read boolean.1)
-              | inr more ↦ elim (split_cond (is_token_start b) _ _ _ more.1) [
-                  | inl token ↦ subst (λ (r : Bare × List ℕ). SpellsBare (b ∷ text) r) (same_Some _ _ token.1) (token_spelled b text token.0)
-                  | inr more ↦ elim (split_cond (is_number_start b) _ _ _ more.1) [
-                      | inl number ↦
-                          let digits = take_while is_number_octet (b ∷ text) in
-                          let parts = then_found (number_of digits) (λ n. Some (n, behind is_number_octet (b ∷ text))) read number.1 in
-                          subst (λ (r : Bare × List ℕ). SpellsBare (b ∷ text) r) (same_Some _ _ parts.2)
-                          (record {
-                            item = digits;
-                            is_bare = number_of_sound digits parts.0 parts.1;
-                            spelled = run_spelled is_number_octet (b ∷ text);
-                          })
-                      | inr none ↦ absurd (let e = none.1 in cc)
-                    ]
-                ]
+        | inl bytes ↦
+            replaced b 58 text read bytes.0
+            (bytes_spelled text _ _ read (run_spelled is_base64_octet text) (run_passes is_base64_octet text) bytes.1)
+        | inr more ↦ elim (split_cond (b == 63) _ _ _ more.1) [
+          | inl boolean ↦ replaced b 63 text read boolean.0 (boolean_spelled text read boolean.1)
+          | inr more ↦ elim (split_cond (is_token_start b) _ _ _ more.1) [
+            | inl token ↦ subst (λ (r : Bare × List ℕ). SpellsBare (b ∷ text) r) (same_Some _ _ token.1) (token_spelled b text token.0)
+            | inr more ↦ elim (split_cond (is_number_start b) _ _ _ more.1) [
+              | inl number ↦
+                  let digits = take_while is_number_octet (b ∷ text) in
+                  let parts = then_found (number_of digits) (λ n. Some (n, behind is_number_octet (b ∷ text))) read number.1 in
+                  subst (λ (r : Bare × List ℕ). SpellsBare (b ∷ text) r) (same_Some _ _ parts.2)
+                  (record {
+                    item = digits;
+                    is_bare = number_of_sound digits parts.0 parts.1;
+                    spelled = run_spelled is_number_octet (b ∷ text);
+                  })
+              | inr none ↦ absurd (let e = none.1 in cc)
             ]
+          ]
         ]
+      ]
     ]
 
 -- ---- each bare item is read
@@ -184,17 +184,19 @@ IsNumberText text = Begins is_number_start text × AllPass is_number_octet text
 integer_text : (n : ℤ) (text : List ℕ) → IsInteger n text → IsNumberText text
 integer_text n text is =
     let begins = number_begins 15 is.negative is.digits [] is.is_digits in
-    let whole : minus is.negative ++ (is.digits ++ []) ≡ text = ap (λ (l : List ℕ). minus is.negative ++ l) (append-nil is.digits) ∙ sym is.spelled in
-    (subst (λ (l : List ℕ). Begins is_number_start l) whole begins,
-    subst (λ (l : List ℕ). AllPass is_number_octet l) (sym is.spelled)
-    (joined (minus is.negative) is.digits (minus_is_octets is.negative) (digits_are_octets 15 is.digits is.is_digits)))
+    let whole : minus is.negative ++ (is.digits ++ []) ≡ text = ap (λ (l : List ℕ). minus is.negative ++ l) (append-nil is.digits) ∙ sym is.spelled in (
+      subst (λ (l : List ℕ). Begins is_number_start l) whole begins,
+      subst (λ (l : List ℕ). AllPass is_number_octet l) (sym is.spelled)
+          (joined (minus is.negative) is.digits (minus_is_octets is.negative) (digits_are_octets 15 is.digits is.is_digits)),
+    )
 
 decimal_text : (text : List ℕ) → IsDecimal text → IsNumberText text
 decimal_text text is =
-    let point = pass_more is_number_octet 46 is.fraction refl (digits_are_octets 3 is.fraction is.is_fraction) in
-    (subst (λ (l : List ℕ). Begins is_number_start l) (sym is.spelled) (number_begins 12 is.negative is.whole (46 ∷ is.fraction) is.is_whole),
-    subst (λ (l : List ℕ). AllPass is_number_octet l) (sym is.spelled)
-    (joined (minus is.negative) (is.whole ++ 46 ∷ is.fraction) (minus_is_octets is.negative) (joined is.whole (46 ∷ is.fraction) (digits_are_octets 12 is.whole is.is_whole) point)))
+    let point = pass_more is_number_octet 46 is.fraction refl (digits_are_octets 3 is.fraction is.is_fraction) in (
+      subst (λ (l : List ℕ). Begins is_number_start l) (sym is.spelled) (number_begins 12 is.negative is.whole (46 ∷ is.fraction) is.is_whole),
+      subst (λ (l : List ℕ). AllPass is_number_octet l) (sym is.spelled)
+          (joined (minus is.negative) (is.whole ++ 46 ∷ is.fraction) (minus_is_octets is.negative) (joined is.whole (46 ∷ is.fraction) (digits_are_octets 12 is.whole is.is_whole) point)),
+    )
 
 number_is_read : (v : Bare) (item rest : List ℕ) → number_of item ≡ Some v → IsNumberText item → Ends is_item_end rest → bare_at (item ++ rest) ≡ Some (v, rest)
 number_is_read v item rest found text ends =

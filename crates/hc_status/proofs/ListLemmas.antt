@@ -287,9 +287,11 @@ comma_read n before m one comma rest is commas solid =
 -- the reader goes on behind members with a comma behind each
 commas_read : (n : ℕ) (before members : List Member) (front tail : List ℕ) → HaveCommas members front → Begins is_solid tail → length (front ++ tail) ≤ n
     → (k : ℕ) × (length tail ≤ k) × (members_from n before (front ++ tail) ≡ members_from k (before ++ members) tail)
-commas_read n before [] front tail have solid room =
-    (n, omega (arith, room, ap length have, length-append front tail),
-    ap (λ (l : List ℕ). members_from n before (l ++ tail)) have ∙ ap (λ (l : List Member). members_from n l tail) (sym (append-nil before)))
+commas_read n before [] front tail have solid room = (
+  n,
+  omega (arith, room, ap length have, length-append front tail),
+  ap (λ (l : List ℕ). members_from n before (l ++ tail)) have ∙ ap (λ (l : List Member). members_from n l tail) (sym (append-nil before)),
+)
 commas_read zero before (m ∷ members) front tail have solid room =
     absurd (omega (arith, room, ap length have.3, length-append front tail, length-append have.0 (have.1 ++ have.2), length-append have.1 have.2, ap length have.5.spelled, length-append have.5.before (44 ∷ have.5.behind)))
 commas_read (suc n) before (m ∷ members) front tail have solid room =
@@ -302,10 +304,12 @@ commas_read (suc n) before (m ∷ members) front tail have solid room =
     let first = comma_read n before m one comma (more ++ tail) have.4 have.5 (commas_are_solid members more tail have.6 solid) in
     let shorter : length (more ++ tail) ≤ n =
     omega (arith, room, ap length whole, length-append one (comma ++ (more ++ tail)), length-append comma (more ++ tail), ap length have.5.spelled, length-append have.5.before (44 ∷ have.5.behind)) in
-    let later = commas_read n (before ++ m ∷ []) members more tail have.6 solid shorter in
-    (later.0, later.1,
-    ap (members_from (suc n) before) whole
-    ∙ (first ∙ (later.2 ∙ ap (λ (l : List Member). members_from later.0 l tail) (append_assoc before (m ∷ []) members))))
+    let later = commas_read n (before ++ m ∷ []) members more tail have.6 solid shorter in (
+      later.0,
+      later.1,
+      ap (members_from (suc n) before) whole
+          ∙ (first ∙ (later.2 ∙ ap (λ (l : List Member). members_from later.0 l tail) (append_assoc before (m ∷ []) members))),
+    )
 
 blanks_at_end : (blanks : List ℕ) → AllPass is_blank blanks → Ends is_member_end blanks
 blanks_at_end blanks are = subst (λ (l : List ℕ). Ends is_member_end l) (append-nil blanks) (blanks_end blanks [] are tt)

@@ -164,8 +164,15 @@ members_broken text rest members m more b tail stands cut other =
 pub comma_shortens : (text rest : List ℕ) (members : List Member) (m : Member) (more tail : List ℕ) → StandsBehind text members m rest more
     → behind is_blank more ≡ 44 ∷ tail → length (behind is_blank tail) < length rest
 comma_shortens text rest members m more tail stands cut =
-    omega (arith, stands.shorter, ap length cut, ap length (run_spelled is_blank more), length-append (take_while is_blank more) (behind is_blank more),
-    ap length (run_spelled is_blank tail), length-append (take_while is_blank tail) (behind is_blank tail))
+    omega (
+      arith,
+      stands.shorter,
+      ap length cut,
+      ap length (run_spelled is_blank more),
+      length-append (take_while is_blank more) (behind is_blank more),
+      ap length (run_spelled is_blank tail),
+      length-append (take_while is_blank tail) (behind is_blank tail),
+    )
 
 pub members_step : (text rest : List ℕ) (members : List Member) (m : Member) (more tail : List ℕ) → StandsBehind text members m rest more
     → behind is_blank more ≡ 44 ∷ tail → ReadsMembers text (members ++ m ∷ []) (behind is_blank tail)

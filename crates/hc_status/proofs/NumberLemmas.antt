@@ -76,15 +76,17 @@ number_with_sound text whole (b ∷ fraction) v cut found =
     let chosen = cond_some (makes_decimal whole b fraction) _ v found in
     let point = and_parts (b == 46) _ chosen.0 in
     let parts = and_parts (is_digits 12 whole) _ point.1 in
-    subst (λ (w : Bare). IsBare w text) chosen.1
-    (refl, record {
-      negative = is_negative text;
-      whole = whole;
-      fraction = fraction;
-      is_whole = digits_from 12 whole parts.0;
-      is_fraction = digits_from 3 fraction parts.1;
-      spelled = text_signed text ∙ ap (λ (l : List ℕ). minus (is_negative text) ++ l) (cut ∙ ap (λ (n : ℕ). whole ++ n ∷ fraction) (eqb-true b 46 point.0));
-    })
+    subst (λ (w : Bare). IsBare w text) chosen.1 (
+      refl,
+      record {
+        negative = is_negative text;
+        whole = whole;
+        fraction = fraction;
+        is_whole = digits_from 12 whole parts.0;
+        is_fraction = digits_from 3 fraction parts.1;
+        spelled = text_signed text ∙ ap (λ (l : List ℕ). minus (is_negative text) ++ l) (cut ∙ ap (λ (n : ℕ). whole ++ n ∷ fraction) (eqb-true b 46 point.0));
+      },
+    )
 
 -- what is read as a number is spelled as that number
 pub number_of_sound : (text : List ℕ) (v : Bare) → number_of text ≡ Some v → IsBare v text

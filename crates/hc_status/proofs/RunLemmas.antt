@@ -106,9 +106,9 @@ apart_from_member_end p comma space tab b end =
     elim (true_or_false (b == 44)) [
       | inl same ↦ ap p (eqb-true b 44 same) ∙ comma
       | inr other ↦ elim (true_or_false (b == 32)) [
-          | inl same ↦ ap p (eqb-true b 32 same) ∙ space
-          | inr more ↦ ap p (eqb-true b 9 (grind (arith, nat_tests))) ∙ tab
-        ]
+        | inl same ↦ ap p (eqb-true b 32 same) ∙ space
+        | inr more ↦ ap p (eqb-true b 9 (grind (arith, nat_tests))) ∙ tab
+      ]
     ]
 
 pub apart_from_item_end : (p : ℕ → Bool) → p 59 ≡ false → p 44 ≡ false → p 32 ≡ false → p 9 ≡ false → (b : ℕ) → is_item_end b ≡ true → p b ≡ false

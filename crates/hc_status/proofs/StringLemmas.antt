@@ -73,20 +73,20 @@ string_sound value (b ∷ c ∷ text) read found =
     elim (split_cond (b == 34) _ _ _ found) [
       | inl quote ↦ closed value (c ∷ text) b read quote.0 (same_Some _ _ quote.1)
       | inr plain ↦ elim (split_cond (b == 92) _ _ _ plain.1) [
-          | inl slash ↦ elim (split_cond (is_escaped c) _ _ _ slash.1) [
-              | inl escaped ↦
-                  let spelling : character_text c ≡ b ∷ c ∷ [] =
-                  cond-true (is_escaped c) (92 ∷ c ∷ []) (c ∷ []) escaped.0 ∙ ap (λ (n : ℕ). n ∷ c ∷ []) (sym (eqb-true b 92 slash.0)) in
-                  one_more value text (b ∷ c ∷ []) c read spelling (escaped_printable c escaped.0) (string_sound (value ++ c ∷ []) text read escaped.1)
-              | inr other ↦ absurd (let e = other.1 in cc)
-            ]
-          | inr other ↦ elim (split_cond (is_printable b) _ _ _ other.1) [
-              | inl printable ↦
-                  let spelling : character_text b ≡ b ∷ [] = cond-false (is_escaped b) (92 ∷ b ∷ []) (b ∷ []) (not_escaped b plain.0 other.0) in
-                  one_more value (c ∷ text) (b ∷ []) b read spelling printable.0 (string_sound (value ++ b ∷ []) (c ∷ text) read printable.1)
-              | inr none ↦ absurd (let e = none.1 in cc)
-            ]
+        | inl slash ↦ elim (split_cond (is_escaped c) _ _ _ slash.1) [
+          | inl escaped ↦
+              let spelling : character_text c ≡ b ∷ c ∷ [] =
+              cond-true (is_escaped c) (92 ∷ c ∷ []) (c ∷ []) escaped.0 ∙ ap (λ (n : ℕ). n ∷ c ∷ []) (sym (eqb-true b 92 slash.0)) in
+              one_more value text (b ∷ c ∷ []) c read spelling (escaped_printable c escaped.0) (string_sound (value ++ c ∷ []) text read escaped.1)
+          | inr other ↦ absurd (let e = other.1 in cc)
         ]
+        | inr other ↦ elim (split_cond (is_printable b) _ _ _ other.1) [
+          | inl printable ↦
+              let spelling : character_text b ≡ b ∷ [] = cond-false (is_escaped b) (92 ∷ b ∷ []) (b ∷ []) (not_escaped b plain.0 other.0) in
+              one_more value (c ∷ text) (b ∷ []) b read spelling printable.0 (string_sound (value ++ b ∷ []) (c ∷ text) read printable.1)
+          | inr none ↦ absurd (let e = none.1 in cc)
+        ]
+      ]
     ]
 
 -- ---- and each string is read

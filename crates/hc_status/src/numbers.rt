@@ -79,12 +79,7 @@ fn makes_decimal(whole: &[u8], point: u8, fraction: &[u8]) -> bool
     point == b'.' && is_digits(whole, WHOLE_DIGITS) && is_digits(fraction, FRACTION_DIGITS)
 }
 
-fn number_with(
-    alloc: Global,
-    text: &[u8],
-    whole: &[u8],
-    behind: &[u8],
-) -> Result<Bare, SfFault>
+fn number_with(alloc: Global, text: &[u8], whole: &[u8], behind: &[u8]) -> Result<Bare, SfFault>
     ensures ok { IfOk result (λ bare. number_with text.now whole.now behind.now ≡ Some bare) }
     ensures err { IfErr result (λ fault. Lacks fault (number_with text.now whole.now behind.now)) }
 {
