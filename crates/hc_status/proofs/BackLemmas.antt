@@ -1,11 +1,11 @@
 -- What the cache writes is read as its own mark.
-use Rattle.std.proofs.Common.{◌≡◌, ℕ, zero, suc, ◌+◌, ◌<◌, ◌≤◌, ◌^◌, ℤ, pos, negsuc, unsigned_abs, Bool, true, false, ◌==◌, if◌then◌else◌, List, [], ◌∷◌, ◌++◌, length, get_or, flat_map, fold, Option, Some, None, Result, Ok, Err, ◌⊎◌, inl, inr, refl, sym, ap, subst, ◌∙◌, arith, append_assoc, length-append, decimal, lit<, lit≤, neg_ℤ}
+use Rattle.std.proofs.Common.{◌≡◌, ℕ, suc, ◌<◌, ◌≤◌, ◌^◌, ℤ, pos, negsuc, unsigned_abs, Bool, true, false, List, [], ◌∷◌, ◌++◌, flat_map, Option, Some, None, Ok, inl, inr, refl, sym, ap, subst, ◌∙◌, arith, append_assoc, decimal, lit<, lit≤, neg_ℤ}
 use Rattle.std.specs.Prelude.{codes}
-use Rattle.std.specs.List.{AllPass, list_all, join_by, last_or}
+use Rattle.std.specs.List.{list_all, join_by}
 use Rattle.std.specs.Char.{is_ascii_digit}
 use Rattle.std.specs.Fmt.{signed_decimal}
 use Rattle.std.specs.Str.{bytes_eq}
-use Rattle.std.specs.Str.Parse.{AllDigits, digits_value}
+use Rattle.std.specs.Str.Parse.{digits_value}
 use Rattle.std.proofs.lemmas.Bool.{cond-true, cond-false}
 use Rattle.std.proofs.lemmas.Bool.Decides.{nat_tests}
 use Rattle.std.proofs.lemmas.Fmt.{decimal_is_IsNumeral, length-decimal-le, decimal_nonempty}
@@ -20,13 +20,12 @@ use Rattle.hc_fields.specs.Values.{values_of, joined_values}
 use Rattle.hc_status.specs.declared.cache_status.CacheStatus.{CacheStatus}
 use Rattle.hc_status.specs.declared.cache_status.Handling.{Handling}
 use Rattle.hc_status.specs.declared.cache_status.Handling.TheVariants as handling
-use Rattle.hc_status.specs.declared.fault.SfFault.{SfFault}
 use Rattle.hc_status.specs.declared.items.Bare.{Bare}
 use Rattle.hc_status.specs.declared.items.Bare.TheVariants.{Integer, Token, Bool as Boolean}
 use Rattle.hc_status.specs.declared.items.Parameter.{Parameter}
 use Rattle.hc_status.specs.declared.items.Member.{Member}
 use Rattle.hc_status.specs.Classes.{is_space, is_blank, is_key_start, is_key_octet}
-use Rattle.hc_status.specs.Grammar.{IsDigits, IsInteger, IsToken, IsBare, IsKey, IsParameter, AreParameters, IsMember, IsComma, HaveCommas, AreMembers, IsList, with_parameter, parameters_of}
+use Rattle.hc_status.specs.Grammar.{IsDigits, IsInteger, IsBare, IsKey, IsParameter, AreParameters, IsMember, IsComma, HaveCommas, AreMembers, IsList, with_parameter, parameters_of}
 use Rattle.hc_status.specs.Marks.{list_of_text, cache_status, mark_of_list, mark_of_last, mark_of_member, mark_of}
 use Rattle.hc_status.specs.Reading.{list_of}
 use Rattle.hc_status.specs.Texts.{ttl_text, fwd_status_text, stored_text, handling_text, member_text, HasShortTtl, HasShortStatus, IsShort, IsPlain, written_mark}

@@ -1,5 +1,5 @@
 -- What is read as a bare item is spelled as that item, and each bare item is read.
-use Rattle.std.proofs.Common.{◌≡◌, ◌≢◌, ℕ, ℤ, ◌+◌, ◌<◌, ◌≤◌, Bool, true, false, ◌==◌, ◌||◌, if◌then◌else◌, List, [], ◌∷◌, ◌++◌, length, flat_map, Option, Some, None, ◌⊎◌, inl, inr, refl, sym, ap, subst, ◌∙◌, arith, append_assoc, length-append}
+use Rattle.std.proofs.Common.{◌≡◌, ℕ, ℤ, Bool, true, false, ◌==◌, if◌then◌else◌, List, [], ◌∷◌, ◌++◌, flat_map, Option, Some, None, inl, inr, refl, sym, ap, subst, ◌∙◌, arith, append_assoc}
 use Rattle.std.specs.List.{AllPass, take_while}
 use Rattle.std.specs.Char.{is_ascii_digit}
 use Rattle.std.proofs.lemmas.Bool.{cond-true, cond-false, eqb-true}
@@ -9,10 +9,10 @@ use Rattle.std.proofs.lemmas.List.Elements.{All-head, All-append}
 use Rattle.std.proofs.lemmas.Option.{cond_some, same_Some}
 use Rattle.hc_status.specs.declared.items.Bare.{Bare}
 use Rattle.hc_status.specs.declared.items.Bare.TheVariants.{Integer, Decimal, Str, Token, Bytes, Bool as Boolean}
-use Rattle.hc_status.specs.Classes.{is_space, is_blank, is_key_start, is_key_octet, is_token_start, is_token_octet, is_number_start, is_number_octet, is_base64_octet, is_printable, is_escaped}
+use Rattle.hc_status.specs.Classes.{is_token_start, is_token_octet, is_number_start, is_number_octet, is_base64_octet, is_printable}
 use Rattle.hc_status.specs.Grammar.{IsDigits, IsInteger, IsDecimal, IsToken, IsBare, minus, character_text}
 use Rattle.hc_status.specs.Reading.{◌>>=◌, behind, number_of, string_from, closed_bytes, boolean_at, bare_at}
-use Rattle.hc_status.proofs.RunLemmas.{Stops, Ends, Begins, true_or_false, split_cond, pass_none, pass_more, pass_weaker, run_is, behind_run, run_spelled, run_passes, run_first, stops_at_end, begins_append, is_item_end, apart_from_item_end}
+use Rattle.hc_status.proofs.RunLemmas.{Ends, Begins, split_cond, pass_none, pass_more, pass_weaker, run_is, behind_run, run_spelled, run_passes, run_first, stops_at_end, begins_append, is_item_end, apart_from_item_end}
 use Rattle.hc_status.proofs.NumberLemmas.{number_of_sound, integer_is_read, decimal_is_read}
 use Rattle.hc_status.proofs.StringLemmas.{SpellsString, string_sound, string_is_read}
 

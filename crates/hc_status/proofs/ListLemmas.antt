@@ -1,7 +1,7 @@
 -- The reader of lists and their grammar say the same of all octets.
-use Rattle.std.proofs.Common.{◌≡◌, ℕ, zero, suc, ◌+◌, ◌<◌, ◌≤◌, Bool, true, false, not, ◌==◌, ◌||◌, List, [], ◌∷◌, ◌++◌, length, drop, Option, Some, None, Result, Ok, Err, ◌⊎◌, inl, inr, refl, sym, ap, subst, ◌∙◌, arith, append_assoc, length-append}
+use Rattle.std.proofs.Common.{◌≡◌, ℕ, zero, suc, ◌≤◌, Bool, true, false, not, ◌==◌, ◌||◌, List, [], ◌∷◌, ◌++◌, length, Option, Some, None, Result, Ok, Err, ◌⊎◌, inl, inr, refl, sym, ap, subst, ◌∙◌, arith, append_assoc, length-append}
 use Rattle.std.specs.List.{AllPass, take_while}
-use Rattle.std.proofs.lemmas.Bool.{cond-true, cond-false, eqb-true}
+use Rattle.std.proofs.lemmas.Bool.{cond-false, eqb-true}
 use Rattle.std.proofs.lemmas.Bool.Decides.{nat_tests}
 use Rattle.std.proofs.lemmas.List.{append-nil}
 use Rattle.std.proofs.lemmas.List.Elements.{All-head}
@@ -9,9 +9,9 @@ use Rattle.hc_status.specs.declared.fault.SfFault.{SfFault}
 use Rattle.hc_status.specs.declared.fault.SfFault.TheVariants.{Syntax, InnerList}
 use Rattle.hc_status.specs.declared.items.Member.{Member}
 use Rattle.hc_status.specs.Classes.{is_space, is_blank}
-use Rattle.hc_status.specs.Grammar.{IsMember, IsComma, HaveCommas, AreMembers, IsList, BeginsInnerList}
+use Rattle.hc_status.specs.Grammar.{IsMember, IsComma, HaveCommas, IsList, BeginsInnerList}
 use Rattle.hc_status.specs.Reading.{behind, result_and_then, ok_or, item_at, member_at, after_member, members_from, members_at, trimmed_list_of, list_of}
-use Rattle.hc_status.proofs.RunLemmas.{Stops, Ends, Begins, split_cond, pass_none, run_is, behind_run, run_spelled, run_passes, stops_at_start, begins_append, is_member_end}
+use Rattle.hc_status.proofs.RunLemmas.{Ends, Begins, split_cond, behind_run, run_spelled, run_passes, stops_at_start, is_member_end}
 use Rattle.hc_status.proofs.MemberLemmas.{member_sound, member_is_read, is_member_start, member_begins}
 
 -- ---- steps of the reader
@@ -21,7 +21,7 @@ ok_then : {A B : Type 0} (f : A → Result B SfFault) (first : Result A SfFault)
 ok_then f (Ok x) y whole = (x, refl, whole)
 ok_then f (Err fault) y whole = absurd (cc)
 
-err_then : {A B : Type 0} (f : A → Result B SfFault) (first : Result A SfFault) (fault : SfFault) → result_and_then f first ≡ Err fault
+pub err_then : {A B : Type 0} (f : A → Result B SfFault) (first : Result A SfFault) (fault : SfFault) → result_and_then f first ≡ Err fault
     → (first ≡ Err fault) ⊎ ((x : A) × (first ≡ Ok x) × (f x ≡ Err fault))
 err_then f (Ok x) fault whole = inr (x, refl, whole)
 err_then f (Err other) fault whole = inl (cc)

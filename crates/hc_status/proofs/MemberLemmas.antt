@@ -1,5 +1,5 @@
 -- What is read as a member is spelled as that member, and each member is read.
-use Rattle.std.proofs.Common.{◌≡◌, ℕ, ◌+◌, ◌<◌, ◌≤◌, Bool, true, false, not, ◌==◌, ◌||◌, List, [], ◌∷◌, ◌++◌, length, Option, Some, None, ◌⊎◌, inl, inr, refl, sym, ap, subst, ◌∙◌, arith, append_assoc, length-append}
+use Rattle.std.proofs.Common.{◌≡◌, ℕ, Bool, true, false, not, ◌==◌, ◌||◌, List, [], ◌∷◌, ◌++◌, length, Option, Some, refl, sym, ap, subst, ◌∙◌, arith, append_assoc, length-append}
 use Rattle.std.specs.Char.{is_ascii_digit}
 use Rattle.std.proofs.lemmas.Bool.Decides.{nat_tests}
 use Rattle.std.proofs.lemmas.List.{append-nil}
@@ -9,10 +9,9 @@ use Rattle.hc_status.specs.declared.items.Bare.{Bare}
 use Rattle.hc_status.specs.declared.items.Bare.TheVariants.{Integer, Decimal, Str, Token, Bytes, Bool as Boolean}
 use Rattle.hc_status.specs.declared.items.Parameter.{Parameter}
 use Rattle.hc_status.specs.declared.items.Member.{Member}
-use Rattle.hc_status.specs.Classes.{is_token_start}
-use Rattle.hc_status.specs.Grammar.{IsDigits, IsToken, IsBare, AreParameters, IsMember, minus, with_parameter, parameters_of}
-use Rattle.hc_status.specs.Reading.{◌>>=◌, bare_at, parameters_from, parameters_at, item_at}
-use Rattle.hc_status.proofs.RunLemmas.{Ends, Begins, begins_append, is_item_end, is_member_end, item_ends}
+use Rattle.hc_status.specs.Grammar.{IsDigits, IsToken, IsBare, IsMember, minus}
+use Rattle.hc_status.specs.Reading.{◌>>=◌, bare_at, parameters_at, item_at}
+use Rattle.hc_status.proofs.RunLemmas.{Ends, Begins, begins_append, is_member_end}
 use Rattle.hc_status.proofs.BareLemmas.{then_found, bare_sound, bare_is_read}
 use Rattle.hc_status.proofs.WrittenLemmas.{parameters_sound, parameters_are_read, behind_parameter}
 

@@ -1,17 +1,16 @@
 -- What is read as parameters is spelled as those, and parameters are read.
-use Rattle.std.proofs.Common.{◌≡◌, ℕ, zero, suc, ◌+◌, ◌<◌, ◌≤◌, Bool, true, false, ◌==◌, ◌||◌, List, [], ◌∷◌, ◌++◌, length, fold, Option, Some, None, ◌⊎◌, inl, inr, refl, sym, ap, subst, ◌∙◌, arith, append_assoc, length-append}
-use Rattle.std.specs.List.{AllPass, take_while}
+use Rattle.std.proofs.Common.{◌≡◌, ℕ, zero, suc, ◌≤◌, true, false, ◌==◌, List, [], ◌∷◌, ◌++◌, length, fold, Option, Some, inl, inr, refl, sym, ap, subst, ◌∙◌, arith, append_assoc, length-append}
+use Rattle.std.specs.List.{take_while}
 use Rattle.std.proofs.lemmas.Bool.{cond-true, cond-false, eqb-true}
 use Rattle.std.proofs.lemmas.Bool.Decides.{nat_tests}
-use Rattle.std.proofs.lemmas.List.{append-nil}
 use Rattle.std.proofs.lemmas.Option.{cond_some, same_Some}
 use Rattle.hc_status.specs.declared.items.Bare.{Bare}
 use Rattle.hc_status.specs.declared.items.Bare.TheVariants.{Bool as Boolean}
 use Rattle.hc_status.specs.declared.items.Parameter.{Parameter}
 use Rattle.hc_status.specs.Classes.{is_space, is_key_start, is_key_octet}
-use Rattle.hc_status.specs.Grammar.{IsBare, IsKey, IsValue, IsParameter, AreParameters, with_parameter, parameters_of}
-use Rattle.hc_status.specs.Reading.{◌>>=◌, behind, bare_at, key_at, value_at, parameter_at, parameters_from, parameters_at}
-use Rattle.hc_status.proofs.RunLemmas.{Stops, Ends, Begins, split_cond, pass_more, run_is, behind_run, run_spelled, run_passes, run_first, stops_at_end, is_item_end, is_member_end, apart_from_item_end, apart_from_member_end, item_ends}
+use Rattle.hc_status.specs.Grammar.{IsKey, IsValue, IsParameter, AreParameters, with_parameter}
+use Rattle.hc_status.specs.Reading.{◌>>=◌, behind, key_at, value_at, parameter_at, parameters_from}
+use Rattle.hc_status.proofs.RunLemmas.{Stops, Ends, split_cond, pass_more, run_is, behind_run, run_spelled, run_passes, run_first, stops_at_end, is_item_end, is_member_end, apart_from_item_end, apart_from_member_end, item_ends}
 use Rattle.hc_status.proofs.BareLemmas.{then_found, bare_sound, bare_is_read}
 
 -- ---- keys and values

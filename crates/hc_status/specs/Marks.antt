@@ -6,7 +6,7 @@ use Rattle.hc_fields.specs.declared.fields.Field.{Field}
 use Rattle.hc_fields.specs.Values.{values_of, joined_values}
 use Rattle.hc_status.specs.declared.fault.SfFault.{SfFault}
 use Rattle.hc_status.specs.declared.items.Bare.{Bare}
-use Rattle.hc_status.specs.declared.items.Bare.TheVariants.{Integer, Decimal, Str, Token, Bytes, Bool as Boolean}
+use Rattle.hc_status.specs.declared.items.Bare.TheVariants.{Integer, Str, Token, Bool as Boolean}
 use Rattle.hc_status.specs.declared.items.Parameter.{Parameter}
 use Rattle.hc_status.specs.declared.items.Member.{Member}
 use Rattle.hc_status.specs.declared.marks.Mark.{Mark}

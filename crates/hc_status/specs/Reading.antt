@@ -1,5 +1,5 @@
 -- What octets are as a list of structured items, after the parsing algorithms of RFC 8941 section 4.2.
-use Rattle.std.specs.Prelude.{ℕ, zero, suc, Bool, true, false, ◌&&◌, ◌||◌, ◌==◌, nat_lt, nat_le, List, [], ◌∷◌, ◌++◌, length, drop, if◌then◌else◌, Option, Some, None, Result, Ok, Err}
+use Rattle.std.specs.Prelude.{ℕ, zero, suc, Bool, true, false, ◌&&◌, ◌==◌, nat_lt, nat_le, List, [], ◌∷◌, ◌++◌, length, drop, if◌then◌else◌, Option, Some, None, Result, Ok, Err}
 use Rattle.std.specs.List.{list_all, prefix_len, take_while}
 use Rattle.std.specs.Char.{is_ascii_digit}
 use Rattle.std.specs.Str.Parse.{digits_value}
@@ -12,16 +12,21 @@ use Rattle.hc_status.specs.declared.items.Member.{Member}
 use Rattle.hc_status.specs.Grammar.{signed, with_parameter}
 use Rattle.hc_status.specs.Classes.{is_space, is_blank, is_key_start, is_key_octet, is_token_start, is_token_octet, is_number_start, is_number_octet, is_base64_octet, is_printable, is_escaped}
 
+-- The octets that are named by their numbers: 34 is a quote, 40 an opening parenthesis, 44 a comma, 45 a minus, 46 a point, 48 and 49
+-- are the digits of a Boolean, 58 is a colon, 59 a semicolon, 61 an equals sign, 63 a question mark, 92 a backslash.
+
 -- what follows where the first was read
 infixl 10 ◌>>=◌
 abbrev pub ◌>>=◌ : {A B : Type 0} → Option A → (A → Option B) → Option B
 (Some x) >>= f = f x
 None >>= f = None
 
+-- the same of a result
 abbrev pub result_and_then : {A B : Type 0} → (A → Result B SfFault) → Result A SfFault → Result B SfFault
 result_and_then f (Ok x) = f x
 result_and_then f (Err fault) = Err fault
 
+-- that fault where nothing was read
 abbrev pub ok_or : {A : Type 0} → SfFault → Option A → Result A SfFault
 ok_or fault (Some x) = Ok x
 ok_or fault None = Err fault
@@ -66,8 +71,8 @@ number_of text = number_with text (take_while is_ascii_digit (unsigned text)) (b
 
 -- ---- strings, tokens, byte sequences and Booleans (sections 4.2.5 to 4.2.8)
 
--- the string, by what of it was read, and what stands behind its closing quote: a backslash stands before a quote or a
--- backslash alone
+-- the string behind what of it was read, and what stands behind its closing quote; a backslash stands before a quote and a
+-- backslash, and before nothing else
 unfoldable pub string_from : List ℕ → List ℕ → Option (List ℕ × List ℕ)
 string_from value [] = None
 string_from value (b ∷ []) = if b == 34 then Some (value, []) else None
@@ -111,7 +116,7 @@ abbrev pub value_at : List ℕ → Option (Bare × List ℕ)
 value_at [] = Some (Boolean true, [])
 value_at (b ∷ text) = if b == 61 then bare_at text else Some (Boolean true, b ∷ text)
 
--- the parameter behind a semicolon, before which spaces may stand
+-- the parameter behind its semicolon, where spaces may stand before the key
 unfoldable pub parameter_at : List ℕ → Option (Parameter × List ℕ)
 parameter_at text = do
   key ← key_at (behind is_space text)

@@ -4,7 +4,7 @@ ghost use Rattle.std.specs.Prelude.{◌≡◌, ◌↔◌, ◌++◌, ◌∷◌, [
 ghost use Rattle.hc_fields.specs.declared.fields.Field.{Field};
 ghost use Rattle.hc_fields.specs.Values.{values_of};
 ghost use Rattle.hc_status.specs.declared.cache_status.CacheStatus.{CacheStatus};
-ghost use Rattle.hc_status.specs.declared.fault.SfFault.TheVariants.{InnerList};
+ghost use Rattle.hc_status.specs.declared.fault.SfFault.TheVariants.{InnerList, Syntax};
 ghost use Rattle.hc_status.specs.declared.items.Member.{Member};
 ghost use Rattle.hc_status.specs.Grammar.{BeginsInnerList, IsList};
 ghost use Rattle.hc_status.specs.Marks.{cache_status, mark_of};
@@ -17,6 +17,10 @@ pub fn one_list()
     ensures list { (octets : List ℕ) (members : List Member)
         → (IsList members octets ↔ (list_of octets ≡ Ok members)) }
     ensures inner_list { (octets : List ℕ) → (BeginsInnerList octets ↔ (list_of octets ≡ Err InnerList)) }
+    // And where there is neither.
+    ensures syntax { (octets : List ℕ)
+        → ((¬ (BeginsInnerList octets) × ((members : List Member) → ¬ (IsList members octets)))
+        ↔ (list_of octets ≡ Err Syntax)) }
 {}
 
 /// A member that the cache wrote is read as the mark that it was written for.

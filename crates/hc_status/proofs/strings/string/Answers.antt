@@ -1,4 +1,4 @@
-use Rattle.std.proofs.Common.{◌≡◌, ◌∷◌, ◌∙◌, rules}
+use Rattle.std.proofs.Common.{◌≡◌, ◌∷◌, rules}
 use Rattle.hc_status.proofs.StringLemmas.{string_from_plain, string_from_escaped}
 use Rattle.hc_status.proofs.strings.string.Goals as goal
 

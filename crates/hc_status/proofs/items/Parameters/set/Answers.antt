@@ -1,4 +1,4 @@
-use Rattle.std.proofs.Common.{◌≡◌, sym}
+use Rattle.std.proofs.Common.{sym}
 use Rattle.hc_status.proofs.ParameterLemmas.{taken_at, put_last}
 use Rattle.hc_status.proofs.items.Parameters.set.Goals as goal
 
