@@ -8,10 +8,10 @@ use Rattle.hc_transcript.specs.Items.{Item, ClientRequest, OriginRequest, Origin
 use Rattle.hc_transcript.specs.History.{next_position}
 use Rattle.hc_transcript.specs.Transcript.{Splits, IsTranscript}
 use Rattle.hc_transcript.specs.Reader.{Agrees, Advances, ReadsTo, WaitsBy, Waits, Stops, HasUnread, HasUnreadBy, IsUnfinishedOpening, reader_position}
-use Rattle.hc_history.specs.declared.marks.Mark.{Mark}
-use Rattle.hc_history.specs.declared.marks.Mark.TheVariants.{Hit, Unmarked, Other}
+use Rattle.hc_status.specs.declared.marks.Mark.{Mark}
+use Rattle.hc_status.specs.declared.marks.Mark.TheVariants.{Hit, Forwarded, Both, Unmarked}
 use Rattle.hc_history.specs.declared.verdicts.Counts.{Counts}
-use Rattle.hc_history.specs.Marks.{mark_of}
+use Rattle.hc_history.specs.Marks.{item_mark}
 use Rattle.hc_history.specs.declared.verdicts.Verdict.TheVariants.{Yes, Malformed}
 use Rattle.hc_history.specs.Verdicts.{IsRight, AllRight, counts_of, marked, marked_by, one_more, IsVerdict, IsUnsupportedAt}
 use Rattle.hc_audit.specs.declared.judge.Judge.{Judge}
@@ -77,31 +77,29 @@ wrong_gives r octets records h a item position item-is right wrong position-is =
     right (λ is. wrong (subst (λ (i : Item). IsRight h i) (sym item-is) is)) position-is
 
 pub right_goes_on : (j : Judge) (octets : List ℕ) (records : List Record) (h : List Item) (a : Advances j.reader octets records h) (item : Item) (counts : Counts)
-    → item ≡ a.item → AllRight h → IsRight h item → IsSeenAs j.notes (item ∷ h) → counts ≡ one_more (counts_of h) → j.counts ≡ marked item counts → IsJudging j octets
+    → item ≡ a.item → AllRight h → IsRight h item → IsSeenAs j.notes (item ∷ h) → counts ≡ one_more (counts_of h) → j.counts ≡ marked (item_mark item) counts → IsJudging j octets
 right_goes_on j octets records h a item counts item-is right is seen counts-are marked-is = record {
   records = a.one ∷ records;
   history = item ∷ h;
   agrees = subst (λ (i : Item). Agrees j.reader octets (a.one ∷ records) (i ∷ h)) (sym item-is) a.agrees;
   seen = seen;
-  counts = marked-is ∙ ap (marked item) counts-are;
+  counts = marked-is ∙ ap (marked (item_mark item)) counts-are;
   right = (right, is);
 }
 
 records_marked_by : (m : Mark) (c : Counts) → (marked_by m c).records ≡ c.records
-records_marked_by Hit c = refl
+records_marked_by (Hit ttl) c = refl
+records_marked_by Forwarded c = refl
+records_marked_by Both c = refl
 records_marked_by Unmarked c = refl
-records_marked_by Other c = refl
 
-records_marked : (item : Item) (c : Counts) → (marked item c).records ≡ c.records
-records_marked (ClientRequest number moment request target) c = refl
-records_marked (OriginRequest number moment request target) c = refl
-records_marked (OriginResponse number moment response) c = refl
-records_marked (OriginFailure number moment) c = refl
-records_marked (ClientReply number moment reply) c = records_marked_by (mark_of reply) c
+records_marked : (mark : Option Mark) (c : Counts) → (marked mark c).records ≡ c.records
+records_marked None c = refl
+records_marked (Some mark) c = records_marked_by mark c
 
 records_of : (h : List Item) → (counts_of h).records ≡ length h
 records_of [] = refl
-records_of (item ∷ h) = omega (arith, records_marked item (one_more (counts_of h)), records_of h)
+records_of (item ∷ h) = omega (arith, records_marked (item_mark item) (one_more (counts_of h)), records_of h)
 
 pub counts_one_more : (c : Counts) (h : List Item) (n : ℕ) → c ≡ counts_of h → n ≡ length h + 1
     → record { records = n; replies = c.replies; hits = c.hits; forwarded = c.forwarded; unmarked = c.unmarked } ≡ one_more (counts_of h)

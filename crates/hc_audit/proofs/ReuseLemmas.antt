@@ -1,6 +1,6 @@
 -- What is kept of a history tells exactly which claims have a response that serves them.
 use Rattle.std.proofs.Common.{◌≡◌, ℕ, ◌<◌, Bool, true, false, cond, ◌&&◌, ◌||◌, List, [], ◌∷◌, Option, Some, None, refl, sym, ap, subst, ◌∙◌, arith, ◌⊎◌, inl, inr}
-use Rattle.std.specs.Prelude.{◌==◌, bytes_eq}
+use Rattle.std.specs.Prelude.{◌==◌, bytes_eq, ℤ, is_some}
 use Rattle.std.specs.List.{list_any}
 use Rattle.std.specs.Option.{option_map}
 use Rattle.std.specs.Ordering.{nat_cmp}
@@ -11,9 +11,9 @@ use Rattle.std.proofs.Math.Bool.{or-true, and-false}
 use Rattle.hc_head.specs.declared.head.ResponseHead.{ResponseHead}
 use Rattle.hc_head.specs.declared.head.Target.{Target}
 use Rattle.hc_framing.specs.declared.message.Message.{Message}
-use Rattle.hc_history.specs.declared.marks.Mark.{Mark}
-use Rattle.hc_history.specs.declared.marks.Mark.TheVariants.{Hit}
-use Rattle.hc_history.specs.Marks.{mark_of}
+use Rattle.hc_status.specs.declared.marks.Mark.{Mark}
+use Rattle.hc_status.specs.declared.marks.Mark.TheVariants.{Hit}
+use Rattle.hc_history.specs.Marks.{reply_mark, item_mark}
 use Rattle.hc_history.specs.Reuse.{Answer, Claim, claim_of, answer_of, answer_at, is_get, plain_max_age, same_target, is_fresh, serves, IsReused}
 use Rattle.hc_history.specs.Verdicts.{IsRightBy, IsRightTo, IsRight}
 use Rattle.hc_transcript.specs.Items.{Item, ClientReply, Exchange}
@@ -119,7 +119,16 @@ noted_exchange n h e target seen is = go (exchange_of e h) refl (sym (seen.excha
     go None at same = cc
     go (Some x) at same = (x, at, target_is x.target target same)
 
-pub hit_is_right : (n : Notes) (h : List Item) (e moment : ℕ) (target : Target) (reply : Message ResponseHead) → IsSeenAs n h → get nat_cmp n.exchanges e ≡ Some target → mark_of reply ≡ Hit
+-- a reply has the mark of its record, here a hit that says nothing of seconds
+pub marked_hit : (mark : Option Mark) (said : Mark) (ttl : Option ℤ) (e moment : ℕ) (reply : Message ResponseHead) → mark ≡ Some said → said ≡ Hit ttl → is_some ttl ≡ false
+    → mark ≡ item_mark (ClientReply e moment reply) → reply_mark reply ≡ Hit None
+marked_hit mark said (Some seconds) e moment reply is hit none of = absurd (false_is_true (sym none))
+marked_hit mark said None e moment reply is hit none of = same (reply_mark reply) said (sym of ∙ is) ∙ hit
+  where
+    same : (a b : Mark) → Some a ≡ Some b → a ≡ b
+    same a b e = cc
+
+pub hit_is_right : (n : Notes) (h : List Item) (e moment : ℕ) (target : Target) (reply : Message ResponseHead) → IsSeenAs n h → get nat_cmp n.exchanges e ≡ Some target → reply_mark reply ≡ Hit None
     → list_any (kept_serves (record { target = target; moment = moment; status = reply.head.status; body = reply.body })) n.kept.items ≡ true → IsRight h (ClientReply e moment reply)
 hit_is_right n h e moment target reply seen is mark found =
     let x = noted_exchange n h e target seen is in
@@ -128,7 +137,7 @@ hit_is_right n h e moment target reply seen is mark found =
     let reused' : IsReused (claim_of x.0 moment reply) h = subst (λ (t : Target). IsReused (record { target = t; moment = moment; status = reply.head.status; body = reply.body }) h) (sym x.2) reused in
     subst (λ (o : Option Exchange). IsRightTo o moment reply h) (sym x.1) (subst (λ (m : Mark). IsRightBy m x.0 moment reply h) (sym mark) reused')
 
-pub hit_is_wrong : (n : Notes) (h : List Item) (e moment : ℕ) (target : Target) (reply : Message ResponseHead) → IsSeenAs n h → get nat_cmp n.exchanges e ≡ Some target → mark_of reply ≡ Hit
+pub hit_is_wrong : (n : Notes) (h : List Item) (e moment : ℕ) (target : Target) (reply : Message ResponseHead) → IsSeenAs n h → get nat_cmp n.exchanges e ≡ Some target → reply_mark reply ≡ Hit None
     → list_any (kept_serves (record { target = target; moment = moment; status = reply.head.status; body = reply.body })) n.kept.items ≡ false → ¬ (IsRight h (ClientReply e moment reply))
 hit_is_wrong n h e moment target reply seen is mark found right =
     let x = noted_exchange n h e target seen is in

@@ -4,8 +4,9 @@ ghost use Rattle.std.specs.Prelude.{◌≡◌, ◌<◌, ◌≤◌, ℕ, List, []
 ghost use Rattle.hc_transcript.specs.Reader.{unread, records_read, Agrees};
 
 use crate::fault::AuditFault;
+use crate::marks::{count_mark, item_mark};
 use crate::notes::Notes;
-use crate::stops::{count_mark, stopped};
+use crate::stops::stopped;
 use hc_history::{Counts, Verdict};
 use hc_transcript::RecordReader;
 use std::alloc::Global;
@@ -13,13 +14,15 @@ use std::alloc::Global;
 /// The records that were read and judged so far, all of them right, and what is still to be read.
 #[derive(Debug, Drop)]
 pub(crate) struct Judge {
+    alloc: Global,
     reader: RecordReader,
     notes: Notes,
     counts: Counts,
-    // Each reply is a record, and each hit and each unmarked reply a reply: so none can overflow.
+    // Each reply is a record, and each mark that of a reply: so none can overflow.
     ghost counted: { counts.records ≡ records_read reader },
     ghost replies_few: { counts.replies ≤ counts.records },
     ghost hits_few: { counts.hits ≤ counts.replies },
+    ghost forwarded_few: { counts.forwarded ≤ counts.replies },
     ghost unmarked_few: { counts.unmarked ≤ counts.replies },
 }
 
@@ -37,6 +40,7 @@ impl Judge {
             unmarked: 0,
         };
         Judge {
+            alloc,
             reader,
             notes: Notes::new(alloc),
             counts,
@@ -68,14 +72,18 @@ impl Judge {
         }
         self.counts.records = self.reader.records();
         let item = self.reader.item();
-        if !self.notes.is_right(item) {
+        let mark = match item_mark(self.alloc, item) {
+            Err(_) => return Err(Err(AuditFault::Memory)),
+            Ok(mark) => mark,
+        };
+        if !self.notes.is_right(item, mark) {
             return Err(Err(AuditFault::Unsupported(self.reader.records())));
         }
         match self.notes.note(item) {
             Err(_) => return Err(Err(AuditFault::Memory)),
             Ok(()) => {}
         }
-        count_mark(&mut self.counts, item);
+        count_mark(&mut self.counts, mark);
         Ok(true)
     }
 

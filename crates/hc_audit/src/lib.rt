@@ -4,6 +4,7 @@
 mod auditor;
 mod fault;
 mod judge;
+mod marks;
 mod notes;
 mod stops;
 

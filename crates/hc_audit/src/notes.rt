@@ -4,6 +4,7 @@ ghost use Rattle.std.specs.Prelude.{◌≡◌, ◌++◌, ◌∷◌, List, [], If
 ghost use Rattle.std.specs.List.{list_any};
 ghost use Rattle.std.specs.Option.{option_to_list};
 ghost use Rattle.hc_transcript.specs.Items.{Item, item_of};
+ghost use Rattle.hc_history.specs.Marks.{item_mark};
 ghost use Rattle.hc_history.specs.Reuse.{same_target, is_get};
 ghost use Rattle.hc_history.specs.Verdicts.{IsRight};
 ghost use Rattle.hc_audit.specs.Notes.{kept_from, kept_serves};
@@ -11,7 +12,7 @@ ghost use Rattle.hc_audit.specs.Notes.{kept_from, kept_serves};
 use hc_fields::Octets;
 use hc_framing::Message;
 use hc_head::{RequestHead, ResponseHead, Target};
-use hc_history::{Mark, mark_of, plain_max_age};
+use hc_history::{Mark, plain_max_age};
 use hc_transcript::OwnedItem;
 use std::alloc::{AllocError, Global};
 use std::collections::BTreeMap;
@@ -112,8 +113,9 @@ impl Notes {
             .any(|kept| serves(kept, target, moment, reply))
     }
 
-    /// Whether the next record, if it is a reply, is right.
-    pub(crate) fn is_right(&self, item: &OwnedItem) -> bool
+    /// Whether the next record, which has that mark if it is a reply, is right.
+    pub(crate) fn is_right(&self, item: &OwnedItem, mark: Option<Mark>) -> bool
+        requires { mark ≡ item_mark (item_of item.now) }
         ensures yes { (h : List Item) → IsSeenAs self.now h → result ≡ true → IsRight h (item_of item.now) }
         ensures no { (h : List Item) → IsSeenAs self.now h → result ≡ false → ¬ (IsRight h (item_of item.now)) }
     {
@@ -128,10 +130,19 @@ impl Notes {
         let Some(target) = self.exchanges.get(exchange) else {
             return false;
         };
-        match mark_of(reply) {
-            Mark::Hit => self.is_reused(target, *moment, reply),
+        let Some(said) = mark else {
+            return false;
+        };
+        match said {
+            Mark::Hit { ttl } => {
+                if ttl.is_some() {
+                    return false;
+                }
+                self.is_reused(target, *moment, reply)
+            }
+            Mark::Forwarded => false,
+            Mark::Both => false,
             Mark::Unmarked => true,
-            Mark::Other => false,
         }
     }
 

@@ -188,11 +188,47 @@ fn replies_that_are_not_supported(rt: HostRuntime) -> Result<(), Fail> {
         ("1059", "200", HIT, "hellp"),
         ("1059", "404", HIT, "hello"),
         ("1059", "200", "cache-status: a;hit;ttl=1\r\n", "hello"),
+        ("1059", "200", "cache-status: a;fwd=uri-miss\r\n", "hello"),
+        ("1059", "200", "cache-status: a;hit;fwd=stale\r\n", "hello"),
+        ("1059", "206", "cache-status: a;fwd=partial\r\n", "hello"),
     ] {
         let replied = response(rt.alloc(), status, lines, body)?;
         let octets = two_exchanges(rt.alloc(), ASKED, ASKED, moment, &replied)?;
         let fault = audit(rt.alloc(), &octets).err();
         assert_eq!(rt; fault, Some(AuditFault::Unsupported(6)), "{replied}");
+    }
+    Ok(())
+}
+
+#[test]
+fn marks_are_those_of_the_last_member(rt: HostRuntime) -> Result<(), Fail> {
+    for (status, lines, hits, unmarked) in [
+        ("200", "cache-status: \"a b\";hit=?1\r\n", 1, 1),
+        ("200", "cache-status: b;fwd=miss, a;hit\r\n", 1, 1),
+        (
+            "200",
+            "cache-status: b;fwd=miss\r\ncache-status: a;hit\r\n",
+            1,
+            1,
+        ),
+        ("200", "cache-status: a;hit, b\r\n", 0, 2),
+        ("200", "cache-status: a;hit;hit=?0\r\n", 0, 2),
+        ("200", "cache-status: a;hit;ttl=1234567890123456\r\n", 0, 2),
+        ("200", "cache-status: (a b);hit\r\n", 0, 2),
+        ("206", "cache-status: a;hit\r\n", 0, 2),
+        ("206", "cache-status: a;hit;ttl=1\r\n", 0, 2),
+    ] {
+        let replied = response(rt.alloc(), status, lines, "hello")?;
+        let octets = two_exchanges(rt.alloc(), ASKED, ASKED, "1059", &replied)?;
+        let counts = Counts {
+            records: 6,
+            replies: 2,
+            hits,
+            forwarded: 0,
+            unmarked,
+        };
+        let verdict = audit(rt.alloc(), &octets)?;
+        assert_eq!(rt; verdict, Verdict::Yes(counts), "{replied}");
     }
     Ok(())
 }

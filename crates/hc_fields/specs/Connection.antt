@@ -14,11 +14,11 @@ connection_fields =
 abbrev pub proxy_fields : List (List ℕ)
 proxy_fields = codes "proxy-authenticate" ∷ codes "proxy-authentication-info" ∷ codes "proxy-authorization" ∷ []
 
--- whether the name is one of those
+-- whether the field is for one connection alone, whatever Connection names
 abbrev pub is_for_connection : List ℕ → Bool
 is_for_connection name = list_any (λ known. bytes_eq known name) connection_fields
 
--- whether the name is one of those
+-- whether the field is for a proxy alone
 abbrev pub is_for_proxy : List ℕ → Bool
 is_for_proxy name = list_any (λ known. bytes_eq known name) proxy_fields
 

@@ -1,4 +1,4 @@
-//! Octets, the field lines of a message, and the numbers in them.
+//! Octets, the field lines of a message, and the lists and numbers in them.
 #![tactic(auto)]
 
 mod connection;

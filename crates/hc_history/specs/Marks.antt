@@ -1,37 +1,28 @@
--- What a reply says of itself in its Cache-Status line (RFC 9211), as far as it is read: a token with the parameter `hit`.
-use Rattle.std.specs.Prelude.{ℕ, Bool, false, ◌&&◌, ◌||◌, List, [], ◌∷◌, drop, codes, bytes_eq, nat_lt, ◌==◌, if◌then◌else◌}
-use Rattle.std.specs.List.{list_any, prefix_len}
-use Rattle.std.specs.Char.{is_ascii_alphanumeric}
-use Rattle.hc_fields.specs.Values.{values_of}
+-- What a reply says of itself (RFC 9211), as the auditor takes it.
+use Rattle.std.specs.Prelude.{ℕ, ◌==◌, Option, Some, None, if◌then◌else◌}
 use Rattle.hc_head.specs.declared.head.ResponseHead.{ResponseHead}
 use Rattle.hc_framing.specs.declared.message.Message.{Message}
-use Rattle.hc_history.specs.declared.marks.Mark.{Mark}
-use Rattle.hc_history.specs.declared.marks.Mark.TheVariants.{Hit, Unmarked, Other}
+use Rattle.hc_status.specs.declared.marks.Mark.{Mark}
+use Rattle.hc_status.specs.declared.marks.Mark.TheVariants.{Hit, Forwarded, Both, Unmarked}
+use Rattle.hc_status.specs.Marks.{mark_of}
+use Rattle.hc_transcript.specs.Items.{Item, ClientRequest, OriginRequest, OriginResponse, OriginFailure, ClientReply}
 
--- an octet of a token (RFC 9110 section 5.6.2)
-abbrev pub is_token_octet : ℕ → Bool
-is_token_octet b = is_ascii_alphanumeric b || list_any (λ c. c == b) (codes "!#$%&'*+-.^_`|~")
+-- the mark of a reply of that status: reuse of a part of a body (206) isn't judged, so a hit of that status counts as unmarked
+-- (this project's own choice)
+abbrev pub mark_by : ℕ → Mark → Mark
+mark_by status (Hit ttl) = if status == 206 then Unmarked else Hit ttl
+mark_by status Forwarded = Forwarded
+mark_by status Both = Both
+mark_by status Unmarked = Unmarked
 
-abbrev pub token_length : List ℕ → ℕ
-token_length text = prefix_len is_token_octet text
+-- the mark of a reply
+abbrev pub reply_mark : Message ResponseHead → Mark
+reply_mark reply = mark_by reply.head.status (mark_of reply.head.fields)
 
-abbrev pub spaces : List ℕ → ℕ
-spaces text = prefix_len (λ b. b == 32) text
-
--- a semicolon, spaces or none, and the word `hit`
-abbrev pub is_hit_parameter : List ℕ → Bool
-is_hit_parameter [] = false
-is_hit_parameter (c ∷ rest) = c == 59 && bytes_eq (drop (spaces rest) rest) (codes "hit")
-
--- a token, and the parameter `hit`
-abbrev pub is_plain_hit : List ℕ → Bool
-is_plain_hit value = nat_lt 0 (token_length value) && is_hit_parameter (drop (token_length value) value)
-
-abbrev pub mark_by : ℕ → List (List ℕ) → Mark
-mark_by status [] = Unmarked
-mark_by status (v ∷ []) = if status == 206 then Other else (if is_plain_hit v then Hit else Other)
-mark_by status (v ∷ w ∷ vs) = Other
-
--- no line: unmarked; one line that is a token and `hit`, and the status isn't 206: a hit; anything else isn't read yet
-abbrev pub mark_of : Message ResponseHead → Mark
-mark_of reply = mark_by reply.head.status (values_of (codes "cache-status") reply.head.fields)
+-- the mark of an item, if it is a reply
+abbrev pub item_mark : Item → Option Mark
+item_mark (ClientRequest number moment request target) = None
+item_mark (OriginRequest number moment request target) = None
+item_mark (OriginResponse number moment response) = None
+item_mark (OriginFailure number moment) = None
+item_mark (ClientReply number moment reply) = Some (reply_mark reply)

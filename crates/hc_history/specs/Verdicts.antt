@@ -11,24 +11,27 @@ use Rattle.hc_transcript.specs.Checks.{line_fault}
 use Rattle.hc_transcript.specs.Frames.{IsUnfinished}
 use Rattle.hc_transcript.specs.Transcript.{Splits, IsTranscript}
 use Rattle.hc_transcript.specs.Reader.{HasNoOpening, IsUnfinishedOpening, BreaksAfter}
-use Rattle.hc_history.specs.declared.marks.Mark.{Mark}
-use Rattle.hc_history.specs.declared.marks.Mark.TheVariants.{Hit, Unmarked, Other}
+use Rattle.hc_status.specs.declared.marks.Mark.{Mark}
+use Rattle.hc_status.specs.declared.marks.Mark.TheVariants.{Hit, Forwarded, Both, Unmarked}
 use Rattle.hc_history.specs.declared.verdicts.Counts.{Counts}
 use Rattle.hc_history.specs.declared.verdicts.Verdict.{Verdict}
 use Rattle.hc_history.specs.declared.verdicts.Verdict.TheVariants.{Yes, Malformed}
-use Rattle.hc_history.specs.Marks.{mark_of}
+use Rattle.hc_history.specs.Marks.{reply_mark, item_mark}
 use Rattle.hc_history.specs.Reuse.{claim_of, IsReused}
 
--- a reply to an exchange is right: unmarked, or a hit that is reused
+-- a reply to an exchange is right: unmarked, or a hit that is reused; a hit that says for how long it is fresh still, and a reply that
+-- went forward, aren't judged yet
 abbrev pub IsRightBy : Mark → Exchange → ℕ → Message ResponseHead → List Item → Type 0
 IsRightBy Unmarked exchange moment reply h = Unit {0}
-IsRightBy Hit exchange moment reply h = IsReused (claim_of exchange moment reply) h
-IsRightBy Other exchange moment reply h = ⊥
+IsRightBy (Hit None) exchange moment reply h = IsReused (claim_of exchange moment reply) h
+IsRightBy (Hit (Some ttl)) exchange moment reply h = ⊥
+IsRightBy Forwarded exchange moment reply h = ⊥
+IsRightBy Both exchange moment reply h = ⊥
 
 -- a reply answers an open exchange, and is right to it
 abbrev pub IsRightTo : Option Exchange → ℕ → Message ResponseHead → List Item → Type 0
 IsRightTo None moment reply h = ⊥
-IsRightTo (Some exchange) moment reply h = IsRightBy (mark_of reply) exchange moment reply h
+IsRightTo (Some exchange) moment reply h = IsRightBy (reply_mark reply) exchange moment reply h
 
 -- the next item, if it is a reply, is right
 abbrev pub IsRight : List Item → Item → Type 0
@@ -51,21 +54,20 @@ one_more c = record { records = c.records + 1; replies = c.replies; hits = c.hit
 
 -- one reply more, by what it says of itself
 abbrev pub marked_by : Mark → Counts → Counts
-marked_by Hit c = record { records = c.records; replies = c.replies + 1; hits = c.hits + 1; forwarded = c.forwarded; unmarked = c.unmarked }
+marked_by (Hit ttl) c = record { records = c.records; replies = c.replies + 1; hits = c.hits + 1; forwarded = c.forwarded; unmarked = c.unmarked }
+marked_by Forwarded c = record { records = c.records; replies = c.replies + 1; hits = c.hits; forwarded = c.forwarded + 1; unmarked = c.unmarked }
+marked_by Both c = record { records = c.records; replies = c.replies + 1; hits = c.hits; forwarded = c.forwarded; unmarked = c.unmarked }
 marked_by Unmarked c = record { records = c.records; replies = c.replies + 1; hits = c.hits; forwarded = c.forwarded; unmarked = c.unmarked + 1 }
-marked_by Other c = record { records = c.records; replies = c.replies + 1; hits = c.hits; forwarded = c.forwarded; unmarked = c.unmarked }
 
-abbrev pub marked : Item → Counts → Counts
-marked (ClientRequest number moment request target) c = c
-marked (OriginRequest number moment request target) c = c
-marked (OriginResponse number moment response) c = c
-marked (OriginFailure number moment) c = c
-marked (ClientReply number moment reply) c = marked_by (mark_of reply) c
+-- what is no reply has no mark
+abbrev pub marked : Option Mark → Counts → Counts
+marked None c = c
+marked (Some mark) c = marked_by mark c
 
 -- what is counted in a history
 abbrev pub counts_of : List Item → Counts
 counts_of [] = no_counts
-counts_of (item ∷ h) = marked item (one_more (counts_of h))
+counts_of (item ∷ h) = marked (item_mark item) (one_more (counts_of h))
 
 -- the octets are a transcript of which every reply is right, and so much is counted in it
 pub record IsYes (octets : List ℕ) (counts : Counts) : Type 0 where

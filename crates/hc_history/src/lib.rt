@@ -5,7 +5,8 @@ mod marks;
 mod max_age;
 mod verdicts;
 
-pub use marks::{Mark, mark_of};
+pub use hc_status::{Mark, MarkFault};
+pub use marks::reply_mark;
 pub use max_age::plain_max_age;
 pub use verdicts::{Counts, Verdict};
 

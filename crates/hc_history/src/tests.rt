@@ -38,33 +38,38 @@ fn controls(alloc: Global, lines: &[&[u8]]) -> Result<Fields, AllocError> {
 
 #[test]
 fn marks(rt: HostRuntime) -> Result<(), Fail> {
-    for (line, want) in [
-        (b"hcache;hit".as_slice(), Mark::Hit),
-        (b"a;hit".as_slice(), Mark::Hit),
-        (b"a; hit".as_slice(), Mark::Hit),
-        (b"a;  hit".as_slice(), Mark::Hit),
-        (b"a;hit;ttl=1".as_slice(), Mark::Other),
-        (b"a".as_slice(), Mark::Other),
-        (b"".as_slice(), Mark::Other),
-        (b";hit".as_slice(), Mark::Other),
-        (b"a;hit, b".as_slice(), Mark::Other),
-        (b"a;Hit".as_slice(), Mark::Other),
-        (b"a;\thit".as_slice(), Mark::Other),
-        (b"a ;hit".as_slice(), Mark::Other),
+    let hit = Mark::Hit { ttl: None };
+    let fresh = Mark::Hit { ttl: Some(1) };
+    for (line, want, in_part) in [
+        (b"hcache;hit".as_slice(), hit, Mark::Unmarked),
+        (b"hcache;hit;ttl=1", fresh, Mark::Unmarked),
+        (
+            b"hcache;fwd=uri-miss;stored",
+            Mark::Forwarded,
+            Mark::Forwarded,
+        ),
+        (b"hcache;hit;fwd=stale", Mark::Both, Mark::Both),
+        (b"b;fwd=miss, a;hit", hit, Mark::Unmarked),
+        (b"a;hit, b", Mark::Unmarked, Mark::Unmarked),
+        (b"", Mark::Unmarked, Mark::Unmarked),
     ] {
         let one = reply(rt.alloc(), b"200", &[line])?;
-        assert_eq!(rt; mark_of(&one), want, "at {line:?}");
+        assert_eq!(rt; reply_mark(rt.alloc(), &one), Ok(want), "at {line:?}");
         let part = reply(rt.alloc(), b"206", &[line])?;
-        assert_eq!(rt; mark_of(&part), Mark::Other, "in part, at {line:?}");
-        let two = reply(rt.alloc(), b"200", &[line, line])?;
-        assert_eq!(rt; mark_of(&two), Mark::Other, "twice {line:?}");
+        assert_eq!(rt;
+            reply_mark(rt.alloc(), &part),
+            Ok(in_part),
+            "in part, at {line:?}"
+        );
     }
     for status in [b"200".as_slice(), b"206".as_slice(), b"404".as_slice()] {
         let none = reply(rt.alloc(), status, &[])?;
-        assert_eq!(rt; mark_of(&none), Mark::Unmarked, "at {status:?}");
+        assert_eq!(rt;
+            reply_mark(rt.alloc(), &none),
+            Ok(Mark::Unmarked),
+            "at {status:?}"
+        );
     }
-    let missing = reply(rt.alloc(), b"404", &[b"a;hit".as_slice()])?;
-    assert_eq!(rt; mark_of(&missing), Mark::Hit);
     Ok(())
 }
 

@@ -282,7 +282,7 @@ fn a_hit_that_is_not_shown_right_is_not_judged(rt: HostRuntime) -> Result<(), Fa
         ),
         (
             b"cache-status: hcache;hit".as_slice(),
-            b"cache-status: hcache;hot".as_slice(),
+            b"cache-status: hcache;fwd".as_slice(),
         ),
     ] {
         let changed = replaced(&rt, RIGHT, old, new)?;

@@ -28,7 +28,7 @@ use Rattle.hc_status.specs.Classes.{is_space, is_blank, is_key_start, is_key_oct
 use Rattle.hc_status.specs.Grammar.{IsDigits, IsInteger, IsBare, IsKey, IsParameter, AreParameters, IsMember, IsComma, HaveCommas, AreMembers, IsList, with_parameter, parameters_of}
 use Rattle.hc_status.specs.Marks.{list_of_text, cache_status, mark_of_list, mark_of_last, mark_of_member, mark_of}
 use Rattle.hc_status.specs.Reading.{list_of}
-use Rattle.hc_status.specs.Texts.{ttl_text, fwd_status_text, stored_text, handling_text, member_text, HasShortTtl, HasShortStatus, IsShort, IsPlain, written_mark}
+use Rattle.hc_status.specs.Texts.{flag, ttl_params, status_params, stored_params, handling_params, written_member, ttl_text, fwd_status_text, stored_text, handling_text, member_text, HasShortTtl, HasShortStatus, IsPlainHandling, IsPlain, written_mark}
 use Rattle.hc_status.proofs.RunLemmas.{pass_none, pass_more, true_or_false}
 use Rattle.hc_status.proofs.ListLemmas.{list_is_read, list_sound}
 use Rattle.hc_status.proofs.MarkLemmas.{last_pushed}
@@ -85,9 +85,6 @@ parameters_join (p ∷ params) others text more are are-others =
     (are.0, are.1 ++ more, ap (λ (l : List ℕ). l ++ more) are.2 ∙ append_assoc are.0 are.1 more, are.3, parameters_join params others are.1 more are.4 are-others)
 
 -- a parameter that stands alone, and one with a value
-flag : List ℕ → Parameter
-flag key = record { key = key; value = Boolean true }
-
 flag_is : (key : List ℕ) → IsKey key → IsParameter (flag key) (59 ∷ key)
 unfolding flag
 flag_is key is = record {
@@ -114,26 +111,6 @@ key_of_octets b text start all = (start, AllPass-from_list_all is_key_octet text
 
 -- ---- the member that is written
 
-ttl_params : Option ℤ → List Parameter
-ttl_params None = []
-ttl_params (Some ttl) = record { key = codes "ttl"; value = Integer ttl } ∷ []
-
-status_params : Option ℕ → List Parameter
-status_params None = []
-status_params (Some status) = record { key = codes "fwd-status"; value = Integer (pos status) } ∷ []
-
-stored_params : Bool → List Parameter
-stored_params true = flag (codes "stored") ∷ []
-stored_params false = []
-
-handling_params : Handling → List Parameter
-handling_params (handling.Hit ttl) = (flag (codes "hit") ∷ []) ++ ttl_params ttl
-handling_params (handling.Fwd word status stored) =
-    ((record { key = codes "fwd"; value = Token word } ∷ []) ++ status_params status) ++ stored_params stored
-
-written_member : CacheStatus → Member
-written_member status = record { item = Token status.name; params = handling_params status.handling }
-
 ttl_are : (ttl : Option ℤ) → HasShortTtl ttl → AreParameters (ttl_params ttl) (ttl_text ttl)
 unfolding ttl_params
 ttl_are None short = refl
@@ -151,7 +128,7 @@ unfolding stored_params
 stored_are true = one_parameter _ _ (flag_is (codes "stored") (key_of_octets 115 (codes "tored") refl refl))
 stored_are false = refl
 
-handling_are : (h : Handling) → IsShort h → AreParameters (handling_params h) (handling_text h)
+handling_are : (h : Handling) → IsPlainHandling h → AreParameters (handling_params h) (handling_text h)
 unfolding handling_params
 handling_are (handling.Hit ttl) short =
     parameters_join (flag (codes "hit") ∷ []) (ttl_params ttl) (codes ";hit") (ttl_text ttl)
@@ -179,7 +156,7 @@ member_is status plain = record {
   params_text = handling_text status.handling;
   written = handling_params status.handling;
   is_item = (refl, plain.name);
-  are_parameters = handling_are status.handling plain.short;
+  are_parameters = handling_are status.handling plain.handling;
   params_are = sym (params_apart status.handling);
   spelled = refl;
 }
@@ -250,6 +227,9 @@ joined_is_list list octets m text are is =
       spelled = whole;
       list_is = ap (λ (l : List Member). l ++ m ∷ []) are.list_is;
     })
+
+pub written_list_of : (status : CacheStatus) → IsPlain status → list_of (member_text status) ≡ Ok (written_member status ∷ [])
+written_list_of status plain = list_is_read (member_text status) (written_member status ∷ []) (alone_is_list (written_member status) (member_text status) (member_is status plain))
 
 -- ---- in fields
 

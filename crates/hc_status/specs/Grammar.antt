@@ -115,7 +115,7 @@ HaveCommas [] text = text ≡ []
 HaveCommas (m ∷ members) text = (one comma rest : List ℕ)
     × (text ≡ one ++ (comma ++ rest)) × IsMember m one × IsComma comma × HaveCommas members rest
 
--- a member or more, with a comma behind each but the last: spaces may stand in front, and white space behind (section 4.2)
+-- a member or more, with a comma behind each but the last: spaces may stand in front (section 4.2), and white space behind (section 4.2.1)
 pub record AreMembers (list : List Member) (octets : List ℕ) : Type 0 where
   pub spaces : List ℕ
   pub members : List Member
@@ -134,7 +134,7 @@ pub record AreMembers (list : List Member) (octets : List ℕ) : Type 0 where
 abbrev pub IsList : List Member → List ℕ → Type 0
 IsList list octets = ((list ≡ []) × AllPass is_space octets) ⊎ AreMembers list octets
 
--- an inner list begins in the octets, behind members with a comma behind each; what it has isn't looked at (own)
+-- an inner list begins in the octets, behind members with a comma behind each; what it has isn't looked at (this project's own choice)
 pub record BeginsInnerList (octets : List ℕ) : Type 0 where
   pub spaces : List ℕ
   pub members : List Member

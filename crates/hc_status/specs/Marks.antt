@@ -22,7 +22,7 @@ abbrev pub is_true : Option Bare → Bool
 is_true (Some (Boolean b)) = b
 is_true _ = false
 
--- the seconds, where it is an Integer (RFC 9211 section 2.3)
+-- the seconds, where it is an Integer (RFC 9211 section 2.4)
 abbrev pub seconds_of : Option Bare → Option ℤ
 seconds_of (Some (Integer n)) = Some n
 seconds_of _ = None
@@ -40,7 +40,7 @@ mark_by true false ttl = Hit ttl
 mark_by false true ttl = Forwarded
 mark_by false false ttl = Unmarked
 
--- the mark of a member: `hit` counts where it is true, `fwd` whatever its value (own)
+-- the mark of a member: `hit` counts where it is true, `fwd` whatever its value (this project's own choice)
 abbrev pub mark_of_member : Member → Mark
 mark_of_member m =
     if names_cache m.item then mark_by (is_true (value_of (codes "hit") m.params)) (is_some (value_of (codes "fwd") m.params)) (seconds_of (value_of (codes "ttl") m.params))
@@ -51,7 +51,7 @@ abbrev pub mark_of_last : Option Member → Mark
 mark_of_last None = Unmarked
 mark_of_last (Some m) = mark_of_member m
 
--- the mark of a list; one that can't be read marks nothing (own)
+-- the mark of a list; one that can't be read is dropped (RFC 8941 section 4.2), and marks nothing
 abbrev pub mark_of_list : Result (List Member) SfFault → Mark
 mark_of_list (Ok members) = mark_of_last (last_or None members)
 mark_of_list (Err fault) = Unmarked

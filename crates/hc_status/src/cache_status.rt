@@ -7,14 +7,14 @@ use hc_fields::Octets;
 pub enum Handling {
     /// The reply came out of the cache.
     Hit {
-        /// The seconds for which it is fresh still, negative where it is stale.
+        /// The seconds for which it is fresh still, negative where it is stale (RFC 9211 section 2.4).
         ttl: Option<i64>,
     },
     /// The request went forward.
     Fwd {
         /// Why it did, a Token such as `uri-miss` (RFC 9211 section 2.2).
         word: Octets,
-        /// The status that the origin gave (RFC 9211 section 2.4).
+        /// The status that the origin gave (RFC 9211 section 2.3).
         fwd_status: Option<u16>,
         /// Whether the response was stored (RFC 9211 section 2.5).
         stored: bool,

@@ -9,7 +9,7 @@ ghost use Rattle.hc_status.specs.declared.items.Member.{Member};
 ghost use Rattle.hc_status.specs.Grammar.{BeginsInnerList, IsList};
 ghost use Rattle.hc_status.specs.Marks.{cache_status, mark_of};
 ghost use Rattle.hc_status.specs.Reading.{list_of};
-ghost use Rattle.hc_status.specs.Texts.{IsPlain, member_text, written_mark};
+ghost use Rattle.hc_status.specs.Texts.{IsPlain, member_text, written_mark, written_member};
 
 /// The reader and the grammar say the same of all octets: they are one list, or an inner list begins
 /// in them behind members, or they break the syntax.
@@ -23,8 +23,11 @@ pub fn one_list()
         ↔ (list_of octets ≡ Err Syntax)) }
 {}
 
-/// A member that the cache wrote is read as the mark that it was written for.
+/// A member that the cache wrote is read as itself, and as the mark that it was written for.
 pub fn member_read_back()
+    // Its text is the list of that member.
+    ensures list { (status : CacheStatus)
+        → IsPlain status → list_of (member_text status) ≡ Ok (written_member status ∷ []) }
     // Where its line is the only one.
     ensures alone { (fields : List Field) (status : CacheStatus)
         → IsPlain status → values_of (codes "cache-status") fields ≡ member_text status ∷ []

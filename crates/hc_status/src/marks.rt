@@ -5,7 +5,7 @@
 pub enum Mark {
     /// The reply came out of the cache (RFC 9211 section 2.1).
     Hit {
-        /// The seconds for which it is fresh still, negative where it is stale (RFC 9211 section 2.3).
+        /// The seconds for which it is fresh still, negative where it is stale (RFC 9211 section 2.4).
         ttl: Option<i64>,
     },
     /// The request went forward (RFC 9211 section 2.2).

@@ -1,7 +1,9 @@
-use Rattle.std.proofs.Common.{sym, ap, subst, ◌∙◌, arith}
+use Rattle.std.proofs.Common.{sym, ap, subst, ◌∙◌, arith, Option}
 use Rattle.std.specs.Prelude.{Result}
 use Rattle.hc_transcript.specs.Items.{item_of}
+use Rattle.hc_status.specs.declared.marks.Mark.{Mark}
 use Rattle.hc_history.specs.declared.verdicts.Verdict.{Verdict}
+use Rattle.hc_history.specs.Verdicts.{marked}
 use Rattle.hc_audit.specs.declared.fault.AuditFault.{AuditFault}
 use Rattle.hc_audit.specs.Judging.{GivesVerdict, stopped}
 use Rattle.hc_audit.proofs.JudgeLemmas.{stops_give, wrong_gives, right_goes_on, counts_one_more}
@@ -32,6 +34,6 @@ returns-clause-gives c = λ octets j.
     let a = rw c.in-Ok-true.field-0-test at (c.in-Ok-true.ensures.gives octets j.records j.history j.agrees) in
     right_goes_on _ octets j.records j.history a (item_of c.item-item.result.now) _
     (c.item-item.ensures a.one a.item a.lends) j.right (c.is_right.ensures.yes j.history j.seen c.if-not-is_right.false)
-    (c.in-Ok.ensures j.history j.seen)
+    (c.in-Ok-note.ensures j.history j.seen)
     (counts_one_more c.args.self.now.counts j.history c.records-self.result j.counts (omega (arith, c.records-self.ensures.value, a.agrees.stands.records)))
-    c.count_mark.ensures
+    (c.count_mark.ensures ∙ ap (λ (m : Option Mark). marked m (record c.args.self.now.counts { records = c.records-self.result })) c.in-Ok.ensures)

@@ -1,15 +1,22 @@
-use Rattle.std.proofs.Common.{sym, ap, subst, ◌∙◌}
+use Rattle.std.proofs.Common.{◌≡◌, sym, ap, subst, ◌∙◌, Some, None}
+use Rattle.hc_status.specs.declared.marks.Mark.TheVariants.{Hit}
 use Rattle.hc_transcript.specs.Items.{Item, item_of}
+use Rattle.hc_history.specs.Marks.{item_mark, reply_mark}
 use Rattle.hc_history.specs.Verdicts.{IsRight}
-use Rattle.hc_audit.proofs.ReuseLemmas.{hit_is_right, hit_is_wrong}
+use Rattle.hc_audit.proofs.ReuseLemmas.{hit_is_right, hit_is_wrong, marked_hit}
 use Rattle.hc_audit.proofs.notes.Notes.is_right.Goals as goal
 
-pub returns-in-Hit-clause-yes : goal.returns-in-Hit-clause-yes
-returns-in-Hit-clause-yes c = λ h seen found.
-    subst (λ (i : Item). IsRight h i) (sym (ap item_of c.in-ClientReply.is))
-    (hit_is_right c.args.self.now h c.in-ClientReply.exchange c.in-ClientReply.moment c.in-Some.target.now c.in-ClientReply.reply seen (sym c.in-Some.ensures.value) (sym c.in-Hit.ensures) (sym c.is_reused.ensures ∙ found))
+is_hit : (c : goal.After-is_reused) → reply_mark c.in-ClientReply.reply ≡ Hit None
+is_hit c =
+    marked_hit c.args.mark c.in-Some-mark.said c.in-Hit.ttl c.in-ClientReply.exchange c.in-ClientReply.moment c.in-ClientReply.reply
+    c.in-Some-mark.is c.in-Hit.is (sym c.is_some.ensures ∙ c.if-is_some.false) (c.requires ∙ ap (λ i. item_mark (item_of i)) c.in-ClientReply.is)
 
-pub returns-in-Hit-clause-no : goal.returns-in-Hit-clause-no
-returns-in-Hit-clause-no c = λ h seen found right.
-    hit_is_wrong c.args.self.now h c.in-ClientReply.exchange c.in-ClientReply.moment c.in-Some.target.now c.in-ClientReply.reply seen (sym c.in-Some.ensures.value) (sym c.in-Hit.ensures) (sym c.is_reused.ensures ∙ found)
+pub returns-else-is_some-clause-yes : goal.returns-else-is_some-clause-yes
+returns-else-is_some-clause-yes c = λ h seen found.
+    subst (λ (i : Item). IsRight h i) (sym (ap item_of c.in-ClientReply.is))
+    (hit_is_right c.args.self.now h c.in-ClientReply.exchange c.in-ClientReply.moment c.in-Some.target.now c.in-ClientReply.reply seen (sym c.in-Some.ensures.value) (is_hit c) (sym c.is_reused.ensures ∙ found))
+
+pub returns-else-is_some-clause-no : goal.returns-else-is_some-clause-no
+returns-else-is_some-clause-no c = λ h seen found right.
+    hit_is_wrong c.args.self.now h c.in-ClientReply.exchange c.in-ClientReply.moment c.in-Some.target.now c.in-ClientReply.reply seen (sym c.in-Some.ensures.value) (is_hit c) (sym c.is_reused.ensures ∙ found)
     (subst (λ (i : Item). IsRight h i) (ap item_of c.in-ClientReply.is) right)
