@@ -1,0 +1,3 @@
+pub mod Dates
+pub mod Lifetimes
+pub mod Ages

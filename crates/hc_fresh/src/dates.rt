@@ -1,0 +1,16 @@
+//! Dates in fields (RFC 9110 section 5.6.7). A moment is a count of seconds since 1 January 1970.
+
+ghost use Rattle.std.specs.Prelude.{◌≡◌, ◌<◌, IfSome};
+ghost use Rattle.hc_fresh.specs.Dates.{date_of};
+
+use httpdate::HttpDate;
+
+/// The moment of a date in any of the three formats, with no white space around it. A year of two
+/// digits lies from 1970 to 2069.
+pub fn read_date(value: &[u8]) -> Option<u64>
+    ensures gives { result ≡ date_of value.now }
+    ensures limit { IfSome result (λ moment. moment < 253_402_300_800) }
+{
+    let date = HttpDate::parse_ascii(value).ok()?;
+    Some(date.unix_secs())
+}

@@ -1,0 +1,81 @@
+//! How long a stored response stays fresh (RFC 9111 section 4.2.1).
+
+ghost use Rattle.std.specs.Prelude.{◌≡◌};
+ghost use Rattle.hc_directives.specs.Directives.{first_directive, seconds_of};
+ghost use Rattle.hc_fresh.specs.Lifetimes.{seconds_stated, seconds_until, expires_lifetime, stated_lifetime, freshness_lifetime, states_lifetime, forbids_stale};
+
+use crate::dates::read_date;
+use hc_directives::{Directives, Seconds};
+use hc_fields::Fields;
+
+/// Greater lifetimes are this one (RFC 9111 section 1.2.2).
+const GREATEST: u64 = 2_147_483_648;
+
+/// The lifetime that the directive of that name states, if it is there.
+fn stated_by(directives: &Directives<'_>, name: &[u8]) -> Option<u32>
+    ensures { result ≡ seconds_stated (seconds_of (first_directive name.now directives.now.directives)) }
+{
+    match directives.seconds(name) {
+        Seconds::Absent => None,
+        Seconds::Value(seconds) => Some(seconds),
+        Seconds::Bare | Seconds::Unreadable => Some(0),
+    }
+}
+
+/// The seconds from a date to that of an Expires.
+fn seconds_until(date: u64, expires: &[u8]) -> u32
+    ensures { result ≡ seconds_until date expires.now }
+{
+    match read_date(expires) {
+        Some(end) => end.saturating_sub(date).min(GREATEST) as u32,
+        None => 0,
+    }
+}
+
+/// The lifetime that the first Expires states, if there is one.
+fn stated_by_expires(fields: &Fields, date: u64) -> Option<u32>
+    ensures { result ≡ expires_lifetime fields.now date }
+{
+    let expires = fields.values(b"expires").next()?;
+    Some(seconds_until(date, expires))
+}
+
+/// The lifetime that a response of that date states.
+fn stated(fields: &Fields, date: u64) -> Option<u32>
+    ensures { result ≡ stated_lifetime fields.now date }
+{
+    let directives = Directives::read(fields);
+    if let Some(seconds) = stated_by(&directives, b"s-maxage") {
+        return Some(seconds);
+    }
+    if let Some(seconds) = stated_by(&directives, b"max-age") {
+        return Some(seconds);
+    }
+    stated_by_expires(fields, date)
+}
+
+/// The freshness lifetime, in seconds, that a response of that date has in a shared cache.
+pub fn lifetime(fields: &Fields, date: u64) -> u32
+    ensures { result ≡ freshness_lifetime fields.now date }
+{
+    stated(fields, date).unwrap_or(0)
+}
+
+/// Whether a response states a lifetime, readable or not.
+pub fn explicit(fields: &Fields) -> bool
+    ensures { result ≡ states_lifetime fields.now }
+{
+    let directives = Directives::read(fields);
+    directives.has(b"s-maxage") || directives.has(b"max-age") || fields.contains(b"expires")
+}
+
+/// Whether a response says that a shared cache never serves it stale (RFC 9111 section 4.2.4).
+pub fn stale_forbidden(fields: &Fields) -> bool
+    ensures { result ≡ forbids_stale fields.now }
+{
+    let directives = Directives::read(fields);
+    directives.has(b"no-cache")
+        || directives.has(b"must-revalidate")
+        || directives.has(b"proxy-revalidate")
+        || directives.has(b"s-maxage")
+}
