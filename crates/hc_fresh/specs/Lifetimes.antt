@@ -1,6 +1,6 @@
 -- How long a stored response stays fresh (RFC 9111 sections 4.2.1, 5.2.2 and 5.3).
-use Rattle.std.specs.Prelude.{ℕ, Bool, ◌||◌, ◌-◌, min, List, [], ◌∷◌, Option, Some, None, option_map, unwrap_or, codes}
-use Rattle.std.specs.List.{list_any, slice_get}
+use Rattle.std.specs.Prelude.{ℕ, Bool, ◌||◌, ◌-◌, min, List, Option, Some, None, option_map, unwrap_or, codes}
+use Rattle.std.specs.List.{slice_get}
 use Rattle.std.specs.Option.{option_or}
 use Rattle.hc_fields.specs.declared.fields.Field.{Field}
 use Rattle.hc_fields.specs.Values.{values_of, has_name}

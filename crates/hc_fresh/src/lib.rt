@@ -6,5 +6,5 @@ mod dates;
 mod lifetimes;
 
 pub use ages::{Times, age_value, current_age, fresh, staleness};
-pub use dates::read_date;
+pub use dates::{date_text, read_date};
 pub use lifetimes::{explicit, lifetime, stale_forbidden};
