@@ -8,3 +8,6 @@ mod lifetimes;
 pub use ages::{Times, age_value, current_age, fresh, staleness};
 pub use dates::{date_text, read_date};
 pub use lifetimes::{explicit, lifetime, stale_forbidden};
+
+#[cfg(test)]
+mod tests;
