@@ -1,13 +1,13 @@
-use Rattle.std.proofs.Common.{◌≡◌, ℕ, zero, suc, ◌+◌, ◌-◌, ◌*◌, ◌/◌, ◌%◌, ◌<◌, ◌≤◌, ◌⊎◌, Some, refl, sym, ap, ◌∙◌, arith, inl, inr, option_and_then, if◌then◌else◌, None}
-use Rattle.std.proofs.lemmas.Bool.{cases_order}
+use Rattle.std.proofs.Common.{◌≡◌, ℕ, Bool, true, false, nat_le, zero, suc, ◌+◌, ◌-◌, ◌*◌, ◌/◌, ◌%◌, ◌<◌, ◌≤◌, ◌⊎◌, Some, refl, sym, ap, ◌∙◌, subst, arith, inl, inr, option_and_then, if◌then◌else◌, None}
+use Rattle.std.proofs.lemmas.Bool.{cases_order, leb-true}
 use Rattle.std.proofs.lemmas.Bool.Decides.{nat_tests}
 use Rattle.httpdate.specs.declared.parts.Parts.{Parts}
 use Rattle.httpdate.specs.declared.date.HttpDate.{HttpDate}
-use Rattle.httpdate.specs.Calendar.{IsCivilDate, days_of_years, days_of_months, days_from_civil}
+use Rattle.httpdate.specs.Calendar.{IsCivilDate, days_of_years, days_of_months, days_in_year, days_in_month, days_from_civil, weekday}
 use Rattle.httpdate.specs.Valid.{IsValid, parts_secs}
 use Rattle.httpdate.specs.Text.{imf_fixdate}
 use Rattle.httpdate.specs.Date.{unix_secs, date_text, valid_secs}
-use Rattle.httpdate.proofs.CalendarLemmas.{days_from_civil_year, days_from_civil_month}
+use Rattle.httpdate.proofs.CalendarLemmas.{days_from_civil_year, days_from_civil_month, days_of_years_closed, days_of_months_all}
 use Rattle.httpdate.proofs.FormatLemmas.{parse_complete}
 use Rattle.httpdate.proofs.ValidLemmas.{is_valid_complete}
 use Rattle.hc_fresh.specs.Dates.{date_of, last_begun, years_at, months_at, day_of_year, parts_at, imf_fixdate_at}
@@ -121,3 +121,108 @@ read_back d =
     let valid : IsValid d.parts = (d.civil, d.time, d.right_day) in
     ap (option_and_then valid_secs) (parse_complete (date_text d) d.parts valid (inl refl))
     ∙ ap (λ b. if b then Some (parts_secs d.parts) else None) (is_valid_complete d.parts valid)
+
+-- ---- each second has a date
+
+-- a test decides which branch is taken
+decided : (P : ℕ → Type 0) (b : Bool) (x y : ℕ) → (b ≡ true → P x) → (b ≡ false → P y) → P (if b then x else y)
+decided P true x y is_so isnt = is_so refl
+decided P false x y is_so isnt = isnt refl
+
+not_begun : (a b : ℕ) → nat_le a b ≡ false → b < a
+not_begun a b e = grind (arith, nat_tests)
+
+-- the last span that has begun has begun
+last_begun_from : (begins : ℕ → ℕ) (n day : ℕ) → begins 0 ≤ day → begins (last_begun begins n day) ≤ day
+unfolding last_begun
+last_begun_from begins zero day h = h
+last_begun_from begins (suc n) day h =
+    decided (λ span. begins span ≤ day) (nat_le (begins (suc n)) day) (suc n) (last_begun begins n day) (λ e. leb-true _ _ e) (λ _. last_begun_from begins n day h)
+
+-- and has not ended
+last_begun_to : (begins : ℕ → ℕ) (n day : ℕ) → day < begins (suc n) → day < begins (suc (last_begun begins n day))
+unfolding last_begun
+last_begun_to begins zero day h = h
+last_begun_to begins (suc n) day h =
+    decided (λ span. day < begins (suc span)) (nat_le (begins (suc n)) day) (suc n) (last_begun begins n day) (λ _. h) (λ e. last_begun_to begins n day (not_begun _ _ e))
+
+last_begun_max : (begins : ℕ → ℕ) (n day : ℕ) → last_begun begins n day ≤ n
+unfolding last_begun
+last_begun_max begins zero day = omega arith
+last_begun_max begins (suc n) day =
+    let before = last_begun_max begins n day in
+    decided (λ span. span ≤ suc n) (nat_le (begins (suc n)) day) (suc n) (last_begun begins n day) (λ _. omega arith) (λ _. omega arith)
+
+-- what lies in a span lies less than its length behind its beginning
+inside : (day from len : ℕ) → from ≤ day → day < from + len → day - from < len
+inside day from len h k = omega arith
+
+one_more : (n : ℕ) → suc n ≡ 1 + n
+one_more n = omega arith
+
+year_begun : (day : ℕ) → days_of_years (years_at day) ≤ day
+unfolding days_of_years
+year_begun day = last_begun_from days_of_years 8029 day (omega arith)
+
+-- a day lies in its year
+in_year : (day : ℕ) → day < 2932897 → day_of_year day < days_of_months (1970 + years_at day) 12
+unfolding days_of_years
+in_year day h =
+    let closed = days_of_years_closed 8030 in
+    let to : day < days_of_years (years_at day) + days_in_year (1970 + years_at day) = last_begun_to days_of_years 8029 day (omega (arith, closed)) in
+    rw (days_of_months_all (1970 + years_at day)) (inside day (days_of_years (years_at day)) (days_in_year (1970 + years_at day)) (year_begun day) to)
+
+month_begun : (day : ℕ) → days_of_months (1970 + years_at day) (months_at day) ≤ day_of_year day
+unfolding days_of_months
+month_begun day = last_begun_from (days_of_months (1970 + years_at day)) 11 (day_of_year day) (omega arith)
+
+months_more : (year n : ℕ) → days_of_months year (suc n) ≡ days_of_months year n + days_in_month year (1 + n)
+unfolding days_of_months
+months_more year n = ap (λ m. days_of_months year n + days_in_month year m) (one_more n)
+
+-- and in its month
+in_month : (day : ℕ) → day < 2932897 → day_of_year day - days_of_months (1970 + years_at day) (months_at day) < days_in_month (1970 + years_at day) (1 + months_at day)
+in_month day h =
+    let to = last_begun_to (days_of_months (1970 + years_at day)) 11 (day_of_year day) (in_year day h) in
+    let more = months_more (1970 + years_at day) (months_at day) in
+    inside (day_of_year day) (days_of_months (1970 + years_at day) (months_at day)) (days_in_month (1970 + years_at day) (1 + months_at day)) (month_begun day)
+    (subst (λ end. day_of_year day < end) more to)
+
+behind : (k n : ℕ) → k + n - k ≡ n
+behind k n = omega arith
+
+sum_again : (year month day : ℕ) → year ≤ day → month ≤ day - year → year + month + (day - year - month) ≡ day
+sum_again year month day h k = omega arith
+
+civil_is : (day : ℕ) → days_from_civil (1970 + years_at day) (1 + months_at day) (1 + (day_of_year day - days_of_months (1970 + years_at day) (months_at day))) ≡ day
+civil_is day =
+    let year = behind 1970 (years_at day) in
+    let month = behind 1 (months_at day) in
+    let of_month = behind 1 (day_of_year day - days_of_months (1970 + years_at day) (months_at day)) in
+    (λ i. days_of_years (year i) + days_of_months (1970 + years_at day) (month i) + of_month i)
+    ∙ sum_again (days_of_years (years_at day)) (days_of_months (1970 + years_at day) (months_at day)) day (year_begun day) (month_begun day)
+
+counted : (n end : ℕ) → n < end → 1 + n ≤ end
+counted n end h = omega arith
+
+-- the calendar has each day up to the year 9999, and the clock each second
+has_date : (day second : ℕ) → day < 2932897 → second < 86400 → IsValid (parts_at day second)
+has_date day second h k =
+    let years = last_begun_max days_of_years 8029 day in
+    let months = last_begun_max (days_of_months (1970 + years_at day)) 11 (day_of_year day) in (
+      ((omega arith, omega (arith, years)), (omega arith, omega (arith, months)), (omega arith, counted _ _ (in_month day h))),
+      (omega arith, omega arith, omega arith),
+      ap weekday (sym (civil_is day)),
+    )
+
+-- the seconds of the parts are the second
+whole : (moment : ℕ) → moment / 86400 * 86400 + moment % 86400 / 3600 * 3600 + moment % 86400 % 3600 / 60 * 60 + moment % 86400 % 60 ≡ moment
+whole moment = omega arith
+
+-- the date of each moment is read back
+pub written_read_back : (moment : ℕ) → moment < 253402300800 → date_of (imf_fixdate_at moment) ≡ Some moment
+written_read_back moment h =
+    let valid = has_date (moment / 86400) (moment % 86400) (omega arith) (omega arith) in
+    let seconds = ap (λ days. days * 86400 + moment % 86400 / 3600 * 3600 + moment % 86400 % 3600 / 60 * 60 + moment % 86400 % 60) (civil_is (moment / 86400)) ∙ whole moment in
+    read_back (record { parts = parts_at (moment / 86400) (moment % 86400); civil = valid.0; time = valid.1; right_day = valid.2 })
+    ∙ ap (λ n. Some n) seconds

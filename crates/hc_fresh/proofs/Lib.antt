@@ -1,1 +1,2 @@
 mod DateLemmas
+mod LimitLemmas

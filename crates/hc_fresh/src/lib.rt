@@ -3,10 +3,14 @@
 
 mod ages;
 mod dates;
+mod laws;
 mod lifetimes;
 
 pub use ages::{Times, age_value, current_age, fresh, staleness};
 pub use dates::{date_text, read_date};
+pub use laws::{
+    age_value_has_a_limit, lifetime_has_a_limit, stale_response_stays_stale, written_date_read_back,
+};
 pub use lifetimes::{explicit, lifetime, stale_forbidden};
 
 #[cfg(test)]

@@ -1,0 +1,31 @@
+//! What is written is read back, and what holds of every lifetime and age.
+
+ghost use Rattle.std.specs.Prelude.{◌≡◌, ◌<◌, ◌≤◌, ℕ, Bool, false, List, Some};
+ghost use Rattle.hc_fields.specs.declared.fields.Field.{Field};
+ghost use Rattle.hc_fresh.specs.declared.ages.Times.{Times};
+ghost use Rattle.hc_fresh.specs.Dates.{date_of, imf_fixdate_at};
+ghost use Rattle.hc_fresh.specs.Lifetimes.{freshness_lifetime};
+ghost use Rattle.hc_fresh.specs.Ages.{age_value, current_age, is_fresh};
+
+/// The date of a moment before the year 10000, as it is written, is read as that moment.
+pub fn written_date_read_back()
+    ensures { (moment : ℕ) → moment < 253_402_300_800
+        → date_of (imf_fixdate_at moment) ≡ Some moment }
+{}
+
+/// No freshness lifetime is over 2147483648 seconds (RFC 9111 section 1.2.2).
+pub fn lifetime_has_a_limit()
+    ensures { (fields : List Field) (date : ℕ) → freshness_lifetime fields date ≤ 2_147_483_648 }
+{}
+
+/// No Age tells an age over 2147483648 seconds.
+pub fn age_value_has_a_limit()
+    ensures { (fields : List Field) → age_value fields ≤ 2_147_483_648 }
+{}
+
+/// A response that is stale stays so for as long as its times do.
+pub fn stale_response_stays_stale()
+    ensures { (lifetime : ℕ) (times : Times) (now later : ℕ) → now ≤ later
+        → is_fresh lifetime (current_age times now) ≡ false
+        → is_fresh lifetime (current_age times later) ≡ false }
+{}
