@@ -113,6 +113,7 @@ parts_are d =
 
 -- the date of a second is written as the second says
 pub text_is : (d : HttpDate) (moment : ℕ) → unix_secs d ≡ moment → date_text d ≡ imf_fixdate_at moment
+unfolding imf_fixdate_at
 text_is d moment same = sym (ap imf_fixdate (parts_are d)) ∙ ap imf_fixdate_at same
 
 -- and is read as that second
@@ -221,6 +222,7 @@ whole moment = omega arith
 
 -- the date of each moment is read back
 pub written_read_back : (moment : ℕ) → moment < 253402300800 → date_of (imf_fixdate_at moment) ≡ Some moment
+unfolding imf_fixdate_at
 written_read_back moment h =
     let valid = has_date (moment / 86400) (moment % 86400) (omega arith) (omega arith) in
     let seconds = ap (λ days. days * 86400 + moment % 86400 / 3600 * 3600 + moment % 86400 % 3600 / 60 * 60 + moment % 86400 % 60) (civil_is (moment / 86400)) ∙ whole moment in

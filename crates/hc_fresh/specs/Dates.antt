@@ -39,5 +39,5 @@ parts_at day second = record {
 }
 
 -- the date of a moment as it is written, IMF-fixdate
-abbrev pub imf_fixdate_at : ℕ → List ℕ
+unfoldable pub imf_fixdate_at : ℕ → List ℕ
 imf_fixdate_at moment = imf_fixdate (parts_at (moment / 86400) (moment % 86400))
