@@ -21,7 +21,7 @@ use Rattle.hc_status.specs.declared.cache_status.CacheStatus.{CacheStatus}
 use Rattle.hc_status.specs.declared.cache_status.Handling.{Handling}
 use Rattle.hc_status.specs.declared.cache_status.Handling.TheVariants as handling
 use Rattle.hc_status.specs.declared.items.Bare.{Bare}
-use Rattle.hc_status.specs.declared.items.Bare.TheVariants.{Integer, Token, Bool as Boolean}
+use Rattle.hc_status.specs.declared.items.Bare.TheVariants.{Integer, Token}
 use Rattle.hc_status.specs.declared.items.Parameter.{Parameter}
 use Rattle.hc_status.specs.declared.items.Member.{Member}
 use Rattle.hc_status.specs.Classes.{is_space, is_blank, is_key_start, is_key_octet}

@@ -1,4 +1,4 @@
-use Rattle.std.proofs.Common.{◌≡◌, sym, ap, subst, ◌∙◌, Some, None}
+use Rattle.std.proofs.Common.{◌≡◌, sym, ap, subst, ◌∙◌, None}
 use Rattle.hc_status.specs.declared.marks.Mark.TheVariants.{Hit}
 use Rattle.hc_transcript.specs.Items.{Item, item_of}
 use Rattle.hc_history.specs.Marks.{item_mark, reply_mark}
