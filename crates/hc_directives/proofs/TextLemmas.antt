@@ -7,7 +7,7 @@ use Rattle.std.proofs.lemmas.Bool.Decides.{nat_tests}
 use Rattle.std.proofs.Math.Seq.{drop-append-add}
 use Rattle.std.proofs.lemmas.List.{take_at, drop_at, length-append}
 use Rattle.std.proofs.lemmas.List.Folds.{list_all-append}
-use Rattle.hc_directives.specs.Tokens.{is_token_octet, is_token}
+use Rattle.hc_fields.specs.Tokens.{is_token_octet, is_token}
 use Rattle.hc_directives.specs.QuotedStrings.{is_escapable, is_quoted_text, unescaped_from, unescaped, before_quote, quoted_text}
 use Rattle.hc_directives.specs.Directives.{is_equals, argument_of, directive_named, directive_of}
 use Rattle.hc_directives.specs.Texts.{escaped, quoted}

@@ -8,7 +8,7 @@ use Rattle.hc_fields.specs.Lists.{members_of}
 use Rattle.hc_fields.specs.Numbers.{number_of}
 use Rattle.hc_directives.specs.declared.cache_control.Seconds.{Seconds}
 use Rattle.hc_directives.specs.declared.cache_control.Seconds.TheVariants.{Absent, Bare, Value, Unreadable}
-use Rattle.hc_directives.specs.Tokens.{is_token}
+use Rattle.hc_fields.specs.Tokens.{is_token}
 use Rattle.hc_directives.specs.QuotedStrings.{quoted_text, unescaped}
 
 -- a directive: its name in lower case, and what its argument says, if it has one

@@ -1,4 +1,3 @@
-pub mod Tokens
 pub mod QuotedStrings
 pub mod QuotedSteps
 pub mod Directives

@@ -1,7 +1,7 @@
 //! What is written is read back.
 
 ghost use Rattle.std.specs.Prelude.{◌≡◌, ℕ, List, ◌∷◌, ◌++◌, Option, Some, IsTrue};
-ghost use Rattle.hc_directives.specs.Tokens.{is_token};
+ghost use Rattle.hc_fields.specs.Tokens.{is_token};
 ghost use Rattle.hc_directives.specs.Directives.{directive_of, directive_named};
 ghost use Rattle.hc_directives.specs.Texts.{directive_text, IsWritable};
 

@@ -5,7 +5,6 @@ mod cache_control;
 mod laws;
 mod quoted;
 mod spelling;
-mod tokens;
 
 pub use cache_control::{Directives, Seconds};
 pub use laws::{written_directive_read_back, written_token_read_back};

@@ -7,8 +7,8 @@ ghost use Rattle.hc_directives.specs.Directives.{is_equals, argument_of, directi
 ghost use Rattle.hc_directives.specs.Spellings.{argument_meant, directive_meant};
 
 use crate::quoted::{quoted_number, quoted_text};
-use crate::tokens::is_token;
-use hc_fields::number;
+
+use hc_fields::{is_token, number};
 
 /// How an argument is spelled.
 #[derive(Clone, Copy, Debug, Drop)]

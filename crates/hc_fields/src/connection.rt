@@ -25,7 +25,8 @@ const FOR_PROXY: [&[u8]; 3] = [
     b"proxy-authorization",
 ];
 
-fn is_among(names: &[&[u8]], name: &[u8]) -> bool
+/// Whether the name is among those.
+pub fn is_among(names: &[&[u8]], name: &[u8]) -> bool
     ensures { result ≡ list_any (λ known. bytes_eq known.now name.now) names.now }
 {
     names.iter().any(|known| *known == name)

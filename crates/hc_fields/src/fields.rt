@@ -1,6 +1,7 @@
-ghost use Rattle.std.specs.Prelude.{◌≡◌, ◌==◌, ◌++◌, List, [], ◌∷◌, length, OnOk, OnErr};
+ghost use Rattle.std.specs.Prelude.{◌≡◌, ◌==◌, ◌++◌, ◌≤◌, not, List, [], ◌∷◌, length, filter, IfOk, OnOk, OnErr};
+ghost use Rattle.std.specs.Vec.{vec_len, vec_capacity};
 ghost use Rattle.std.specs.Iterator.{YieldsFirstRef, item_count};
-ghost use Rattle.hc_fields.specs.Values.{without};
+ghost use Rattle.hc_fields.specs.Values.{has_name, without};
 
 use crate::octets::Octets;
 use std::alloc::{AllocError, Global};
@@ -12,6 +13,18 @@ use std::marker::Model;
 pub struct Field {
     pub name: Octets,
     pub value: Octets,
+}
+
+impl Field {
+    /// The same line in memory of its own.
+    pub fn copy(&self, alloc: Global) -> Result<Field, AllocError>
+        ensures { IfOk result (λ f. f ≡ self.now) }
+    {
+        Ok(Field {
+            name: self.name.copy(alloc)?,
+            value: self.value.copy(alloc)?,
+        })
+    }
 }
 
 /// Field lines in order, which contracts see as the list of them.
@@ -35,9 +48,18 @@ fn remove_from(lines: &mut Vec<Field>, name: &[u8])
     lines.retain(|line| line.name.as_slice() != name)
 }
 
+/// Removes the lines of the names that the others have.
+fn remove_names_of(lines: &mut Vec<Field>, others: &Fields)
+    ensures names { lines.new.items ≡ filter (λ f. not (has_name f.name others.now)) lines.old.items }
+    ensures room { vec_capacity lines.new ≡ vec_capacity lines.old }
+    ensures bound { vec_len lines.new ≤ vec_len lines.old }
+{
+    lines.retain(|line| !others.contains(line.name.as_slice()))
+}
+
 impl Fields {
-    ghost use Rattle.std.specs.Prelude.{IfOk};
-    ghost use Rattle.hc_fields.specs.Values.{values_of, has_name, joined_values};
+    ghost use Rattle.std.specs.Prelude.{option_copied};
+    ghost use Rattle.hc_fields.specs.Values.{values_of, has_name, joined_values, only_value, updated};
 
     /// No lines, which take no memory.
     pub fn new(alloc: Global) -> Self
@@ -46,6 +68,11 @@ impl Fields {
         Fields {
             lines: Vec::new(alloc),
         }
+    }
+
+    /// The allocator that the lines were made with.
+    pub fn alloc(&self) -> Global {
+        *self.lines.allocator()
     }
 
     /// The lines in order.
@@ -100,6 +127,31 @@ impl Fields {
             name,
             lines: self.lines.as_slice(),
         }
+    }
+
+    /// The value of the line of that name, where there is exactly one. The name is one in lower
+    /// case.
+    pub fn only<'a>(&'a self, name: &'a [u8]) -> Option<&'a [u8]>
+        ensures { option_copied result ≡ only_value name.now self.now }
+    {
+        let mut values = self.values(name);
+        let value = values.next()?;
+        if values.next().is_some() {
+            return None;
+        }
+        Some(value)
+    }
+
+    /// Removes the lines whose names newer ones have, and puts those at the end (RFC 9111 section
+    /// 3.2). Where memory was refused, nothing has changed.
+    pub fn update(&mut self, newer: Fields) -> Result<(), AllocError>
+        ensures ok { OnOk result (self.new ≡ updated self.old newer) }
+        ensures err { OnErr result (self.new ≡ self.old) }
+    {
+        let mut newer = newer;
+        self.lines.reserve(newer.lines.len())?;
+        remove_names_of(&mut self.lines, &newer);
+        self.lines.append(&mut newer.lines)
     }
 
     /// The values of the lines of that name as one (RFC 9110 section 5.3), or `None` where there is

@@ -7,12 +7,15 @@ mod lists;
 mod members;
 mod numbers;
 mod octets;
+mod tokens;
 
+pub use connection::is_among;
 pub use fields::{Field, Fields, Values};
 pub use lists::{ListMembers, list_members, trimmed};
 pub use members::{Members, joined_lines_have_the_members};
 pub use numbers::{decimal, number};
 pub use octets::Octets;
+pub use tokens::is_token;
 
 #[cfg(test)]
 mod tests;

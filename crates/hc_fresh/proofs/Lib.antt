@@ -1,2 +1,3 @@
 mod DateLemmas
+mod DateLineLemmas
 mod LimitLemmas

@@ -1,3 +1,4 @@
 pub mod Dates
 pub mod Lifetimes
 pub mod Ages
+pub mod DateLines

@@ -1,9 +1,10 @@
 //! What is written is read back, and what holds of every lifetime and age.
 
-ghost use Rattle.std.specs.Prelude.{◌≡◌, ◌<◌, ◌≤◌, ℕ, Bool, false, List, Some};
+ghost use Rattle.std.specs.Prelude.{◌≡◌, ◌<◌, ◌≤◌, ℕ, Bool, false, List, Some, unwrap_or};
 ghost use Rattle.hc_fields.specs.declared.fields.Field.{Field};
 ghost use Rattle.hc_fresh.specs.declared.ages.Times.{Times};
 ghost use Rattle.hc_fresh.specs.Dates.{date_of, imf_fixdate_at};
+ghost use Rattle.hc_fresh.specs.DateLines.{date_stated, dated};
 ghost use Rattle.hc_fresh.specs.Lifetimes.{freshness_lifetime};
 ghost use Rattle.hc_fresh.specs.Ages.{age_value, current_age, is_fresh};
 
@@ -11,6 +12,13 @@ ghost use Rattle.hc_fresh.specs.Ages.{age_value, current_age, is_fresh};
 pub fn written_date_read_back()
     ensures { (moment : ℕ) → moment < 253_402_300_800
         → date_of (imf_fixdate_at moment) ≡ Some moment }
+{}
+
+/// Fields with exactly one Date state it: the date that they stated before, else the moment that
+/// was put in its place.
+pub fn dated_fields_state_a_date()
+    ensures { (fields : List Field) (moment : ℕ) → moment < 253_402_300_800
+        → date_stated (dated moment fields) ≡ Some (unwrap_or (date_stated fields) moment) }
 {}
 
 /// No freshness lifetime is over 2147483648 seconds (RFC 9111 section 1.2.2).

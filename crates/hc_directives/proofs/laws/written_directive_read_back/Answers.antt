@@ -1,5 +1,5 @@
 use Rattle.std.proofs.Common.{◌≡◌, ℕ, List, Option, Some, None, IsTrue}
-use Rattle.hc_directives.specs.Tokens.{is_token}
+use Rattle.hc_fields.specs.Tokens.{is_token}
 use Rattle.hc_directives.specs.Directives.{directive_of, directive_named}
 use Rattle.hc_directives.specs.Texts.{quoted, directive_text, IsWritable}
 use Rattle.hc_directives.proofs.TextLemmas.{directive_reads, argument_reads, bare_reads}

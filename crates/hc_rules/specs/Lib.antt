@@ -1,0 +1,4 @@
+pub mod Storing
+pub mod Validators
+pub mod Selecting
+pub mod Conditions

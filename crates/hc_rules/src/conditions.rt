@@ -1,0 +1,81 @@
+//! Whether a client may be told that what it has still holds (RFC 9111 section 4.3.2).
+
+ghost use Rattle.std.specs.Prelude.{◌≡◌, Some, option_copied};
+ghost use Rattle.hc_rules.specs.Conditions.{condition_holds, has_stored, is_not_later, is_wildcard, lists_tag, match_weakly, only_date};
+
+use crate::tags::{tag, without_weak_mark};
+use hc_fields::{Fields, trimmed};
+use hc_fresh::read_date;
+
+/// The status for which the client's condition counts.
+const OK: u16 = 200;
+
+fn is_wildcard(value: Option<&[u8]>) -> bool
+    ensures { result ≡ is_wildcard (option_copied value.entry) }
+{
+    match value {
+        Some(value) => trimmed(value) == b"*".as_slice(),
+        None => false,
+    }
+}
+
+fn match_weakly(one: &[u8], other: &[u8]) -> bool
+    ensures { result ≡ match_weakly one.now other.now }
+{
+    without_weak_mark(one) == without_weak_mark(other)
+}
+
+fn lists_tag(presented: &Fields, tag: &[u8]) -> bool
+    ensures { result ≡ lists_tag presented.now (Some tag.now) }
+{
+    presented
+        .members(b"if-none-match")
+        .any(|member| match_weakly(member, tag))
+}
+
+fn has_stored(presented: &Fields, fields: &Fields) -> bool
+    ensures { result ≡ has_stored presented.now fields.now }
+{
+    if is_wildcard(presented.only(b"if-none-match")) {
+        return true;
+    }
+    match tag(fields) {
+        Some(tag) => lists_tag(presented, tag),
+        None => false,
+    }
+}
+
+/// The date that the one line of that name is.
+fn only_date(name: &[u8], fields: &Fields) -> Option<u64>
+    ensures { result ≡ only_date name.now fields.now }
+{
+    read_date(fields.only(name)?)
+}
+
+fn is_not_later(modified: Option<u64>, since: Option<u64>) -> bool
+    ensures { result ≡ is_not_later modified since }
+{
+    match (modified, since) {
+        (Some(modified), Some(since)) => modified <= since,
+        (None, _) | (_, None) => false,
+    }
+}
+
+/// Whether the condition that a request with those fields presents holds for a stored response of
+/// that status and those fields: whether its If-None-Match lists the response's tag or is `*`, or,
+/// without an If-None-Match, whether the response isn't later than its If-Modified-Since. It never
+/// does for another status than 200.
+pub fn client_condition(presented: &Fields, status: u16, fields: &Fields) -> bool
+    ensures { result ≡ condition_holds presented.now status fields.now }
+{
+    if status != OK {
+        return false;
+    }
+    if presented.contains(b"if-none-match") {
+        return has_stored(presented, fields);
+    }
+    is_not_later(
+        only_date(b"last-modified", fields),
+        only_date(b"if-modified-since", presented),
+    )
+}
