@@ -2,6 +2,7 @@
 use Rattle.std.proofs.Common.{◌≡◌, ℕ, Bool, true, false, cond, not, ◌||◌, List, [], ◌∷◌, ◌++◌, refl, ap, ◌∙◌}
 use Rattle.std.specs.Prelude.{filter}
 use Rattle.std.specs.Str.{bytes_eq}
+use Rattle.std.proofs.lemmas.Slice.Eq.{bytes_eq-Decides}
 use Rattle.hc_fields.specs.declared.fields.Field.{Field}
 use Rattle.hc_fields.specs.Values.{values_of, has_name, without, updated}
 
@@ -34,3 +35,22 @@ values_absent name (x ∷ xs) absent = go (bytes_eq x.name name) (values_absent 
         → cond same (x.value ∷ values_of name xs) (values_of name xs) ≡ []
     go true none e = absurd (cc)
     go false none e = none e
+
+-- what has one of the newer names is gone from the older lines
+kept_older : (name : List ℕ) (older newer : List Field) → has_name name newer ≡ true → values_of name (filter (λ f. not (has_name f.name newer)) older) ≡ []
+kept_older name [] newer there = refl
+kept_older name (x ∷ xs) newer there = go (bytes_eq x.name name) (has_name x.name newer) refl refl (kept_older name xs newer there)
+  where
+    go : (same known : Bool) → bytes_eq x.name name ≡ same → has_name x.name newer ≡ known
+        → values_of name (filter (λ f. not (has_name f.name newer)) xs) ≡ []
+        → values_of name (cond (not known) (x ∷ filter (λ f. not (has_name f.name newer)) xs) (filter (λ f. not (has_name f.name newer)) xs)) ≡ []
+    go same true s k none = none
+    go false false s k none = rw s none
+    go true false s k none =
+        absurd (let e = ap (λ (n : List ℕ). has_name n newer) ((bytes_eq-Decides x.name name).0 s) in cc)
+
+-- after an update the values of a newer name are those of the newer lines
+pub values_updated : (name : List ℕ) (older newer : List Field) → has_name name newer ≡ true → values_of name (updated older newer) ≡ values_of name newer
+values_updated name older newer there =
+    values_append name (filter (λ f. not (has_name f.name newer)) older) newer
+    ∙ ap (λ (vs : List (List ℕ)). vs ++ values_of name newer) (kept_older name older newer there)

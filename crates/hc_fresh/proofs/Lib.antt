@@ -1,3 +1,3 @@
 mod DateLemmas
-mod DateLineLemmas
+pub mod DateLineLemmas
 mod LimitLemmas
