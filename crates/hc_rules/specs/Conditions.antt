@@ -48,4 +48,4 @@ abbrev pub condition_holds : List Field → ℕ → List Field → Bool
 condition_holds presented status fields =
     status == 200
     && (if has_name (codes "if-none-match") presented then has_stored presented fields
-        else is_not_later (only_date (codes "last-modified") fields) (only_date (codes "if-modified-since") presented))
+    else is_not_later (only_date (codes "last-modified") fields) (only_date (codes "if-modified-since") presented))

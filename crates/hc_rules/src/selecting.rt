@@ -53,11 +53,7 @@ fn agree_by_members(name: &[u8], forwarded: &Fields, presented: &Fields) -> bool
 }
 
 /// The lines of a name as one value, each trimmed.
-fn joined_lines(
-    alloc: Global,
-    name: &[u8],
-    fields: &Fields,
-) -> Result<Option<Octets>, AllocError>
+fn joined_lines(alloc: Global, name: &[u8], fields: &Fields) -> Result<Option<Octets>, AllocError>
     ensures { IfOk result (λ o. o ≡ joined_lines name.now fields.now) }
 {
     let mut values = fields.values(name);

@@ -71,7 +71,9 @@ pub fn tag(fields: &Fields) -> Option<&[u8]>
 pub fn last_modified(fields: &Fields) -> Option<&[u8]>
     ensures { option_copied result ≡ last_modified_of fields.now }
 {
-    fields.only(b"last-modified").filter(|value| has_permitted_length(value))
+    fields
+        .only(b"last-modified")
+        .filter(|value| has_permitted_length(value))
 }
 
 /// What a response is validated by: its entity-tag, else its Last-Modified.
