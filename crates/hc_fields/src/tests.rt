@@ -181,3 +181,122 @@ fn fields_are_left_out(rt: HostRuntime) -> Result<(), Fail> {
     }
     Ok(())
 }
+
+/// Fields with those lines.
+fn fields(
+    alloc: std::alloc::Global,
+    lines: &[(&[u8], &[u8])],
+) -> Result<Fields, std::alloc::AllocError> {
+    let mut fields = Fields::new(alloc);
+    for (name, value) in lines {
+        fields.push(field(alloc, name, value)?)?;
+    }
+    Ok(fields)
+}
+
+#[test]
+fn one_line_is_the_only_one(rt: HostRuntime) -> Result<(), Fail> {
+    let lines = [
+        (b"date".as_slice(), b"".as_slice()),
+        (b"etag".as_slice(), b"a".as_slice()),
+        (b"etag".as_slice(), b"a".as_slice()),
+        (b"vary".as_slice(), b"a, b".as_slice()),
+    ];
+    let fields = fields(rt.alloc(), &lines)?;
+    assert!(rt; fields.only(b"vary") == Some(b"a, b".as_slice()));
+    assert!(rt; fields.only(b"date") == Some(b"".as_slice()));
+    for name in [b"etag".as_slice(), b"age", b"", b"Vary"] {
+        assert!(rt; fields.only(name).is_none());
+    }
+    Ok(())
+}
+
+#[test]
+fn fields_are_updated(rt: HostRuntime) -> Result<(), Fail> {
+    let older = [
+        (b"date".as_slice(), b"1".as_slice()),
+        (b"etag".as_slice(), b"a".as_slice()),
+        (b"via".as_slice(), b"b".as_slice()),
+        (b"date".as_slice(), b"2".as_slice()),
+        (b"vary".as_slice(), b"".as_slice()),
+    ];
+    let newer = [
+        (b"x-new".as_slice(), b"c".as_slice()),
+        (b"date".as_slice(), b"3".as_slice()),
+        (b"etag".as_slice(), b"d".as_slice()),
+        (b"etag".as_slice(), b"e".as_slice()),
+    ];
+    let mut lines = fields(rt.alloc(), &older)?;
+    lines.update(fields(rt.alloc(), &newer)?)?;
+    let want = [
+        (b"via".as_slice(), b"b".as_slice()),
+        (b"vary".as_slice(), b"".as_slice()),
+        (b"x-new".as_slice(), b"c".as_slice()),
+        (b"date".as_slice(), b"3".as_slice()),
+        (b"etag".as_slice(), b"d".as_slice()),
+        (b"etag".as_slice(), b"e".as_slice()),
+    ];
+    assert_eq!(rt; lines.len(), 6);
+    for (line, (name, value)) in lines.lines().iter().zip(want) {
+        assert_eq!(rt; line.name.as_slice(), name);
+        assert_eq!(rt; line.value.as_slice(), value);
+    }
+    lines.update(Fields::new(lines.alloc()))?;
+    assert_eq!(rt; lines.len(), 6);
+    Ok(())
+}
+
+#[test]
+fn fields_are_copied(rt: HostRuntime) -> Result<(), Fail> {
+    let mut fields = fields(rt.alloc(), &[(b"vary", b"accept")])?;
+    let copy = match fields.lines().first() {
+        Some(line) => line.copy(fields.alloc())?,
+        None => return Err("no such line".into()),
+    };
+    assert_eq!(rt; copy.name.as_slice(), b"vary".as_slice());
+    assert_eq!(rt; copy.value.as_slice(), b"accept".as_slice());
+    fields.remove(b"vary");
+    assert_eq!(rt; copy.value.as_slice(), b"accept".as_slice());
+    Ok(())
+}
+
+#[test]
+fn tokens_are_told(rt: HostRuntime) {
+    for token in [b"a".as_slice(), b"x-One1", b"*", b"!#$%&'*+-.^_`|~09AZaz"] {
+        assert!(rt; is_token(token));
+    }
+    for text in [
+        b"".as_slice(),
+        b" ",
+        b"a b",
+        b"a ",
+        b"a\t",
+        b"a,b",
+        b"a;b",
+        b"a=b",
+        b"a/b",
+        b"\"a\"",
+        b"{}",
+        b"a\x7f",
+        b"\x80",
+        b"\xff",
+    ] {
+        assert!(rt; !is_token(text));
+    }
+}
+
+#[test]
+fn names_are_looked_for(rt: HostRuntime) {
+    let names = [b"accept".as_slice(), b"", b"vary"];
+    for (name, found) in [
+        (b"accept".as_slice(), true),
+        (b"vary", true),
+        (b"", true),
+        (b"Vary", false),
+        (b"var", false),
+        (b"varys", false),
+    ] {
+        assert_eq!(rt; is_among(&names, name), found);
+    }
+    assert!(rt; !is_among(&[], b""));
+}
