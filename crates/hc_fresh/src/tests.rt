@@ -291,3 +291,67 @@ fn ages_are_held_against_lifetimes(rt: HostRuntime) -> Result<(), Fail> {
     }
     Ok(())
 }
+
+/// The moment 1000.
+const DATE: &[u8] = b"Thu, 01 Jan 1970 00:16:40 GMT";
+
+#[test]
+fn one_readable_date_is_stated(rt: HostRuntime) -> Result<(), Fail> {
+    dated_fields_state_a_date();
+    let date = b"date".as_slice();
+    let via = (b"via".as_slice(), b"1.1 hcache".as_slice());
+    for (first, second, stated) in [
+        ((date, DATE), via, Some(1000)),
+        (
+            via,
+            (date, b"Thursday, 01-Jan-70 00:16:40 GMT".as_slice()),
+            Some(1000),
+        ),
+        ((date, b"Thu Jan  1 00:16:40 1970"), via, Some(1000)),
+        ((date, DATE), (date, DATE), None),
+        ((date, DATE), (date, b""), None),
+        ((date, b"0"), via, None),
+        ((date, b""), via, None),
+        (via, (b"expires", DATE), None),
+    ] {
+        let lines = fields(rt.alloc(), &[first, second])?;
+        assert_eq!(rt; date_stated(&lines), stated);
+        let with_date = dated(lines, 7)?;
+        assert_eq!(rt; date_stated(&with_date), Some(stated.unwrap_or(7)));
+    }
+    Ok(())
+}
+
+#[test]
+fn a_stated_date_is_kept(rt: HostRuntime) -> Result<(), Fail> {
+    let obsolete = b"Thursday, 01-Jan-70 00:16:40 GMT".as_slice();
+    let lines = fields(rt.alloc(), &[(b"date", obsolete), (b"age", b"5")])?;
+    let kept = dated(lines, 2000)?;
+    assert_eq!(rt; kept.len(), 2);
+    let first = kept.lines().first().ok_or("no such line")?;
+    assert_eq!(rt; first.name.as_slice(), b"date".as_slice());
+    assert_eq!(rt; first.value.as_slice(), obsolete);
+    assert!(rt; kept.only(b"age") == Some(b"5".as_slice()));
+    Ok(())
+}
+
+#[test]
+fn a_date_stands_behind_the_others(rt: HostRuntime) -> Result<(), Fail> {
+    let date = b"date".as_slice();
+    let age = (b"age".as_slice(), b"5".as_slice());
+    for (lines, len) in [
+        ([(date, DATE), age, (date, DATE)], 2),
+        ([(date, b"0"), age, (b"expires", b"0")], 3),
+        ([(b"expires", b"0"), age, (b"vary", b"*")], 4),
+    ] {
+        let with_date = dated(fields(rt.alloc(), &lines)?, 253_402_300_799)?;
+        assert_eq!(rt; with_date.len(), len);
+        let last = with_date.lines().last().ok_or("no such line")?;
+        assert_eq!(rt; last.name.as_slice(), date);
+        let text = b"Fri, 31 Dec 9999 23:59:59 GMT".as_slice();
+        assert_eq!(rt; last.value.as_slice(), text);
+        assert!(rt; with_date.only(date) == Some(text));
+        assert!(rt; with_date.only(b"age") == Some(b"5".as_slice()));
+    }
+    Ok(())
+}
