@@ -1,9 +1,9 @@
 -- Without a Vary line every request is selected.
-use Rattle.std.proofs.Common.{◌≡◌, ℕ, Bool, true, false, List, [], refl, sym, ap}
+use Rattle.std.proofs.Common.{◌≡◌, ℕ, true, false, List, sym, ap}
 use Rattle.std.specs.Prelude.{codes}
 use Rattle.std.specs.List.{list_all, flat_map}
 use Rattle.hc_fields.specs.declared.fields.Field.{Field}
-use Rattle.hc_fields.specs.Values.{values_of, has_name}
+use Rattle.hc_fields.specs.Values.{has_name}
 use Rattle.hc_fields.specs.Lists.{list_members}
 use Rattle.hc_fields.proofs.UpdateLemmas.{values_absent}
 use Rattle.hc_rules.specs.Selecting.{is_met, selects}
