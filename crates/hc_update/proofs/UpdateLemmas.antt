@@ -37,7 +37,7 @@ pub freshened_states : (state : Stored) (received : List Field) (request_time re
 freshened_states state received request_time response_time position small =
     let states = stored_states received request_time response_time small in
     ap (λ (vs : List (List ℕ)). option_and_then date_of (only vs))
-        (values_updated (codes "date") state.fields (stored_fields received response_time) (has_date (stored_fields received response_time) _ states))
+    (values_updated (codes "date") state.fields (stored_fields received response_time) (has_date (stored_fields received response_time) _ states))
     ∙ states
 
 -- ---- validators
@@ -70,10 +70,10 @@ never_agree stored forwarded received none =
     let tag = no_tag (tag_of stored) (last_modified_of stored) none in
     let date = no_date (tag_of stored) (last_modified_of stored) none in
     none_of (is_some (tag_of received)) (is_some (last_modified_of received)) (has_name (codes "if-none-match") forwarded) _ _ _ _
-        (same_as_none (tag_of received) (tag_of stored) tag)
-        (same_as_none (last_modified_of received) (last_modified_of stored) date)
-        (same_as_none (only_member_asked forwarded) (tag_of stored) tag)
-        (same_as_none (only_value (codes "if-modified-since") forwarded) (last_modified_of stored) date)
+    (same_as_none (tag_of received) (tag_of stored) tag)
+    (same_as_none (last_modified_of received) (last_modified_of stored) date)
+    (same_as_none (only_member_asked forwarded) (tag_of stored) tag)
+    (same_as_none (only_value (codes "if-modified-since") forwarded) (last_modified_of stored) date)
 
 all_but : (a b c d : Bool) → d ≡ false → (a && b && c && d) ≡ false
 all_but true true true d e = e
@@ -85,4 +85,4 @@ pub never_identified : (state : Stored) (forward : RequestHead) (response : Resp
     → identifies state forward response ≡ false
 never_identified state forward response none =
     all_but (may_freshen response) (asks_for_storable forward) (selects state.fields state.request.fields forward.fields) _
-        (never_agree state.fields forward.fields response.fields none)
+    (never_agree state.fields forward.fields response.fields none)

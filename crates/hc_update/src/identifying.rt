@@ -84,9 +84,5 @@ pub fn identifies(
     if !selects(alloc, &state.fields, &state.request.fields, &forward.fields)? {
         return Ok(false);
     }
-    Ok(validators_agree(
-        &state.fields,
-        &forward.fields,
-        &response.fields,
-    ))
+    Ok(validators_agree(&state.fields, &forward.fields, &response.fields))
 }

@@ -17,7 +17,7 @@ pub fn initial_fields_state_their_date()
     ensures { (forward : RequestHead) (request_time : ℕ) (response : Message ResponseHead) (response_time : ℕ)
         → response_time < 253_402_300_800
         → date_stated (initial_state forward request_time response response_time).fields
-            ≡ Some (initial_state forward request_time response response_time).times.date }
+        ≡ Some (initial_state forward request_time response response_time).times.date }
 {}
 
 /// So have they once it was freshened.
@@ -25,7 +25,7 @@ pub fn freshened_fields_state_their_date()
     ensures { (state : Stored) (received : List Field) (request_time response_time position : ℕ)
         → response_time < 253_402_300_800
         → date_stated (freshened state received request_time response_time position).fields
-            ≡ Some (freshened state received request_time response_time position).times.date }
+        ≡ Some (freshened state received request_time response_time position).times.date }
 {}
 
 /// A response without a validator is freshened by no 304.
