@@ -42,19 +42,17 @@ fn stored_of_many_fields(alloc: Global) -> Result<Stored, FrameFault> {
 #[test]
 fn a_response_is_stored(rt: HostRuntime) -> Result<(), Fail> {
     initial_fields_state_their_date();
-    let alloc = rt.alloc();
-    let state = stored_of_many_fields(alloc)?;
+    let state = stored_of_many_fields(rt.alloc())?;
+    let original = text(rt.alloc(), &state.request.fields)?;
+    let lines = text(rt.alloc(), &state.fields)?;
+    let asked = b"host: h\r\naccept: x\r\nconnection: close\r\n".as_slice();
+    assert_eq!(rt; original.as_slice(), asked);
     assert_eq!(rt; state.request.method.as_slice(), b"GET".as_slice());
     assert_eq!(rt; state.request.target.as_slice(), b"/a".as_slice());
-    assert_eq!(rt;
-        text(alloc, &state.request.fields)?.as_slice(),
-        b"host: h\r\naccept: x\r\nconnection: close\r\n".as_slice()
-    );
     assert_eq!(rt; state.status, 203);
-    assert_eq!(rt;
-        text(alloc, &state.fields)?.as_slice(),
-        b"via: 1.1 o\r\ndate: Thu, 01 Jan 1970 00:16:38 GMT\r\nx-b: 2\r\nx-c: 3\r\nx-b: 4\r\n".as_slice()
-    );
+    let kept =
+        b"via: 1.1 o\r\ndate: Thu, 01 Jan 1970 00:16:38 GMT\r\nx-b: 2\r\nx-c: 3\r\nx-b: 4\r\n".as_slice();
+    assert_eq!(rt; lines.as_slice(), kept);
     assert_eq!(rt; state.body.as_slice(), b"hello".as_slice());
     let times = Times {
         date: 998,
@@ -139,25 +137,34 @@ fn the_age_that_was_received_counts(rt: HostRuntime) -> Result<(), Fail> {
     Ok(())
 }
 
-#[test]
-fn a_304_freshens(rt: HostRuntime) -> Result<(), Fail> {
-    freshened_fields_state_their_date();
-    let alloc = rt.alloc();
+/// The lines of a 304.
+const RECEIVED: &[u8] = b"date: Thu, 01 Jan 1970 00:17:00 GMT\r\n\
+    cache-control: max-age=100\r\n\
+    etag: \"v1\"\r\n\
+    x-new: 1\r\n";
+
+/// A response that a 304 with those lines freshened, and whether it identified it.
+fn revalidated(alloc: Global) -> Result<(Stored, bool), FrameFault> {
     let mut state = stored(
         alloc,
         b"accept: x\r\n",
         b"date: Thu, 01 Jan 1970 00:16:40 GMT\r\ncache-control: max-age=10\r\netag: \"v1\"\r\n",
     )?;
-    assert_eq!(rt; lifetime(&state.fields, 1000), 10);
-    assert_eq!(rt; current_age(state.times, 1020), 20);
     let asked = b"if-none-match: \"v1\"\r\n".as_slice();
-    let received =
-        b"date: Thu, 01 Jan 1970 00:17:00 GMT\r\ncache-control: max-age=100\r\netag: \"v1\"\r\nx-new: 1\r\n".as_slice();
-    assert!(rt; is_identified(alloc, &state, b"GET", asked, b"304", received)?);
-    freshen(alloc, &mut state, received, 1020, 1020)?;
-    assert_eq!(rt; text(alloc, &state.fields)?.as_slice(), received);
-    let original = b"host: h\r\naccept: x\r\n".as_slice();
-    assert_eq!(rt; text(alloc, &state.request.fields)?.as_slice(), original);
+    let is_it = is_identified(alloc, &state, b"GET", asked, b"304", RECEIVED)?;
+    freshen(alloc, &mut state, RECEIVED, 1020, 1020)?;
+    Ok((state, is_it))
+}
+
+#[test]
+fn a_304_freshens(rt: HostRuntime) -> Result<(), Fail> {
+    freshened_fields_state_their_date();
+    let (state, is_it) = revalidated(rt.alloc())?;
+    assert!(rt; is_it);
+    let lines = text(rt.alloc(), &state.fields)?;
+    assert_eq!(rt; lines.as_slice(), RECEIVED);
+    let original = text(rt.alloc(), &state.request.fields)?;
+    assert_eq!(rt; original.as_slice(), b"host: h\r\naccept: x\r\n".as_slice());
     assert_eq!(rt; state.status, 200);
     assert_eq!(rt; state.body.as_slice(), b"hello".as_slice());
     assert_eq!(rt; state.validated_at, Some(6));
@@ -258,23 +265,35 @@ fn times_are_those_of_the_304(rt: HostRuntime) -> Result<(), Fail> {
     Ok(())
 }
 
-#[test]
-fn a_304_makes_valid_again(rt: HostRuntime) -> Result<(), Fail> {
-    let alloc = rt.alloc();
+/// Whether a 304 identifies an invalid response, and that response once it was freshened.
+fn valid_again(alloc: Global) -> Result<(bool, Stored), FrameFault> {
     let tag = b"etag: \"v1\"\r\n".as_slice();
     let mut state = stored(alloc, b"", tag)?;
-    let before = state.times;
+    state.invalidate();
+    let is_it = is_identified(alloc, &state, b"GET", b"", b"304", tag)?;
+    freshen(alloc, &mut state, tag, 1020, 1020)?;
+    Ok((is_it, state))
+}
+
+#[test]
+fn a_304_makes_valid_again(rt: HostRuntime) -> Result<(), Fail> {
+    let (is_it, state) = valid_again(rt.alloc())?;
+    assert!(rt; is_it);
+    assert!(rt; !state.invalid);
+    assert_eq!(rt; state.validated_at, Some(6));
+    Ok(())
+}
+
+#[test]
+fn responses_are_invalidated(rt: HostRuntime) -> Result<(), Fail> {
+    let mut state = stored(rt.alloc(), b"", b"etag: \"v1\"\r\n")?;
+    let times = state.times;
     state.invalidate();
     assert!(rt; state.invalid);
     assert_eq!(rt; state.validated_at, None);
-    assert_eq!(rt; state.times, before);
-    assert!(rt; is_identified(alloc, &state, b"GET", b"", b"304", tag)?);
-    freshen(alloc, &mut state, tag, 1020, 1020)?;
-    assert!(rt; !state.invalid);
-    assert_eq!(rt; state.validated_at, Some(6));
-    state.invalidate();
-    assert!(rt; state.invalid);
-    assert_eq!(rt; state.validated_at, Some(6));
+    assert_eq!(rt; state.times, times);
+    assert_eq!(rt; state.status, 200);
+    assert!(rt; state.fields.contains(b"etag"));
     Ok(())
 }
 
