@@ -1,14 +1,14 @@
 -- What a stored response's fields say of its date, and that one without a validator is never identified.
-use Rattle.std.proofs.Common.{◌≡◌, ℕ, ◌<◌, Bool, true, false, cond, ◌||◌, ◌&&◌, List, [], Option, Some, None, refl, sym, ap, ◌∙◌}
-use Rattle.std.specs.Prelude.{option_and_then, unwrap_or, codes}
+use Rattle.std.proofs.Common.{◌≡◌, ℕ, ◌<◌, Bool, true, false, cond, ◌||◌, ◌&&◌, List, Option, Some, None, refl, ap, ◌∙◌}
+use Rattle.std.specs.Prelude.{option_and_then, codes}
 use Rattle.std.specs.Option.{is_some}
 use Rattle.hc_fields.specs.declared.fields.Field.{Field}
-use Rattle.hc_fields.specs.Values.{values_of, has_name, only, only_value, updated}
+use Rattle.hc_fields.specs.Values.{has_name, only, only_value}
 use Rattle.hc_fields.proofs.UpdateLemmas.{values_absent, values_updated}
 use Rattle.hc_head.specs.declared.head.RequestHead.{RequestHead}
 use Rattle.hc_head.specs.declared.head.ResponseHead.{ResponseHead}
 use Rattle.hc_fresh.specs.Dates.{date_of}
-use Rattle.hc_fresh.specs.DateLines.{date_stated, dated}
+use Rattle.hc_fresh.specs.DateLines.{date_stated}
 use Rattle.hc_fresh.proofs.DateLineLemmas.{dated_states}
 use Rattle.hc_rules.specs.Storing.{asks_for_storable}
 use Rattle.hc_rules.specs.Selecting.{selects}
