@@ -14,37 +14,64 @@ x 1 1001 0
 
 ";
 
-#[test]
-fn records_are_read_in_any_pieces(rt: HostRuntime) {
-    let mut reader = RecordReader::new(rt.alloc());
-    let mut kinds = [0usize; 3];
-    for octet in RECORDS {
-        assert_eq!(rt; reader.feed(&[*octet]), Ok(()));
-        let found = reader.advance();
-        if found == Ok(true) {
-            match (reader.current(), reader.item()) {
-                (Record::ClientRequest { .. }, OwnedItem::ClientRequest { request, .. }) => {
-                    assert_eq!(rt; request.head.method.as_slice(), b"GET".as_slice());
-                    kinds[0] = 1;
-                }
-                (Record::OriginRequest { .. }, OwnedItem::OriginRequest { target, .. }) => {
-                    assert_eq!(rt; target.path.as_slice(), b"/a".as_slice());
-                    kinds[1] = 1;
-                }
-                (Record::OriginFailure { .. }, OwnedItem::OriginFailure { moment, .. }) => {
-                    assert_eq!(rt; *moment, 1001);
-                    kinds[2] = 1;
-                }
-                _ => {}
-            }
-        } else {
-            assert_eq!(rt; found, Ok(false));
-        }
+/// The letter that a record of that meaning has.
+fn item_letter(item: &OwnedItem) -> u8 {
+    match item {
+        OwnedItem::ClientRequest { .. } => b'q',
+        OwnedItem::OriginRequest { .. } => b'f',
+        OwnedItem::OriginResponse { .. } => b'r',
+        OwnedItem::OriginFailure { .. } => b'x',
+        OwnedItem::ClientReply { .. } => b'a',
     }
-    assert_eq!(rt; kinds, [1, 1, 1]);
+}
+
+/// The letter of a record in upper case.
+fn record_letter(record: &Record) -> u8 {
+    match record {
+        Record::ClientRequest { .. } => b'Q',
+        Record::OriginRequest { .. } => b'F',
+        Record::OriginResponse { .. } => b'R',
+        Record::OriginFailure { .. } => b'X',
+        Record::ClientReply { .. } => b'A',
+    }
+}
+
+/// Feeds a piece that ends one record at most, and adds the letters of what was read.
+fn read_piece(
+    reader: &mut RecordReader,
+    piece: &[u8],
+    letters: &mut Vec<u8>,
+) -> Result<(), RecordFault> {
+    reader.feed(piece)?;
+    if reader.advance()? {
+        letters.push(record_letter(reader.current()))?;
+        letters.push(item_letter(reader.item()))?;
+    }
+    Ok(())
+}
+
+/// Feeds octet by octet.
+fn read_octets(
+    reader: &mut RecordReader,
+    octets: &[u8],
+    letters: &mut Vec<u8>,
+) -> Result<(), RecordFault> {
+    for octet in octets {
+        read_piece(reader, &[*octet], letters)?;
+    }
+    Ok(())
+}
+
+#[test]
+fn records_are_read_in_any_pieces(rt: HostRuntime) -> Result<(), Fail> {
+    let mut reader = RecordReader::new(rt.alloc());
+    let mut letters = Vec::new(rt.alloc());
+    read_octets(&mut reader, RECORDS, &mut letters)?;
+    assert_eq!(rt; letters.as_slice(), b"QqFfXx".as_slice());
     assert_eq!(rt; reader.records(), 3);
     assert_eq!(rt; reader.position(), 4);
     assert_eq!(rt; reader.finish(), Ok(()));
+    Ok(())
 }
 
 /// Adds a record: its line up to the length, and its message.
@@ -56,21 +83,65 @@ fn add(alloc: Global, octets: &mut Vec<u8>, line: &str, message: &[u8]) -> Resul
     octets.extend_from_slice(b"\n")
 }
 
-/// The body of a response to a request of that method, as it is recorded.
-fn body_of(alloc: Global, method: &str, response: &[u8]) -> Result<Octets, RecordFault> {
+/// A transcript of a request of that method to the origin, and of what it answered.
+fn answered(alloc: Global, method: &str, response: &[u8]) -> Result<Vec<u8>, AllocError> {
     let request = format!(in alloc; "{method} /a HTTP/1.1\r\nhost: h\r\n\r\n")?;
     let mut octets = Vec::from_slice(alloc, b"HCT1\n")?;
     add(alloc, &mut octets, "f 1 1000", request.as_bytes())?;
     add(alloc, &mut octets, "r 1 1001", response)?;
-    let mut reader = RecordReader::new(alloc);
-    reader.feed(&octets)?;
+    Ok(octets)
+}
+
+/// The body of an answer of the origin.
+fn item_body(alloc: Global, item: &OwnedItem) -> Result<Octets, RecordFault> {
+    match item {
+        OwnedItem::OriginResponse { response, .. } => Ok(response.body.copy(alloc)?),
+        _ => Err(RecordFault::Torn),
+    }
+}
+
+/// The body of the second record, an answer of the origin.
+fn second_body(
+    alloc: Global,
+    reader: &mut RecordReader,
+    octets: &[u8],
+) -> Result<Octets, RecordFault> {
+    reader.feed(octets)?;
     reader.advance()?;
     if reader.advance()? {
-        if let OwnedItem::OriginResponse { response, .. } = reader.item() {
-            return Ok(response.body.copy(alloc)?);
-        }
+        item_body(alloc, reader.item())
+    } else {
+        Err(RecordFault::Torn)
     }
-    Err(RecordFault::Torn)
+}
+
+/// The body of a response to a request of that method, as it is recorded.
+fn body_of(alloc: Global, method: &str, response: &[u8]) -> Result<Octets, RecordFault> {
+    let octets = answered(alloc, method, response)?;
+    let mut reader = RecordReader::new(alloc);
+    second_body(alloc, &mut reader, &octets)
+}
+
+/// The target of what a client asked.
+fn item_target(alloc: Global, item: &OwnedItem) -> Result<Target, RecordFault> {
+    match item {
+        OwnedItem::ClientRequest { target, .. } => Ok(target.copy(alloc)?),
+        _ => Err(RecordFault::Torn),
+    }
+}
+
+/// The target of the first record, a request of a client.
+fn first_target(
+    alloc: Global,
+    reader: &mut RecordReader,
+    octets: &[u8],
+) -> Result<Target, RecordFault> {
+    reader.feed(octets)?;
+    if reader.advance()? {
+        item_target(alloc, reader.item())
+    } else {
+        Err(RecordFault::Torn)
+    }
 }
 
 /// The target of a request, as it is recorded.
@@ -78,13 +149,7 @@ fn target_of(alloc: Global, request: &[u8]) -> Result<Target, RecordFault> {
     let mut octets = Vec::from_slice(alloc, b"HCT1\n")?;
     add(alloc, &mut octets, "q 1 1000", request)?;
     let mut reader = RecordReader::new(alloc);
-    reader.feed(&octets)?;
-    if reader.advance()? {
-        if let OwnedItem::ClientRequest { target, .. } = reader.item() {
-            return Ok(target.copy(alloc)?);
-        }
-    }
-    Err(RecordFault::Torn)
+    first_target(alloc, &mut reader, &octets)
 }
 
 #[test]
