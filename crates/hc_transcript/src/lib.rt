@@ -13,6 +13,7 @@ mod open_numbers;
 mod reader;
 mod reading;
 mod record;
+mod writing;
 
 pub use fault::RecordFault;
 pub use item::OwnedItem;
@@ -20,6 +21,7 @@ pub use laws::one_item;
 pub use line::{Kind, Line};
 pub use reader::RecordReader;
 pub use record::Record;
+pub use writing::{OPENING, write_record};
 
 #[cfg(test)]
 mod tests;

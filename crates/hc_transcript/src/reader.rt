@@ -12,10 +12,8 @@ use crate::item::OwnedItem;
 use crate::open_numbers::Standing;
 use crate::reading::{item_of, record_of};
 use crate::record::Record;
+use crate::writing::OPENING;
 use std::alloc::Global;
-
-/// What stands at the front of a transcript.
-const OPENING: &[u8] = b"HCT1\n";
 
 /// A record that was read, and what it means.
 #[derive(Debug, Drop)]

@@ -62,15 +62,38 @@ fn read_octets(
     Ok(())
 }
 
+/// What is told of a transcript: the letters of its records, how many there are, and the position
+/// behind them.
+#[derive(Debug, Drop)]
+struct Told {
+    letters: Vec<u8>,
+    records: u64,
+    position: u64,
+}
+
+/// Feeds a whole transcript to a new reader, octet by octet.
+fn read_all(alloc: Global, reader: &mut RecordReader, octets: &[u8]) -> Result<Told, RecordFault> {
+    let mut letters = Vec::new(alloc);
+    read_octets(reader, octets, &mut letters)?;
+    reader.finish()?;
+    Ok(Told {
+        letters,
+        records: reader.records(),
+        position: reader.position(),
+    })
+}
+
+fn tell(alloc: Global, octets: &[u8]) -> Result<Told, RecordFault> {
+    let mut reader = RecordReader::new(alloc);
+    read_all(alloc, &mut reader, octets)
+}
+
 #[test]
 fn records_are_read_in_any_pieces(rt: HostRuntime) -> Result<(), Fail> {
-    let mut reader = RecordReader::new(rt.alloc());
-    let mut letters = Vec::new(rt.alloc());
-    read_octets(&mut reader, RECORDS, &mut letters)?;
-    assert_eq!(rt; letters.as_slice(), b"QqFfXx".as_slice());
-    assert_eq!(rt; reader.records(), 3);
-    assert_eq!(rt; reader.position(), 4);
-    assert_eq!(rt; reader.finish(), Ok(()));
+    let told = tell(rt.alloc(), RECORDS)?;
+    assert_eq!(rt; told.letters.as_slice(), b"QqFfXx".as_slice());
+    assert_eq!(rt; told.records, 3);
+    assert_eq!(rt; told.position, 4);
     Ok(())
 }
 
@@ -291,4 +314,116 @@ fn faults_are_told(rt: HostRuntime) {
         assert_eq!(rt; fault.number(), number);
         assert_eq!(rt; fault.name(), name);
     }
+}
+
+/// The text that is written for a record.
+fn written(
+    alloc: Global,
+    kind: Kind,
+    number: u64,
+    moment: u64,
+    message: &[u8],
+) -> Result<Octets, AllocError> {
+    let message = Octets::from_slice(alloc, message)?;
+    let record = match kind {
+        Kind::ClientRequest => Record::ClientRequest {
+            exchange: number,
+            moment,
+            message,
+        },
+        Kind::OriginRequest => Record::OriginRequest {
+            forward: number,
+            moment,
+            message,
+        },
+        Kind::OriginResponse => Record::OriginResponse {
+            forward: number,
+            moment,
+            message,
+        },
+        Kind::OriginFailure => Record::OriginFailure {
+            forward: number,
+            moment,
+        },
+        Kind::ClientReply => Record::ClientReply {
+            exchange: number,
+            moment,
+            message,
+        },
+    };
+    write_record(alloc, &record)
+}
+
+#[test]
+fn records_of_each_kind_are_written(rt: HostRuntime) -> Result<(), Fail> {
+    for (kind, number, moment, message, want) in [
+        (
+            Kind::ClientRequest,
+            1,
+            1000,
+            b"GET /a HTTP/1.1\r\nhost: h\r\n\r\n".as_slice(),
+            b"q 1 1000 28\nGET /a HTTP/1.1\r\nhost: h\r\n\r\n\n".as_slice(),
+        ),
+        (
+            Kind::OriginRequest,
+            20,
+            0,
+            b"".as_slice(),
+            b"f 20 0 0\n\n".as_slice(),
+        ),
+        (
+            Kind::OriginResponse,
+            999_999_999_999,
+            253_402_300_799,
+            b"\n\n".as_slice(),
+            b"r 999999999999 253402300799 2\n\n\n\n".as_slice(),
+        ),
+        (
+            Kind::OriginFailure,
+            7,
+            1001,
+            b"".as_slice(),
+            b"x 7 1001 0\n\n".as_slice(),
+        ),
+        (
+            Kind::ClientReply,
+            2,
+            1059,
+            b"hello, world".as_slice(),
+            b"a 2 1059 12\nhello, world\n".as_slice(),
+        ),
+    ] {
+        let text = written(rt.alloc(), kind, number, moment, message)?;
+        assert_eq!(rt; text.as_slice(), want);
+    }
+    Ok(())
+}
+
+/// A transcript of one exchange that the origin answered, and a forward without an answer.
+fn six_records(alloc: Global) -> Result<Vec<u8>, AllocError> {
+    let request = b"GET /a HTTP/1.1\r\nhost: h\r\n\r\n".as_slice();
+    let response = b"HTTP/1.1 200 \r\ncontent-length: 5\r\n\r\nhello".as_slice();
+    let mut octets = Vec::from_slice(alloc, OPENING)?;
+    for (kind, number, moment, message) in [
+        (Kind::ClientRequest, 1, 1000, request),
+        (Kind::OriginRequest, 1, 1000, request),
+        (Kind::OriginResponse, 1, 1001, response),
+        (Kind::ClientReply, 1, 1001, response),
+        (Kind::OriginRequest, 2, 1059, request),
+        (Kind::OriginFailure, 2, 1060, b"".as_slice()),
+    ] {
+        let text = written(alloc, kind, number, moment, message)?;
+        octets.extend_from_slice(text.as_slice())?;
+    }
+    Ok(octets)
+}
+
+#[test]
+fn written_records_are_read_back(rt: HostRuntime) -> Result<(), Fail> {
+    let octets = six_records(rt.alloc())?;
+    let told = tell(rt.alloc(), &octets)?;
+    assert_eq!(rt; told.letters.as_slice(), b"QqFfRrAaFfXx".as_slice());
+    assert_eq!(rt; told.records, 6);
+    assert_eq!(rt; told.position, 7);
+    Ok(())
 }
