@@ -8,3 +8,5 @@ pub mod CheckLemmas
 pub mod FrameLemmas
 pub mod ReaderLemmas
 pub mod ItemLemmas
+pub mod FrontLemmas
+pub mod OnceLemmas

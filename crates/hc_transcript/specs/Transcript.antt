@@ -70,3 +70,11 @@ pub record Splits (octets : List ℕ) (records : List Record) (h : List Item) (r
 -- the octets are a transcript: the opening and the records, which are read as the items
 abbrev pub IsTranscript : List ℕ → List Record → List Item → Type 0
 IsTranscript octets records h = Splits octets records h []
+
+-- a reading of octets goes on from another one by more records
+pub record GoesOn (records : List Record) (h : List Item) (rest : List ℕ) (others : List Record) (g : List Item) (behind : List ℕ) : Type 0 where
+  pub more : List Record
+  pub items : List Item
+  pub records_are : others ≡ more ++ records
+  pub items_are : g ≡ items ++ h
+  pub rest_is : rest ≡ records_text more ++ behind

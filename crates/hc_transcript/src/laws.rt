@@ -1,10 +1,16 @@
 //! Laws of the definitions.
 
-ghost use Rattle.std.specs.Prelude.{◌≡◌, ℕ, Bool, List};
+ghost use Rattle.std.specs.Prelude.{◌≡◌, ◌≢◌, ℕ, ◌⊎◌, Bool, List, [], ◌∷◌, ◌++◌};
+ghost use Rattle.hc_transcript.specs.declared.fault.RecordFault.{RecordFault};
 ghost use Rattle.hc_transcript.specs.declared.line.Kind.{Kind};
+ghost use Rattle.hc_transcript.specs.declared.record.Record.{Record};
+ghost use Rattle.hc_transcript.specs.Records.{record_text};
 ghost use Rattle.hc_transcript.specs.Items.{Item};
-ghost use Rattle.hc_transcript.specs.Transcript.{IsItemOf};
+ghost use Rattle.hc_transcript.specs.Checks.{line_fault};
+ghost use Rattle.hc_transcript.specs.Transcript.{IsItemOf, Follows, Splits, GoesOn, IsTranscript};
 ghost use Rattle.hc_transcript.specs.MessageFaults.{IsNoMessage};
+ghost use Rattle.hc_transcript.specs.Frames.{IsUnfinished};
+ghost use Rattle.hc_transcript.specs.Reader.{HasNoOpening, IsUnfinishedOpening, BreaksAfter};
 
 /// A record's octets are read as one item at most, and as none where they are no message of its
 /// kind.
@@ -14,4 +20,64 @@ pub fn one_item()
         → item ≡ other }
     ensures none { (kind : Kind) (number moment : ℕ) (to_head : Bool) (octets : List ℕ) (item : Item)
         → IsNoMessage kind to_head octets → ¬ (IsItemOf kind number moment to_head octets item) }
+{}
+
+/// A transcript, with the text of a record behind it that may follow, is a transcript of one record
+/// more.
+pub fn written_record_read_back()
+    ensures { (octets : List ℕ) (records : List Record) (h : List Item) (r : Record) (item : Item)
+        → IsTranscript octets records h → Follows h r item
+        → IsTranscript (octets ++ record_text r) (r ∷ records) (item ∷ h) }
+{}
+
+/// Octets are a transcript of one list of records at most, read as one list of items; and of two
+/// readings of a front of them one goes on from the other.
+pub fn one_transcript()
+    ensures one { (octets : List ℕ) (records others : List Record) (h g : List Item)
+        → IsTranscript octets records h → IsTranscript octets others g → (records ≡ others) × (h ≡ g) }
+    ensures front { (octets : List ℕ) (records others : List Record) (h g : List Item) (rest behind : List ℕ)
+        → Splits octets records h rest → Splits octets others g behind
+        → GoesOn records h rest others g behind ⊎ GoesOn others g behind records h rest }
+{}
+
+/// Octets that break stay broken, whatever follows.
+pub fn broken_for_ever()
+    ensures behind { (octets more : List ℕ) (h : List Item) (f : RecordFault)
+        → BreaksAfter octets h f → BreaksAfter (octets ++ more) h f }
+    ensures opening { (octets more : List ℕ) → HasNoOpening octets → HasNoOpening (octets ++ more) }
+{}
+
+/// Octets break in one place at most, and by one fault; no record is read behind it, and they are no
+/// transcript.
+pub fn breaks_once()
+    ensures one { (octets : List ℕ) (h g : List Item) (f e : RecordFault)
+        → BreaksAfter octets h f → BreaksAfter octets g e → (h ≡ g) × (f ≡ e) }
+    ensures last { (octets : List ℕ) (h : List Item) (f : RecordFault) (records : List Record) (g : List Item) (rest : List ℕ)
+        → BreaksAfter octets h f → Splits octets records g rest → (items : List Item) × (h ≡ items ++ g) }
+    ensures whole { (octets : List ℕ) (h : List Item) (f : RecordFault) (records : List Record) (g : List Item)
+        → BreaksAfter octets h f → ¬ (IsTranscript octets records g) }
+    // Behind octets that don't begin with the opening no record is read, and they can't go on to it.
+    ensures opening { (octets : List ℕ) (records : List Record) (h : List Item) (rest : List ℕ)
+        → HasNoOpening octets → ¬ (Splits octets records h rest) }
+    ensures hopeless { (octets : List ℕ) → HasNoOpening octets → ¬ (IsUnfinishedOpening octets) }
+{}
+
+/// Octets end inside a record in one place at most; no record is read behind it, and they are no
+/// transcript and don't break.
+pub fn unfinished_once()
+    ensures one { (octets : List ℕ) (records others : List Record) (h g : List Item) (rest behind : List ℕ)
+        → Splits octets records h rest → IsUnfinished (line_fault h) rest
+        → Splits octets others g behind → IsUnfinished (line_fault g) behind
+        → (records ≡ others) × (h ≡ g) × (rest ≡ behind) }
+    ensures last { (octets : List ℕ) (records others : List Record) (h g : List Item) (rest behind : List ℕ)
+        → Splits octets records h rest → IsUnfinished (line_fault h) rest
+        → Splits octets others g behind → (items : List Item) × (h ≡ items ++ g) }
+    ensures whole { (octets : List ℕ) (records others : List Record) (h g : List Item) (rest : List ℕ)
+        → Splits octets records h rest → rest ≢ [] → IsUnfinished (line_fault h) rest
+        → ¬ (IsTranscript octets others g) }
+    ensures unbroken { (octets : List ℕ) (records : List Record) (h g : List Item) (rest : List ℕ) (f : RecordFault)
+        → Splits octets records h rest → IsUnfinished (line_fault h) rest → ¬ (BreaksAfter octets g f) }
+    // Before the opening is whole no record is read.
+    ensures opening { (octets : List ℕ) (records : List Record) (h : List Item) (rest : List ℕ)
+        → IsUnfinishedOpening octets → ¬ (Splits octets records h rest) }
 {}

@@ -17,7 +17,10 @@ mod writing;
 
 pub use fault::RecordFault;
 pub use item::OwnedItem;
-pub use laws::one_item;
+pub use laws::{
+    breaks_once, broken_for_ever, one_item, one_transcript, unfinished_once,
+    written_record_read_back,
+};
 pub use line::{Kind, Line};
 pub use reader::RecordReader;
 pub use record::Record;

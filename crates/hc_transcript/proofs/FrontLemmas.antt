@@ -1,0 +1,340 @@
+-- What stands at the front of octets: one record at most, and no fault where a record is.
+use Rattle.std.proofs.Common.{◌≡◌, ◌≢◌, ℕ, suc, ◌+◌, ◌^◌, ◌<◌, ◌≤◌, List, [], ◌∷◌, ◌++◌, length, get_or, take, drop, Option, Some, None, is_some, refl, sym, ap, subst, ◌∙◌, arith, add-one, inl, inr, append_assoc, length-append}
+use Rattle.std.specs.List.{list_any}
+use Rattle.std.proofs.Math.Seq.{take-append_seam, drop-append_seam, get_or-append_seam}
+use Rattle.std.proofs.lemmas.List.{take-append-le, get_or_append_left}
+use Rattle.hc_transcript.specs.declared.fault.RecordFault.{RecordFault}
+use Rattle.hc_transcript.specs.declared.fault.RecordFault.TheVariants as fault
+use Rattle.hc_transcript.specs.declared.line.Line.{Line}
+use Rattle.hc_transcript.specs.declared.record.Record.{Record}
+use Rattle.hc_transcript.specs.declared.record.Record.TheVariants.{ClientRequest, OriginRequest, OriginResponse, OriginFailure, ClientReply}
+use Rattle.hc_transcript.specs.Records.{letter, line_text, line_of, message_of, record_text}
+use Rattle.hc_transcript.specs.Lines.{IsLineText, BeginsLine, HasLongLine, is_feed}
+use Rattle.hc_transcript.specs.Items.{Item}
+use Rattle.hc_transcript.specs.History.{exchange_of, forward_of, last_moment, last_exchange, last_forward}
+use Rattle.hc_transcript.specs.Checks.{line_fault}
+use Rattle.hc_transcript.specs.Transcript.{answers_head, IsReadAs, Follows}
+use Rattle.hc_transcript.specs.MessageFaults.{IsNoMessage}
+use Rattle.hc_transcript.specs.Frames.{HasLine, IsFramed, IsUnfinishedLine, IsUnfinishedRecord, IsUnfinished, HasNoLine, FailsCheck, HasWrongEnd, Breaks}
+use Rattle.hc_transcript.specs.Reader.{HasNoMessage, BreaksRecord}
+use Rattle.hc_transcript.proofs.MarkLemmas.{first_mark_unique}
+use Rattle.hc_transcript.proofs.FirstLineLemmas.{no_line_without_feed}
+use Rattle.hc_transcript.proofs.LineLaws.{IsLineText_unique, IsLineText_line_text, line_text_plain, line_text_short, BeginsLine-append}
+use Rattle.hc_transcript.proofs.CheckLemmas.{in_order, number_fits}
+use Rattle.hc_transcript.proofs.FrameLemmas.{octet_behind}
+use Rattle.hc_transcript.proofs.ItemLemmas.{one_item, no_item}
+
+-- ---- the line
+
+-- the numbers of a line that passes the checks
+record Fits (l : Line) : Type 0 where
+  pub number : l.number ≤ 999999999999
+  pub moment : l.moment ≤ 253402300799
+  pub size : l.size ≤ 16908288
+
+fits : (h : List Item) (l : Line) → line_fault h l ≡ None → Fits l
+fits h l none =
+    let o = in_order l (last_moment h) (last_exchange h) (last_forward h) (is_some (exchange_of l.number h)) (is_some (forward_of l.number h)) none in
+    record {
+      number = number_fits l (last_moment h) (last_exchange h) (last_forward h) (is_some (exchange_of l.number h)) (is_some (forward_of l.number h)) o;
+      moment = o.moment_fits;
+      size = o.size_fits;
+    }
+
+-- the line of a record begins the octets
+begun : (octets : List ℕ) (l : Line) (after : List ℕ) → Fits l → octets ≡ line_text l ++ 10 ∷ after → HasLine octets (line_text l) l
+begun octets l after f e =
+    let number : l.number < 10 ^ 18 = omega (arith, f.number) in
+    let moment : l.moment < 10 ^ 18 = omega (arith, f.moment) in
+    let size : l.size < 10 ^ 18 = omega (arith, f.size) in
+    record {
+      begins = record { after = after; octets_are = e; no_feed = line_text_plain l number moment size; short = line_text_short l f.number f.moment f.size };
+      is = IsLineText_line_text l number moment size;
+    }
+
+framed_line : (h : List Item) (octets : List ℕ) (l : Line) (message : List ℕ) (len : ℕ) → IsFramed (line_fault h) octets l message len → HasLine octets (line_text l) l
+framed_line h octets l message len framed = begun octets l (message ++ 10 ∷ framed.rest) (fits h l framed.keeps) framed.octets_are
+
+-- one text begins the octets as their first line, and it is one line
+one_text : (octets text other : List ℕ) → BeginsLine octets text → BeginsLine octets other → text ≡ other
+one_text octets text other b c = (first_mark_unique is_feed text other b.after c.after 10 10 refl refl b.no_feed c.no_feed (sym b.octets_are ∙ c.octets_are)).0
+
+one_line : (octets text other : List ℕ) (l k : Line) → HasLine octets text l → HasLine octets other k → (text ≡ other) × (l ≡ k)
+one_line octets text other l k a b =
+    let same : text ≡ other = one_text octets text other a.begins b.begins in
+    (same, IsLineText_unique text l k a.is (subst (λ (t : List ℕ). IsLineText t k) (sym same) b.is))
+
+begins_some : (octets text : List ℕ) → BeginsLine octets text → 0 < length octets
+begins_some octets text b = omega (arith, ap length b.octets_are, length-append text (10 ∷ b.after))
+
+-- ---- one record
+
+-- two readings of the same octets as a line, so many octets, and a line feed
+one_front : (h : List Item) (l k : Line) (m n rest tail : List ℕ) → line_fault h l ≡ None → line_fault h k ≡ None → length m ≡ l.size → length n ≡ k.size
+    → line_text l ++ 10 ∷ (m ++ 10 ∷ rest) ≡ line_text k ++ 10 ∷ (n ++ 10 ∷ tail) → (l ≡ k) × (m ≡ n) × (rest ≡ tail)
+one_front h l k m n rest tail keeps too m-is n-is e =
+    let octets = line_text l ++ 10 ∷ (m ++ 10 ∷ rest) in
+    let a : HasLine octets (line_text l) l = begun octets l (m ++ 10 ∷ rest) (fits h l keeps) refl in
+    let b : HasLine octets (line_text k) k = begun octets k (n ++ 10 ∷ tail) (fits h k too) e in
+    let line : l ≡ k = (one_line octets (line_text l) (line_text k) l k a b).1 in
+    let behind : m ++ 10 ∷ rest ≡ n ++ 10 ∷ tail =
+    (first_mark_unique is_feed (line_text l) (line_text k) (m ++ 10 ∷ rest) (n ++ 10 ∷ tail) 10 10 refl refl a.begins.no_feed b.begins.no_feed e).1 in
+    let long : length m ≡ length n = m-is ∙ ap (λ (j : Line). j.size) line ∙ sym n-is in
+    let message : m ≡ n = sym (take-append_seam m (10 ∷ rest)) ∙ (λ i. take (long i) (behind i)) ∙ take-append_seam n (10 ∷ tail) in
+    let after : 10 ∷ rest ≡ 10 ∷ tail = sym (drop-append_seam m (10 ∷ rest)) ∙ (λ i. drop (long i) (behind i)) ∙ drop-append_seam n (10 ∷ tail) in
+    (line, message, ap (drop 1) after)
+
+message_size : (r : Record) → length (message_of r) ≡ (line_of r).size
+message_size (ClientRequest exchange moment message) = refl
+message_size (OriginRequest forward moment message) = refl
+message_size (OriginResponse forward moment message) = refl
+message_size (OriginFailure forward moment) = refl
+message_size (ClientReply exchange moment message) = refl
+
+-- a record is its line and its message
+one_line_and_message : (r o : Record) → line_of r ≡ line_of o → message_of r ≡ message_of o → r ≡ o
+one_line_and_message (ClientRequest a b m) (ClientRequest c d n) line message = λ i. ClientRequest (line i).number (line i).moment (message i)
+one_line_and_message (OriginRequest a b m) (OriginRequest c d n) line message = λ i. OriginRequest (line i).number (line i).moment (message i)
+one_line_and_message (OriginResponse a b m) (OriginResponse c d n) line message = λ i. OriginResponse (line i).number (line i).moment (message i)
+one_line_and_message (OriginFailure a b) (OriginFailure c d) line message = λ i. OriginFailure (line i).number (line i).moment
+one_line_and_message (ClientReply a b m) (ClientReply c d n) line message = λ i. ClientReply (line i).number (line i).moment (message i)
+one_line_and_message r o line message = absurd (omega (arith, ap (λ (l : Line). letter l.kind) line))
+
+-- the text of a record, and octets behind it
+pub text_behind : (r : Record) (tail : List ℕ) → record_text r ++ tail ≡ line_text (line_of r) ++ 10 ∷ (message_of r ++ 10 ∷ tail)
+text_behind r tail =
+    append_assoc (line_text (line_of r)) (10 ∷ (message_of r ++ 10 ∷ [])) tail ∙ ap (λ (t : List ℕ). line_text (line_of r) ++ 10 ∷ t) (append_assoc (message_of r) (10 ∷ []) tail)
+
+-- one record follows the history in the octets, and it is read as one item
+pub one_record : (h : List Item) (r o : Record) (item other : Item) (rest tail : List ℕ) → Follows h r item → Follows h o other → record_text r ++ rest ≡ record_text o ++ tail
+    → (r ≡ o) × (item ≡ other) × (rest ≡ tail)
+one_record h r o item other rest tail f g e =
+    let parts = one_front h (line_of r) (line_of o) (message_of r) (message_of o) rest tail f.keeps g.keeps (message_size r) (message_size o) (sym (text_behind r rest) ∙ e ∙ text_behind o tail) in
+    let same : r ≡ o = one_line_and_message r o parts.0 parts.1 in
+    let read : IsReadAs h o item = subst (λ (x : Record). IsReadAs h x item) same f.reads in
+    let l = line_of o in
+    (same, one_item l.kind l.number l.moment (answers_head l.kind l.number h) (message_of o) item other read g.reads, parts.2)
+
+framed_record : (h : List Item) (r : Record) (item : Item) (octets tail : List ℕ) → Follows h r item → octets ≡ record_text r ++ tail
+    → IsFramed (line_fault h) octets (line_of r) (message_of r) (length (line_text (line_of r)) + (line_of r).size + 2)
+framed_record h r item octets tail f e =
+    record { rest = tail; octets_are = e ∙ text_behind r tail; size_is = message_size r; len_is = refl; keeps = f.keeps }
+
+-- ---- where no record stands
+
+none_is_some : (f : RecordFault) → None ≡ Some f → ⊥
+none_is_some f e = cc
+
+some_is_some : (f g : RecordFault) → Some f ≡ Some g → f ≡ g
+some_is_some f g e = cc
+
+fails_no_keeps : (check : Line → Option RecordFault) (f : RecordFault) (octets text : List ℕ) (l : Line) → FailsCheck check f octets → HasLine octets text l → check l ≡ None → ⊥
+fails_no_keeps check f octets text l fails has keeps =
+    let same : fails.line ≡ l = (one_line octets fails.text text fails.line l fails.has has).1 in
+    none_is_some f (sym keeps ∙ sym (ap check same) ∙ fails.fails)
+
+-- behind the octets of a record stands a line feed
+framed_end : (check : Line → Option RecordFault) (octets : List ℕ) (l : Line) (message : List ℕ) (len : ℕ) → IsFramed check octets l message len
+    → get_or octets (length (line_text l) + l.size + 1) 0 ≡ 10
+framed_end check octets l message len framed =
+    octet_behind octets (line_text l) (message ++ 10 ∷ framed.rest) l.size framed.octets_are
+    ∙ ap (λ (k : ℕ). get_or (10 ∷ (message ++ 10 ∷ framed.rest)) k 0) (add-one l.size)
+    ∙ ap (λ (k : ℕ). get_or (message ++ 10 ∷ framed.rest) k 0) (sym framed.size_is)
+    ∙ get_or-append_seam message 10 framed.rest 0
+
+wrong_end_no_record : (h : List Item) (octets : List ℕ) (l : Line) (message : List ℕ) (len : ℕ) → HasWrongEnd (line_fault h) octets → IsFramed (line_fault h) octets l message len → ⊥
+wrong_end_no_record h octets l message len w framed =
+    let same = one_line octets w.text (line_text l) w.line l w.has (framed_line h octets l message len framed) in
+    w.wrong ((λ i. get_or octets (length (same.0 i) + (same.1 i).size + 1) 0) ∙ framed_end (line_fault h) octets l message len framed)
+
+unfinished_no_record : (h : List Item) (octets : List ℕ) (l : Line) (message : List ℕ) (len : ℕ) → IsUnfinished (line_fault h) octets → IsFramed (line_fault h) octets l message len → ⊥
+unfinished_no_record h octets l message len (inl line) framed = line.none (line_text l) (framed_line h octets l message len framed).begins
+unfinished_no_record h octets l message len (inr rest) framed =
+    let same = one_line octets rest.text (line_text l) rest.line l rest.has (framed_line h octets l message len framed) in
+    omega (
+      arith,
+      rest.short,
+      ap length same.0,
+      ap (λ (k : Line). k.size) same.1,
+      ap length framed.octets_are,
+      length-append (line_text l) (10 ∷ (message ++ 10 ∷ framed.rest)),
+      length-append message (10 ∷ framed.rest),
+      framed.size_is,
+    )
+
+-- ---- why a record breaks the octets
+
+-- no line begins the octets, and none can
+record HasNoLineEver (check : Line → Option RecordFault) (octets : List ℕ) : Type 0 where
+  pub none : (text : List ℕ) (l : Line) → HasLine octets text l → ⊥
+  pub ended : IsUnfinishedLine check octets → ⊥
+  pub some : 0 < length octets
+
+data Cause (f : RecordFault) (h : List Item) (octets : List ℕ) : Type 0 where
+  no_line : (is : f ≡ fault.Line) (none : HasNoLineEver (line_fault h) octets) → Cause f h octets
+  wrong_end : (is : f ≡ fault.Line) (wrong : HasWrongEnd (line_fault h) octets) → Cause f h octets
+  fails_check : (fails : FailsCheck (line_fault h) f octets) → Cause f h octets
+  no_message : (is : f ≡ fault.Message) (none : HasNoMessage h octets) → Cause f h octets
+
+long_line : (check : Line → Option RecordFault) (octets : List ℕ) → HasLongLine octets → HasNoLineEver check octets
+long_line check octets long = record {
+  none = λ text l has. no_line_without_feed octets long.no_feed text has.begins;
+  ended = λ line. omega (arith, line.short, long.long);
+  some = omega (arith, long.long);
+}
+
+wrong_line : (check : Line → Option RecordFault) (octets : List ℕ) → HasNoLine check octets → HasNoLineEver check octets
+wrong_line check octets wrong = record {
+  none = λ text l has. wrong.none l (subst (λ (t : List ℕ). IsLineText t l) (sym (one_text octets wrong.text text wrong.begins has.begins)) has.is);
+  ended = λ line. line.none wrong.text wrong.begins;
+  some = begins_some octets wrong.text wrong.begins;
+}
+
+cause : (f : RecordFault) (h : List Item) (octets : List ℕ) → BreaksRecord f h octets → Cause f h octets
+cause fault.Message h octets none = no_message refl none
+cause fault.Line h octets (inl long) = no_line refl (long_line (line_fault h) octets long)
+cause fault.Line h octets (inr (inl wrong)) = no_line refl (wrong_line (line_fault h) octets wrong)
+cause fault.Line h octets (inr (inr (inl wrong))) = wrong_end refl wrong
+cause fault.Line h octets (inr (inr (inr fails))) = fails_check fails
+cause fault.Opening h octets fails = fails_check fails
+cause fault.Torn h octets fails = fails_check fails
+cause fault.MomentBack h octets fails = fails_check fails
+cause fault.Number h octets fails = fails_check fails
+cause fault.NothingOpen h octets fails = fails_check fails
+cause fault.TooLong h octets fails = fails_check fails
+cause fault.Memory h octets fails = fails_check fails
+
+message_line : (h : List Item) (octets : List ℕ) (none : HasNoMessage h octets) → HasLine octets (line_text none.line) none.line
+message_line h octets none = framed_line h octets none.line none.message none.len none.framed
+
+one_cause : (f e : RecordFault) (h : List Item) (octets : List ℕ) → Cause f h octets → Cause e h octets → f ≡ e
+one_cause f e h octets (no_line is none) (no_line too other) = is ∙ sym too
+one_cause f e h octets (no_line is none) (wrong_end too other) = is ∙ sym too
+one_cause f e h octets (no_line is none) (fails_check fails) = absurd (none.none fails.text fails.line fails.has)
+one_cause f e h octets (no_line is none) (no_message too other) = absurd (none.none (line_text other.line) other.line (message_line h octets other))
+one_cause f e h octets (wrong_end is wrong) (no_line too none) = is ∙ sym too
+one_cause f e h octets (wrong_end is wrong) (wrong_end too other) = is ∙ sym too
+one_cause f e h octets (wrong_end is wrong) (fails_check fails) = absurd (fails_no_keeps (line_fault h) e octets wrong.text wrong.line fails wrong.has wrong.keeps)
+one_cause f e h octets (wrong_end is wrong) (no_message too other) = absurd (wrong_end_no_record h octets other.line other.message other.len wrong other.framed)
+one_cause f e h octets (fails_check fails) (no_line too none) = absurd (none.none fails.text fails.line fails.has)
+one_cause f e h octets (fails_check fails) (wrong_end too wrong) = absurd (fails_no_keeps (line_fault h) f octets wrong.text wrong.line fails wrong.has wrong.keeps)
+one_cause f e h octets (fails_check fails) (fails_check other) =
+    some_is_some f e (sym fails.fails ∙ ap (line_fault h) (one_line octets fails.text other.text fails.line other.line fails.has other.has).1 ∙ other.fails)
+one_cause f e h octets (fails_check fails) (no_message too other) =
+    absurd (fails_no_keeps (line_fault h) f octets (line_text other.line) other.line fails (message_line h octets other) other.framed.keeps)
+one_cause f e h octets (no_message is none) (no_line too other) = absurd (other.none (line_text none.line) none.line (message_line h octets none))
+one_cause f e h octets (no_message is none) (wrong_end too wrong) = absurd (wrong_end_no_record h octets none.line none.message none.len wrong none.framed)
+one_cause f e h octets (no_message is none) (fails_check fails) =
+    absurd (fails_no_keeps (line_fault h) e octets (line_text none.line) none.line fails (message_line h octets none) none.framed.keeps)
+one_cause f e h octets (no_message is none) (no_message too other) = is ∙ sym too
+
+-- a record breaks the octets by one fault
+pub one_fault : (f e : RecordFault) (h : List Item) (octets : List ℕ) → BreaksRecord f h octets → BreaksRecord e h octets → f ≡ e
+one_fault f e h octets b c = one_cause f e h octets (cause f h octets b) (cause e h octets c)
+
+cause_is_some : (f : RecordFault) (h : List Item) (octets : List ℕ) → Cause f h octets → 0 < length octets
+cause_is_some f h octets (no_line is none) = none.some
+cause_is_some f h octets (wrong_end is wrong) = begins_some octets wrong.text wrong.has.begins
+cause_is_some f h octets (fails_check fails) = begins_some octets fails.text fails.has.begins
+cause_is_some f h octets (no_message is none) = begins_some octets (line_text none.line) (message_line h octets none).begins
+
+-- there are octets where a record breaks them
+pub break_is_some : (f : RecordFault) (h : List Item) (octets : List ℕ) → BreaksRecord f h octets → octets ≢ []
+break_is_some f h octets b e = omega (arith, cause_is_some f h octets (cause f h octets b), ap length e)
+
+no_unfinished_cause : (f : RecordFault) (h : List Item) (octets : List ℕ) → Cause f h octets → IsUnfinished (line_fault h) octets → ⊥
+no_unfinished_cause f h octets (no_line is none) (inl line) = none.ended line
+no_unfinished_cause f h octets (no_line is none) (inr rest) = none.none rest.text rest.line rest.has
+no_unfinished_cause f h octets (wrong_end is wrong) (inl line) = line.none wrong.text wrong.has.begins
+no_unfinished_cause f h octets (wrong_end is wrong) (inr rest) =
+    let same = one_line octets rest.text wrong.text rest.line wrong.line rest.has wrong.has in
+    omega (arith, rest.short, wrong.enough, ap length same.0, ap (λ (k : Line). k.size) same.1)
+no_unfinished_cause f h octets (fails_check fails) (inl line) = line.none fails.text fails.has.begins
+no_unfinished_cause f h octets (fails_check fails) (inr rest) = fails_no_keeps (line_fault h) f octets rest.text rest.line fails rest.has rest.keeps
+no_unfinished_cause f h octets (no_message is none) u = unfinished_no_record h octets none.line none.message none.len u none.framed
+
+-- where a record breaks the octets none is unfinished
+pub no_unfinished_break : (f : RecordFault) (h : List Item) (octets : List ℕ) → BreaksRecord f h octets → IsUnfinished (line_fault h) octets → ⊥
+no_unfinished_break f h octets b u = no_unfinished_cause f h octets (cause f h octets b) u
+
+-- what is left where a record stands and breaks the octets: its message is none
+no_message_alone : (f : RecordFault) (h : List Item) (octets : List ℕ) (l : Line) (message : List ℕ) (len : ℕ) → Cause f h octets → IsFramed (line_fault h) octets l message len
+    → IsNoMessage l.kind (answers_head l.kind l.number h) message
+no_message_alone f h octets l message len (no_line is none) framed = absurd (none.none (line_text l) l (framed_line h octets l message len framed))
+no_message_alone f h octets l message len (wrong_end is wrong) framed = absurd (wrong_end_no_record h octets l message len wrong framed)
+no_message_alone f h octets l message len (fails_check fails) framed =
+    absurd (fails_no_keeps (line_fault h) f octets (line_text l) l fails (framed_line h octets l message len framed) framed.keeps)
+no_message_alone f h octets l message len (no_message is none) framed =
+    let other = none.framed in
+    let same = one_front h none.line l none.message message other.rest framed.rest other.keeps framed.keeps other.size_is framed.size_is (sym other.octets_are ∙ framed.octets_are) in
+    subst (λ (k : Line). IsNoMessage k.kind (answers_head k.kind k.number h) message) same.0
+    (subst (λ (m : List ℕ). IsNoMessage none.line.kind (answers_head none.line.kind none.line.number h) m) same.1 none.none)
+
+-- no record that follows the history begins the octets
+abbrev pub HasNoRecord : List Item → List ℕ → Type 0
+HasNoRecord h octets = (r : Record) (item : Item) (tail : List ℕ) → Follows h r item → octets ≡ record_text r ++ tail → ⊥
+
+pub no_record_broken : (f : RecordFault) (h : List Item) (octets : List ℕ) → BreaksRecord f h octets → HasNoRecord h octets
+no_record_broken f h octets b r item tail follows e =
+    let l = line_of r in
+    let none = no_message_alone f h octets l (message_of r) (length (line_text l) + l.size + 2) (cause f h octets b) (framed_record h r item octets tail follows e) in
+    no_item l.kind l.number l.moment (answers_head l.kind l.number h) (message_of r) item none follows.reads
+
+pub no_record_unfinished : (h : List Item) (octets : List ℕ) → IsUnfinished (line_fault h) octets → HasNoRecord h octets
+no_record_unfinished h octets u r item tail follows e =
+    let l = line_of r in
+    unfinished_no_record h octets l (message_of r) (length (line_text l) + l.size + 2) u (framed_record h r item octets tail follows e)
+
+pub no_record_empty : (h : List Item) → HasNoRecord h []
+no_record_empty h r item tail follows e =
+    omega (arith, ap length (e ∙ text_behind r tail), length-append (line_text (line_of r)) (10 ∷ (message_of r ++ 10 ∷ tail)))
+
+-- ---- more octets behind
+
+has_line_more : (octets more text : List ℕ) (l : Line) → HasLine octets text l → HasLine (octets ++ more) text l
+has_line_more octets more text l has = record { begins = BeginsLine-append octets more text has.begins; is = has.is }
+
+fails_more : (check : Line → Option RecordFault) (f : RecordFault) (octets more : List ℕ) → FailsCheck check f octets → FailsCheck check f (octets ++ more)
+fails_more check f octets more fails =
+    record { text = fails.text; line = fails.line; has = has_line_more octets more fails.text fails.line fails.has; fails = fails.fails }
+
+wrong_end_more : (check : Line → Option RecordFault) (octets more : List ℕ) → HasWrongEnd check octets → HasWrongEnd check (octets ++ more)
+wrong_end_more check octets more w = record {
+  text = w.text;
+  line = w.line;
+  has = has_line_more octets more w.text w.line w.has;
+  keeps = w.keeps;
+  enough = omega (arith, w.enough, length-append octets more);
+  wrong = λ e. w.wrong (sym (get_or_append_left octets more 0 (length w.text + w.line.size + 1) (omega (arith, w.enough))) ∙ e);
+}
+
+framed_more : (check : Line → Option RecordFault) (octets more : List ℕ) (l : Line) (message : List ℕ) (len : ℕ) → IsFramed check octets l message len → IsFramed check (octets ++ more) l message len
+framed_more check octets more l message len framed = record {
+  rest = framed.rest ++ more;
+  octets_are =
+      ap (λ (o : List ℕ). o ++ more) framed.octets_are ∙ append_assoc (line_text l) (10 ∷ (message ++ 10 ∷ framed.rest)) more
+      ∙ ap (λ (t : List ℕ). line_text l ++ 10 ∷ t) (append_assoc message (10 ∷ framed.rest) more);
+  size_is = framed.size_is;
+  len_is = framed.len_is;
+  keeps = framed.keeps;
+}
+
+line_breaks_more : (check : Line → Option RecordFault) (octets more : List ℕ) → Breaks check fault.Line octets → Breaks check fault.Line (octets ++ more)
+line_breaks_more check octets more (inl long) =
+    inl (record { long = omega (arith, long.long, length-append octets more); no_feed = ap (list_any is_feed) (take-append-le 64 octets more long.long) ∙ long.no_feed })
+line_breaks_more check octets more (inr (inl wrong)) = inr (inl (record { text = wrong.text; begins = BeginsLine-append octets more wrong.text wrong.begins; none = wrong.none }))
+line_breaks_more check octets more (inr (inr (inl wrong))) = inr (inr (inl (wrong_end_more check octets more wrong)))
+line_breaks_more check octets more (inr (inr (inr fails))) = inr (inr (inr (fails_more check fault.Line octets more fails)))
+
+-- a record that breaks the octets breaks them whatever follows
+pub breaks_more : (f : RecordFault) (h : List Item) (octets more : List ℕ) → BreaksRecord f h octets → BreaksRecord f h (octets ++ more)
+breaks_more fault.Message h octets more none =
+    record { line = none.line; message = none.message; len = none.len; framed = framed_more (line_fault h) octets more none.line none.message none.len none.framed; none = none.none }
+breaks_more fault.Line h octets more b = line_breaks_more (line_fault h) octets more b
+breaks_more fault.Opening h octets more b = fails_more (line_fault h) fault.Opening octets more b
+breaks_more fault.Torn h octets more b = fails_more (line_fault h) fault.Torn octets more b
+breaks_more fault.MomentBack h octets more b = fails_more (line_fault h) fault.MomentBack octets more b
+breaks_more fault.Number h octets more b = fails_more (line_fault h) fault.Number octets more b
+breaks_more fault.NothingOpen h octets more b = fails_more (line_fault h) fault.NothingOpen octets more b
+breaks_more fault.TooLong h octets more b = fails_more (line_fault h) fault.TooLong octets more b
+breaks_more fault.Memory h octets more b = fails_more (line_fault h) fault.Memory octets more b
