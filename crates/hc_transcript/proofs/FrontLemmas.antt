@@ -1,5 +1,5 @@
 -- What stands at the front of octets: one record at most, and no fault where a record is.
-use Rattle.std.proofs.Common.{◌≡◌, ◌≢◌, ℕ, suc, ◌+◌, ◌^◌, ◌<◌, ◌≤◌, List, [], ◌∷◌, ◌++◌, length, get_or, take, drop, Option, Some, None, is_some, refl, sym, ap, subst, ◌∙◌, arith, add-one, inl, inr, append_assoc, length-append}
+use Rattle.std.proofs.Common.{◌≡◌, ◌≢◌, ℕ, ◌+◌, ◌^◌, ◌<◌, ◌≤◌, List, [], ◌∷◌, ◌++◌, length, get_or, take, drop, Option, Some, None, is_some, refl, sym, ap, subst, ◌∙◌, arith, add-one, inl, inr, append_assoc, length-append}
 use Rattle.std.specs.List.{list_any}
 use Rattle.std.proofs.Math.Seq.{take-append_seam, drop-append_seam, get_or-append_seam}
 use Rattle.std.proofs.lemmas.List.{take-append-le, get_or_append_left}
@@ -15,7 +15,7 @@ use Rattle.hc_transcript.specs.History.{exchange_of, forward_of, last_moment, la
 use Rattle.hc_transcript.specs.Checks.{line_fault}
 use Rattle.hc_transcript.specs.Transcript.{answers_head, IsReadAs, Follows}
 use Rattle.hc_transcript.specs.MessageFaults.{IsNoMessage}
-use Rattle.hc_transcript.specs.Frames.{HasLine, IsFramed, IsUnfinishedLine, IsUnfinishedRecord, IsUnfinished, HasNoLine, FailsCheck, HasWrongEnd, Breaks}
+use Rattle.hc_transcript.specs.Frames.{HasLine, IsFramed, IsUnfinishedLine, IsUnfinished, HasNoLine, FailsCheck, HasWrongEnd, Breaks}
 use Rattle.hc_transcript.specs.Reader.{HasNoMessage, BreaksRecord}
 use Rattle.hc_transcript.proofs.MarkLemmas.{first_mark_unique}
 use Rattle.hc_transcript.proofs.FirstLineLemmas.{no_line_without_feed}
