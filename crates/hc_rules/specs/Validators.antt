@@ -8,7 +8,6 @@ use Rattle.hc_fields.specs.declared.fields.Field.{Field}
 use Rattle.hc_fields.specs.Values.{only_value}
 use Rattle.hc_directives.specs.QuotedStrings.{behind_quote, before_quote}
 use Rattle.hc_rules.specs.declared.validators.Validator.{Validator}
-use Rattle.hc_directives.specs.QuotedStrings.{behind_quote, before_quote}
 use Rattle.hc_rules.specs.declared.validators.Validator.TheVariants.{Tag, Modified, Neither}
 
 -- ---- entity-tags (RFC 9110 section 8.8.3)
