@@ -1,9 +1,10 @@
 -- The values of a name among lines that were put behind others, removed or updated.
-use Rattle.std.proofs.Common.{◌≡◌, ℕ, Bool, true, false, cond, not, ◌||◌, List, [], ◌∷◌, ◌++◌, refl, ap}
+use Rattle.std.proofs.Common.{◌≡◌, ℕ, Bool, true, false, cond, not, ◌||◌, List, [], ◌∷◌, ◌++◌, refl, ap, ◌∙◌}
+use Rattle.std.specs.Prelude.{filter}
 use Rattle.std.specs.Str.{bytes_eq}
 use Rattle.std.proofs.lemmas.Slice.Eq.{bytes_eq-Decides}
 use Rattle.hc_fields.specs.declared.fields.Field.{Field}
-use Rattle.hc_fields.specs.Values.{values_of, has_name, without}
+use Rattle.hc_fields.specs.Values.{values_of, has_name, without, updated}
 
 pub values_append : (name : List ℕ) (xs ys : List Field) → values_of name (xs ++ ys) ≡ values_of name xs ++ values_of name ys
 values_append name [] ys = refl
