@@ -1,0 +1,9 @@
+pub mod TargetLemmas
+pub mod StateLemmas
+pub mod ValidatedLemmas
+pub mod WindowLemmas
+pub mod FurthestLemmas
+pub mod ReasonLemmas
+pub mod ForgetLemmas
+pub mod LiveLemmas
+pub mod NoteLemmas

@@ -1,3 +1,15 @@
+pub mod Names
 pub mod Marks
-pub mod Reuse
+pub mod States
+pub mod Windows
+pub mod Claims
+pub mod Usable
+pub mod Filters
+pub mod Reused
+pub mod Forwarded
+pub mod Right
+pub mod Counting
 pub mod Verdicts
+pub mod Seen
+pub mod Noting
+pub mod Furthest

@@ -7,7 +7,7 @@ use Rattle.hc_status.specs.declared.marks.Mark.TheVariants.{Hit, Forwarded, Both
 use Rattle.hc_status.specs.Marks.{mark_of}
 use Rattle.hc_transcript.specs.Items.{Item, ClientRequest, OriginRequest, OriginResponse, OriginFailure, ClientReply}
 
--- the mark of a reply of that status: reuse of a part of a body (206) isn't judged, so a hit of that status counts as unmarked
+-- the mark of a reply of that status: reuse of a part of a body (206, RFC 9110 section 15.3.7) isn't judged, so a hit of that status counts as unmarked
 -- (this project's own choice)
 abbrev pub mark_by : ℕ → Mark → Mark
 mark_by status (Hit ttl) = if status == 206 then Unmarked else Hit ttl

@@ -1,14 +1,23 @@
-//! What the history of a transcript means: marks, the thin test of a reused response, the verdict.
+//! What the history of a transcript means: the state of a stored response, the filters that a reused
+//! one passes, right and wrong replies, the verdict, and what has to be known of a history to judge.
 #![tactic(auto)]
 
+mod laws;
 mod marks;
-mod max_age;
+mod reasons;
+mod settings;
 mod verdicts;
 
 pub use hc_status::{Mark, MarkFault};
+pub use laws::{
+    forgetting_and_noting_commute, forgotten_changes_no_reason, later_update_clears_the_mark,
+    least_reason_by_the_furthest, noting_goes_on, window_is_what_is_later_than_the_request,
+    wrong_by_one_reason,
+};
 pub use marks::reply_mark;
-pub use max_age::plain_max_age;
-pub use verdicts::{Counts, Verdict};
+pub use reasons::Reason;
+pub use settings::{FieldNames, Settings, UnmarkedReplies};
+pub use verdicts::{Counts, Finding, Verdict};
 
 #[cfg(test)]
 mod tests;

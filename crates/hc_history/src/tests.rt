@@ -1,8 +1,7 @@
 use super::*;
-use hc_fields::{Field, Fields, Octets};
 use hc_framing::{FrameFault, Message, whole_response};
 use hc_head::ResponseHead;
-use std::alloc::{AllocError, Global};
+use std::alloc::Global;
 use std::test::*;
 
 /// A response with that status, and these Cache-Status lines.
@@ -22,18 +21,6 @@ fn reply(
     }
     octets.extend_from_slice(b"\r\n")?;
     whole_response(alloc, &octets, false)
-}
-
-/// Fields with these Cache-Control lines.
-fn controls(alloc: Global, lines: &[&[u8]]) -> Result<Fields, AllocError> {
-    let mut fields = Fields::new(alloc);
-    for line in lines {
-        fields.push(Field {
-            name: Octets::from_slice(alloc, b"cache-control")?,
-            value: Octets::from_slice(alloc, line)?,
-        })?;
-    }
-    Ok(fields)
 }
 
 #[test]
@@ -70,32 +57,5 @@ fn marks(rt: HostRuntime) -> Result<(), Fail> {
             "at {status:?}"
         );
     }
-    Ok(())
-}
-
-#[test]
-fn lifetimes(rt: HostRuntime) -> Result<(), Fail> {
-    for (line, want) in [
-        (b"max-age=60".as_slice(), Some(60)),
-        (b"max-age=0".as_slice(), Some(0)),
-        (b"max-age=060".as_slice(), Some(60)),
-        (b"max-age=999999999".as_slice(), Some(999_999_999)),
-        (b"max-age=1000000000".as_slice(), None),
-        (b"max-age=".as_slice(), None),
-        (b"max-age".as_slice(), None),
-        (b"".as_slice(), None),
-        (b"max-age=60, public".as_slice(), None),
-        (b"Max-Age=60".as_slice(), None),
-        (b"max-age=6a".as_slice(), None),
-        (b"max-age=\"60\"".as_slice(), None),
-        (b"s-maxage=60".as_slice(), None),
-    ] {
-        let one = controls(rt.alloc(), &[line])?;
-        assert!(rt; plain_max_age(&one) == want, "at {line:?}");
-        let two = controls(rt.alloc(), &[line, line])?;
-        assert!(rt; plain_max_age(&two).is_none(), "twice {line:?}");
-    }
-    let none = controls(rt.alloc(), &[])?;
-    assert!(rt; plain_max_age(&none).is_none());
     Ok(())
 }

@@ -1,1 +1,1 @@
-mod UpdateLemmas
+pub mod UpdateLemmas

@@ -1,0 +1,51 @@
+-- What a reply claims: what it says of itself, and what it is held against.
+use Rattle.std.specs.Prelude.{ℕ, Bool, ℤ, List, Option, Some, None, codes, bytes_eq}
+use Rattle.hc_head.specs.declared.head.RequestHead.{RequestHead}
+use Rattle.hc_head.specs.declared.head.ResponseHead.{ResponseHead}
+use Rattle.hc_head.specs.declared.head.Target.{Target}
+use Rattle.hc_framing.specs.declared.message.Message.{Message}
+use Rattle.hc_status.specs.declared.marks.Mark.{Mark}
+use Rattle.hc_status.specs.declared.marks.Mark.TheVariants.{Hit, Forwarded, Both, Unmarked}
+use Rattle.hc_transcript.specs.Items.{Item, Exchange}
+use Rattle.hc_history.specs.declared.settings.Settings.{Settings}
+use Rattle.hc_history.specs.Marks.{reply_mark}
+use Rattle.hc_history.specs.Windows.{some_since, is_error, is_failure}
+
+pub record Claim : Type 0 where
+  -- the request, its target and its position, after which the window begins
+  pub request : RequestHead
+  pub target : Target
+  pub since : ℕ
+  -- the reply, its moment, and the seconds for which it says that it is fresh still, negative where it is stale
+  pub reply : Message ResponseHead
+  pub moment : ℕ
+  pub ttl : Option ℤ
+  -- whether an error, and whether a failure, of a forward of the target stands in the window
+  pub has_error : Bool
+  pub has_failure : Bool
+  pub settings : Settings
+
+-- the seconds of a hit (RFC 9211 section 2.4)
+abbrev pub ttl_of : Mark → Option ℤ
+ttl_of (Hit ttl) = ttl
+ttl_of Forwarded = None
+ttl_of Both = None
+ttl_of Unmarked = None
+
+-- what a reply to an open exchange claims after a history
+abbrev pub claim_of : Settings → Exchange → ℕ → Message ResponseHead → List Item → Claim
+claim_of settings exchange moment reply h = record {
+  request = exchange.request.head;
+  target = exchange.target;
+  since = exchange.position;
+  reply = reply;
+  moment = moment;
+  ttl = ttl_of (reply_mark reply);
+  has_error = some_since (is_error exchange.target) exchange.position h;
+  has_failure = some_since (is_failure exchange.target) exchange.position h;
+  settings = settings;
+}
+
+-- whether the request is HEAD
+abbrev pub asks_head : Claim → Bool
+asks_head claim = bytes_eq claim.request.method (codes "HEAD")

@@ -1,0 +1,32 @@
+-- Whether a reply carries one earlier response.
+use Rattle.std.specs.Prelude.{◌≡◌, ℕ, ◌≤◌, ◌<◌, Bool, true, List, take, Some}
+use Rattle.std.specs.List.{list_all}
+use Rattle.hc_transcript.specs.Items.{Item}
+use Rattle.hc_history.specs.Claims.{Claim}
+use Rattle.hc_history.specs.States.{Kept, state_at}
+use Rattle.hc_history.specs.Filters.{filters}
+
+-- there is one earlier response of which the first n filters hold
+pub record Pass (n : ℕ) (claim : Claim) (h : List Item) : Type 0 where
+  pub position : ℕ
+  pub kept : Kept
+  pub is_its_state : state_at position h ≡ Some kept
+  pub holds : list_all (λ b. b) (take n (filters claim kept)) ≡ true
+
+-- the number of filters
+abbrev pub filter_count : ℕ
+filter_count = 9
+
+-- how many of them a reply passes that went forward and carries a stored response, freshened by a 304 or in place of an error
+abbrev pub forwarded_count : ℕ
+forwarded_count = 7
+
+-- the reply is one earlier response, reused: of one and the same response all filters hold
+abbrev pub IsReused : Claim → List Item → Type 0
+IsReused claim h = Pass filter_count claim h
+
+-- the first filter that leaves nobody
+pub record IsFirstFailed (n : ℕ) (claim : Claim) (h : List Item) : Type 0 where
+  pub is_filter : (1 ≤ n) × (n ≤ filter_count)
+  pub leaves_nobody : Pass n claim h → ⊥
+  pub earlier : (k : ℕ) → 1 ≤ k → k < n → Pass k claim h

@@ -1,0 +1,75 @@
+-- Which replies are right, and why the others are wrong.
+use Rattle.std.specs.Prelude.{◌≡◌, ℕ, Bool, true, false, nat_le, ◌⊎◌, List, [], ◌∷◌, Option, Some, None}
+use Rattle.hc_head.specs.declared.head.ResponseHead.{ResponseHead}
+use Rattle.hc_framing.specs.declared.message.Message.{Message}
+use Rattle.hc_status.specs.declared.marks.Mark.{Mark}
+use Rattle.hc_status.specs.declared.marks.Mark.TheVariants.{Hit, Forwarded, Both, Unmarked}
+use Rattle.hc_transcript.specs.Items.{Item, ClientRequest, OriginRequest, OriginResponse, OriginFailure, ClientReply, Exchange}
+use Rattle.hc_transcript.specs.History.{exchange_of}
+use Rattle.hc_history.specs.declared.reasons.Reason.{Reason}
+use Rattle.hc_history.specs.declared.reasons.Reason.TheVariants as reason
+use Rattle.hc_history.specs.declared.settings.UnmarkedReplies.{UnmarkedReplies}
+use Rattle.hc_history.specs.declared.settings.UnmarkedReplies.TheVariants.{Allow, ErrorsOnly}
+use Rattle.hc_history.specs.declared.settings.Settings.{Settings}
+use Rattle.hc_history.specs.declared.verdicts.Finding.{Finding}
+use Rattle.hc_history.specs.declared.verdicts.Finding.TheVariants as finding
+use Rattle.hc_history.specs.Names.{reason_number}
+use Rattle.hc_history.specs.Marks.{reply_mark}
+use Rattle.hc_history.specs.Claims.{Claim, claim_of}
+use Rattle.hc_history.specs.Reused.{Pass, IsReused, IsFirstFailed, forwarded_count}
+use Rattle.hc_history.specs.Forwarded.{is_forwarded}
+
+-- whether a reply of that status may be unmarked
+abbrev pub allows_unmarked : UnmarkedReplies → ℕ → Bool
+allows_unmarked Allow status = true
+allows_unmarked ErrorsOnly status = nat_le 400 status
+
+-- a reply with that mark is right: a hit is reused; one that went forward carries what the origin answered, or a stored response in its place;
+-- one without a mark may have none; one with both marks is never right
+abbrev pub IsRightBy : Mark → Claim → List Item → Type 0
+IsRightBy (Hit ttl) claim h = IsReused claim h
+IsRightBy Forwarded claim h = (is_forwarded claim h ≡ true) ⊎ Pass forwarded_count claim h
+IsRightBy Both claim h = ⊥
+IsRightBy Unmarked claim h = allows_unmarked claim.settings.unmarked claim.reply.head.status ≡ true
+
+-- a reply with that mark is wrong by that reason: a hit by the first filter that leaves nobody
+abbrev pub IsWrongBy : Mark → Claim → List Item → Reason → Type 0
+IsWrongBy (Hit ttl) claim h why = IsFirstFailed (reason_number why) claim h
+IsWrongBy Forwarded claim h why = (why ≡ reason.NotForwarded) × ((is_forwarded claim h ≡ false) × ¬ (Pass forwarded_count claim h))
+IsWrongBy Both claim h why = why ≡ reason.BothMarks
+IsWrongBy Unmarked claim h why = (why ≡ reason.Unmarked) × (allows_unmarked claim.settings.unmarked claim.reply.head.status ≡ false)
+
+-- the same of a reply to the exchange that it answers
+abbrev pub IsRightTo : Settings → Option Exchange → ℕ → Message ResponseHead → List Item → Type 0
+IsRightTo settings None moment reply h = ⊥
+IsRightTo settings (Some exchange) moment reply h = IsRightBy (reply_mark reply) (claim_of settings exchange moment reply h) h
+
+abbrev pub IsWrongTo : Settings → Option Exchange → ℕ → Message ResponseHead → List Item → Reason → Type 0
+IsWrongTo settings None moment reply h why = ⊥
+IsWrongTo settings (Some exchange) moment reply h why = IsWrongBy (reply_mark reply) (claim_of settings exchange moment reply h) h why
+
+-- the next item, if it is a reply, is right
+abbrev pub IsRight : Settings → List Item → Item → Type 0
+IsRight settings h (ClientRequest number moment request target) = Unit {0}
+IsRight settings h (OriginRequest number moment request target) = Unit {0}
+IsRight settings h (OriginResponse number moment response) = Unit {0}
+IsRight settings h (OriginFailure number moment) = Unit {0}
+IsRight settings h (ClientReply number moment reply) = IsRightTo settings (exchange_of number h) moment reply h
+
+-- the next item is a reply, and wrong by that reason
+abbrev pub IsWrong : Settings → List Item → Item → Reason → Type 0
+IsWrong settings h (ClientRequest number moment request target) why = ⊥
+IsWrong settings h (OriginRequest number moment request target) why = ⊥
+IsWrong settings h (OriginResponse number moment response) why = ⊥
+IsWrong settings h (OriginFailure number moment) why = ⊥
+IsWrong settings h (ClientReply number moment reply) why = IsWrongTo settings (exchange_of number h) moment reply h why
+
+-- what is found of a reply to an exchange
+abbrev pub IsFinding : Settings → Option Exchange → ℕ → Message ResponseHead → List Item → Finding → Type 0
+IsFinding settings exchange moment reply h finding.Right = IsRightTo settings exchange moment reply h
+IsFinding settings exchange moment reply h (finding.Wrong why) = IsWrongTo settings exchange moment reply h why
+
+-- every reply of the history is right
+abbrev pub AllRight : Settings → List Item → Type 0
+AllRight settings [] = Unit {0}
+AllRight settings (item ∷ h) = AllRight settings h × IsRight settings h item

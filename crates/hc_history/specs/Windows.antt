@@ -1,0 +1,52 @@
+-- The window of a reply: the items after its request, whose positions are later than that of the request.
+use Rattle.std.specs.Prelude.{ℕ, Bool, false, ◌&&◌, ◌||◌, ◌==◌, nat_lt, List, [], ◌∷◌, length, Option, Some, None, codes, if◌then◌else◌}
+use Rattle.std.specs.List.{list_any}
+use Rattle.std.specs.Str.{bytes_eq}
+use Rattle.hc_head.specs.declared.head.Target.{Target}
+use Rattle.hc_transcript.specs.Items.{Item, ClientRequest, OriginRequest, OriginResponse, OriginFailure, ClientReply, Forward}
+use Rattle.hc_transcript.specs.History.{next_position, forward_of}
+use Rattle.hc_history.specs.States.{same_target}
+
+-- whether some item after a position passes a test, which is told the history before the item
+abbrev pub some_since : (List Item → Item → Bool) → ℕ → List Item → Bool
+some_since test since [] = false
+some_since test since (item ∷ h) = (nat_lt since (next_position h) && test h item) || some_since test since h
+
+-- the position of the latest item that passes a test; 0 where none does
+abbrev pub latest : (List Item → Item → Bool) → List Item → ℕ
+latest test [] = 0
+latest test (item ∷ h) = if test h item then next_position h else latest test h
+
+-- ---- what permits stale responses in its place: errors (RFC 5861 section 4), and that the origin can't be reached (RFC 9111 section 4.2.4)
+
+-- a status that says that the origin can't answer now
+abbrev pub is_error_status : ℕ → Bool
+is_error_status status = list_any (λ known. known == status) (500 ∷ 502 ∷ 503 ∷ 504 ∷ [])
+
+-- whether it is an open forward of that target
+abbrev pub is_forward_of : Target → Option Forward → Bool
+is_forward_of target None = false
+is_forward_of target (Some forward) = same_target forward.target target
+
+-- whether an item is such a response to a forward of the target, of any method, by the open forward of each number
+abbrev pub is_error_by : Target → (ℕ → Option Forward) → Item → Bool
+is_error_by target forward (ClientRequest number moment request asked) = false
+is_error_by target forward (OriginRequest number moment request asked) = false
+is_error_by target forward (OriginResponse number moment response) = is_error_status response.head.status && is_forward_of target (forward number)
+is_error_by target forward (OriginFailure number moment) = false
+is_error_by target forward (ClientReply number moment reply) = false
+
+-- whether an item is the failure of a forward of the target, of any method
+abbrev pub is_failure_by : Target → (ℕ → Option Forward) → Item → Bool
+is_failure_by target forward (ClientRequest number moment request asked) = false
+is_failure_by target forward (OriginRequest number moment request asked) = false
+is_failure_by target forward (OriginResponse number moment response) = false
+is_failure_by target forward (OriginFailure number moment) = is_forward_of target (forward number)
+is_failure_by target forward (ClientReply number moment reply) = false
+
+-- the same of the next item of a history
+abbrev pub is_error : Target → List Item → Item → Bool
+is_error target h item = is_error_by target (λ f. forward_of f h) item
+
+abbrev pub is_failure : Target → List Item → Item → Bool
+is_failure target h item = is_failure_by target (λ f. forward_of f h) item

@@ -1,0 +1,93 @@
+//! Laws of the definitions.
+
+ghost use Rattle.std.specs.Prelude.{◌≡◌, ◌≢◌, ◌≤◌, ◌<◌, ◌+◌, ℕ, true, false, nat_lt, Bool, List, ◌∷◌, ◌++◌, Some, length, if◌then◌else◌};
+ghost use Rattle.std.specs.List.{list_any};
+ghost use Rattle.hc_fields.specs.declared.fields.Field.{Field};
+ghost use Rattle.hc_head.specs.declared.head.ResponseHead.{ResponseHead};
+ghost use Rattle.hc_head.specs.declared.head.Target.{Target};
+ghost use Rattle.hc_framing.specs.declared.message.Message.{Message};
+ghost use Rattle.hc_update.specs.declared.stored.Stored.{Stored};
+ghost use Rattle.hc_update.specs.States.{freshened};
+ghost use Rattle.hc_update.specs.Identifying.{identifies};
+ghost use Rattle.hc_status.specs.declared.marks.Mark.{Mark};
+ghost use Rattle.hc_transcript.specs.Items.{Item, OriginResponse, Forward};
+ghost use Rattle.hc_transcript.specs.History.{next_position, forward_of};
+ghost use Rattle.hc_history.specs.declared.reasons.Reason.{Reason};
+ghost use Rattle.hc_history.specs.States.{Kept, same_target, state_at, state_answered};
+ghost use Rattle.hc_history.specs.Windows.{some_since, latest};
+ghost use Rattle.hc_history.specs.Claims.{Claim};
+ghost use Rattle.hc_history.specs.Filters.{filters};
+ghost use Rattle.hc_history.specs.Reused.{Pass, IsFirstFailed, filter_count};
+ghost use Rattle.hc_history.specs.Forwarded.{carries, is_forwarded};
+ghost use Rattle.hc_history.specs.Right.{IsRightBy, IsWrongBy};
+ghost use Rattle.hc_history.specs.Seen.{Seen, IsSeenAs, remaining, live_of, answers_since};
+ghost use Rattle.hc_history.specs.Noting.{Notes};
+ghost use Rattle.hc_history.specs.Furthest.{passed, furthest, furthest_live};
+
+/// A later 304 that identifies a stored response freshens it, so that one that was invalidated is valid
+/// again.
+pub fn later_update_clears_the_mark()
+    ensures freshens { (h : List Item) (number moment position : ℕ) (response : Message ResponseHead) (forward : Forward) (kept : Kept)
+        → state_at position h ≡ Some kept
+        → forward_of number h ≡ Some forward
+        → same_target forward.target kept.target ≡ true
+        → identifies kept.state forward.request.head response.head ≡ true
+        → state_at position (OriginResponse number moment response ∷ h) ≡ Some (record {
+            target = kept.target;
+            state = freshened kept.state response.head.fields forward.moment moment (next_position h) }) }
+    ensures clears { (state : Stored) (received : List Field) (request_time response_time position : ℕ)
+        → (freshened state received request_time response_time position).invalid ≡ false }
+{}
+
+/// Some item of a window passes a test exactly where the latest that does is later than the request, so that
+/// it is enough to know the latest; and a stored response was validated later than it came, and before
+/// the reply, so that it was validated in the window where that was later than the request.
+pub fn window_is_what_is_later_than_the_request()
+    ensures some { (test : List Item → Item → Bool) (since : ℕ) (h : List Item)
+        → some_since test since h ≡ nat_lt since (latest test h) }
+    ensures validated { (position at : ℕ) (h : List Item) (kept : Kept) → state_at position h ≡ Some kept
+        → kept.state.validated_at ≡ Some at → (position < at) × (at ≤ length h) }
+    // What the windows hold tells whether a reply carries an answer.
+    ensures carried { (claim : Claim) (h : List Item) → is_forwarded claim h
+        ≡ list_any (λ answer. carries claim answer.method answer.status answer.body) (answers_since claim.target claim.since h) }
+{}
+
+/// The first filter that leaves nobody is the one behind the most filters that one response passes.
+pub fn least_reason_by_the_furthest()
+    ensures all { (claim : Claim) (h : List Item) → furthest claim h ≡ filter_count → Pass filter_count claim h }
+    ensures first { (claim : Claim) (h : List Item) → furthest claim h < filter_count
+        → IsFirstFailed (furthest claim h + 1) claim h }
+    ensures some { (n : ℕ) (claim : Claim) (h : List Item) → 1 ≤ n → n ≤ furthest claim h → Pass n claim h }
+    ensures only { (n : ℕ) (claim : Claim) (h : List Item) → n ≤ filter_count → Pass n claim h → n ≤ furthest claim h }
+{}
+
+/// No reply is both right and wrong, and a wrong one has one reason.
+pub fn wrong_by_one_reason()
+    ensures right { (mark : Mark) (claim : Claim) (h : List Item) (why : Reason)
+        → IsRightBy mark claim h → ¬ (IsWrongBy mark claim h why) }
+    ensures one { (mark : Mark) (claim : Claim) (h : List Item) (why other : Reason)
+        → IsWrongBy mark claim h why → IsWrongBy mark claim h other → why ≡ other }
+{}
+
+/// What nothing freshens any more may be forgotten: the responses of the claim's target, as they are kept, tell how
+/// many filters one earlier response passes.
+pub fn forgotten_changes_no_reason()
+    ensures one { (claim : Claim) (target : Target) (state : Stored)
+        → passed (filters claim (record { target = target; state = remaining state }))
+            ≡ passed (filters claim (record { target = target; state = state })) }
+    ensures live { (claim : Claim) (h : List Item)
+        → furthest_live claim (live_of claim.target h) ≡ furthest claim h }
+{}
+
+/// It may be forgotten before an item as well as after it.
+pub fn forgetting_and_noting_commute()
+    ensures { (forward : Forward) (position moment : ℕ) (response : Message ResponseHead) (state : Stored)
+        → remaining (state_answered forward position moment response (remaining state))
+            ≡ remaining (state_answered forward position moment response state) }
+{}
+
+/// What is seen as a history goes on, by the next item, to what is seen as the history with it.
+pub fn noting_goes_on()
+    ensures { (old new : Seen) (h : List Item) (item : Item)
+        → IsSeenAs old h → Notes old (next_position h) item new → IsSeenAs new (item ∷ h) }
+{}

@@ -1,0 +1,76 @@
+//! Why a reply is wrong.
+
+/// Why a reply is wrong. The first nine are those of the filters that an earlier response has to pass,
+/// of which the first that leaves nobody is told.
+#[derive(Clone, Copy, Debug, PartialEq, Eq)]
+pub enum Reason {
+    /// No earlier response that may be stored is of its target, or the request is no GET and no HEAD.
+    NoResponse,
+    /// None of those is selected by the request.
+    Vary,
+    /// Each of those was invalidated.
+    Invalidated,
+    /// None of those states a lifetime, or may be used without.
+    NoExplicitFreshness,
+    /// None of those was fresh, validated or allowed stale then.
+    NotAllowed,
+    /// None of those has the status and the body, or earns the 304.
+    Body,
+    /// None of those has the fields.
+    Fields,
+    /// None of those has the Age.
+    Age,
+    /// None of those has the seconds that are left.
+    Ttl,
+    /// It is marked as forwarded, and carries no answer of its window, and no stored response.
+    NotForwarded,
+    /// It has no mark, or is a hit of status 206, though only errors may have none.
+    Unmarked,
+    /// It is marked as a hit and as forwarded.
+    BothMarks,
+}
+
+impl Reason {
+    ghost use Rattle.std.specs.Prelude.{◌≡◌};
+    ghost use Rattle.hc_history.specs.Names.{reason_number, reason_name};
+
+    /// The number that stands for the reason in reports.
+    pub fn number(&self) -> u32
+        ensures { result ≡ reason_number self.now }
+    {
+        match self {
+            Reason::NoResponse => 1,
+            Reason::Vary => 2,
+            Reason::Invalidated => 3,
+            Reason::NoExplicitFreshness => 4,
+            Reason::NotAllowed => 5,
+            Reason::Body => 6,
+            Reason::Fields => 7,
+            Reason::Age => 8,
+            Reason::Ttl => 9,
+            Reason::NotForwarded => 10,
+            Reason::Unmarked => 11,
+            Reason::BothMarks => 12,
+        }
+    }
+
+    /// The name that stands for the reason in reports.
+    pub fn name(&self) -> &'static str
+        ensures { result.now ≡ reason_name self.now }
+    {
+        match self {
+            Reason::NoResponse => "NoResponse",
+            Reason::Vary => "Vary",
+            Reason::Invalidated => "Invalidated",
+            Reason::NoExplicitFreshness => "NoExplicitFreshness",
+            Reason::NotAllowed => "NotAllowed",
+            Reason::Body => "Body",
+            Reason::Fields => "Fields",
+            Reason::Age => "Age",
+            Reason::Ttl => "Ttl",
+            Reason::NotForwarded => "NotForwarded",
+            Reason::Unmarked => "Unmarked",
+            Reason::BothMarks => "BothMarks",
+        }
+    }
+}
