@@ -13,7 +13,8 @@ use Rattle.hc_status.specs.declared.marks.Mark.TheVariants.{Hit, Forwarded, Both
 use Rattle.hc_history.specs.declared.verdicts.Counts.{Counts}
 use Rattle.hc_history.specs.Marks.{item_mark}
 use Rattle.hc_history.specs.declared.verdicts.Verdict.TheVariants.{Yes, Malformed}
-use Rattle.hc_history.specs.Verdicts.{IsRight, AllRight, counts_of, marked, marked_by, one_more, IsVerdict, IsUnsupportedAt}
+use Rattle.hc_audit.specs.ThinVerdicts.{IsRight, AllRight, IsVerdict, IsUnsupportedAt}
+use Rattle.hc_history.specs.Counting.{counts_of, marked, marked_by, one_more}
 use Rattle.hc_audit.specs.declared.judge.Judge.{Judge}
 use Rattle.hc_audit.specs.Judging.{IsJudging, GivesVerdict, stopped}
 use Rattle.hc_audit.specs.Notes.{IsSeenAs}

@@ -14,8 +14,8 @@ use Rattle.hc_framing.specs.declared.message.Message.{Message}
 use Rattle.hc_status.specs.declared.marks.Mark.{Mark}
 use Rattle.hc_status.specs.declared.marks.Mark.TheVariants.{Hit}
 use Rattle.hc_history.specs.Marks.{reply_mark, item_mark}
-use Rattle.hc_history.specs.Reuse.{Answer, Claim, claim_of, answer_of, answer_at, is_get, plain_max_age, same_target, is_fresh, serves, IsReused}
-use Rattle.hc_history.specs.Verdicts.{IsRightBy, IsRightTo, IsRight}
+use Rattle.hc_audit.specs.Reuse.{Answer, Claim, claim_of, answer_of, answer_at, is_get, plain_max_age, same_target, is_fresh, serves, IsReused}
+use Rattle.hc_audit.specs.ThinVerdicts.{IsRightBy, IsRightTo, IsRight}
 use Rattle.hc_transcript.specs.Items.{Item, ClientReply, Exchange}
 use Rattle.hc_transcript.specs.History.{next_position, exchange_of}
 use Rattle.hc_audit.specs.declared.notes.Notes.{Notes}

@@ -7,7 +7,8 @@ use Rattle.hc_transcript.specs.Items.{Item}
 use Rattle.hc_transcript.specs.Reader.{Agrees, Waits}
 use Rattle.hc_history.specs.declared.verdicts.Verdict.{Verdict}
 use Rattle.hc_history.specs.declared.verdicts.Verdict.TheVariants.{Malformed}
-use Rattle.hc_history.specs.Verdicts.{AllRight, counts_of, IsVerdict, IsUnsupportedAt}
+use Rattle.hc_audit.specs.ThinVerdicts.{AllRight, IsVerdict, IsUnsupportedAt}
+use Rattle.hc_history.specs.Counting.{counts_of}
 use Rattle.hc_audit.specs.declared.auditor.Auditor.{Auditor}
 use Rattle.hc_audit.specs.declared.fault.AuditFault.{AuditFault}
 use Rattle.hc_audit.specs.declared.fault.AuditFault.TheVariants.{Memory, Failed, Unsupported}

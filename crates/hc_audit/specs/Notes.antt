@@ -8,7 +8,7 @@ use Rattle.hc_head.specs.declared.head.Target.{Target}
 use Rattle.hc_framing.specs.declared.message.Message.{Message}
 use Rattle.hc_transcript.specs.Items.{Item, Exchange, Forward}
 use Rattle.hc_transcript.specs.History.{exchange_of, forward_of}
-use Rattle.hc_history.specs.Reuse.{Answer, Claim, answer_of, is_get, plain_max_age, same_target}
+use Rattle.hc_audit.specs.Reuse.{Answer, Claim, answer_of, is_get, plain_max_age, same_target}
 use Rattle.hc_audit.specs.declared.notes.Kept.{Kept}
 use Rattle.hc_audit.specs.declared.notes.OpenForward.{OpenForward}
 use Rattle.hc_audit.specs.declared.notes.Notes.{Notes}

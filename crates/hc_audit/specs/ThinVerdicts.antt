@@ -15,9 +15,11 @@ use Rattle.hc_status.specs.declared.marks.Mark.{Mark}
 use Rattle.hc_status.specs.declared.marks.Mark.TheVariants.{Hit, Forwarded, Both, Unmarked}
 use Rattle.hc_history.specs.declared.verdicts.Counts.{Counts}
 use Rattle.hc_history.specs.declared.verdicts.Verdict.{Verdict}
-use Rattle.hc_history.specs.declared.verdicts.Verdict.TheVariants.{Yes, Malformed}
-use Rattle.hc_history.specs.Marks.{reply_mark, item_mark}
-use Rattle.hc_history.specs.Reuse.{claim_of, IsReused}
+use Rattle.hc_history.specs.declared.verdicts.Verdict.TheVariants.{Yes, No, Malformed}
+use Rattle.hc_history.specs.declared.reasons.Reason.{Reason}
+use Rattle.hc_history.specs.Marks.{reply_mark}
+use Rattle.hc_history.specs.Counting.{counts_of}
+use Rattle.hc_audit.specs.Reuse.{claim_of, IsReused}
 
 -- a reply to an exchange is right: unmarked, or a hit that is reused; a hit that says for how long it is fresh still, and a reply that
 -- went forward, aren't judged yet
@@ -45,29 +47,6 @@ IsRight h (ClientReply number moment reply) = IsRightTo (exchange_of number h) m
 abbrev pub AllRight : List Item → Type 0
 AllRight [] = Unit {0}
 AllRight (item ∷ h) = AllRight h × IsRight h item
-
-abbrev pub no_counts : Counts
-no_counts = record { records = 0; replies = 0; hits = 0; forwarded = 0; unmarked = 0 }
-
-abbrev pub one_more : Counts → Counts
-one_more c = record { records = c.records + 1; replies = c.replies; hits = c.hits; forwarded = c.forwarded; unmarked = c.unmarked }
-
--- one reply more, by what it says of itself
-abbrev pub marked_by : Mark → Counts → Counts
-marked_by (Hit ttl) c = record { records = c.records; replies = c.replies + 1; hits = c.hits + 1; forwarded = c.forwarded; unmarked = c.unmarked }
-marked_by Forwarded c = record { records = c.records; replies = c.replies + 1; hits = c.hits; forwarded = c.forwarded + 1; unmarked = c.unmarked }
-marked_by Both c = record { records = c.records; replies = c.replies + 1; hits = c.hits; forwarded = c.forwarded; unmarked = c.unmarked }
-marked_by Unmarked c = record { records = c.records; replies = c.replies + 1; hits = c.hits; forwarded = c.forwarded; unmarked = c.unmarked + 1 }
-
--- what is no reply has no mark
-abbrev pub marked : Option Mark → Counts → Counts
-marked None c = c
-marked (Some mark) c = marked_by mark c
-
--- what is counted in a history
-abbrev pub counts_of : List Item → Counts
-counts_of [] = no_counts
-counts_of (item ∷ h) = marked (item_mark item) (one_more (counts_of h))
 
 -- the octets are a transcript of which every reply is right, and so much is counted in it
 pub record IsYes (octets : List ℕ) (counts : Counts) : Type 0 where
@@ -103,6 +82,7 @@ pub record BreaksAt (octets : List ℕ) (position : ℕ) (f : RecordFault) : Typ
 -- the verdict on octets
 abbrev pub IsVerdict : List ℕ → Verdict → Type 0
 IsVerdict octets (Yes counts) = IsYes octets counts
+IsVerdict octets (No position why) = ⊥
 IsVerdict octets (Malformed position f) = ((position ≡ 0) × BreaksOpening octets f) ⊎ BreaksAt octets position f
 
 -- behind records of which every reply is right stands a whole reply that isn't right, as far as it can be judged yet

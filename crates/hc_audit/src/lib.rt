@@ -5,6 +5,7 @@ mod auditor;
 mod fault;
 mod judge;
 mod marks;
+mod max_age;
 mod notes;
 mod stops;
 

@@ -3,7 +3,7 @@
 ghost use Rattle.std.specs.Prelude.{◌≡◌, ◌<◌, ◌≤◌, IfOk};
 ghost use Rattle.hc_transcript.specs.Items.{item_of};
 ghost use Rattle.hc_history.specs.Marks.{item_mark};
-ghost use Rattle.hc_history.specs.Verdicts.{marked};
+ghost use Rattle.hc_history.specs.Counting.{marked};
 
 use hc_history::{Counts, Mark, MarkFault, reply_mark};
 use hc_transcript::OwnedItem;

@@ -1,7 +1,7 @@
 //! How long a response is fresh (RFC 9111 section 5.2.2.1), as far as it is read.
 
 ghost use Rattle.std.specs.Prelude.{◌≡◌};
-ghost use Rattle.hc_history.specs.Reuse.{max_age_of, plain_max_age};
+ghost use Rattle.hc_audit.specs.Reuse.{max_age_of, plain_max_age};
 
 use hc_fields::{Fields, number};
 
@@ -27,7 +27,7 @@ fn max_age_of(value: &[u8]) -> Option<u32>
 
 /// The seconds for which a response is fresh, where its only Cache-Control line is `max-age=` and 1
 /// to 9 digits.
-pub fn plain_max_age(fields: &Fields) -> Option<u32>
+pub(crate) fn plain_max_age(fields: &Fields) -> Option<u32>
     ensures { result ≡ plain_max_age fields.now }
 {
     let mut values = fields.values(b"cache-control");

@@ -5,14 +5,15 @@ ghost use Rattle.std.specs.List.{list_any};
 ghost use Rattle.std.specs.Option.{option_to_list};
 ghost use Rattle.hc_transcript.specs.Items.{Item, item_of};
 ghost use Rattle.hc_history.specs.Marks.{item_mark};
-ghost use Rattle.hc_history.specs.Reuse.{same_target, is_get};
-ghost use Rattle.hc_history.specs.Verdicts.{IsRight};
+ghost use Rattle.hc_audit.specs.Reuse.{same_target, is_get};
+ghost use Rattle.hc_audit.specs.ThinVerdicts.{IsRight};
 ghost use Rattle.hc_audit.specs.Notes.{kept_from, kept_serves};
 
+use crate::max_age::plain_max_age;
 use hc_fields::Octets;
 use hc_framing::Message;
 use hc_head::{RequestHead, ResponseHead, Target};
-use hc_history::{Mark, plain_max_age};
+use hc_history::Mark;
 use hc_transcript::OwnedItem;
 use std::alloc::{AllocError, Global};
 use std::collections::BTreeMap;

@@ -1,4 +1,6 @@
 use super::*;
+use crate::max_age::plain_max_age;
+use hc_fields::{Field, Fields, Octets};
 use std::alloc::{AllocError, Global};
 use std::test::*;
 
@@ -318,5 +320,44 @@ fn faults_are_told(rt: HostRuntime) -> Result<(), Fail> {
     }
     let text = format!(in rt.alloc(); "{}", AuditFault::Unsupported(6))?;
     assert_eq!(rt; text.as_str(), "the record at position 6 is not supported");
+    Ok(())
+}
+
+/// Fields with these Cache-Control lines.
+fn controls(alloc: Global, lines: &[&[u8]]) -> Result<Fields, AllocError> {
+    let mut fields = Fields::new(alloc);
+    for line in lines {
+        fields.push(Field {
+            name: Octets::from_slice(alloc, b"cache-control")?,
+            value: Octets::from_slice(alloc, line)?,
+        })?;
+    }
+    Ok(fields)
+}
+
+#[test]
+fn lifetimes(rt: HostRuntime) -> Result<(), Fail> {
+    for (line, want) in [
+        (b"max-age=60".as_slice(), Some(60)),
+        (b"max-age=0".as_slice(), Some(0)),
+        (b"max-age=060".as_slice(), Some(60)),
+        (b"max-age=999999999".as_slice(), Some(999_999_999)),
+        (b"max-age=1000000000".as_slice(), None),
+        (b"max-age=".as_slice(), None),
+        (b"max-age".as_slice(), None),
+        (b"".as_slice(), None),
+        (b"max-age=60, public".as_slice(), None),
+        (b"Max-Age=60".as_slice(), None),
+        (b"max-age=6a".as_slice(), None),
+        (b"max-age=\"60\"".as_slice(), None),
+        (b"s-maxage=60".as_slice(), None),
+    ] {
+        let one = controls(rt.alloc(), &[line])?;
+        assert!(rt; plain_max_age(&one) == want, "at {line:?}");
+        let two = controls(rt.alloc(), &[line, line])?;
+        assert!(rt; plain_max_age(&two).is_none(), "twice {line:?}");
+    }
+    let none = controls(rt.alloc(), &[])?;
+    assert!(rt; plain_max_age(&none).is_none());
     Ok(())
 }

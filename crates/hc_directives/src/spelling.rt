@@ -7,7 +7,6 @@ ghost use Rattle.hc_directives.specs.Directives.{is_equals, argument_of, directi
 ghost use Rattle.hc_directives.specs.Spellings.{argument_meant, directive_meant};
 
 use crate::quoted::{quoted_number, quoted_text};
-
 use hc_fields::{is_token, number};
 
 /// How an argument is spelled.

@@ -1,5 +1,5 @@
 -- What nothing freshens any more may be forgotten.
-use Rattle.std.proofs.Common.{◌≡◌, ℕ, Bool, true, false, not, ◌&&◌, ◌||◌, cond, List, [], ◌∷◌, Option, Some, None, refl, ap, sym, ◌∙◌}
+use Rattle.std.proofs.Common.{◌≡◌, ℕ, Bool, true, false, not, ◌&&◌, ◌||◌, cond, List, [], ◌∷◌, None, refl, ap, sym, ◌∙◌}
 use Rattle.std.specs.Prelude.{filter, codes}
 use Rattle.std.specs.Option.{is_some}
 use Rattle.std.specs.Str.{bytes_eq}
@@ -10,7 +10,7 @@ use Rattle.hc_head.specs.declared.head.ResponseHead.{ResponseHead}
 use Rattle.hc_framing.specs.declared.message.Message.{Message}
 use Rattle.hc_rules.specs.Validators.{is_entity_tag, has_permitted_length, passing, has_validator}
 use Rattle.hc_update.specs.declared.stored.Stored.{Stored}
-use Rattle.hc_update.specs.States.{freshened, invalidated, invalidates}
+use Rattle.hc_update.specs.States.{invalidated, invalidates}
 use Rattle.hc_update.specs.Identifying.{identifies}
 use Rattle.hc_update.proofs.UpdateLemmas.{never_identified}
 use Rattle.hc_transcript.specs.Items.{Forward}
@@ -32,7 +32,7 @@ other_values name kept (x ∷ xs) apart = go (bytes_eq x.name kept) refl (other_
 vary_validates_nothing : (fields : List Field) → has_validator (vary_lines fields) ≡ false
 vary_validates_nothing fields =
     ap (λ (vs : List (List ℕ)). is_some (passing is_entity_tag (only vs)) || is_some (passing has_permitted_length (only (values_of (codes "last-modified") (vary_lines fields)))))
-        (other_values (codes "etag") (codes "vary") fields refl)
+    (other_values (codes "etag") (codes "vary") fields refl)
     ∙ ap (λ (vs : List (List ℕ)). is_some (passing has_permitted_length (only vs))) (other_values (codes "last-modified") (codes "vary") fields refl)
 
 kept_twice : (p : Field → Bool) (fields : List Field) → filter p (filter p fields) ≡ filter p fields

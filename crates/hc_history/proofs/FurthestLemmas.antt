@@ -1,5 +1,5 @@
 -- How far a reply gets tells the first filter that leaves nobody.
-use Rattle.std.proofs.Common.{◌≡◌, ℕ, zero, suc, ◌+◌, ◌≤◌, ◌<◌, Bool, true, false, List, [], ◌∷◌, length, take, Option, Some, None, refl, ap, sym, ◌∙◌, subst, arith, max, ◌⊎◌, inl, inr}
+use Rattle.std.proofs.Common.{◌≡◌, ℕ, zero, suc, ◌+◌, ◌≤◌, ◌<◌, Bool, true, false, List, [], ◌∷◌, length, take, Option, Some, None, refl, ap, subst, arith, max, ◌⊎◌, inl, inr}
 use Rattle.std.specs.List.{list_all}
 use Rattle.std.proofs.lemmas.Bool.{cases_lt}
 use Rattle.hc_transcript.specs.Items.{Item}
@@ -55,7 +55,7 @@ passed_up_to claim h position (suc m) kept is one le =
       | inl last ↦
           let e : position ≡ suc m = omega arith in
           let at_it : passed_by claim (state_at (suc m) h) ≡ passed (filters claim kept) =
-              ap (passed_by claim) (subst (λ (k : ℕ). state_at k h ≡ Some kept) e is) in
+          ap (passed_by claim) (subst (λ (k : ℕ). state_at k h ≡ Some kept) e is) in
           omega arith
       | inr before ↦ omega (arith, passed_up_to claim h position m kept is one before)
     ]

@@ -7,3 +7,4 @@ pub mod ReasonLemmas
 pub mod ForgetLemmas
 pub mod LiveLemmas
 pub mod NoteLemmas
+pub mod VerdictLemmas

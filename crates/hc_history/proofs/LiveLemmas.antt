@@ -1,5 +1,5 @@
 -- What is kept of the responses of a target tells how many filters one passes.
-use Rattle.std.proofs.Common.{◌≡◌, ℕ, zero, suc, ◌+◌, ◌≤◌, Bool, true, false, not, ◌&&◌, ◌||◌, cond, List, [], ◌∷◌, ◌++◌, length, max, Option, Some, None, refl, ap, sym, ◌∙◌, arith}
+use Rattle.std.proofs.Common.{◌≡◌, ℕ, zero, suc, Bool, true, false, not, ◌&&◌, ◌||◌, cond, List, [], ◌∷◌, ◌++◌, length, max, Option, Some, None, refl, ap, sym, ◌∙◌, arith}
 use Rattle.std.specs.Prelude.{filter, codes}
 use Rattle.std.specs.List.{list_all, flat_map}
 use Rattle.std.specs.Str.{bytes_eq}
@@ -14,7 +14,7 @@ use Rattle.hc_transcript.specs.Items.{Item}
 use Rattle.hc_history.specs.Claims.{Claim, asks_head}
 use Rattle.hc_history.specs.States.{Kept, same_target, state_at}
 use Rattle.hc_history.specs.Filters.{filters}
-use Rattle.hc_history.specs.Seen.{is_lost, vary_lines, remnant, remaining, Live, live_at, live_up_to, live_of}
+use Rattle.hc_history.specs.Seen.{is_lost, vary_lines, remaining, Live, live_at, live_up_to, live_of}
 use Rattle.hc_history.specs.Furthest.{passed, passed_by, furthest_up_to, furthest, furthest_live}
 use Rattle.hc_history.proofs.TargetLemmas.{same_target_one}
 use Rattle.hc_history.proofs.ForgetLemmas.{remaining_lost, remaining_kept}
@@ -53,7 +53,7 @@ passed_remaining_by : (claim : Claim) (target : Target) (state : Stored) (lost :
 passed_remaining_by claim target state true lost =
     ap (λ (s : Stored). passed (filters claim (record { target = target; state = s }))) (remaining_lost state lost)
     ∙ third_fails _ _ _ _ _ _ _ (selects_alike state.fields state.request.fields claim.request.fields) refl
-        (ap not (is_invalid state.invalid (has_validator state.fields) lost))
+    (ap not (is_invalid state.invalid (has_validator state.fields) lost))
 passed_remaining_by claim target state false kept =
     ap (λ (s : Stored). passed (filters claim (record { target = target; state = s }))) (remaining_kept state kept)
 

@@ -1,7 +1,7 @@
 -- What the next item makes of what is known of a history.
-use Rattle.std.proofs.Common.{◌≡◌, ℕ, zero, suc, ◌+◌, ◌≤◌, ◌<◌, Bool, true, false, cond, if◌then◌else◌, ltb, eqb, List, [], ◌∷◌, ◌++◌, length, map, Option, Some, None, refl, ap, sym, ◌∙◌, arith, add-one, eq-eqb, inl, inr}
+use Rattle.std.proofs.Common.{◌≡◌, ℕ, zero, suc, ◌+◌, ◌≤◌, Bool, true, false, cond, if◌then◌else◌, ltb, eqb, List, [], ◌∷◌, ◌++◌, length, map, Option, Some, None, refl, ap, sym, ◌∙◌, arith, add-one, eq-eqb}
 use Rattle.std.specs.Option.{option_map}
-use Rattle.std.proofs.lemmas.Bool.{lt-ltb, le-ltb, cases_Bool}
+use Rattle.std.proofs.lemmas.Bool.{lt-ltb, le-ltb}
 use Rattle.std.proofs.lemmas.List.{map-append, append-nil}
 use Rattle.hc_head.specs.declared.head.RequestHead.{RequestHead}
 use Rattle.hc_head.specs.declared.head.ResponseHead.{ResponseHead}
@@ -10,9 +10,9 @@ use Rattle.hc_framing.specs.declared.message.Message.{Message}
 use Rattle.hc_update.specs.States.{initial_state}
 use Rattle.hc_transcript.specs.Items.{Item, ClientRequest, OriginRequest, OriginResponse, OriginFailure, ClientReply, Exchange, Forward}
 use Rattle.hc_transcript.specs.History.{next_position, exchange_of, forward_of, exchange_after, forward_after}
-use Rattle.hc_history.specs.States.{Kept, same_target, begun_by, begun_to, state_begun, state_answered, kept_answered, kept_answered_to, state_after, state_at}
-use Rattle.hc_history.specs.Windows.{is_error_by, is_failure_by, is_error, is_failure, latest}
-use Rattle.hc_history.specs.Seen.{remaining, Live, live_at, live_up_to, live_of, Answer, answer_to, answers_by, answers_since, answers_to, Seen, IsSeenAs}
+use Rattle.hc_history.specs.States.{Kept, same_target, begun_by, begun_to, state_begun, state_answered, kept_answered_to, state_after, state_at}
+use Rattle.hc_history.specs.Windows.{is_error_by, is_failure_by, is_error, is_failure}
+use Rattle.hc_history.specs.Seen.{remaining, Live, live_at, live_up_to, live_of, Answer, answers_by, answers_since, answers_to, Seen, IsSeenAs}
 use Rattle.hc_history.specs.Noting.{live_answered, lives_answered, lives_after, answer_in, answers_after, Notes}
 use Rattle.hc_history.proofs.TargetLemmas.{same_target_one}
 use Rattle.hc_history.proofs.StateLemmas.{earlier_at}

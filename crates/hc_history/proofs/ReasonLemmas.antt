@@ -1,5 +1,5 @@
 -- A wrong reply isn't right, and is wrong by one reason.
-use Rattle.std.proofs.Common.{◌≡◌, ℕ, ◌+◌, ◌≤◌, ◌<◌, Bool, true, false, eqb, List, refl, ap, sym, ◌∙◌, arith, inl, inr}
+use Rattle.std.proofs.Common.{◌≡◌, ℕ, ◌<◌, Bool, true, false, eqb, List, refl, ap, sym, ◌∙◌, arith, inl, inr}
 use Rattle.std.specs.Prelude.{if◌then◌else◌}
 use Rattle.std.proofs.lemmas.Bool.{cases_lt}
 use Rattle.hc_status.specs.declared.marks.Mark.{Mark}
@@ -9,7 +9,7 @@ use Rattle.hc_history.specs.declared.reasons.Reason.{Reason}
 use Rattle.hc_history.specs.declared.reasons.Reason.TheVariants as reason
 use Rattle.hc_history.specs.Names.{reason_number}
 use Rattle.hc_history.specs.Claims.{Claim}
-use Rattle.hc_history.specs.Reused.{Pass, IsFirstFailed, filter_count}
+use Rattle.hc_history.specs.Reused.{IsFirstFailed, filter_count}
 use Rattle.hc_history.specs.Right.{IsRightBy, IsWrongBy}
 use Rattle.hc_history.proofs.FurthestLemmas.{Pass-fewer}
 

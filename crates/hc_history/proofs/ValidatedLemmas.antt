@@ -1,5 +1,5 @@
 -- A stored response was validated later than it came.
-use Rattle.std.proofs.Common.{◌≡◌, ℕ, ◌+◌, ◌≤◌, ◌<◌, Bool, true, false, cond, List, [], ◌∷◌, length, Option, Some, None, refl, sym, ap, ◌∙◌, arith, ◌⊎◌, inl, inr}
+use Rattle.std.proofs.Common.{◌≡◌, ℕ, ◌≤◌, ◌<◌, Bool, true, false, cond, List, [], ◌∷◌, length, Option, Some, None, refl, sym, ap, ◌∙◌, arith, ◌⊎◌, inl, inr}
 use Rattle.std.specs.Option.{option_map}
 use Rattle.std.proofs.lemmas.Bool.{cases_eq, ne_eqb, eq-eqb}
 use Rattle.hc_head.specs.declared.head.ResponseHead.{ResponseHead}
@@ -10,7 +10,7 @@ use Rattle.hc_update.specs.States.{initial_state, freshened, invalidated, invali
 use Rattle.hc_update.specs.Identifying.{identifies}
 use Rattle.hc_transcript.specs.Items.{Item, ClientRequest, OriginRequest, OriginResponse, OriginFailure, ClientReply, Forward}
 use Rattle.hc_transcript.specs.History.{next_position, forward_of}
-use Rattle.hc_history.specs.States.{Kept, same_target, begun_by, begun_to, state_begun, state_answered, kept_answered, kept_answered_to, state_after, state_at}
+use Rattle.hc_history.specs.States.{Kept, same_target, begun_to, state_begun, state_answered, kept_answered_to, state_after, state_at}
 use Rattle.hc_history.proofs.StateLemmas.{map_is_some, place_of}
 
 -- nothing has validated what has just come
@@ -50,7 +50,7 @@ kept_validated : (forward : Forward) (position moment : ℕ) (response : Message
     → Validates position kept (cond same (record { target = kept.target; state = state_answered forward position moment response kept.state }) kept)
 kept_validated forward position moment response kept true =
     state_validated forward position moment response kept.state (identifies kept.state forward.request.head response.head)
-        (invalidates forward.request.head.method response.head.status)
+    (invalidates forward.request.head.method response.head.status)
 kept_validated forward position moment response kept false = inl refl
 
 answered_validated : (o : Option Forward) (position moment : ℕ) (response : Message ResponseHead) (kept : Kept) → Validates position kept (kept_answered_to o position moment response kept)

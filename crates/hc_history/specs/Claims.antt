@@ -1,5 +1,5 @@
 -- What a reply claims: what it says of itself, and what it is held against.
-use Rattle.std.specs.Prelude.{ℕ, Bool, ℤ, List, Option, Some, None, codes, bytes_eq}
+use Rattle.std.specs.Prelude.{ℕ, Bool, ℤ, List, Option, None, codes, bytes_eq}
 use Rattle.hc_head.specs.declared.head.RequestHead.{RequestHead}
 use Rattle.hc_head.specs.declared.head.ResponseHead.{ResponseHead}
 use Rattle.hc_head.specs.declared.head.Target.{Target}

@@ -1,5 +1,5 @@
 -- What is counted in a transcript.
-use Rattle.std.specs.Prelude.{ℕ, ◌+◌, List, [], ◌∷◌, Option, Some, None}
+use Rattle.std.specs.Prelude.{◌+◌, List, [], ◌∷◌, Option, Some, None}
 use Rattle.hc_status.specs.declared.marks.Mark.{Mark}
 use Rattle.hc_status.specs.declared.marks.Mark.TheVariants.{Hit, Forwarded, Both, Unmarked}
 use Rattle.hc_transcript.specs.Items.{Item}

@@ -10,9 +10,14 @@ ghost use Rattle.hc_update.specs.declared.stored.Stored.{Stored};
 ghost use Rattle.hc_update.specs.States.{freshened};
 ghost use Rattle.hc_update.specs.Identifying.{identifies};
 ghost use Rattle.hc_status.specs.declared.marks.Mark.{Mark};
+ghost use Rattle.hc_transcript.specs.declared.fault.RecordFault.{RecordFault};
+ghost use Rattle.hc_transcript.specs.declared.fault.RecordFault.TheVariants.{Torn};
 ghost use Rattle.hc_transcript.specs.Items.{Item, OriginResponse, Forward};
 ghost use Rattle.hc_transcript.specs.History.{next_position, forward_of};
 ghost use Rattle.hc_history.specs.declared.reasons.Reason.{Reason};
+ghost use Rattle.hc_history.specs.declared.settings.Settings.{Settings};
+ghost use Rattle.hc_history.specs.declared.verdicts.Verdict.{Verdict};
+ghost use Rattle.hc_history.specs.declared.verdicts.Verdict.TheVariants.{No, Malformed};
 ghost use Rattle.hc_history.specs.States.{Kept, same_target, state_at, state_answered};
 ghost use Rattle.hc_history.specs.Windows.{some_since, latest};
 ghost use Rattle.hc_history.specs.Claims.{Claim};
@@ -20,6 +25,7 @@ ghost use Rattle.hc_history.specs.Filters.{filters};
 ghost use Rattle.hc_history.specs.Reused.{Pass, IsFirstFailed, filter_count};
 ghost use Rattle.hc_history.specs.Forwarded.{carries, is_forwarded};
 ghost use Rattle.hc_history.specs.Right.{IsRightBy, IsWrongBy};
+ghost use Rattle.hc_history.specs.Verdicts.{IsVerdict};
 ghost use Rattle.hc_history.specs.Seen.{Seen, IsSeenAs, remaining, live_of, answers_since};
 ghost use Rattle.hc_history.specs.Noting.{Notes};
 ghost use Rattle.hc_history.specs.Furthest.{passed, furthest, furthest_live};
@@ -33,8 +39,9 @@ pub fn later_update_clears_the_mark()
         → same_target forward.target kept.target ≡ true
         → identifies kept.state forward.request.head response.head ≡ true
         → state_at position (OriginResponse number moment response ∷ h) ≡ Some (record {
-            target = kept.target;
-            state = freshened kept.state response.head.fields forward.moment moment (next_position h) }) }
+          target = kept.target;
+          state = freshened kept.state response.head.fields forward.moment moment (next_position h);
+        }) }
     ensures clears { (state : Stored) (received : List Field) (request_time response_time position : ℕ)
         → (freshened state received request_time response_time position).invalid ≡ false }
 {}
@@ -74,7 +81,7 @@ pub fn wrong_by_one_reason()
 pub fn forgotten_changes_no_reason()
     ensures one { (claim : Claim) (target : Target) (state : Stored)
         → passed (filters claim (record { target = target; state = remaining state }))
-            ≡ passed (filters claim (record { target = target; state = state })) }
+        ≡ passed (filters claim (record { target = target; state = state })) }
     ensures live { (claim : Claim) (h : List Item)
         → furthest_live claim (live_of claim.target h) ≡ furthest claim h }
 {}
@@ -83,11 +90,26 @@ pub fn forgotten_changes_no_reason()
 pub fn forgetting_and_noting_commute()
     ensures { (forward : Forward) (position moment : ℕ) (response : Message ResponseHead) (state : Stored)
         → remaining (state_answered forward position moment response (remaining state))
-            ≡ remaining (state_answered forward position moment response state) }
+        ≡ remaining (state_answered forward position moment response state) }
 {}
 
 /// What is seen as a history goes on, by the next item, to what is seen as the history with it.
 pub fn noting_goes_on()
     ensures { (old new : Seen) (h : List Item) (item : Item)
         → IsSeenAs old h → Notes old (next_position h) item new → IsSeenAs new (item ∷ h) }
+{}
+
+/// Octets have one verdict at most.
+pub fn one_verdict()
+    ensures { (octets : List ℕ) (settings : Settings) (one other : Verdict)
+        → IsVerdict octets settings one → IsVerdict octets settings other → one ≡ other }
+{}
+
+/// A verdict that stands holds, however the octets go on.
+pub fn standing_verdict_stays()
+    ensures no { (octets more : List ℕ) (settings : Settings) (position : ℕ) (why : Reason)
+        → IsVerdict octets settings (No position why) → IsVerdict (octets ++ more) settings (No position why) }
+    ensures malformed { (octets more : List ℕ) (settings : Settings) (position : ℕ) (fault : RecordFault)
+        → fault ≢ Torn
+        → IsVerdict octets settings (Malformed position fault) → IsVerdict (octets ++ more) settings (Malformed position fault) }
 {}

@@ -11,8 +11,8 @@ mod verdicts;
 pub use hc_status::{Mark, MarkFault};
 pub use laws::{
     forgetting_and_noting_commute, forgotten_changes_no_reason, later_update_clears_the_mark,
-    least_reason_by_the_furthest, noting_goes_on, window_is_what_is_later_than_the_request,
-    wrong_by_one_reason,
+    least_reason_by_the_furthest, noting_goes_on, one_verdict, standing_verdict_stays,
+    window_is_what_is_later_than_the_request, wrong_by_one_reason,
 };
 pub use marks::reply_mark;
 pub use reasons::Reason;

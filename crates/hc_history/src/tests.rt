@@ -1,4 +1,5 @@
 use super::*;
+use hc_fields::Octets;
 use hc_framing::{FrameFault, Message, whole_response};
 use hc_head::ResponseHead;
 use std::alloc::Global;
@@ -57,5 +58,39 @@ fn marks(rt: HostRuntime) -> Result<(), Fail> {
             "at {status:?}"
         );
     }
+    Ok(())
+}
+
+#[test]
+fn reasons_are_told(rt: HostRuntime) {
+    let told = [
+        (Reason::NoResponse, 1, "NoResponse"),
+        (Reason::Vary, 2, "Vary"),
+        (Reason::Invalidated, 3, "Invalidated"),
+        (Reason::NoExplicitFreshness, 4, "NoExplicitFreshness"),
+        (Reason::NotAllowed, 5, "NotAllowed"),
+        (Reason::Body, 6, "Body"),
+        (Reason::Fields, 7, "Fields"),
+        (Reason::Age, 8, "Age"),
+        (Reason::Ttl, 9, "Ttl"),
+        (Reason::NotForwarded, 10, "NotForwarded"),
+        (Reason::Unmarked, 11, "Unmarked"),
+        (Reason::BothMarks, 12, "BothMarks"),
+    ];
+    for (reason, number, name) in told {
+        assert_eq!(rt; reason.number(), number);
+        assert_eq!(rt; reason.name(), name);
+    }
+}
+
+#[test]
+fn ignored_names_are_kept(rt: HostRuntime) -> Result<(), Fail> {
+    let mut names = FieldNames::new(rt.alloc());
+    assert!(rt; !names.contains(b"server"));
+    names.push(Octets::from_slice(rt.alloc(), b"server")?)?;
+    names.push(Octets::from_slice(rt.alloc(), b"x-id")?)?;
+    assert!(rt; names.contains(b"server"));
+    assert!(rt; names.contains(b"x-id"));
+    assert!(rt; !names.contains(b"x"));
     Ok(())
 }

@@ -2,7 +2,7 @@
 use Rattle.std.specs.Prelude.{◌≡◌, ◌⊎◌, ℕ, List, ◌++◌, Option, None, IfSome}
 use Rattle.std.specs.Io.KnownBytes.{Appends, Consumes, Keeps}
 use Rattle.hc_history.specs.declared.verdicts.Verdict.{Verdict}
-use Rattle.hc_history.specs.Verdicts.{IsVerdict}
+use Rattle.hc_audit.specs.ThinVerdicts.{IsVerdict}
 use Rattle.hc_audit.specs.declared.auditor.Auditor.{Auditor}
 use Rattle.hc_audit.specs.Judging.{AgreesWith}
 use Rattle.hc_prog.specs.Line.{IsVerdictLine, status_of}

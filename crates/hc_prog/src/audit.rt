@@ -1,7 +1,7 @@
 //! The audit of one transcript: from a reader to a line on a writer and an exit status.
 ghost use Rattle.std.specs.Prelude.{◌≡◌, ◌≢◌, ◌⊎◌, ◌<◌, ℕ, List, length, IfErr, IfOk, IfSome, OnOk, vec_len};
 ghost use Rattle.std.specs.Io.KnownBytes.{IsAtEnd, Keeps};
-ghost use Rattle.hc_history.specs.Verdicts.{IsVerdict};
+ghost use Rattle.hc_audit.specs.ThinVerdicts.{IsVerdict};
 ghost use Rattle.hc_audit.specs.Judging.{AgreesWith};
 ghost use Rattle.hc_prog.specs.Audit.{AnswersFor, Feeds, SaysLine, SaysVerdict};
 ghost use Rattle.hc_prog.specs.Line.{status_of};
@@ -118,6 +118,7 @@ fn status(verdict: &Verdict) -> u8
 {
     match verdict {
         Verdict::Yes(_) => 0,
+        Verdict::No(_, _) => 1,
         Verdict::Malformed(_, _) => 2,
     }
 }

@@ -1,6 +1,6 @@
 //! The line that says a verdict.
 ghost use Rattle.std.specs.Prelude.{◌≡◌, IfOk, string_bytes};
-ghost use Rattle.hc_prog.specs.Line.{IsVerdictLine, malformed_line, yes_line};
+ghost use Rattle.hc_prog.specs.Line.{IsVerdictLine, malformed_line, no_line, yes_line};
 
 use hc_audit::{Counts, Verdict};
 use std::alloc::{AllocError, Global};
@@ -11,6 +11,9 @@ pub fn verdict_line(alloc: Global, verdict: &Verdict) -> Result<String, AllocErr
 {
     match verdict {
         Verdict::Yes(counts) => right_line(alloc, counts),
+        Verdict::No(position, reason) => {
+            wrong_line(alloc, *position, reason.number(), reason.name())
+        }
         Verdict::Malformed(position, fault) => {
             broken_line(alloc, *position, fault.number(), fault.name())
         }
@@ -28,6 +31,12 @@ fn right_line(alloc: Global, counts: &Counts) -> Result<String, AllocError>
     format!(in alloc;
         "yes records={records} replies={replies} hits={hits} forwarded={forwarded} unmarked={unmarked}\n"
     )
+}
+
+fn wrong_line(alloc: Global, position: u64, number: u32, name: &str) -> Result<String, AllocError>
+    ensures { IfOk result (λ line. string_bytes line ≡ no_line position number name.now) }
+{
+    format!(in alloc; "no {position} {number} {name}\n")
 }
 
 fn broken_line(alloc: Global, position: u64, number: u32, name: &str) -> Result<String, AllocError>

@@ -3,7 +3,7 @@ use Rattle.std.specs.Prelude.{Result}
 use Rattle.hc_transcript.specs.Items.{item_of}
 use Rattle.hc_status.specs.declared.marks.Mark.{Mark}
 use Rattle.hc_history.specs.declared.verdicts.Verdict.{Verdict}
-use Rattle.hc_history.specs.Verdicts.{marked}
+use Rattle.hc_history.specs.Counting.{marked}
 use Rattle.hc_audit.specs.declared.fault.AuditFault.{AuditFault}
 use Rattle.hc_audit.specs.Judging.{GivesVerdict, stopped}
 use Rattle.hc_audit.proofs.JudgeLemmas.{stops_give, wrong_gives, right_goes_on, counts_one_more}

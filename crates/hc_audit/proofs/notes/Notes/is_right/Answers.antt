@@ -2,7 +2,7 @@ use Rattle.std.proofs.Common.{◌≡◌, sym, ap, subst, ◌∙◌, None}
 use Rattle.hc_status.specs.declared.marks.Mark.TheVariants.{Hit}
 use Rattle.hc_transcript.specs.Items.{Item, item_of}
 use Rattle.hc_history.specs.Marks.{item_mark, reply_mark}
-use Rattle.hc_history.specs.Verdicts.{IsRight}
+use Rattle.hc_audit.specs.ThinVerdicts.{IsRight}
 use Rattle.hc_audit.proofs.ReuseLemmas.{hit_is_right, hit_is_wrong, marked_hit}
 use Rattle.hc_audit.proofs.notes.Notes.is_right.Goals as goal
 
