@@ -105,7 +105,7 @@ pub fn one_verdict()
         → IsVerdict octets settings one → IsVerdict octets settings other → one ≡ other }
 {}
 
-/// A verdict that stands holds, however the octets go on.
+/// A no, and malformed by any fault but Torn, holds however the octets go on.
 pub fn standing_verdict_stays()
     ensures no { (octets more : List ℕ) (settings : Settings) (position : ℕ) (why : Reason)
         → IsVerdict octets settings (No position why) → IsVerdict (octets ++ more) settings (No position why) }

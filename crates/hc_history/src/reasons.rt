@@ -8,7 +8,7 @@ pub enum Reason {
     NoResponse,
     /// None of those is selected by the request.
     Vary,
-    /// Each of those was invalidated.
+    /// Each of those is invalid.
     Invalidated,
     /// None of those states a lifetime, or may be used without.
     NoExplicitFreshness,

@@ -6,6 +6,7 @@ use hc_transcript::RecordFault;
 /// What was counted in a transcript whose replies are all right.
 #[derive(Clone, Copy, Debug, PartialEq, Eq)]
 pub struct Counts {
+    /// All records.
     pub records: u64,
     /// Replies, each of which is one of the following.
     pub replies: u64,
