@@ -1,5 +1,5 @@
 -- What is said of a transcript.
-use Rattle.std.specs.Prelude.{◌≡◌, ◌≢◌, ℕ, ◌+◌, ◌⊎◌, List, [], ◌∷◌, Option, Some, None}
+use Rattle.std.specs.Prelude.{◌≡◌, ◌≢◌, ℕ, ◌⊎◌, List, [], ◌∷◌, Option, Some, None}
 use Rattle.hc_head.specs.declared.head.ResponseHead.{ResponseHead}
 use Rattle.hc_framing.specs.declared.message.Message.{Message}
 use Rattle.hc_transcript.specs.declared.fault.RecordFault.{RecordFault}
@@ -16,7 +16,6 @@ use Rattle.hc_status.specs.declared.marks.Mark.TheVariants.{Hit, Forwarded, Both
 use Rattle.hc_history.specs.declared.verdicts.Counts.{Counts}
 use Rattle.hc_history.specs.declared.verdicts.Verdict.{Verdict}
 use Rattle.hc_history.specs.declared.verdicts.Verdict.TheVariants.{Yes, No, Malformed}
-use Rattle.hc_history.specs.declared.reasons.Reason.{Reason}
 use Rattle.hc_history.specs.Marks.{reply_mark}
 use Rattle.hc_history.specs.Counting.{counts_of}
 use Rattle.hc_audit.specs.Reuse.{claim_of, IsReused}
