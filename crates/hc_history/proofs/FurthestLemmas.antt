@@ -4,7 +4,8 @@ use Rattle.std.specs.List.{list_all}
 use Rattle.std.proofs.lemmas.Bool.{cases_lt}
 use Rattle.hc_transcript.specs.Items.{Item}
 use Rattle.hc_history.specs.Claims.{Claim}
-use Rattle.hc_history.specs.States.{Kept, state_at}
+use Rattle.hc_history.specs.declared.kept.Kept.{Kept}
+use Rattle.hc_history.specs.States.{state_at}
 use Rattle.hc_history.specs.Filters.{filters}
 use Rattle.hc_history.specs.Reused.{Pass, IsFirstFailed, filter_count}
 use Rattle.hc_history.specs.Furthest.{passed, passed_by, furthest_up_to, furthest}

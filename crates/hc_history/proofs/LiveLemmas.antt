@@ -12,7 +12,8 @@ use Rattle.hc_rules.specs.Validators.{has_validator}
 use Rattle.hc_update.specs.declared.stored.Stored.{Stored}
 use Rattle.hc_transcript.specs.Items.{Item}
 use Rattle.hc_history.specs.Claims.{Claim, asks_head}
-use Rattle.hc_history.specs.States.{Kept, same_target, state_at}
+use Rattle.hc_history.specs.declared.kept.Kept.{Kept}
+use Rattle.hc_history.specs.States.{same_target, state_at}
 use Rattle.hc_history.specs.Filters.{filters}
 use Rattle.hc_history.specs.Seen.{is_lost, vary_lines, remaining, Live, live_at, live_up_to, live_of}
 use Rattle.hc_history.specs.Furthest.{passed, passed_by, furthest_up_to, furthest, furthest_live}

@@ -10,7 +10,8 @@ use Rattle.hc_framing.specs.declared.message.Message.{Message}
 use Rattle.hc_update.specs.States.{initial_state}
 use Rattle.hc_transcript.specs.Items.{Item, ClientRequest, OriginRequest, OriginResponse, OriginFailure, ClientReply, Exchange, Forward}
 use Rattle.hc_transcript.specs.History.{next_position, exchange_of, forward_of, exchange_after, forward_after}
-use Rattle.hc_history.specs.States.{Kept, same_target, begun_by, begun_to, state_begun, state_answered, kept_answered_to, state_after, state_at}
+use Rattle.hc_history.specs.declared.kept.Kept.{Kept}
+use Rattle.hc_history.specs.States.{same_target, begun_by, begun_to, state_begun, state_answered, kept_answered_to, state_after, state_at}
 use Rattle.hc_history.specs.Windows.{is_error_by, is_failure_by, is_error, is_failure}
 use Rattle.hc_history.specs.Seen.{remaining, Live, live_at, live_up_to, live_of, Answer, answers_by, answers_since, answers_to, Seen, IsSeenAs}
 use Rattle.hc_history.specs.Noting.{live_answered, lives_answered, lives_after, answer_in, answers_after, Notes}

@@ -10,7 +10,8 @@ use Rattle.hc_update.specs.States.{freshened}
 use Rattle.hc_update.specs.Identifying.{identifies}
 use Rattle.hc_transcript.specs.Items.{Item, OriginResponse, Forward}
 use Rattle.hc_transcript.specs.History.{next_position, forward_of}
-use Rattle.hc_history.specs.States.{Kept, same_target, kept_answered_to, state_after, state_at}
+use Rattle.hc_history.specs.declared.kept.Kept.{Kept}
+use Rattle.hc_history.specs.States.{same_target, kept_answered_to, state_after, state_at}
 
 pub map_is_some : {A B : Type 0} (f : A → B) (o : Option A) (y : B) → option_map f o ≡ Some y → (x : A) × (o ≡ Some x)
 map_is_some f None y is = cc

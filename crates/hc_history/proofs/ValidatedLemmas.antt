@@ -10,7 +10,8 @@ use Rattle.hc_update.specs.States.{initial_state, freshened, invalidated, invali
 use Rattle.hc_update.specs.Identifying.{identifies}
 use Rattle.hc_transcript.specs.Items.{Item, ClientRequest, OriginRequest, OriginResponse, OriginFailure, ClientReply, Forward}
 use Rattle.hc_transcript.specs.History.{next_position, forward_of}
-use Rattle.hc_history.specs.States.{Kept, same_target, begun_to, state_begun, state_answered, kept_answered_to, state_after, state_at}
+use Rattle.hc_history.specs.declared.kept.Kept.{Kept}
+use Rattle.hc_history.specs.States.{same_target, begun_to, state_begun, state_answered, kept_answered_to, state_after, state_at}
 use Rattle.hc_history.proofs.StateLemmas.{map_is_some, place_of}
 
 -- nothing has validated what has just come

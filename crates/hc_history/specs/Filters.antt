@@ -11,7 +11,8 @@ use Rattle.hc_rules.specs.Selecting.{selects}
 use Rattle.hc_rules.specs.Conditions.{condition_holds}
 use Rattle.hc_update.specs.declared.stored.Stored.{Stored}
 use Rattle.hc_history.specs.Claims.{Claim, asks_head}
-use Rattle.hc_history.specs.States.{Kept, same_target}
+use Rattle.hc_history.specs.declared.kept.Kept.{Kept}
+use Rattle.hc_history.specs.States.{same_target}
 use Rattle.hc_history.specs.Usable.{lifetime_of, age_of, is_usable}
 
 -- the difference of two numbers is at most the slack

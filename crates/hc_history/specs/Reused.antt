@@ -3,7 +3,8 @@ use Rattle.std.specs.Prelude.{◌≡◌, ℕ, ◌≤◌, ◌<◌, true, List, ta
 use Rattle.std.specs.List.{list_all}
 use Rattle.hc_transcript.specs.Items.{Item}
 use Rattle.hc_history.specs.Claims.{Claim}
-use Rattle.hc_history.specs.States.{Kept, state_at}
+use Rattle.hc_history.specs.declared.kept.Kept.{Kept}
+use Rattle.hc_history.specs.States.{state_at}
 use Rattle.hc_history.specs.Filters.{filters}
 
 -- there is one earlier response of which the first n filters hold

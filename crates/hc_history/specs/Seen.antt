@@ -8,7 +8,8 @@ use Rattle.hc_rules.specs.Validators.{has_validator}
 use Rattle.hc_update.specs.declared.stored.Stored.{Stored}
 use Rattle.hc_transcript.specs.Items.{Item, ClientRequest, OriginRequest, OriginResponse, OriginFailure, ClientReply, Exchange, Forward}
 use Rattle.hc_transcript.specs.History.{next_position, exchange_of, forward_of}
-use Rattle.hc_history.specs.States.{Kept, same_target, state_at}
+use Rattle.hc_history.specs.declared.kept.Kept.{Kept}
+use Rattle.hc_history.specs.States.{same_target, state_at}
 use Rattle.hc_history.specs.Windows.{latest, is_error, is_failure}
 
 -- ---- what may be forgotten of a stored response

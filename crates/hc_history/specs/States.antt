@@ -11,11 +11,7 @@ use Rattle.hc_update.specs.States.{initial_state, freshened, invalidated, invali
 use Rattle.hc_update.specs.Identifying.{identifies}
 use Rattle.hc_transcript.specs.Items.{Item, ClientRequest, OriginRequest, OriginResponse, OriginFailure, ClientReply, Forward}
 use Rattle.hc_transcript.specs.History.{next_position, forward_of}
-
--- a stored response and its target
-pub record Kept : Type 0 where
-  pub target : Target
-  pub state : Stored
+use Rattle.hc_history.specs.declared.kept.Kept.{Kept}
 
 -- both are the same host and the same path
 abbrev pub same_target : Target → Target → Bool

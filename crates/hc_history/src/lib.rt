@@ -2,6 +2,8 @@
 //! one passes, right and wrong replies, the verdict, and what has to be known of a history to judge.
 #![tactic(auto)]
 
+mod claim;
+mod kept;
 mod laws;
 mod marks;
 mod reasons;
@@ -9,6 +11,7 @@ mod settings;
 mod verdicts;
 
 pub use hc_status::{Mark, MarkFault};
+pub use kept::Kept;
 pub use laws::{
     forgetting_and_noting_commute, forgotten_changes_no_reason, later_update_clears_the_mark,
     least_reason_by_the_furthest, noting_goes_on, one_verdict, standing_verdict_stays,
