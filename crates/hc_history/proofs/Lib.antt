@@ -8,3 +8,4 @@ pub mod ForgetLemmas
 pub mod LiveLemmas
 pub mod NoteLemmas
 pub mod VerdictLemmas
+pub mod RecordedLemmas

@@ -3,12 +3,17 @@
 #![tactic(auto)]
 
 mod claim;
+mod copies;
 mod kept;
 mod laws;
 mod marks;
+mod open;
 mod reasons;
+mod recorded;
 mod settings;
+mod states;
 mod verdicts;
+mod windows;
 
 pub use hc_status::{Mark, MarkFault};
 pub use kept::Kept;

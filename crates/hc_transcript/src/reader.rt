@@ -113,6 +113,20 @@ impl RecordReader {
         &self.current.as_ref().unwrap().item
     }
 
+    /// Takes out what the record that was read last means, after which none is lent until the next is
+    /// read.
+    pub fn take_item(&mut self) -> OwnedItem
+        requires { HasRecord self.old }
+        ensures item { (one : Record) (item : Item) → Lends self.old one item → item_of result ≡ item }
+        ensures agrees { (octets : List ℕ) (records : List Record) (h : List Item) → Agrees self.old octets records h
+            → Agrees self.new octets records h }
+        ensures unread { unread self.new ≡ unread self.old }
+        ensures counted { records_read self.new ≡ records_read self.old }
+        ensures position { reader_position self.new ≡ reader_position self.old }
+    {
+        self.current.take().unwrap().item
+    }
+
     /// How many records were read, at most 4 * 10 ^ 12.
     pub fn records(&self) -> u64
         ensures value { result ≡ records_read self.now }
