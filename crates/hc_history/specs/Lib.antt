@@ -14,3 +14,4 @@ pub mod Seen
 pub mod Noting
 pub mod Furthest
 pub mod Recorded
+pub mod Reading

@@ -1,4 +1,4 @@
--- For the plain judge: the items of octets as they are held, the oldest first, and what stands behind them.
+-- For the plain judge: the items of octets as they are held, the oldest first.
 use Rattle.std.specs.Prelude.{List, map, reverse}
 use Rattle.hc_transcript.specs.Items.{Item, item_of}
 use Rattle.hc_history.specs.declared.recorded.Recorded.{Recorded}

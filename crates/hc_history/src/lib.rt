@@ -8,6 +8,7 @@ mod kept;
 mod laws;
 mod marks;
 mod open;
+mod reading;
 mod reasons;
 mod recorded;
 mod settings;
