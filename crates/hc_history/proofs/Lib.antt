@@ -10,3 +10,6 @@ pub mod NoteLemmas
 pub mod VerdictLemmas
 pub mod RecordedLemmas
 pub mod ReadingLemmas
+pub mod CountLemmas
+pub mod JudgingLemmas
+pub mod ComparedLemmas

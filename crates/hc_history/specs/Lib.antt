@@ -15,3 +15,4 @@ pub mod Noting
 pub mod Furthest
 pub mod Recorded
 pub mod Reading
+pub mod Judging

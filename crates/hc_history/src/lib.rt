@@ -3,7 +3,14 @@
 #![tactic(auto)]
 
 mod claim;
+mod compared;
 mod copies;
+mod counting;
+mod filters;
+mod finding;
+mod forwarded;
+mod furthest;
+mod judging;
 mod kept;
 mod laws;
 mod marks;
@@ -11,12 +18,15 @@ mod open;
 mod reading;
 mod reasons;
 mod recorded;
+mod right;
 mod settings;
 mod states;
+mod usable;
 mod verdicts;
 mod windows;
 
 pub use hc_status::{Mark, MarkFault};
+pub use judging::judge;
 pub use kept::Kept;
 pub use laws::{
     forgetting_and_noting_commute, forgotten_changes_no_reason, later_update_clears_the_mark,

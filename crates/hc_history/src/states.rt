@@ -3,25 +3,18 @@
 ghost use Rattle.std.specs.Prelude.{◌≡◌, ◌<◌, ℕ, List, IfOk, option_map};
 ghost use Rattle.hc_transcript.specs.Items.{Item, item_of, moment_of};
 ghost use Rattle.hc_history.specs.Recorded.{history_of};
-ghost use Rattle.hc_history.specs.States.{same_target, begun_by, state_begun, state_answered, kept_answered, state_after, state_at};
+ghost use Rattle.hc_history.specs.States.{begun_by, state_begun, state_answered, kept_answered, state_after, state_at};
 
 use crate::copies::{copy_of_request_head, copy_of_response};
-use crate::kept::Kept;
+use crate::kept::{Kept, same_target};
 use crate::open::{OpenForward, open_forward};
 use crate::recorded::Recorded;
 use hc_framing::Message;
-use hc_head::{ResponseHead, Target};
+use hc_head::ResponseHead;
 use hc_rules::may_store;
 use hc_transcript::OwnedItem;
 use hc_update::{Stored, identifies, initial, invalidates};
 use std::alloc::{AllocError, Global};
-
-/// Whether both are the same host and the same path.
-pub(crate) fn same_target(one: &Target, other: &Target) -> bool
-    ensures { result ≡ same_target one.now other.now }
-{
-    one.host.as_slice() == other.host.as_slice() && one.path.as_slice() == other.path.as_slice()
-}
 
 /// What a response to that forward begins, if it may be stored.
 fn begun_by(

@@ -5,9 +5,9 @@ ghost use Rattle.hc_transcript.specs.Items.{item_of};
 ghost use Rattle.hc_history.specs.Recorded.{history_of};
 ghost use Rattle.hc_history.specs.Windows.{is_error_status, is_forward_of, is_error, is_failure, some_since};
 
+use crate::kept::same_target;
 use crate::open::{OpenForward, open_forward};
 use crate::recorded::Recorded;
-use crate::states::same_target;
 use hc_head::Target;
 use hc_transcript::OwnedItem;
 

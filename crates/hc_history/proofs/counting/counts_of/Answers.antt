@@ -1,0 +1,8 @@
+use Rattle.std.proofs.Common.{take, arith}
+use Rattle.std.proofs.lemmas.Grind.{common_steps}
+use Rattle.hc_history.proofs.CountLemmas.{at_most}
+use Rattle.hc_history.proofs.counting.counts_of.Goals as goal
+
+pub count-requires : goal.count-requires
+count-requires c =
+    at_most c.loop-recorded.counts (take c.loop-recorded.recorded-index c.args.items.now) 9223372036854775807 c.loop-recorded.invariant (grind (arith, common_steps))

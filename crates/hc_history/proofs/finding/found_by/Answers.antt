@@ -1,0 +1,10 @@
+use Rattle.std.proofs.Common.{sym, subst}
+use Rattle.hc_status.specs.declared.marks.Mark.{Mark}
+use Rattle.hc_history.specs.Recorded.{history_of}
+use Rattle.hc_history.specs.Judging.{IsFoundBy}
+use Rattle.hc_history.proofs.finding.found_by.Goals as goal
+
+pub returns-in-Unmarked : goal.returns-in-Unmarked
+returns-in-Unmarked c =
+    subst (λ (mark : Mark). IsFoundBy mark c.args.claim.now (history_of c.args.items.now) c.found_of_unmarked.result) (sym c.in-Unmarked.is)
+    (c.found_of_unmarked.ensures (history_of c.args.items.now))

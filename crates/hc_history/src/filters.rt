@@ -1,0 +1,163 @@
+//! The filters that a stored response passes, one after another, to be what a reply carries.
+
+ghost use Rattle.std.specs.Prelude.{◌≡◌, IfOk, codes, option_and_then};
+ghost use Rattle.hc_fields.specs.Values.{only_value};
+ghost use Rattle.hc_fields.specs.Numbers.{number_of};
+ghost use Rattle.hc_history.specs.Filters.{filters, has_body, has_its_age, has_its_body, has_its_ttl, is_age, is_asked_for, is_earned_304, is_explicit, is_selected, is_ttl, is_valid, within};
+ghost use Rattle.hc_history.specs.Furthest.{passed};
+
+use crate::claim::{ReplyClaim, asks_head};
+use crate::compared::{has_its_fields, is_304};
+use crate::kept::{Kept, same_target};
+use crate::usable::{age_of, is_usable, lifetime_of};
+use hc_fields::number;
+use hc_fresh::explicit;
+use hc_rules::{client_condition, selects};
+use hc_update::Stored;
+use std::alloc::{AllocError, Global};
+
+/// Whether two numbers are at most the slack apart.
+fn within(slack: u32, one: u32, other: u32) -> bool
+    ensures { result ≡ within slack one other }
+{
+    one.abs_diff(other) <= slack
+}
+
+/// Whether the request is GET or HEAD, of the target of the stored response.
+fn is_asked_for(claim: &ReplyClaim<'_>, kept: &Kept) -> bool
+    ensures { result ≡ is_asked_for claim.now kept.now }
+{
+    (claim.request.method.as_slice() == b"GET".as_slice() || asks_head(claim))
+        && same_target(&kept.target, claim.target)
+}
+
+/// Whether its Vary selects the request (RFC 9111 section 4.1).
+fn is_selected(alloc: Global, claim: &ReplyClaim<'_>, state: &Stored) -> Result<bool, AllocError>
+    ensures { IfOk result (λ s. s ≡ is_selected claim.now state.now) }
+{
+    selects(
+        alloc,
+        &state.fields,
+        &state.request.fields,
+        &claim.request.fields,
+    )
+}
+
+/// Whether it isn't invalidated (RFC 9111 section 4.4).
+fn is_valid(state: &Stored) -> bool
+    ensures { result ≡ is_valid state.now }
+{
+    !state.invalid
+}
+
+/// Whether it states a lifetime, or may be used without (RFC 9111 section 4.2.1).
+fn is_explicit(claim: &ReplyClaim<'_>, state: &Stored) -> bool
+    ensures { result ≡ is_explicit claim.now state.now }
+{
+    explicit(&state.fields) || is_usable(claim, state)
+}
+
+/// Whether the reply has that body, or none where the request is HEAD.
+pub(crate) fn has_body(claim: &ReplyClaim<'_>, body: &[u8]) -> bool
+    ensures { result ≡ has_body claim.now body.now }
+{
+    if asks_head(claim) {
+        claim.reply.body.is_empty()
+    } else {
+        claim.reply.body.as_slice() == body
+    }
+}
+
+/// Whether the reply is a 304 that the client's condition earns (RFC 9111 section 4.3.2).
+fn is_earned_304(claim: &ReplyClaim<'_>, state: &Stored) -> bool
+    ensures { result ≡ is_earned_304 claim.now state.now }
+{
+    is_304(claim)
+        && claim.reply.body.is_empty()
+        && client_condition(&claim.request.fields, state.status, &state.fields)
+}
+
+/// Whether the reply has its status and its body, or is a 304 in its place.
+fn has_its_body(claim: &ReplyClaim<'_>, state: &Stored) -> bool
+    ensures { result ≡ has_its_body claim.now state.now }
+{
+    (claim.reply.head.status == state.status && has_body(claim, state.body.as_slice()))
+        || is_earned_304(claim, state)
+}
+
+/// Whether an Age tells that age, give or take the slack.
+fn is_age(claim: &ReplyClaim<'_>, age: u32, told: Option<u32>) -> bool
+    ensures { result ≡ is_age claim.now age told }
+{
+    match told {
+        Some(told) => within(claim.settings.slack, told, age),
+        None => false,
+    }
+}
+
+/// The number that the one Age of the reply is.
+fn age_told(claim: &ReplyClaim<'_>) -> Option<u32>
+    ensures { result ≡ option_and_then number_of (only_value (codes "age") claim.now.reply.head.fields) }
+{
+    number(claim.reply.head.fields.only(b"age")?)
+}
+
+/// Whether the reply has its Age (RFC 9111 section 5.1).
+fn has_its_age(claim: &ReplyClaim<'_>, state: &Stored) -> bool
+    ensures { result ≡ has_its_age claim.now state.now }
+{
+    is_age(claim, age_of(claim, state), age_told(claim))
+}
+
+/// Whether a mark tells those seconds that are left, give or take the slack, if it tells any.
+fn is_ttl(claim: &ReplyClaim<'_>, left: i64, told: Option<i64>) -> bool
+    ensures { result ≡ is_ttl claim.now left told }
+{
+    match told {
+        Some(told) => told.abs_diff(left) <= u64::from(claim.settings.slack),
+        None => true,
+    }
+}
+
+/// Whether the reply's mark tells the seconds for which it is fresh still (RFC 9211 section 2.4).
+fn has_its_ttl(claim: &ReplyClaim<'_>, state: &Stored) -> bool
+    ensures { result ≡ has_its_ttl claim.now state.now }
+{
+    let left = i64::from(lifetime_of(state)) - i64::from(age_of(claim, state));
+    is_ttl(claim, left, claim.ttl)
+}
+
+/// How many filters a stored response passes, one after another, from the first on.
+pub(crate) fn passed(alloc: Global, claim: &ReplyClaim<'_>, kept: &Kept) -> Result<u32, AllocError>
+    ensures { IfOk result (λ n. n ≡ passed (filters claim.now kept.now)) }
+{
+    let state = &kept.state;
+    if !is_asked_for(claim, kept) {
+        return Ok(0);
+    }
+    if !is_selected(alloc, claim, state)? {
+        return Ok(1);
+    }
+    if !is_valid(state) {
+        return Ok(2);
+    }
+    if !is_explicit(claim, state) {
+        return Ok(3);
+    }
+    if !is_usable(claim, state) {
+        return Ok(4);
+    }
+    if !has_its_body(claim, state) {
+        return Ok(5);
+    }
+    if !has_its_fields(claim, state) {
+        return Ok(6);
+    }
+    if !has_its_age(claim, state) {
+        return Ok(7);
+    }
+    if !has_its_ttl(claim, state) {
+        return Ok(8);
+    }
+    Ok(9)
+}

@@ -1,0 +1,181 @@
+//! What is found of one reply.
+
+ghost use Rattle.std.specs.Prelude.{◌≡◌, List, IfOk};
+ghost use Rattle.hc_transcript.specs.Items.{Item, item_of};
+ghost use Rattle.hc_history.specs.Recorded.{history_of};
+ghost use Rattle.hc_history.specs.Claims.{ttl_of, claim_of};
+ghost use Rattle.hc_history.specs.Marks.{reply_mark};
+ghost use Rattle.hc_history.specs.Judging.{AnswersOpen, IsFound, IsFoundBy, IsReasonBehind};
+
+use crate::claim::ReplyClaim;
+use crate::forwarded::is_forwarded;
+use crate::furthest::furthest;
+use crate::marks::reply_mark;
+use crate::open::{OpenExchange, open_exchange};
+use crate::reasons::Reason;
+use crate::recorded::Recorded;
+use crate::right::allows_unmarked;
+use crate::settings::Settings;
+use crate::verdicts::Finding;
+use crate::windows::{has_error, has_failure};
+use hc_framing::Message;
+use hc_head::ResponseHead;
+use hc_status::{Mark, MarkFault};
+use hc_transcript::OwnedItem;
+use std::alloc::{AllocError, Global};
+
+/// How many filters a reply passes that went forward and carries a stored response.
+const FORWARDED_COUNT: u32 = 7;
+
+/// The reason of the filter behind so many.
+fn reason_behind(passed: u32) -> Option<Reason>
+    ensures { IsReasonBehind passed result }
+{
+    match passed {
+        0 => Some(Reason::NoResponse),
+        1 => Some(Reason::Vary),
+        2 => Some(Reason::Invalidated),
+        3 => Some(Reason::NoExplicitFreshness),
+        4 => Some(Reason::NotAllowed),
+        5 => Some(Reason::Body),
+        6 => Some(Reason::Fields),
+        7 => Some(Reason::Age),
+        8 => Some(Reason::Ttl),
+        _ => None,
+    }
+}
+
+/// The seconds of a hit.
+fn ttl_of(mark: Mark) -> Option<i64>
+    ensures { result ≡ ttl_of mark }
+{
+    match mark {
+        Mark::Hit { ttl } => ttl,
+        Mark::Forwarded => None,
+        Mark::Both => None,
+        Mark::Unmarked => None,
+    }
+}
+
+/// What a reply with that mark claims, behind those items.
+fn claim_of<'a>(
+    settings: &'a Settings,
+    exchange: &OpenExchange<'a>,
+    moment: u64,
+    reply: &'a Message<ResponseHead>,
+    mark: Mark,
+    items: &[Recorded],
+) -> ReplyClaim<'a>
+    ensures { mark ≡ reply_mark reply.now
+        → result ≡ claim_of settings.now exchange.now moment reply.now (history_of items.now) }
+{
+    ReplyClaim {
+        request: &exchange.request.head,
+        target: exchange.target,
+        since: exchange.position,
+        reply,
+        moment,
+        ttl: ttl_of(mark),
+        has_error: has_error(exchange.target, exchange.position, items),
+        has_failure: has_failure(exchange.target, exchange.position, items),
+        settings,
+    }
+}
+
+/// What is found of a hit.
+fn found_of_hit(
+    alloc: Global,
+    ttl: Option<i64>,
+    claim: &ReplyClaim<'_>,
+    items: &[Recorded],
+) -> Result<Finding, AllocError>
+    ensures { IfOk result (IsFoundBy (Mark.Hit ttl) claim.now (history_of items.now)) }
+{
+    let furthest = furthest(alloc, claim, items)?;
+    Ok(match reason_behind(furthest) {
+        Some(why) => Finding::Wrong(why),
+        None => Finding::Right,
+    })
+}
+
+/// What is found of a reply that went forward.
+fn found_of_forwarded(
+    alloc: Global,
+    claim: &ReplyClaim<'_>,
+    items: &[Recorded],
+) -> Result<Finding, AllocError>
+    ensures { IfOk result (IsFoundBy Mark.Forwarded claim.now (history_of items.now)) }
+{
+    if is_forwarded(claim, items) {
+        return Ok(Finding::Right);
+    }
+    let furthest = furthest(alloc, claim, items)?;
+    if FORWARDED_COUNT <= furthest {
+        return Ok(Finding::Right);
+    }
+    Ok(Finding::Wrong(Reason::NotForwarded))
+}
+
+/// What is found of a reply without a mark.
+fn found_of_unmarked(claim: &ReplyClaim<'_>) -> Finding
+    ensures { (h : List Item) → IsFoundBy Mark.Unmarked claim.now h result }
+{
+    if allows_unmarked(claim.settings.unmarked, claim.reply.head.status) {
+        Finding::Right
+    } else {
+        Finding::Wrong(Reason::Unmarked)
+    }
+}
+
+/// What is found of a reply with that mark, behind those items.
+fn found_by(
+    alloc: Global,
+    mark: Mark,
+    claim: &ReplyClaim<'_>,
+    items: &[Recorded],
+) -> Result<Finding, AllocError>
+    ensures { IfOk result (IsFoundBy mark claim.now (history_of items.now)) }
+{
+    match mark {
+        Mark::Hit { ttl } => found_of_hit(alloc, ttl, claim, items),
+        Mark::Forwarded => found_of_forwarded(alloc, claim, items),
+        Mark::Both => Ok(Finding::Wrong(Reason::BothMarks)),
+        Mark::Unmarked => Ok(found_of_unmarked(claim)),
+    }
+}
+
+/// The mark of a reply.
+fn mark_of(alloc: Global, reply: &Message<ResponseHead>) -> Result<Mark, AllocError>
+    ensures { IfOk result (λ mark. mark ≡ reply_mark reply.now) }
+{
+    match reply_mark(alloc, reply) {
+        Ok(mark) => Ok(mark),
+        Err(MarkFault::Memory) => Err(AllocError),
+    }
+}
+
+/// What is found of the item behind those. A reply answers what is open.
+pub(crate) fn found(
+    alloc: Global,
+    settings: &Settings,
+    items: &[Recorded],
+    item: &OwnedItem,
+) -> Result<Finding, AllocError>
+    ensures { AnswersOpen (history_of items.now) (item_of item.now)
+        → IfOk result (IsFound settings.now (history_of items.now) (item_of item.now)) }
+{
+    let OwnedItem::ClientReply {
+        exchange: number,
+        moment,
+        reply,
+    } = item
+    else {
+        return Ok(Finding::Right);
+    };
+    let Some(exchange) = open_exchange(items, *number) else {
+        return Ok(Finding::Right);
+    };
+    let mark = mark_of(alloc, reply)?;
+    let claim = claim_of(settings, &exchange, *moment, reply, mark, items);
+    found_by(alloc, mark, &claim, items)
+}

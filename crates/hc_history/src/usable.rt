@@ -1,0 +1,141 @@
+//! Whether a stored response may be used for a reply (RFC 9111 section 4).
+
+ghost use Rattle.std.specs.Prelude.{◌≡◌, codes};
+ghost use Rattle.hc_fresh.specs.Lifetimes.{says};
+ghost use Rattle.hc_history.specs.Usable.{age_of, by_request, is_fresh_enough, is_usable, lifetime_of, max_stale_permits, on_error, permits, permits_stale, seconds_said, staleness_of, validated_since, while_revalidating};
+
+use crate::claim::ReplyClaim;
+use hc_directives::{Directives, Seconds};
+use hc_fields::Fields;
+use hc_fresh::{current_age, lifetime, stale_forbidden, staleness};
+use hc_update::Stored;
+
+/// The freshness lifetime of a stored response (RFC 9111 section 4.2.1).
+pub(crate) fn lifetime_of(state: &Stored) -> u32
+    ensures { result ≡ lifetime_of state.now }
+{
+    lifetime(&state.fields, state.times.date)
+}
+
+/// Its age at the moment of the reply (RFC 9111 section 4.2.3).
+pub(crate) fn age_of(claim: &ReplyClaim<'_>, state: &Stored) -> u32
+    ensures { result ≡ age_of claim.now state.now }
+{
+    current_age(state.times, claim.moment)
+}
+
+/// By how many seconds it is stale then, 0 where it is fresh.
+fn staleness_of(claim: &ReplyClaim<'_>, state: &Stored) -> u32
+    ensures { result ≡ staleness_of claim.now state.now }
+{
+    staleness(lifetime_of(state), age_of(claim, state))
+}
+
+/// The seconds that the first directive of that name says.
+fn seconds_said(name: &[u8], fields: &Fields) -> Seconds
+    ensures { result ≡ seconds_said name.now fields.now }
+{
+    Directives::read(fields).seconds(name)
+}
+
+/// Whether there is a directive of that name, whatever its argument.
+fn says(name: &[u8], fields: &Fields) -> bool
+    ensures { result ≡ says name.now fields.now }
+{
+    Directives::read(fields).has(name)
+}
+
+/// Whether a directive of those seconds permits that staleness, give or take the slack.
+fn permits(claim: &ReplyClaim<'_>, staleness: u32, seconds: Seconds) -> bool
+    ensures { result ≡ permits claim.now staleness seconds }
+{
+    match seconds {
+        Seconds::Value(seconds) => {
+            u64::from(staleness) <= u64::from(seconds) + u64::from(claim.settings.slack)
+        }
+        Seconds::Absent | Seconds::Bare | Seconds::Unreadable => false,
+    }
+}
+
+/// Whether a max-stale of those seconds permits that staleness; a bare one permits any (RFC 9111
+/// section 5.2.1.2).
+fn max_stale_permits(claim: &ReplyClaim<'_>, staleness: u32, seconds: Seconds) -> bool
+    ensures { result ≡ max_stale_permits claim.now staleness seconds }
+{
+    match seconds {
+        Seconds::Bare => true,
+        Seconds::Value(_) => permits(claim, staleness, seconds),
+        Seconds::Absent | Seconds::Unreadable => false,
+    }
+}
+
+/// Whether the request's max-stale permits how stale it is.
+fn by_request(claim: &ReplyClaim<'_>, state: &Stored) -> bool
+    ensures { result ≡ by_request claim.now state.now }
+{
+    let seconds = seconds_said(b"max-stale", &claim.request.fields);
+    max_stale_permits(claim, staleness_of(claim, state), seconds)
+}
+
+/// Whether its stale-while-revalidate permits how stale it is (RFC 5861 section 3).
+fn while_revalidating(claim: &ReplyClaim<'_>, state: &Stored) -> bool
+    ensures { result ≡ while_revalidating claim.now state.now }
+{
+    let seconds = seconds_said(b"stale-while-revalidate", &state.fields);
+    permits(claim, staleness_of(claim, state), seconds)
+}
+
+/// Whether a stale-if-error of those fields permits how stale it is.
+fn if_error(claim: &ReplyClaim<'_>, state: &Stored, fields: &Fields) -> bool
+    ensures { result ≡ permits claim.now (staleness_of claim.now state.now) (seconds_said (codes "stale-if-error") fields.now) }
+{
+    let seconds = seconds_said(b"stale-if-error", fields);
+    permits(claim, staleness_of(claim, state), seconds)
+}
+
+/// Whether an error or a failure stands in the window, and stale-if-error permits how stale it is
+/// (RFC 5861 section 4).
+fn on_error(claim: &ReplyClaim<'_>, state: &Stored) -> bool
+    ensures { result ≡ on_error claim.now state.now }
+{
+    (claim.has_error || claim.has_failure)
+        && (if_error(claim, state, &state.fields) || if_error(claim, state, &claim.request.fields))
+}
+
+/// Whether it may be served stale (RFC 9111 section 4.2.4).
+fn permits_stale(claim: &ReplyClaim<'_>, state: &Stored) -> bool
+    ensures { result ≡ permits_stale claim.now state.now }
+{
+    !stale_forbidden(&state.fields)
+        && (by_request(claim, state)
+            || while_revalidating(claim, state)
+            || on_error(claim, state)
+            || claim.has_failure)
+}
+
+/// Whether it was validated after that position.
+fn validated_since(since: u64, validated_at: Option<u64>) -> bool
+    ensures { result ≡ validated_since since validated_at }
+{
+    match validated_at {
+        Some(position) => since < position,
+        None => false,
+    }
+}
+
+/// Whether it is fresh, give or take the slack.
+fn is_fresh_enough(claim: &ReplyClaim<'_>, state: &Stored) -> bool
+    ensures { result ≡ is_fresh_enough claim.now state.now }
+{
+    u64::from(age_of(claim, state))
+        < u64::from(lifetime_of(state)) + u64::from(claim.settings.slack)
+}
+
+/// Whether it may be used for the reply.
+pub(crate) fn is_usable(claim: &ReplyClaim<'_>, state: &Stored) -> bool
+    ensures { result ≡ is_usable claim.now state.now }
+{
+    validated_since(claim.since, state.validated_at)
+        || (!says(b"no-cache", &state.fields)
+            && (is_fresh_enough(claim, state) || permits_stale(claim, state)))
+}
