@@ -39,4 +39,8 @@ pub use settings::{FieldNames, Settings, UnmarkedReplies};
 pub use verdicts::{Counts, Finding, Verdict};
 
 #[cfg(test)]
+mod judge_tests;
+#[cfg(test)]
 mod tests;
+#[cfg(test)]
+mod transcripts;
