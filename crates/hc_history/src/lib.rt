@@ -41,6 +41,10 @@ pub use verdicts::{Counts, Finding, Verdict};
 #[cfg(test)]
 mod judge_tests;
 #[cfg(test)]
+mod reason_tests;
+#[cfg(test)]
+mod reason_transcripts;
+#[cfg(test)]
 mod tests;
 #[cfg(test)]
 mod transcripts;
