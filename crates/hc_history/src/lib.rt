@@ -39,6 +39,10 @@ pub use settings::{FieldNames, Settings, UnmarkedReplies};
 pub use verdicts::{Counts, Finding, Verdict};
 
 #[cfg(test)]
+mod change_tests;
+#[cfg(test)]
+mod front_tests;
+#[cfg(test)]
 mod judge_tests;
 #[cfg(test)]
 mod reason_tests;
