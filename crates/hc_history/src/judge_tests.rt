@@ -16,7 +16,7 @@ fn a_hit_in_the_last_second_is_right(rt: HostRuntime) {
 }
 
 #[test]
-fn an_unmarked_reply_is_wrong_where_only_errors_may_be_one(rt: HostRuntime) {
+fn only_errors_may_be_unmarked(rt: HostRuntime) {
     assert_eq!(rt;
         judged_strictly(rt.alloc(), HIT_IN_THE_LAST_SECOND),
         Ok(no(4, Reason::Unmarked))
@@ -203,7 +203,7 @@ fn a_304_of_another_path_freshens_nothing(rt: HostRuntime) {
 }
 
 #[test]
-fn a_304_of_which_nothing_may_be_stored_freshens_nothing(rt: HostRuntime) {
+fn a_304_to_a_forward_with_no_store_freshens_nothing(rt: HostRuntime) {
     assert_eq!(rt;
         judged(rt.alloc(), FRESHENED_BY_NO_STORE),
         Ok(no(6, Reason::Fields))
@@ -328,6 +328,14 @@ fn a_miss_and_a_hit_are_right(rt: HostRuntime) {
     assert_eq!(rt;
         judged_strictly(rt.alloc(), MISS_AND_HIT),
         Ok(yes(6, 1, 1, 0))
+    );
+}
+
+#[test]
+fn a_fresh_response_need_not_be_served(rt: HostRuntime) {
+    assert_eq!(rt;
+        judged_strictly(rt.alloc(), FORWARDED_THOUGH_STORED),
+        Ok(yes(8, 0, 2, 0))
     );
 }
 

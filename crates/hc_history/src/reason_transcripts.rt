@@ -444,7 +444,7 @@ a 1 1070 140
 HTTP/1.1 200 \r\ndate: Thu, 01 Jan 1970 00:16:40 GMT\r\ncache-control: max-age=60\r\nage: 70\r\ncache-status: hcache;hit\r\ncontent-length: 5\r\n\r\nhello
 ";
 
-/// The same, but the response may never be served stale.
+/// A response that may never be served stale, for a client that takes stale ones.
 pub(crate) const HIT_THAT_MAY_NEVER_BE_STALE: &[u8] = b"HCT1
 f 1 1000 28
 GET /a HTTP/1.1\r\nhost: h\r\n\r\n
@@ -488,7 +488,7 @@ a 1 1071 159
 HTTP/1.1 200 \r\ndate: Thu, 01 Jan 1970 00:16:40 GMT\r\ncache-control: max-age=60, stale-if-error=10\r\nage: 71\r\ncache-status: hcache;hit\r\ncontent-length: 5\r\n\r\nhello
 ";
 
-/// The same with the error before the request.
+/// An error before the request, which permits nothing.
 pub(crate) const HIT_AFTER_AN_ERROR: &[u8] = b"HCT1
 f 1 1000 28
 GET /a HTTP/1.1\r\nhost: h\r\n\r\n
@@ -536,7 +536,7 @@ a 1 1070 140
 HTTP/1.1 200 \r\ndate: Thu, 01 Jan 1970 00:16:40 GMT\r\ncache-control: max-age=60\r\nage: 70\r\ncache-status: hcache;hit\r\ncontent-length: 5\r\n\r\nhello
 ";
 
-/// The same, and the client's request permits it.
+/// An error, in whose place the request permits a stale response.
 pub(crate) const HIT_ON_AN_ERROR_THAT_THE_CLIENT_TAKES: &[u8] = b"HCT1
 f 1 1000 28
 GET /a HTTP/1.1\r\nhost: h\r\n\r\n
@@ -704,7 +704,7 @@ a 1 1059 128
 HTTP/1.1 304 \r\ndate: Thu, 01 Jan 1970 00:16:40 GMT\r\ncache-control: max-age=60\r\netag: \"v1\"\r\nage: 59\r\ncache-status: hcache;hit\r\n\r\n
 ";
 
-/// A 304 to a request that asks for what is later than the response.
+/// A 304 to a request for what is later than the response.
 pub(crate) const NOT_MODIFIED_SINCE: &[u8] = b"HCT1
 f 1 1000 28
 GET /a HTTP/1.1\r\nhost: h\r\n\r\n
@@ -1176,7 +1176,7 @@ a 1 1059 149
 HTTP/1.1 200 \r\ndate: Thu, 01 Jan 1970 00:16:40 GMT\r\ncache-control: max-age=60\r\nx-id: 1\r\ncache-status: hcache;fwd=uri-miss\r\ncontent-length: 5\r\n\r\nhello
 ";
 
-/// The same with a response that is stale.
+/// A stale response in place of an answer.
 pub(crate) const FORWARDED_FROM_A_STALE_STORE: &[u8] = b"HCT1
 f 1 1000 28
 GET /a HTTP/1.1\r\nhost: h\r\n\r\n

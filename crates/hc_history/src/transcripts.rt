@@ -192,7 +192,7 @@ a 2 1059 146
 HTTP/1.1 200 \r\ndate: Thu, 01 Jan 1970 00:16:40 GMT\r\ncache-control: max-age=60\r\nage: 59\r\ncache-status: hcache;hit;ttl=2\r\ncontent-length: 5\r\n\r\nhello
 ";
 
-/// Two requests that are open at once, two answers, and a hit of the first.
+/// Two requests and two forwards that are open at once, and a hit of the first answer.
 pub(crate) const HIT_OF_THE_FIRST_ANSWER: &[u8] = b"HCT1
 q 1 1000 28
 GET /a HTTP/1.1\r\nhost: h\r\n\r\n
@@ -200,23 +200,23 @@ q 2 1000 28
 GET /a HTTP/1.1\r\nhost: h\r\n\r\n
 f 1 1000 28
 GET /a HTTP/1.1\r\nhost: h\r\n\r\n
+f 2 1000 28
+GET /a HTTP/1.1\r\nhost: h\r\n\r\n
 r 1 1000 101
 HTTP/1.1 200 \r\ndate: Thu, 01 Jan 1970 00:16:40 GMT\r\ncache-control: max-age=60\r\ncontent-length: 1\r\n\r\nA
-f 2 1010 28
-GET /a HTTP/1.1\r\nhost: h\r\n\r\n
-r 2 1010 101
-HTTP/1.1 200 \r\ndate: Thu, 01 Jan 1970 00:16:50 GMT\r\ncache-control: max-age=60\r\ncontent-length: 1\r\n\r\nB
+r 2 1010 109
+HTTP/1.1 200 \r\ndate: Thu, 01 Jan 1970 00:16:50 GMT\r\ncache-control: max-age=60\r\nage: 5\r\ncontent-length: 1\r\n\r\nB
 a 1 1010 101
 HTTP/1.1 200 \r\ndate: Thu, 01 Jan 1970 00:16:40 GMT\r\ncache-control: max-age=60\r\ncontent-length: 1\r\n\r\nA
-a 2 1010 101
-HTTP/1.1 200 \r\ndate: Thu, 01 Jan 1970 00:16:50 GMT\r\ncache-control: max-age=60\r\ncontent-length: 1\r\n\r\nB
+a 2 1010 109
+HTTP/1.1 200 \r\ndate: Thu, 01 Jan 1970 00:16:50 GMT\r\ncache-control: max-age=60\r\nage: 5\r\ncontent-length: 1\r\n\r\nB
 q 3 1030 28
 GET /a HTTP/1.1\r\nhost: h\r\n\r\n
 a 3 1030 136
 HTTP/1.1 200 \r\ndate: Thu, 01 Jan 1970 00:16:40 GMT\r\ncache-control: max-age=60\r\nage: 30\r\ncache-status: hcache;hit\r\ncontent-length: 1\r\n\r\nA
 ";
 
-/// The same, and a hit of the second.
+/// The same, and a hit of the second answer.
 pub(crate) const HIT_OF_THE_SECOND_ANSWER: &[u8] = b"HCT1
 q 1 1000 28
 GET /a HTTP/1.1\r\nhost: h\r\n\r\n
@@ -224,20 +224,20 @@ q 2 1000 28
 GET /a HTTP/1.1\r\nhost: h\r\n\r\n
 f 1 1000 28
 GET /a HTTP/1.1\r\nhost: h\r\n\r\n
+f 2 1000 28
+GET /a HTTP/1.1\r\nhost: h\r\n\r\n
 r 1 1000 101
 HTTP/1.1 200 \r\ndate: Thu, 01 Jan 1970 00:16:40 GMT\r\ncache-control: max-age=60\r\ncontent-length: 1\r\n\r\nA
-f 2 1010 28
-GET /a HTTP/1.1\r\nhost: h\r\n\r\n
-r 2 1010 101
-HTTP/1.1 200 \r\ndate: Thu, 01 Jan 1970 00:16:50 GMT\r\ncache-control: max-age=60\r\ncontent-length: 1\r\n\r\nB
+r 2 1010 109
+HTTP/1.1 200 \r\ndate: Thu, 01 Jan 1970 00:16:50 GMT\r\ncache-control: max-age=60\r\nage: 5\r\ncontent-length: 1\r\n\r\nB
 a 1 1010 101
 HTTP/1.1 200 \r\ndate: Thu, 01 Jan 1970 00:16:40 GMT\r\ncache-control: max-age=60\r\ncontent-length: 1\r\n\r\nA
-a 2 1010 101
-HTTP/1.1 200 \r\ndate: Thu, 01 Jan 1970 00:16:50 GMT\r\ncache-control: max-age=60\r\ncontent-length: 1\r\n\r\nB
+a 2 1010 109
+HTTP/1.1 200 \r\ndate: Thu, 01 Jan 1970 00:16:50 GMT\r\ncache-control: max-age=60\r\nage: 5\r\ncontent-length: 1\r\n\r\nB
 q 3 1030 28
 GET /a HTTP/1.1\r\nhost: h\r\n\r\n
 a 3 1030 136
-HTTP/1.1 200 \r\ndate: Thu, 01 Jan 1970 00:16:50 GMT\r\ncache-control: max-age=60\r\nage: 20\r\ncache-status: hcache;hit\r\ncontent-length: 1\r\n\r\nB
+HTTP/1.1 200 \r\ndate: Thu, 01 Jan 1970 00:16:50 GMT\r\ncache-control: max-age=60\r\nage: 35\r\ncache-status: hcache;hit\r\ncontent-length: 1\r\n\r\nB
 ";
 
 /// A hit of the first with the Age of the second.
@@ -248,20 +248,20 @@ q 2 1000 28
 GET /a HTTP/1.1\r\nhost: h\r\n\r\n
 f 1 1000 28
 GET /a HTTP/1.1\r\nhost: h\r\n\r\n
+f 2 1000 28
+GET /a HTTP/1.1\r\nhost: h\r\n\r\n
 r 1 1000 101
 HTTP/1.1 200 \r\ndate: Thu, 01 Jan 1970 00:16:40 GMT\r\ncache-control: max-age=60\r\ncontent-length: 1\r\n\r\nA
-f 2 1010 28
-GET /a HTTP/1.1\r\nhost: h\r\n\r\n
-r 2 1010 101
-HTTP/1.1 200 \r\ndate: Thu, 01 Jan 1970 00:16:50 GMT\r\ncache-control: max-age=60\r\ncontent-length: 1\r\n\r\nB
+r 2 1010 109
+HTTP/1.1 200 \r\ndate: Thu, 01 Jan 1970 00:16:50 GMT\r\ncache-control: max-age=60\r\nage: 5\r\ncontent-length: 1\r\n\r\nB
 a 1 1010 101
 HTTP/1.1 200 \r\ndate: Thu, 01 Jan 1970 00:16:40 GMT\r\ncache-control: max-age=60\r\ncontent-length: 1\r\n\r\nA
-a 2 1010 101
-HTTP/1.1 200 \r\ndate: Thu, 01 Jan 1970 00:16:50 GMT\r\ncache-control: max-age=60\r\ncontent-length: 1\r\n\r\nB
+a 2 1010 109
+HTTP/1.1 200 \r\ndate: Thu, 01 Jan 1970 00:16:50 GMT\r\ncache-control: max-age=60\r\nage: 5\r\ncontent-length: 1\r\n\r\nB
 q 3 1030 28
 GET /a HTTP/1.1\r\nhost: h\r\n\r\n
 a 3 1030 136
-HTTP/1.1 200 \r\ndate: Thu, 01 Jan 1970 00:16:40 GMT\r\ncache-control: max-age=60\r\nage: 20\r\ncache-status: hcache;hit\r\ncontent-length: 1\r\n\r\nA
+HTTP/1.1 200 \r\ndate: Thu, 01 Jan 1970 00:16:40 GMT\r\ncache-control: max-age=60\r\nage: 35\r\ncache-status: hcache;hit\r\ncontent-length: 1\r\n\r\nA
 ";
 
 /// A hit of the first with the Date and the Age of the second.
@@ -272,20 +272,20 @@ q 2 1000 28
 GET /a HTTP/1.1\r\nhost: h\r\n\r\n
 f 1 1000 28
 GET /a HTTP/1.1\r\nhost: h\r\n\r\n
+f 2 1000 28
+GET /a HTTP/1.1\r\nhost: h\r\n\r\n
 r 1 1000 101
 HTTP/1.1 200 \r\ndate: Thu, 01 Jan 1970 00:16:40 GMT\r\ncache-control: max-age=60\r\ncontent-length: 1\r\n\r\nA
-f 2 1010 28
-GET /a HTTP/1.1\r\nhost: h\r\n\r\n
-r 2 1010 101
-HTTP/1.1 200 \r\ndate: Thu, 01 Jan 1970 00:16:50 GMT\r\ncache-control: max-age=60\r\ncontent-length: 1\r\n\r\nB
+r 2 1010 109
+HTTP/1.1 200 \r\ndate: Thu, 01 Jan 1970 00:16:50 GMT\r\ncache-control: max-age=60\r\nage: 5\r\ncontent-length: 1\r\n\r\nB
 a 1 1010 101
 HTTP/1.1 200 \r\ndate: Thu, 01 Jan 1970 00:16:40 GMT\r\ncache-control: max-age=60\r\ncontent-length: 1\r\n\r\nA
-a 2 1010 101
-HTTP/1.1 200 \r\ndate: Thu, 01 Jan 1970 00:16:50 GMT\r\ncache-control: max-age=60\r\ncontent-length: 1\r\n\r\nB
+a 2 1010 109
+HTTP/1.1 200 \r\ndate: Thu, 01 Jan 1970 00:16:50 GMT\r\ncache-control: max-age=60\r\nage: 5\r\ncontent-length: 1\r\n\r\nB
 q 3 1030 28
 GET /a HTTP/1.1\r\nhost: h\r\n\r\n
 a 3 1030 136
-HTTP/1.1 200 \r\ndate: Thu, 01 Jan 1970 00:16:50 GMT\r\ncache-control: max-age=60\r\nage: 20\r\ncache-status: hcache;hit\r\ncontent-length: 1\r\n\r\nA
+HTTP/1.1 200 \r\ndate: Thu, 01 Jan 1970 00:16:50 GMT\r\ncache-control: max-age=60\r\nage: 35\r\ncache-status: hcache;hit\r\ncontent-length: 1\r\n\r\nA
 ";
 
 /// Two requests and two forwards that are open at once, and the answers in another order.
@@ -484,7 +484,7 @@ a 2 1024 156
 HTTP/1.1 200 \r\ndate: Thu, 01 Jan 1970 00:17:04 GMT\r\ncache-control: max-age=10\r\netag: \"v2\"\r\ncache-status: hcache;fwd=stale;stored\r\ncontent-length: 5\r\n\r\nworld
 ";
 
-/// The same, but the cache replies with the older response.
+/// The same, but the cache replies as if the 304 counted.
 pub(crate) const FRESHENED_BY_A_PRIVATE_304: &[u8] = b"HCT1
 q 1 1000 28
 GET /a HTTP/1.1\r\nhost: h\r\n\r\n
@@ -568,7 +568,7 @@ a 1 1050 152
 HTTP/1.1 200 \r\ndate: Thu, 01 Jan 1970 00:16:40 GMT\r\ncache-control: max-age=60\r\netag: \"v1\"\r\nage: 50\r\ncache-status: hcache;hit\r\ncontent-length: 5\r\n\r\nhello
 ";
 
-/// A 304 to a forward of which nothing may be stored, and a hit that it freshens.
+/// A 304 to a forward with no-store, and a hit that it freshens.
 pub(crate) const FRESHENED_BY_NO_STORE: &[u8] = b"HCT1
 f 1 1000 28
 GET /a HTTP/1.1\r\nhost: h\r\n\r\n
@@ -914,6 +914,26 @@ q 2 1059 28
 GET /a HTTP/1.1\r\nhost: h\r\n\r\n
 a 2 1059 146
 HTTP/1.1 200 \r\ndate: Thu, 01 Jan 1970 00:16:40 GMT\r\ncache-control: max-age=60\r\nage: 59\r\ncache-status: hcache;hit;ttl=1\r\ncontent-length: 5\r\n\r\nhello
+";
+
+/// A second miss, though the response is fresh still.
+pub(crate) const FORWARDED_THOUGH_STORED: &[u8] = b"HCT1
+q 1 1000 28
+GET /a HTTP/1.1\r\nhost: h\r\n\r\n
+f 1 1000 64
+GET /a HTTP/1.1\r\nhost: h\r\nvia: 1.1 hcache\r\nconnection: close\r\n\r\n
+r 1 1000 105
+HTTP/1.1 200 \r\ndate: Thu, 01 Jan 1970 00:16:40 GMT\r\ncache-control: max-age=60\r\ncontent-length: 5\r\n\r\nhello
+a 1 1000 147
+HTTP/1.1 200 \r\ndate: Thu, 01 Jan 1970 00:16:40 GMT\r\ncache-control: max-age=60\r\ncache-status: hcache;fwd=uri-miss;stored\r\ncontent-length: 5\r\n\r\nhello
+q 2 1001 28
+GET /a HTTP/1.1\r\nhost: h\r\n\r\n
+f 2 1001 64
+GET /a HTTP/1.1\r\nhost: h\r\nvia: 1.1 hcache\r\nconnection: close\r\n\r\n
+r 2 1001 105
+HTTP/1.1 200 \r\ndate: Thu, 01 Jan 1970 00:16:40 GMT\r\ncache-control: max-age=60\r\ncontent-length: 5\r\n\r\nhello
+a 2 1001 147
+HTTP/1.1 200 \r\ndate: Thu, 01 Jan 1970 00:16:40 GMT\r\ncache-control: max-age=60\r\ncache-status: hcache;fwd=uri-miss;stored\r\ncontent-length: 5\r\n\r\nhello
 ";
 
 /// A hit of nothing, and behind it a line that is none.
