@@ -3,13 +3,13 @@ use Rattle.std.proofs.Common.{◌≡◌, ℕ, ◌+◌, ◌≤◌, List, [], ◌�
 use Rattle.hc_status.specs.declared.marks.Mark.{Mark}
 use Rattle.hc_status.specs.declared.marks.Mark.TheVariants.{Hit, Forwarded, Both, Unmarked}
 use Rattle.hc_transcript.specs.Items.{Item}
-use Rattle.hc_history.specs.declared.recorded.Recorded.{Recorded}
+use Rattle.hc_history.specs.declared.past.PastItem.{PastItem}
 use Rattle.hc_history.specs.declared.verdicts.Counts.{Counts}
 use Rattle.hc_history.specs.Counting.{counts_of, marked, marked_by, one_more}
 use Rattle.hc_history.specs.Marks.{item_mark}
-use Rattle.hc_history.specs.Recorded.{history_of}
+use Rattle.hc_history.specs.Past.{history_of}
 use Rattle.hc_history.specs.Judging.{AreAtMost}
-use Rattle.hc_history.proofs.RecordedLemmas.{position_behind}
+use Rattle.hc_history.proofs.PastLemmas.{position_behind}
 
 -- one item more adds one at most to each
 at_most_by : (n : ℕ) (m : Mark) (c : Counts) → AreAtMost n c → AreAtMost (n + 1) (marked_by m (one_more c))
@@ -66,7 +66,7 @@ at_most_items [] = record { records = omega (arith); replies = omega (arith); hi
 at_most_items (item ∷ h) =
     lift (length h + 1) (length (item ∷ h)) (counts_of (item ∷ h)) (at_most_more (length h) (item_mark item) (counts_of h) (at_most_items h)) (omega (arith))
 
-pub at_most : (c : Counts) (items : List Recorded) (n : ℕ) → c ≡ counts_of (history_of items) → length items ≤ n → AreAtMost n c
+pub at_most : (c : Counts) (items : List PastItem) (n : ℕ) → c ≡ counts_of (history_of items) → length items ≤ n → AreAtMost n c
 at_most c items n is few =
     subst (λ (d : Counts). AreAtMost n d) (sym is)
     (lift (length (history_of items)) n (counts_of (history_of items)) (at_most_items (history_of items)) (omega (arith, position_behind items, few)))

@@ -18,7 +18,7 @@ use Rattle.hc_transcript.specs.Checks.{answers_open, line_fault}
 use Rattle.hc_transcript.specs.Transcript.{IsItemOf, answers_head, Follows, AreReadAs, Splits}
 use Rattle.hc_transcript.proofs.CheckLemmas.{in_order}
 use Rattle.hc_history.specs.declared.reasons.Reason.{Reason}
-use Rattle.hc_history.specs.declared.recorded.Recorded.{Recorded}
+use Rattle.hc_history.specs.declared.past.PastItem.{PastItem}
 use Rattle.hc_history.specs.declared.settings.Settings.{Settings}
 use Rattle.hc_history.specs.Names.{reason_number}
 use Rattle.hc_history.specs.Claims.{Claim}
@@ -26,11 +26,11 @@ use Rattle.hc_history.specs.States.{state_at}
 use Rattle.hc_history.specs.Reused.{Pass, IsFirstFailed, filter_count}
 use Rattle.hc_history.specs.Verdicts.{StopsAt}
 use Rattle.hc_history.specs.Furthest.{passed_by, furthest, furthest_up_to}
-use Rattle.hc_history.specs.Recorded.{history_of}
+use Rattle.hc_history.specs.Past.{history_of}
 use Rattle.hc_history.specs.Reading.{AreFirstOf}
 use Rattle.hc_history.specs.Judging.{AnswersOpen, AllAnswerOpen, IsWrongAt}
 use Rattle.hc_history.proofs.FurthestLemmas.{Pass-found, first_failed}
-use Rattle.hc_history.proofs.RecordedLemmas.{position_behind}
+use Rattle.hc_history.proofs.PastLemmas.{position_behind}
 use Rattle.hc_history.proofs.ReadingLemmas.{history_more}
 
 next : (n : ℕ) → suc n ≡ n + 1
@@ -55,25 +55,25 @@ passes claim h n k n-is one few = Pass-found k claim h one (omega (arith, n-is, 
 
 -- ---- where an item stands
 
-history_append : (one other : List Recorded) → history_of (one ++ other) ≡ history_of other ++ history_of one
+history_append : (one other : List PastItem) → history_of (one ++ other) ≡ history_of other ++ history_of one
 history_append one other =
-    ap reverse (map-append (λ (r : Recorded). item_of r.item) one other) ∙ reverse-append (map (λ (r : Recorded). item_of r.item) one) (map (λ (r : Recorded). item_of r.item) other)
+    ap reverse (map-append (λ (r : PastItem). item_of r.item) one other) ∙ reverse-append (map (λ (r : PastItem). item_of r.item) one) (map (λ (r : PastItem). item_of r.item) other)
 
-pub history_next : (items : List Recorded) (k : ℕ) (r : Recorded) → k < length items → r ≡ get_or items k r
+pub history_next : (items : List PastItem) (k : ℕ) (r : PastItem) → k < length items → r ≡ get_or items k r
     → history_of (take (k + 1) items) ≡ item_of r.item ∷ history_of (take k items)
 history_next items k r less is =
     ap history_of (
-    ap (λ (n : ℕ). take n items) (sym (next k)) ∙ take-suc items k r less ∙ ap (λ (q : Recorded). take k items ++ q ∷ []) (sym is)
+    ap (λ (n : ℕ). take n items) (sym (next k)) ∙ take-suc items k r less ∙ ap (λ (q : PastItem). take k items ++ q ∷ []) (sym is)
     )
     ∙ history_more (take k items) r
 
-pub history_at : (items : List Recorded) (k : ℕ) (r : Recorded) → k < length items → r ≡ get_or items k r
+pub history_at : (items : List PastItem) (k : ℕ) (r : PastItem) → k < length items → r ≡ get_or items k r
     → history_of items ≡ history_of (drop (k + 1) items) ++ item_of r.item ∷ history_of (take k items)
 history_at items k r less is =
     ap history_of (sym (take-append-drop (k + 1) items)) ∙ history_append (take (k + 1) items) (drop (k + 1) items)
     ∙ ap (λ (h : List Item). history_of (drop (k + 1) items) ++ h) (history_next items k r less is)
 
-pub position_at : (items : List Recorded) (k : ℕ) → k < length items → k + 1 ≡ next_position (history_of (take k items))
+pub position_at : (items : List PastItem) (k : ℕ) → k < length items → k + 1 ≡ next_position (history_of (take k items))
 position_at items k less = omega (arith, position_behind (take k items), length-take k items, less)
 
 -- ---- what is open
@@ -82,7 +82,7 @@ open_at : (later : List Item) (item : Item) (h : List Item) → AllAnswerOpen (l
 open_at [] item h all = all.1
 open_at (i ∷ later) item h all = open_at later item h all.0
 
-pub open_in : (items : List Recorded) (k : ℕ) (r : Recorded) → k < length items → r ≡ get_or items k r → AllAnswerOpen (history_of items)
+pub open_in : (items : List PastItem) (k : ℕ) (r : PastItem) → k < length items → r ≡ get_or items k r → AllAnswerOpen (history_of items)
     → AnswersOpen (history_of (take k items)) (item_of r.item)
 open_in items k r less is all =
     open_at (history_of (drop (k + 1) items)) (item_of r.item) (history_of (take k items)) (subst (λ (h : List Item). AllAnswerOpen h) (history_at items k r less is) all)

@@ -8,7 +8,7 @@ pub mod ForgetLemmas
 pub mod LiveLemmas
 pub mod NoteLemmas
 pub mod VerdictLemmas
-pub mod RecordedLemmas
+pub mod PastLemmas
 pub mod ReadingLemmas
 pub mod CountLemmas
 pub mod JudgingLemmas

@@ -13,20 +13,24 @@ use Rattle.hc_transcript.specs.Items.{Item, item_of}
 use Rattle.hc_transcript.specs.Reader.{Agrees, ReadsTo, Stops, reader_position}
 use Rattle.hc_history.specs.declared.reading.Ending.{Ending}
 use Rattle.hc_history.specs.declared.reading.Ending.TheVariants.{Broken}
-use Rattle.hc_history.specs.declared.recorded.Recorded.{Recorded}
-use Rattle.hc_history.specs.Recorded.{history_of}
-use Rattle.hc_history.specs.Reading.{AreFirstOf, EndsBy, HasRead, broken_at}
+use Rattle.hc_history.specs.declared.past.PastItem.{PastItem}
+use Rattle.hc_history.specs.Past.{history_of}
+use Rattle.hc_history.specs.Reading.{AreFirstOf, EndsBy, broken_at}
 
-pub history_more : (items : List Recorded) (recorded : Recorded) → history_of (items ++ recorded ∷ []) ≡ item_of recorded.item ∷ history_of items
-history_more items recorded =
-    ap reverse (map-append (λ (r : Recorded). item_of r.item) items (recorded ∷ [])) ∙ reverse-append (map (λ (r : Recorded). item_of r.item) items) (item_of recorded.item ∷ [])
+-- the reader has read these items of the octets
+abbrev pub HasRead : RecordReader → List ℕ → List PastItem → Type 0
+HasRead r octets items = (records : List Record) × Agrees r octets records (history_of items)
 
-pub read_more : (r : RecordReader) (octets : List ℕ) (items more : List Recorded) (recorded : Recorded) (item : OwnedItem) (records : List Record)
-    → recorded.item ≡ item → more ≡ items ++ recorded ∷ [] → (one : Record) → Agrees r octets (one ∷ records) (item_of item ∷ history_of items) → HasRead r octets more
-read_more r octets items more recorded item records item-is more-is one agrees = (
+pub history_more : (items : List PastItem) (past : PastItem) → history_of (items ++ past ∷ []) ≡ item_of past.item ∷ history_of items
+history_more items past =
+    ap reverse (map-append (λ (r : PastItem). item_of r.item) items (past ∷ [])) ∙ reverse-append (map (λ (r : PastItem). item_of r.item) items) (item_of past.item ∷ [])
+
+pub read_more : (r : RecordReader) (octets : List ℕ) (items more : List PastItem) (past : PastItem) (item : OwnedItem) (records : List Record)
+    → past.item ≡ item → more ≡ items ++ past ∷ [] → (one : Record) → Agrees r octets (one ∷ records) (item_of item ∷ history_of items) → HasRead r octets more
+read_more r octets items more past item records item-is more-is one agrees = (
   one ∷ records,
   subst (λ (h : List Item). Agrees r octets (one ∷ records) h)
-      (sym (ap history_of more-is ∙ history_more items recorded ∙ ap (λ (i : OwnedItem). item_of i ∷ history_of items) item-is)) agrees,
+      (sym (ap history_of more-is ∙ history_more items past ∙ ap (λ (i : OwnedItem). item_of i ∷ history_of items) item-is)) agrees,
 )
 
 pub first_of : (r : RecordReader) (octets : List ℕ) (records : List Record) (h : List Item) → Agrees r octets records h → AreFirstOf octets h

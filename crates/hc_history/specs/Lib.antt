@@ -13,6 +13,6 @@ pub mod Verdicts
 pub mod Seen
 pub mod Noting
 pub mod Furthest
-pub mod Recorded
+pub mod Past
 pub mod Reading
 pub mod Judging

@@ -13,8 +13,8 @@ use Rattle.hc_transcript.specs.Transcript.{Splits, IsTranscript}
 use Rattle.hc_transcript.specs.Reader.{Agrees, Waits, Stops}
 use Rattle.hc_history.specs.declared.reading.Ending.{Ending}
 use Rattle.hc_history.specs.declared.reading.Ending.TheVariants.{Whole, Broken}
-use Rattle.hc_history.specs.declared.recorded.Recorded.{Recorded}
-use Rattle.hc_history.specs.Recorded.{history_of}
+use Rattle.hc_history.specs.declared.past.PastItem.{PastItem}
+use Rattle.hc_history.specs.Past.{history_of}
 use Rattle.hc_history.specs.Verdicts.{BreaksBehind, BreaksOpening}
 
 -- the items are those of the first records of the octets
@@ -28,13 +28,9 @@ EndsBy octets h (Broken position broken) =
     ((position ≡ 0) × BreaksOpening octets broken) ⊎ ((position ≡ next_position h) × BreaksBehind octets h broken)
 
 -- the octets are read as these items
-pub record IsReadAs (octets : List ℕ) (items : List Recorded) (ending : Ending) : Type 0 where
+pub record AreItemsOf (octets : List ℕ) (items : List PastItem) (ending : Ending) : Type 0 where
   pub are_first : AreFirstOf octets (history_of items)
   pub ends : EndsBy octets (history_of items) ending
-
--- the reader has read these items of the octets
-abbrev pub HasRead : RecordReader → List ℕ → List Recorded → Type 0
-HasRead r octets items = (records : List Record) × Agrees r octets records (history_of items)
 
 -- what the answer to a call for the next item says
 abbrev pub GivesNext : Result (Option OwnedItem) RecordFault → RecordReader → List ℕ → List Record → List Item → Type 0
@@ -53,8 +49,3 @@ broken_at position fault.NothingOpen = Ok (Broken position fault.NothingOpen)
 broken_at position fault.Message = Ok (Broken position fault.Message)
 broken_at position fault.TooLong = Ok (Broken position fault.TooLong)
 broken_at position fault.Memory = Err alloc_error
-
--- what is answered of how the octets end behind the items
-abbrev pub GivesEnding : Result Ending AllocError → List ℕ → List Item → Type 0
-GivesEnding (Ok ending) octets h = EndsBy octets h ending
-GivesEnding (Err refused) octets h = Unit {0}

@@ -25,7 +25,7 @@ allows_unmarked Allow status = true
 allows_unmarked ErrorsOnly status = nat_le 400 status
 
 -- a reply with that mark is right: a hit is reused; one that went forward carries what the origin answered, or a stored response in its place;
--- one without a mark may have none; one with both marks is never right
+-- one without a mark is right where the settings allow it; one with both marks is never right
 abbrev pub IsRightBy : Mark → Claim → List Item → Type 0
 IsRightBy (Hit ttl) claim h = IsReused claim h
 IsRightBy Forwarded claim h = (is_forwarded claim h ≡ true) ⊎ Pass forwarded_count claim h

@@ -68,7 +68,7 @@ fn has_its_values(claim: &ReplyClaim<'_>, state: &Stored, name: &[u8]) -> bool
     is_exempt(claim, name) || same_values(&claim.reply.head.fields, &state.fields, name)
 }
 
-/// The same of the name of each of those lines.
+/// Whether the reply has the values of each of those lines' names that is compared.
 fn has_its_lines(claim: &ReplyClaim<'_>, state: &Stored, fields: &Fields) -> bool
     ensures { result ≡ list_all (λ line. is_exempt claim.now line.name
         || same_values claim.now.reply.head.fields state.now.fields line.name) fields.now }
@@ -79,7 +79,7 @@ fn has_its_lines(claim: &ReplyClaim<'_>, state: &Stored, fields: &Fields) -> boo
         .all(|line| has_its_values(claim, state, line.name.as_slice()))
 }
 
-/// The same of each of those names.
+/// Whether the reply has the values of each of those names that is compared.
 fn has_each(claim: &ReplyClaim<'_>, state: &Stored, names: &[&[u8]]) -> bool
     ensures { result ≡ list_all (λ name. is_exempt claim.now name.now
         || same_values claim.now.reply.head.fields state.now.fields name.now) names.now }

@@ -2,26 +2,26 @@
 
 ghost use Rattle.std.specs.Prelude.{◌≡◌, IfOk};
 ghost use Rattle.hc_transcript.specs.Items.{item_of};
-ghost use Rattle.hc_history.specs.Recorded.{history_of};
+ghost use Rattle.hc_history.specs.Past.{history_of};
 ghost use Rattle.hc_history.specs.Marks.{item_mark};
 ghost use Rattle.hc_history.specs.Counting.{one_more, marked_by, marked, counts_of};
 ghost use Rattle.hc_history.specs.Judging.{AreAtMost};
 
-use crate::marks::reply_mark;
-use crate::recorded::Recorded;
+use crate::marks::mark_of;
+use crate::past::PastItem;
 use crate::verdicts::Counts;
-use hc_status::{Mark, MarkFault};
+use hc_status::Mark;
 use hc_transcript::OwnedItem;
-use std::alloc::Global;
+use std::alloc::{AllocError, Global};
 
 /// The mark of an item, if it is a reply.
-fn item_mark(alloc: Global, item: &OwnedItem) -> Result<Option<Mark>, MarkFault>
+fn item_mark(alloc: Global, item: &OwnedItem) -> Result<Option<Mark>, AllocError>
     ensures { IfOk result (λ mark. mark ≡ item_mark (item_of item.now)) }
 {
     let OwnedItem::ClientReply { reply, .. } = item else {
         return Ok(None);
     };
-    let mark = reply_mark(alloc, reply)?;
+    let mark = mark_of(alloc, reply)?;
     Ok(Some(mark))
 }
 
@@ -51,7 +51,7 @@ fn count(counts: &mut Counts, mark: Option<Mark>)
 }
 
 /// What is counted in those items.
-pub(crate) fn counts_of(alloc: Global, items: &[Recorded]) -> Result<Counts, MarkFault>
+pub(crate) fn counts_of(alloc: Global, items: &[PastItem]) -> Result<Counts, AllocError>
     ensures { IfOk result (λ counts. counts ≡ counts_of (history_of items.now)) }
 {
     let mut counts = Counts {
@@ -61,8 +61,8 @@ pub(crate) fn counts_of(alloc: Global, items: &[Recorded]) -> Result<Counts, Mar
         forwarded: 0,
         unmarked: 0,
     };
-    for recorded in items {
-        let mark = item_mark(alloc, recorded.item())?;
+    for past in items {
+        let mark = item_mark(alloc, past.item())?;
         count(&mut counts, mark);
     }
     Ok(counts)

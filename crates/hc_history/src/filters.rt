@@ -103,7 +103,7 @@ fn age_told(claim: &ReplyClaim<'_>) -> Option<u32>
 }
 
 /// Whether the reply has its Age (RFC 9111 section 5.1).
-pub(crate) fn has_its_age(claim: &ReplyClaim<'_>, state: &Stored) -> bool
+fn has_its_age(claim: &ReplyClaim<'_>, state: &Stored) -> bool
     ensures { result ≡ has_its_age claim.now state.now }
 {
     is_age(claim, age_of(claim, state), age_told(claim))
@@ -120,7 +120,7 @@ fn is_ttl(claim: &ReplyClaim<'_>, left: i64, told: Option<i64>) -> bool
 }
 
 /// Whether the reply's mark tells the seconds for which it is fresh still (RFC 9211 section 2.4).
-pub(crate) fn has_its_ttl(claim: &ReplyClaim<'_>, state: &Stored) -> bool
+fn has_its_ttl(claim: &ReplyClaim<'_>, state: &Stored) -> bool
     ensures { result ≡ has_its_ttl claim.now state.now }
 {
     let left = i64::from(lifetime_of(state)) - i64::from(age_of(claim, state));

@@ -1,8 +1,8 @@
 //! What is found of one reply.
 
-ghost use Rattle.std.specs.Prelude.{◌≡◌, List, IfOk};
+ghost use Rattle.std.specs.Prelude.{◌≡◌, ℤ, List, Option, IfOk};
 ghost use Rattle.hc_transcript.specs.Items.{Item, item_of};
-ghost use Rattle.hc_history.specs.Recorded.{history_of};
+ghost use Rattle.hc_history.specs.Past.{history_of};
 ghost use Rattle.hc_history.specs.Claims.{ttl_of, claim_of};
 ghost use Rattle.hc_history.specs.Marks.{reply_mark};
 ghost use Rattle.hc_history.specs.Judging.{AnswersOpen, IsFound, IsFoundBy, IsReasonBehind};
@@ -10,17 +10,17 @@ ghost use Rattle.hc_history.specs.Judging.{AnswersOpen, IsFound, IsFoundBy, IsRe
 use crate::claim::ReplyClaim;
 use crate::forwarded::is_forwarded;
 use crate::furthest::furthest;
-use crate::marks::reply_mark;
+use crate::marks::mark_of;
 use crate::open::{OpenExchange, open_exchange};
+use crate::past::PastItem;
 use crate::reasons::Reason;
-use crate::recorded::Recorded;
 use crate::right::allows_unmarked;
 use crate::settings::Settings;
 use crate::verdicts::Finding;
 use crate::windows::{has_error, has_failure};
 use hc_framing::Message;
 use hc_head::ResponseHead;
-use hc_status::{Mark, MarkFault};
+use hc_status::Mark;
 use hc_transcript::OwnedItem;
 use std::alloc::{AllocError, Global};
 
@@ -64,7 +64,7 @@ fn claim_of<'a>(
     moment: u64,
     reply: &'a Message<ResponseHead>,
     mark: Mark,
-    items: &[Recorded],
+    items: &[PastItem],
 ) -> ReplyClaim<'a>
     ensures { mark ≡ reply_mark reply.now
         → result ≡ claim_of settings.now exchange.now moment reply.now (history_of items.now) }
@@ -85,14 +85,13 @@ fn claim_of<'a>(
 /// What is found of a hit.
 fn found_of_hit(
     alloc: Global,
-    ttl: Option<i64>,
     claim: &ReplyClaim<'_>,
-    items: &[Recorded],
+    items: &[PastItem],
 ) -> Result<Finding, AllocError>
-    ensures { IfOk result (IsFoundBy (Mark.Hit ttl) claim.now (history_of items.now)) }
+    ensures { (ttl : Option ℤ) → IfOk result (IsFoundBy (Mark.Hit ttl) claim.now (history_of items.now)) }
 {
-    let furthest = furthest(alloc, claim, items)?;
-    Ok(match reason_behind(furthest) {
+    let passed = furthest(alloc, claim, items)?;
+    Ok(match reason_behind(passed) {
         Some(why) => Finding::Wrong(why),
         None => Finding::Right,
     })
@@ -102,15 +101,15 @@ fn found_of_hit(
 fn found_of_forwarded(
     alloc: Global,
     claim: &ReplyClaim<'_>,
-    items: &[Recorded],
+    items: &[PastItem],
 ) -> Result<Finding, AllocError>
     ensures { IfOk result (IsFoundBy Mark.Forwarded claim.now (history_of items.now)) }
 {
     if is_forwarded(claim, items) {
         return Ok(Finding::Right);
     }
-    let furthest = furthest(alloc, claim, items)?;
-    if FORWARDED_COUNT <= furthest {
+    let passed = furthest(alloc, claim, items)?;
+    if FORWARDED_COUNT <= passed {
         return Ok(Finding::Right);
     }
     Ok(Finding::Wrong(Reason::NotForwarded))
@@ -132,33 +131,24 @@ fn found_by(
     alloc: Global,
     mark: Mark,
     claim: &ReplyClaim<'_>,
-    items: &[Recorded],
+    items: &[PastItem],
 ) -> Result<Finding, AllocError>
     ensures { IfOk result (IsFoundBy mark claim.now (history_of items.now)) }
 {
     match mark {
-        Mark::Hit { ttl } => found_of_hit(alloc, ttl, claim, items),
+        Mark::Hit { .. } => found_of_hit(alloc, claim, items),
         Mark::Forwarded => found_of_forwarded(alloc, claim, items),
         Mark::Both => Ok(Finding::Wrong(Reason::BothMarks)),
         Mark::Unmarked => Ok(found_of_unmarked(claim)),
     }
 }
 
-/// The mark of a reply.
-fn mark_of(alloc: Global, reply: &Message<ResponseHead>) -> Result<Mark, AllocError>
-    ensures { IfOk result (λ mark. mark ≡ reply_mark reply.now) }
-{
-    match reply_mark(alloc, reply) {
-        Ok(mark) => Ok(mark),
-        Err(MarkFault::Memory) => Err(AllocError),
-    }
-}
-
-/// What is found of the item behind those. A reply answers what is open.
+/// What is found of the item behind those, if it is a reply. Nothing is said of one to what isn't open,
+/// which no transcript has.
 pub(crate) fn found(
     alloc: Global,
     settings: &Settings,
-    items: &[Recorded],
+    items: &[PastItem],
     item: &OwnedItem,
 ) -> Result<Finding, AllocError>
     ensures { AnswersOpen (history_of items.now) (item_of item.now)

@@ -2,14 +2,14 @@
 
 ghost use Rattle.std.specs.Prelude.{◌≡◌};
 ghost use Rattle.hc_transcript.specs.Items.{item_of};
-ghost use Rattle.hc_history.specs.Recorded.{history_of};
+ghost use Rattle.hc_history.specs.Past.{history_of};
 ghost use Rattle.hc_history.specs.Forwarded.{asks_the_same, carries, is_carried, is_forwarded};
 
 use crate::claim::{ReplyClaim, asks_head};
 use crate::filters::has_body;
 use crate::kept::same_target;
 use crate::open::open_forward;
-use crate::recorded::Recorded;
+use crate::past::PastItem;
 use hc_transcript::OwnedItem;
 
 /// Whether a forward of that method asks what the request asks: by its method, or by GET for HEAD
@@ -28,14 +28,14 @@ fn carries(claim: &ReplyClaim<'_>, method: &[u8], status: u16, body: &[u8]) -> b
 }
 
 /// Whether the item behind those is a response that the reply carries.
-fn is_carried(claim: &ReplyClaim<'_>, earlier: &[Recorded], recorded: &Recorded) -> bool
-    ensures { result ≡ is_carried claim.now (history_of earlier.now) (item_of recorded.now.item) }
+fn is_carried(claim: &ReplyClaim<'_>, earlier: &[PastItem], past: &PastItem) -> bool
+    ensures { result ≡ is_carried claim.now (history_of earlier.now) (item_of past.now.item) }
 {
     let OwnedItem::OriginResponse {
         forward: number,
         response,
         ..
-    } = recorded.item()
+    } = past.item()
     else {
         return false;
     };
@@ -48,7 +48,7 @@ fn is_carried(claim: &ReplyClaim<'_>, earlier: &[Recorded], recorded: &Recorded)
 }
 
 /// Whether a response that the reply carries stands after its request.
-pub(crate) fn is_forwarded(claim: &ReplyClaim<'_>, items: &[Recorded]) -> bool
+pub(crate) fn is_forwarded(claim: &ReplyClaim<'_>, items: &[PastItem]) -> bool
     ensures { result ≡ is_forwarded claim.now (history_of items.now) }
 {
     let mut items = items;

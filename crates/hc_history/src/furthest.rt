@@ -1,13 +1,13 @@
 //! How many filters one earlier response passes, at most.
 
 ghost use Rattle.std.specs.Prelude.{◌≡◌, IfOk};
-ghost use Rattle.hc_history.specs.Recorded.{history_of};
+ghost use Rattle.hc_history.specs.Past.{history_of};
 ghost use Rattle.hc_history.specs.States.{state_at};
 ghost use Rattle.hc_history.specs.Furthest.{passed_by, furthest};
 
 use crate::claim::ReplyClaim;
 use crate::filters::passed;
-use crate::recorded::Recorded;
+use crate::past::PastItem;
 use crate::states::state_at;
 use std::alloc::{AllocError, Global};
 
@@ -16,7 +16,7 @@ fn passed_at(
     alloc: Global,
     claim: &ReplyClaim<'_>,
     position: usize,
-    items: &[Recorded],
+    items: &[PastItem],
 ) -> Result<u32, AllocError>
     ensures { IfOk result (λ n. n ≡ passed_by claim.now (state_at position (history_of items.now))) }
 {
@@ -30,7 +30,7 @@ fn passed_at(
 pub(crate) fn furthest(
     alloc: Global,
     claim: &ReplyClaim<'_>,
-    items: &[Recorded],
+    items: &[PastItem],
 ) -> Result<u32, AllocError>
     ensures { IfOk result (λ n. n ≡ furthest claim.now (history_of items.now)) }
 {
@@ -38,8 +38,8 @@ pub(crate) fn furthest(
     let mut position = 0;
     while position < items.len() {
         position += 1;
-        let passed = passed_at(alloc, claim, position, items)?;
-        most = most.max(passed);
+        let here = passed_at(alloc, claim, position, items)?;
+        most = most.max(here);
     }
     Ok(most)
 }

@@ -75,11 +75,11 @@ fn fields_have_to_be_the_same_unless_they_are_ignored(rt: HostRuntime) {
         Ok(no(6, Reason::Fields))
     );
     assert_eq!(rt;
-        judged_ignoring(rt.alloc(), HIT_WITH_ANOTHER_LIFETIME, b"date"),
+        judged_ignoring(rt.alloc(), HIT_WITH_ANOTHER_LIFETIME, &[b"date"]),
         Ok(no(6, Reason::Fields))
     );
     assert_eq!(rt;
-        judged_ignoring(rt.alloc(), HIT_WITH_ANOTHER_LIFETIME, b"cache-control"),
+        judged_ignoring(rt.alloc(), HIT_WITH_ANOTHER_LIFETIME, &[b"cache-control"]),
         Ok(yes(6, 1, 0, 1))
     );
 }
@@ -187,6 +187,30 @@ fn a_304_freshens_what_it_is_about(rt: HostRuntime) {
     assert_eq!(rt;
         judged(rt.alloc(), NOT_FRESHENED),
         Ok(no(6, Reason::Fields))
+    );
+}
+
+#[test]
+fn a_304_counts_from_its_request(rt: HostRuntime) {
+    assert_eq!(rt;
+        judged(rt.alloc(), HIT_WITH_THE_DELAY_OF_A_304),
+        Ok(yes(6, 1, 0, 0))
+    );
+    assert_eq!(rt;
+        judged(rt.alloc(), HIT_WITHOUT_THE_DELAY_OF_A_304),
+        Ok(no(6, Reason::Age))
+    );
+}
+
+#[test]
+fn a_304_freshens_each_that_it_is_about(rt: HostRuntime) {
+    assert_eq!(rt;
+        judged(rt.alloc(), FIRST_OF_TWO_FRESHENED),
+        Ok(yes(8, 1, 0, 0))
+    );
+    assert_eq!(rt;
+        judged(rt.alloc(), SECOND_OF_TWO_FRESHENED),
+        Ok(yes(8, 1, 0, 0))
     );
 }
 

@@ -1,7 +1,7 @@
 //! The plain judge of octets.
 
 ghost use Rattle.std.specs.Prelude.{◌≡◌, ℕ, List, IfOk};
-ghost use Rattle.hc_history.specs.Recorded.{history_of};
+ghost use Rattle.hc_history.specs.Past.{history_of};
 ghost use Rattle.hc_history.specs.Reading.{EndsBy};
 ghost use Rattle.hc_history.specs.Judging.{AllAnswerOpen, IsFirstWrong};
 ghost use Rattle.hc_history.specs.Right.{AllRight};
@@ -10,26 +10,25 @@ ghost use Rattle.hc_history.specs.declared.settings.Settings.{Settings};
 
 use crate::counting::counts_of;
 use crate::finding::found;
+use crate::past::PastItem;
 use crate::reading::{Ending, read};
 use crate::reasons::Reason;
-use crate::recorded::Recorded;
 use crate::settings::Settings;
 use crate::verdicts::{Finding, Verdict};
-use hc_status::MarkFault;
 use std::alloc::{AllocError, Global};
 
 /// The position and the reason of the first reply that is wrong, if one is.
 fn first_wrong(
     alloc: Global,
     settings: &Settings,
-    items: &[Recorded],
+    items: &[PastItem],
 ) -> Result<Option<(u64, Reason)>, AllocError>
     ensures { AllAnswerOpen (history_of items.now)
         → IfOk result (IsFirstWrong settings.now (history_of items.now)) }
 {
-    for (index, recorded) in items.iter().enumerate() {
+    for (index, past) in items.iter().enumerate() {
         let (earlier, _) = items.split_at(index);
-        match found(alloc, settings, earlier, recorded.item())? {
+        match found(alloc, settings, earlier, past.item())? {
             Finding::Right => {}
             Finding::Wrong(why) => return Ok(Some((index as u64 + 1, why))),
         }
@@ -38,22 +37,22 @@ fn first_wrong(
 }
 
 /// The verdict on octets of which every reply is right.
-fn verdict_by(alloc: Global, items: &[Recorded], ending: Ending) -> Result<Verdict, AllocError>
+fn verdict_by(alloc: Global, items: &[PastItem], ending: Ending) -> Result<Verdict, AllocError>
     ensures { (octets : List ℕ) (settings : Settings) → AllRight settings (history_of items.now)
         → EndsBy octets (history_of items.now) ending → IfOk result (IsVerdict octets settings) }
 {
     match ending {
         Ending::Broken(position, fault) => Ok(Verdict::Malformed(position, fault)),
-        Ending::Whole => match counts_of(alloc, items) {
-            Ok(counts) => Ok(Verdict::Yes(counts)),
-            Err(MarkFault::Memory) => Err(AllocError),
-        },
+        Ending::Whole => {
+            let counts = counts_of(alloc, items)?;
+            Ok(Verdict::Yes(counts))
+        }
     }
 }
 
 /// The verdict on octets, by the definition: for each reply the whole history before it is walked
-/// again, so that the time grows with a power of their length. It is what faster judges are held
-/// against. It fails only where memory is refused.
+/// again, so that the time grows, at worst, with the fourth power of the number of records. It is what
+/// faster judges are held against. It fails only where memory is refused.
 pub fn judge(alloc: Global, octets: &[u8], settings: &Settings) -> Result<Verdict, AllocError>
     ensures { IfOk result (IsVerdict octets.now settings.now) }
 {

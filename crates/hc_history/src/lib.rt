@@ -1,5 +1,6 @@
 //! What the history of a transcript means: the state of a stored response, the filters that a reused
-//! one passes, right and wrong replies, the verdict, and what has to be known of a history to judge.
+//! one passes, right and wrong replies, the verdict, and what has to be known of a history to judge;
+//! and `judge`, a plain program that answers the verdict.
 #![tactic(auto)]
 
 mod claim;
@@ -15,9 +16,9 @@ mod kept;
 mod laws;
 mod marks;
 mod open;
+mod past;
 mod reading;
 mod reasons;
-mod recorded;
 mod right;
 mod settings;
 mod states;

@@ -6,7 +6,7 @@ ghost use Rattle.hc_history.specs.Marks.{mark_by, reply_mark};
 use hc_framing::Message;
 use hc_head::ResponseHead;
 use hc_status::{Mark, MarkFault, mark};
-use std::alloc::Global;
+use std::alloc::{AllocError, Global};
 
 /// The status of a reply with a part of the body (RFC 9110 section 15.3.7).
 const PARTIAL: u16 = 206;
@@ -36,4 +36,14 @@ pub fn reply_mark(alloc: Global, reply: &Message<ResponseHead>) -> Result<Mark, 
 {
     let mark = mark(alloc, &reply.head.fields)?;
     Ok(mark_by(reply.head.status, mark))
+}
+
+/// The mark of a reply, where the one fault of reading it is that of memory.
+pub(crate) fn mark_of(alloc: Global, reply: &Message<ResponseHead>) -> Result<Mark, AllocError>
+    ensures { IfOk result (λ mark. mark ≡ reply_mark reply.now) }
+{
+    match reply_mark(alloc, reply) {
+        Ok(mark) => Ok(mark),
+        Err(MarkFault::Memory) => Err(AllocError),
+    }
 }

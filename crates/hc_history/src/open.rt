@@ -3,9 +3,9 @@
 ghost use Rattle.std.specs.Prelude.{◌≡◌};
 ghost use Rattle.hc_transcript.specs.Items.{item_of};
 ghost use Rattle.hc_transcript.specs.History.{forward_after, forward_of, exchange_after, exchange_of};
-ghost use Rattle.hc_history.specs.Recorded.{history_of};
+ghost use Rattle.hc_history.specs.Past.{history_of};
 
-use crate::recorded::Recorded;
+use crate::past::PastItem;
 use hc_framing::Message;
 use hc_head::{RequestHead, Target};
 use hc_transcript::OwnedItem;
@@ -80,12 +80,12 @@ fn forward_after<'a>(
 }
 
 /// The open forward of a number.
-pub(crate) fn open_forward<'a>(items: &'a [Recorded], number: u64) -> Option<OpenForward<'a>>
+pub(crate) fn open_forward<'a>(items: &'a [PastItem], number: u64) -> Option<OpenForward<'a>>
     ensures { result ≡ forward_of number (history_of items.now) }
 {
     let mut open = None;
-    for recorded in items {
-        open = forward_after(number, recorded.item(), open);
+    for past in items {
+        open = forward_after(number, past.item(), open);
     }
     open
 }
@@ -125,12 +125,12 @@ fn exchange_after<'a>(
 }
 
 /// The open exchange of a number.
-pub(crate) fn open_exchange<'a>(items: &'a [Recorded], number: u64) -> Option<OpenExchange<'a>>
+pub(crate) fn open_exchange<'a>(items: &'a [PastItem], number: u64) -> Option<OpenExchange<'a>>
     ensures { result ≡ exchange_of number (history_of items.now) }
 {
     let mut open = None;
-    for (index, recorded) in items.iter().enumerate() {
-        open = exchange_after(number, index as u64 + 1, recorded.item(), open);
+    for (index, past) in items.iter().enumerate() {
+        open = exchange_after(number, index as u64 + 1, past.item(), open);
     }
     open
 }

@@ -5,9 +5,9 @@ ghost use Rattle.hc_transcript.specs.declared.item.OwnedItem.{OwnedItem};
 ghost use Rattle.hc_transcript.specs.declared.record.Record.{Record};
 ghost use Rattle.hc_transcript.specs.Items.{Item};
 ghost use Rattle.hc_transcript.specs.Reader.{Agrees, Waits, unread};
-ghost use Rattle.hc_history.specs.Reading.{GivesEnding, GivesNext, IsReadAs, broken_at};
+ghost use Rattle.hc_history.specs.Reading.{AreItemsOf, EndsBy, GivesNext, broken_at};
 
-use crate::recorded::Recorded;
+use crate::past::PastItem;
 use hc_transcript::{OwnedItem, RecordFault, RecordReader};
 use std::alloc::{AllocError, Global};
 
@@ -46,7 +46,7 @@ fn next_item(reader: &mut RecordReader) -> Result<Option<OwnedItem>, RecordFault
 /// How the octets end where no whole record is left.
 fn end_of(reader: RecordReader) -> Result<Ending, AllocError>
     ensures { (octets : List ℕ) (records : List Record) (h : List Item) → Agrees reader octets records h → Waits reader h
-        → GivesEnding result octets h }
+        → IfOk result (EndsBy octets h) }
 {
     let mut reader = reader;
     let position = reader.position();
@@ -57,8 +57,8 @@ fn end_of(reader: RecordReader) -> Result<Ending, AllocError>
 }
 
 /// The items of all whole records of the octets, the oldest first, and how the octets end behind them.
-pub(crate) fn read(alloc: Global, octets: &[u8]) -> Result<(Vec<Recorded>, Ending), AllocError>
-    ensures { IfOk result (λ read. IsReadAs octets.now read.0.items read.1) }
+pub(crate) fn read(alloc: Global, octets: &[u8]) -> Result<(Vec<PastItem>, Ending), AllocError>
+    ensures { IfOk result (λ read. AreItemsOf octets.now read.0.items read.1) }
 {
     let mut reader = RecordReader::new(alloc);
     if reader.feed(octets).is_err() {
@@ -67,7 +67,7 @@ pub(crate) fn read(alloc: Global, octets: &[u8]) -> Result<(Vec<Recorded>, Endin
     let mut items = Vec::new(alloc);
     'records: loop {
         match next_item(&mut reader) {
-            Ok(Some(item)) => items.push(Recorded::new(item))?,
+            Ok(Some(item)) => items.push(PastItem::new(item))?,
             Ok(None) => {
                 let ending = end_of(reader)?;
                 return Ok((items, ending));

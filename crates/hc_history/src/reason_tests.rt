@@ -175,6 +175,22 @@ fn a_client_takes_what_is_stale(rt: HostRuntime) {
 }
 
 #[test]
+fn the_window_begins_right_behind_the_request(rt: HostRuntime) {
+    assert_eq!(rt;
+        judged(rt.alloc(), HIT_ON_AN_ERROR_OF_AN_EARLIER_FORWARD),
+        Ok(yes(6, 1, 0, 0))
+    );
+    assert_eq!(rt;
+        judged(rt.alloc(), HIT_ON_A_FAILURE_OF_AN_EARLIER_FORWARD),
+        Ok(yes(6, 1, 0, 0))
+    );
+    assert_eq!(rt;
+        judged(rt.alloc(), FORWARDED_BY_AN_EARLIER_FORWARD),
+        Ok(yes(4, 0, 1, 0))
+    );
+}
+
+#[test]
 fn an_error_in_the_window_permits_stale(rt: HostRuntime) {
     assert_eq!(rt;
         judged(rt.alloc(), HIT_TOO_LATE_ON_AN_ERROR),
@@ -196,6 +212,14 @@ fn errors_that_permit_stale(rt: HostRuntime) {
     assert_eq!(rt;
         judged(rt.alloc(), HIT_ON_ANOTHER_ERROR),
         Ok(no(6, Reason::NotAllowed))
+    );
+    assert_eq!(rt;
+        judged(rt.alloc(), HIT_ON_A_BAD_GATEWAY),
+        Ok(yes(6, 1, 0, 0))
+    );
+    assert_eq!(rt;
+        judged(rt.alloc(), HIT_ON_AN_UNAVAILABLE_SERVICE),
+        Ok(yes(6, 1, 0, 0))
     );
     assert_eq!(rt;
         judged(rt.alloc(), HIT_ON_AN_ERROR_THAT_THE_CLIENT_TAKES),
@@ -226,6 +250,10 @@ fn a_failure_in_the_window_permits_stale(rt: HostRuntime) {
 
 #[test]
 fn a_304_in_the_window_validates(rt: HostRuntime) {
+    assert_eq!(rt;
+        judged(rt.alloc(), HIT_VALIDATED_BY_AN_EARLIER_FORWARD),
+        Ok(yes(6, 1, 0, 0))
+    );
     assert_eq!(rt;
         judged(rt.alloc(), HIT_VALIDATED_BEFORE_THE_WINDOW),
         Ok(no(6, Reason::NoExplicitFreshness))
@@ -290,7 +318,7 @@ fn other_fields(rt: HostRuntime) {
         Ok(no(4, Reason::Fields))
     );
     assert_eq!(rt;
-        judged_ignoring(rt.alloc(), HIT_WITH_A_FIELD_MORE, b"x-id"),
+        judged_ignoring(rt.alloc(), HIT_WITH_A_FIELD_MORE, &[b"x-id"]),
         Ok(yes(4, 1, 0, 0))
     );
 }
@@ -332,13 +360,25 @@ fn a_stored_response_has_a_date(rt: HostRuntime) {
 }
 
 #[test]
+fn a_304_repeats_six_fields(rt: HostRuntime) {
+    assert_eq!(rt;
+        judged(rt.alloc(), NOT_MODIFIED_WITH_ALL_FIELDS),
+        Ok(yes(4, 1, 0, 0))
+    );
+    assert_eq!(rt;
+        judged(rt.alloc(), NOT_MODIFIED_WITH_NO_FIELDS),
+        Ok(no(4, Reason::Fields))
+    );
+}
+
+#[test]
 fn fields_of_a_304(rt: HostRuntime) {
     assert_eq!(rt;
         judged(rt.alloc(), NOT_MODIFIED_WITHOUT_ITS_TAG),
         Ok(no(4, Reason::Fields))
     );
     assert_eq!(rt;
-        judged_ignoring(rt.alloc(), NOT_MODIFIED_WITHOUT_ITS_TAG, b"etag"),
+        judged_ignoring(rt.alloc(), NOT_MODIFIED_WITHOUT_ITS_TAG, &[b"etag"]),
         Ok(yes(4, 1, 0, 0))
     );
     assert_eq!(rt;
@@ -368,6 +408,27 @@ fn no_age_or_no_one_age(rt: HostRuntime) {
     assert_eq!(rt;
         judged(rt.alloc(), HIT_WITH_A_ZERO_BEFORE_ITS_AGE),
         Ok(yes(4, 1, 0, 0))
+    );
+}
+
+#[test]
+fn an_age_counts_the_delay(rt: HostRuntime) {
+    assert_eq!(rt; judged(rt.alloc(), HIT_WITH_THE_DELAY), Ok(yes(4, 1, 0, 0)));
+    assert_eq!(rt;
+        judged(rt.alloc(), HIT_WITHOUT_THE_DELAY),
+        Ok(no(4, Reason::Age))
+    );
+}
+
+#[test]
+fn an_age_is_that_of_the_reply(rt: HostRuntime) {
+    assert_eq!(rt;
+        judged(rt.alloc(), HIT_WITH_THE_AGE_OF_ITS_MOMENT),
+        Ok(yes(4, 1, 0, 0))
+    );
+    assert_eq!(rt;
+        judged(rt.alloc(), HIT_WITH_THE_AGE_OF_ITS_REQUEST),
+        Ok(no(4, Reason::Age))
     );
 }
 
@@ -568,5 +629,64 @@ fn both_marks(rt: HostRuntime) {
     assert_eq!(rt;
         judged(rt.alloc(), NO_HIT_AND_FORWARDED),
         Ok(yes(4, 0, 1, 0))
+    );
+}
+
+/// The fields that a 304 has to repeat.
+const SIX_FIELDS: &[&[u8]] = &[
+    b"cache-control",
+    b"content-location",
+    b"date",
+    b"etag",
+    b"expires",
+    b"vary",
+];
+
+/// All of them but one.
+const FIVE_FIELDS: &[[&[u8]; 5]] = &[
+    [b"content-location", b"date", b"etag", b"expires", b"vary"],
+    [b"cache-control", b"date", b"etag", b"expires", b"vary"],
+    [
+        b"cache-control",
+        b"content-location",
+        b"etag",
+        b"expires",
+        b"vary",
+    ],
+    [
+        b"cache-control",
+        b"content-location",
+        b"date",
+        b"expires",
+        b"vary",
+    ],
+    [
+        b"cache-control",
+        b"content-location",
+        b"date",
+        b"etag",
+        b"vary",
+    ],
+    [
+        b"cache-control",
+        b"content-location",
+        b"date",
+        b"etag",
+        b"expires",
+    ],
+];
+
+#[test]
+fn a_304_repeats_each_of_six_fields(rt: HostRuntime) {
+    for names in FIVE_FIELDS {
+        assert_eq!(rt;
+            judged_ignoring(rt.alloc(), NOT_MODIFIED_WITH_NO_FIELDS, names),
+            Ok(no(4, Reason::Fields)),
+            "{names:?}"
+        );
+    }
+    assert_eq!(rt;
+        judged_ignoring(rt.alloc(), NOT_MODIFIED_WITH_NO_FIELDS, SIX_FIELDS),
+        Ok(yes(4, 1, 0, 0))
     );
 }

@@ -568,6 +568,82 @@ a 1 1070 159
 HTTP/1.1 200 \r\ndate: Thu, 01 Jan 1970 00:16:40 GMT\r\ncache-control: max-age=60, stale-if-error=10\r\nage: 70\r\ncache-status: hcache;hit\r\ncontent-length: 5\r\n\r\nhello
 ";
 
+/// An answer right behind the request, to a forward before it.
+pub(crate) const FORWARDED_BY_AN_EARLIER_FORWARD: &[u8] = b"HCT1
+f 1 1000 28
+GET /a HTTP/1.1\r\nhost: h\r\n\r\n
+q 1 1000 28
+GET /a HTTP/1.1\r\nhost: h\r\n\r\n
+r 1 1000 103
+HTTP/1.1 200 \r\ndate: Thu, 01 Jan 1970 00:16:40 GMT\r\ncache-control: no-store\r\ncontent-length: 5\r\n\r\nhello
+a 1 1000 138
+HTTP/1.1 200 \r\ndate: Thu, 01 Jan 1970 00:16:40 GMT\r\ncache-control: no-store\r\ncache-status: hcache;fwd=uri-miss\r\ncontent-length: 5\r\n\r\nhello
+";
+
+/// An error right behind the request, of a forward before it.
+pub(crate) const HIT_ON_AN_ERROR_OF_AN_EARLIER_FORWARD: &[u8] = b"HCT1
+f 1 1000 28
+GET /a HTTP/1.1\r\nhost: h\r\n\r\n
+r 1 1000 124
+HTTP/1.1 200 \r\ndate: Thu, 01 Jan 1970 00:16:40 GMT\r\ncache-control: max-age=60, stale-if-error=10\r\ncontent-length: 5\r\n\r\nhello
+f 2 1070 28
+GET /a HTTP/1.1\r\nhost: h\r\n\r\n
+q 1 1070 28
+GET /a HTTP/1.1\r\nhost: h\r\n\r\n
+r 2 1070 36
+HTTP/1.1 500 \r\ncontent-length: 0\r\n\r\n
+a 1 1070 159
+HTTP/1.1 200 \r\ndate: Thu, 01 Jan 1970 00:16:40 GMT\r\ncache-control: max-age=60, stale-if-error=10\r\nage: 70\r\ncache-status: hcache;hit\r\ncontent-length: 5\r\n\r\nhello
+";
+
+/// A failure right behind the request, of a forward before it.
+pub(crate) const HIT_ON_A_FAILURE_OF_AN_EARLIER_FORWARD: &[u8] = b"HCT1
+f 1 1000 28
+GET /a HTTP/1.1\r\nhost: h\r\n\r\n
+r 1 1000 124
+HTTP/1.1 200 \r\ndate: Thu, 01 Jan 1970 00:16:40 GMT\r\ncache-control: max-age=60, stale-if-error=10\r\ncontent-length: 5\r\n\r\nhello
+f 2 1070 28
+GET /a HTTP/1.1\r\nhost: h\r\n\r\n
+q 1 1070 28
+GET /a HTTP/1.1\r\nhost: h\r\n\r\n
+x 2 1070 0
+
+a 1 1070 159
+HTTP/1.1 200 \r\ndate: Thu, 01 Jan 1970 00:16:40 GMT\r\ncache-control: max-age=60, stale-if-error=10\r\nage: 70\r\ncache-status: hcache;hit\r\ncontent-length: 5\r\n\r\nhello
+";
+
+/// An error of an origin behind the origin.
+pub(crate) const HIT_ON_A_BAD_GATEWAY: &[u8] = b"HCT1
+f 1 1000 28
+GET /a HTTP/1.1\r\nhost: h\r\n\r\n
+r 1 1000 124
+HTTP/1.1 200 \r\ndate: Thu, 01 Jan 1970 00:16:40 GMT\r\ncache-control: max-age=60, stale-if-error=10\r\ncontent-length: 5\r\n\r\nhello
+q 1 1070 28
+GET /a HTTP/1.1\r\nhost: h\r\n\r\n
+f 2 1070 28
+GET /a HTTP/1.1\r\nhost: h\r\n\r\n
+r 2 1070 36
+HTTP/1.1 502 \r\ncontent-length: 0\r\n\r\n
+a 1 1070 159
+HTTP/1.1 200 \r\ndate: Thu, 01 Jan 1970 00:16:40 GMT\r\ncache-control: max-age=60, stale-if-error=10\r\nage: 70\r\ncache-status: hcache;hit\r\ncontent-length: 5\r\n\r\nhello
+";
+
+/// An error of an origin that can't answer now.
+pub(crate) const HIT_ON_AN_UNAVAILABLE_SERVICE: &[u8] = b"HCT1
+f 1 1000 28
+GET /a HTTP/1.1\r\nhost: h\r\n\r\n
+r 1 1000 124
+HTTP/1.1 200 \r\ndate: Thu, 01 Jan 1970 00:16:40 GMT\r\ncache-control: max-age=60, stale-if-error=10\r\ncontent-length: 5\r\n\r\nhello
+q 1 1070 28
+GET /a HTTP/1.1\r\nhost: h\r\n\r\n
+f 2 1070 28
+GET /a HTTP/1.1\r\nhost: h\r\n\r\n
+r 2 1070 36
+HTTP/1.1 503 \r\ncontent-length: 0\r\n\r\n
+a 1 1070 159
+HTTP/1.1 200 \r\ndate: Thu, 01 Jan 1970 00:16:40 GMT\r\ncache-control: max-age=60, stale-if-error=10\r\nage: 70\r\ncache-status: hcache;hit\r\ncontent-length: 5\r\n\r\nhello
+";
+
 /// The failure of another method.
 pub(crate) const HIT_ON_A_FAILURE_OF_A_POST: &[u8] = b"HCT1
 f 1 1000 28
@@ -628,6 +704,22 @@ r 2 1050 29
 HTTP/1.1 304 \r\netag: \"v1\"\r\n\r\n
 q 1 1050 28
 GET /a HTTP/1.1\r\nhost: h\r\n\r\n
+a 1 1050 149
+HTTP/1.1 200 \r\ncache-control: no-cache\r\netag: \"v1\"\r\ndate: Thu, 01 Jan 1970 00:17:30 GMT\r\nage: 0\r\ncache-status: hcache;hit\r\ncontent-length: 5\r\n\r\nhello
+";
+
+/// The same with the 304 in the window, and its forward before the request.
+pub(crate) const HIT_VALIDATED_BY_AN_EARLIER_FORWARD: &[u8] = b"HCT1
+f 1 1000 28
+GET /a HTTP/1.1\r\nhost: h\r\n\r\n
+r 1 1000 115
+HTTP/1.1 200 \r\ndate: Thu, 01 Jan 1970 00:16:40 GMT\r\ncache-control: no-cache\r\netag: \"v1\"\r\ncontent-length: 5\r\n\r\nhello
+f 2 1050 49
+GET /a HTTP/1.1\r\nhost: h\r\nif-none-match: \"v1\"\r\n\r\n
+q 1 1050 28
+GET /a HTTP/1.1\r\nhost: h\r\n\r\n
+r 2 1050 29
+HTTP/1.1 304 \r\netag: \"v1\"\r\n\r\n
 a 1 1050 149
 HTTP/1.1 200 \r\ncache-control: no-cache\r\netag: \"v1\"\r\ndate: Thu, 01 Jan 1970 00:17:30 GMT\r\nage: 0\r\ncache-status: hcache;hit\r\ncontent-length: 5\r\n\r\nhello
 ";
@@ -868,6 +960,30 @@ a 1 1059 116
 HTTP/1.1 304 \r\ndate: Thu, 01 Jan 1970 00:16:40 GMT\r\ncache-control: max-age=60\r\nage: 59\r\ncache-status: hcache;hit\r\n\r\n
 ";
 
+/// A 304 without any of the fields that it has to repeat.
+pub(crate) const NOT_MODIFIED_WITH_NO_FIELDS: &[u8] = b"HCT1
+f 1 1000 28
+GET /a HTTP/1.1\r\nhost: h\r\n\r\n
+r 1 1000 202
+HTTP/1.1 200 \r\ndate: Thu, 01 Jan 1970 00:16:40 GMT\r\ncache-control: max-age=60\r\netag: \"v1\"\r\nexpires: Thu, 01 Jan 1970 00:17:40 GMT\r\ncontent-location: /a\r\nvary: accept-encoding\r\ncontent-length: 5\r\n\r\nhello
+q 1 1059 51
+GET /a HTTP/1.1\r\nhost: h\r\nif-none-match: W/\"v1\"\r\n\r\n
+a 1 1059 52
+HTTP/1.1 304 \r\nage: 59\r\ncache-status: hcache;hit\r\n\r\n
+";
+
+/// A 304 with all of them.
+pub(crate) const NOT_MODIFIED_WITH_ALL_FIELDS: &[u8] = b"HCT1
+f 1 1000 28
+GET /a HTTP/1.1\r\nhost: h\r\n\r\n
+r 1 1000 202
+HTTP/1.1 200 \r\ndate: Thu, 01 Jan 1970 00:16:40 GMT\r\ncache-control: max-age=60\r\netag: \"v1\"\r\nexpires: Thu, 01 Jan 1970 00:17:40 GMT\r\ncontent-location: /a\r\nvary: accept-encoding\r\ncontent-length: 5\r\n\r\nhello
+q 1 1059 51
+GET /a HTTP/1.1\r\nhost: h\r\nif-none-match: W/\"v1\"\r\n\r\n
+a 1 1059 213
+HTTP/1.1 304 \r\ndate: Thu, 01 Jan 1970 00:16:40 GMT\r\ncache-control: max-age=60\r\netag: \"v1\"\r\nexpires: Thu, 01 Jan 1970 00:17:40 GMT\r\ncontent-location: /a\r\nvary: accept-encoding\r\nage: 59\r\ncache-status: hcache;hit\r\n\r\n
+";
+
 /// A 304 with a field that the response hasn't.
 pub(crate) const NOT_MODIFIED_WITH_A_FIELD_MORE: &[u8] = b"HCT1
 f 1 1000 28
@@ -964,7 +1080,8 @@ a 1 1049 140
 HTTP/1.1 200 \r\ndate: Thu, 01 Jan 1970 00:16:40 GMT\r\ncache-control: max-age=60\r\nage: 59\r\ncache-status: hcache;hit\r\ncontent-length: 5\r\n\r\nhello
 ";
 
-/// A response that is dated 10 seconds before its request and came 3 seconds after it, and a hit 7 seconds later.
+/// A response that is dated 10 seconds before its request and came 3 seconds after it, and a hit 7
+/// seconds later.
 pub(crate) const HIT_OF_A_LATE_RESPONSE: &[u8] = b"HCT1
 f 1 1000 28
 GET /a HTTP/1.1\r\nhost: h\r\n\r\n
@@ -986,6 +1103,54 @@ q 1 1010 28
 GET /a HTTP/1.1\r\nhost: h\r\n\r\n
 a 1 1010 140
 HTTP/1.1 200 \r\ndate: Thu, 01 Jan 1970 00:16:30 GMT\r\ncache-control: max-age=60\r\nage: 17\r\ncache-status: hcache;hit\r\ncontent-length: 5\r\n\r\nhello
+";
+
+/// A response that came 10 seconds after its request, and a hit that counts these.
+pub(crate) const HIT_WITH_THE_DELAY: &[u8] = b"HCT1
+f 1 1000 28
+GET /a HTTP/1.1\r\nhost: h\r\n\r\n
+r 1 1010 105
+HTTP/1.1 200 \r\ndate: Thu, 01 Jan 1970 00:16:50 GMT\r\ncache-control: max-age=60\r\ncontent-length: 5\r\n\r\nhello
+q 1 1030 28
+GET /a HTTP/1.1\r\nhost: h\r\n\r\n
+a 1 1030 140
+HTTP/1.1 200 \r\ndate: Thu, 01 Jan 1970 00:16:50 GMT\r\ncache-control: max-age=60\r\nage: 30\r\ncache-status: hcache;hit\r\ncontent-length: 5\r\n\r\nhello
+";
+
+/// The same, and a hit that doesn't.
+pub(crate) const HIT_WITHOUT_THE_DELAY: &[u8] = b"HCT1
+f 1 1000 28
+GET /a HTTP/1.1\r\nhost: h\r\n\r\n
+r 1 1010 105
+HTTP/1.1 200 \r\ndate: Thu, 01 Jan 1970 00:16:50 GMT\r\ncache-control: max-age=60\r\ncontent-length: 5\r\n\r\nhello
+q 1 1030 28
+GET /a HTTP/1.1\r\nhost: h\r\n\r\n
+a 1 1030 140
+HTTP/1.1 200 \r\ndate: Thu, 01 Jan 1970 00:16:50 GMT\r\ncache-control: max-age=60\r\nage: 20\r\ncache-status: hcache;hit\r\ncontent-length: 5\r\n\r\nhello
+";
+
+/// A hit 9 seconds after its request, with its own age.
+pub(crate) const HIT_WITH_THE_AGE_OF_ITS_MOMENT: &[u8] = b"HCT1
+f 1 1000 28
+GET /a HTTP/1.1\r\nhost: h\r\n\r\n
+r 1 1000 105
+HTTP/1.1 200 \r\ndate: Thu, 01 Jan 1970 00:16:40 GMT\r\ncache-control: max-age=60\r\ncontent-length: 5\r\n\r\nhello
+q 1 1050 28
+GET /a HTTP/1.1\r\nhost: h\r\n\r\n
+a 1 1059 140
+HTTP/1.1 200 \r\ndate: Thu, 01 Jan 1970 00:16:40 GMT\r\ncache-control: max-age=60\r\nage: 59\r\ncache-status: hcache;hit\r\ncontent-length: 5\r\n\r\nhello
+";
+
+/// The same with the age at the request.
+pub(crate) const HIT_WITH_THE_AGE_OF_ITS_REQUEST: &[u8] = b"HCT1
+f 1 1000 28
+GET /a HTTP/1.1\r\nhost: h\r\n\r\n
+r 1 1000 105
+HTTP/1.1 200 \r\ndate: Thu, 01 Jan 1970 00:16:40 GMT\r\ncache-control: max-age=60\r\ncontent-length: 5\r\n\r\nhello
+q 1 1050 28
+GET /a HTTP/1.1\r\nhost: h\r\n\r\n
+a 1 1059 140
+HTTP/1.1 200 \r\ndate: Thu, 01 Jan 1970 00:16:40 GMT\r\ncache-control: max-age=60\r\nage: 50\r\ncache-status: hcache;hit\r\ncontent-length: 5\r\n\r\nhello
 ";
 
 /// A hit in its last second that says that none is left.

@@ -2,13 +2,13 @@
 
 ghost use Rattle.std.specs.Prelude.{◌≡◌, ◌<◌, ℕ, List, IfOk, option_map};
 ghost use Rattle.hc_transcript.specs.Items.{Item, item_of, moment_of};
-ghost use Rattle.hc_history.specs.Recorded.{history_of};
+ghost use Rattle.hc_history.specs.Past.{history_of};
 ghost use Rattle.hc_history.specs.States.{begun_by, state_begun, state_answered, kept_answered, state_after, state_at};
 
 use crate::copies::{copy_of_request_head, copy_of_response};
 use crate::kept::{Kept, same_target};
 use crate::open::{OpenForward, open_forward};
-use crate::recorded::Recorded;
+use crate::past::PastItem;
 use hc_framing::Message;
 use hc_head::ResponseHead;
 use hc_rules::may_store;
@@ -40,16 +40,16 @@ fn begun_by(
 /// What the item behind those begins, if it is a response that may be stored.
 fn state_begun(
     alloc: Global,
-    earlier: &[Recorded],
-    recorded: &Recorded,
+    earlier: &[PastItem],
+    past: &PastItem,
 ) -> Result<Option<Kept>, AllocError>
-    ensures { IfOk result (λ kept. kept ≡ state_begun (history_of earlier.now) (item_of recorded.now.item)) }
+    ensures { IfOk result (λ kept. kept ≡ state_begun (history_of earlier.now) (item_of past.now.item)) }
 {
     let OwnedItem::OriginResponse {
         forward: number,
         moment,
         response,
-    } = recorded.item()
+    } = past.item()
     else {
         return Ok(None);
     };
@@ -80,7 +80,7 @@ fn state_answered(
     Ok(state)
 }
 
-/// The same of a response to a forward of any target.
+/// What a response at a position, to a forward of any target, makes of a stored response.
 fn kept_answered(
     alloc: Global,
     forward: &OpenForward<'_>,
@@ -105,17 +105,17 @@ fn kept_answered(
 #[tactic(auto, unfolding(crate::specs::States::state_after))]
 fn state_after(
     alloc: Global,
-    earlier: &[Recorded],
-    recorded: &Recorded,
+    earlier: &[PastItem],
+    past: &PastItem,
     kept: Kept,
 ) -> Result<Kept, AllocError>
-    ensures { IfOk result (λ k. k ≡ state_after (history_of earlier.now) (item_of recorded.now.item) kept) }
+    ensures { IfOk result (λ k. k ≡ state_after (history_of earlier.now) (item_of past.now.item) kept) }
 {
     let OwnedItem::OriginResponse {
         forward: number,
         moment,
         response,
-    } = recorded.item()
+    } = past.item()
     else {
         return Ok(kept);
     };
@@ -126,17 +126,17 @@ fn state_after(
     }
 }
 
-/// The same, if there is one.
-fn after(
+/// What the item behind those makes of a stored response, if there is one.
+fn if_kept(
     alloc: Global,
-    earlier: &[Recorded],
-    recorded: &Recorded,
+    earlier: &[PastItem],
+    past: &PastItem,
     kept: Option<Kept>,
 ) -> Result<Option<Kept>, AllocError>
-    ensures { IfOk result (λ k. k ≡ option_map (state_after (history_of earlier.now) (item_of recorded.now.item)) kept) }
+    ensures { IfOk result (λ k. k ≡ option_map (state_after (history_of earlier.now) (item_of past.now.item)) kept) }
 {
     match kept {
-        Some(kept) => Ok(Some(state_after(alloc, earlier, recorded, kept)?)),
+        Some(kept) => Ok(Some(state_after(alloc, earlier, past, kept)?)),
         None => Ok(None),
     }
 }
@@ -145,17 +145,17 @@ fn after(
 pub(crate) fn state_at(
     alloc: Global,
     position: usize,
-    items: &[Recorded],
+    items: &[PastItem],
 ) -> Result<Option<Kept>, AllocError>
     ensures { IfOk result (λ kept. kept ≡ state_at position (history_of items.now)) }
 {
     let mut kept = None;
-    for (index, recorded) in items.iter().enumerate() {
+    for (index, past) in items.iter().enumerate() {
         let (earlier, _) = items.split_at(index);
         kept = if index + 1 == position {
-            state_begun(alloc, earlier, recorded)?
+            state_begun(alloc, earlier, past)?
         } else {
-            after(alloc, earlier, recorded, kept)?
+            if_kept(alloc, earlier, past, kept)?
         };
     }
     Ok(kept)

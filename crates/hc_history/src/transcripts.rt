@@ -44,13 +44,13 @@ pub(crate) fn judged_with_slack(
     judged_by(alloc, octets, slack, &[], UnmarkedReplies::Allow)
 }
 
-/// The same where fields of one name are ignored.
+/// The same where the fields of these names are ignored.
 pub(crate) fn judged_ignoring(
     alloc: Global,
     octets: &[u8],
-    name: &[u8],
+    names: &[&[u8]],
 ) -> Result<Verdict, AllocError> {
-    judged_by(alloc, octets, 0, &[name], UnmarkedReplies::Allow)
+    judged_by(alloc, octets, 0, names, UnmarkedReplies::Allow)
 }
 
 /// The same where only errors may be unmarked.
@@ -630,6 +630,78 @@ q 1 1050 28
 GET /a HTTP/1.1\r\nhost: h\r\n\r\n
 a 1 1050 152
 HTTP/1.1 200 \r\ndate: Thu, 01 Jan 1970 00:16:40 GMT\r\ncache-control: max-age=60\r\netag: \"v1\"\r\nage: 50\r\ncache-status: hcache;hit\r\ncontent-length: 5\r\n\r\nhello
+";
+
+/// A 304 that came 5 seconds after its request, and a hit that counts these.
+pub(crate) const HIT_WITH_THE_DELAY_OF_A_304: &[u8] = b"HCT1
+f 1 1000 28
+GET /a HTTP/1.1\r\nhost: h\r\n\r\n
+r 1 1000 117
+HTTP/1.1 200 \r\ndate: Thu, 01 Jan 1970 00:16:40 GMT\r\ncache-control: max-age=60\r\netag: \"v1\"\r\ncontent-length: 5\r\n\r\nhello
+f 2 1020 49
+GET /a HTTP/1.1\r\nhost: h\r\nif-none-match: \"v1\"\r\n\r\n
+r 2 1025 94
+HTTP/1.1 304 \r\ndate: Thu, 01 Jan 1970 00:17:05 GMT\r\ncache-control: max-age=100\r\netag: \"v1\"\r\n\r\n
+q 1 1050 28
+GET /a HTTP/1.1\r\nhost: h\r\n\r\n
+a 1 1050 153
+HTTP/1.1 200 \r\ndate: Thu, 01 Jan 1970 00:17:05 GMT\r\ncache-control: max-age=100\r\netag: \"v1\"\r\nage: 30\r\ncache-status: hcache;hit\r\ncontent-length: 5\r\n\r\nhello
+";
+
+/// The same, and a hit that doesn't.
+pub(crate) const HIT_WITHOUT_THE_DELAY_OF_A_304: &[u8] = b"HCT1
+f 1 1000 28
+GET /a HTTP/1.1\r\nhost: h\r\n\r\n
+r 1 1000 117
+HTTP/1.1 200 \r\ndate: Thu, 01 Jan 1970 00:16:40 GMT\r\ncache-control: max-age=60\r\netag: \"v1\"\r\ncontent-length: 5\r\n\r\nhello
+f 2 1020 49
+GET /a HTTP/1.1\r\nhost: h\r\nif-none-match: \"v1\"\r\n\r\n
+r 2 1025 94
+HTTP/1.1 304 \r\ndate: Thu, 01 Jan 1970 00:17:05 GMT\r\ncache-control: max-age=100\r\netag: \"v1\"\r\n\r\n
+q 1 1050 28
+GET /a HTTP/1.1\r\nhost: h\r\n\r\n
+a 1 1050 153
+HTTP/1.1 200 \r\ndate: Thu, 01 Jan 1970 00:17:05 GMT\r\ncache-control: max-age=100\r\netag: \"v1\"\r\nage: 25\r\ncache-status: hcache;hit\r\ncontent-length: 5\r\n\r\nhello
+";
+
+/// A 304 that is about two responses, and a hit of the first.
+pub(crate) const FIRST_OF_TWO_FRESHENED: &[u8] = b"HCT1
+f 1 1000 28
+GET /a HTTP/1.1\r\nhost: h\r\n\r\n
+r 1 1000 117
+HTTP/1.1 200 \r\ndate: Thu, 01 Jan 1970 00:16:40 GMT\r\ncache-control: max-age=60\r\netag: \"v1\"\r\ncontent-length: 5\r\n\r\nhello
+f 2 1000 28
+GET /a HTTP/1.1\r\nhost: h\r\n\r\n
+r 2 1000 117
+HTTP/1.1 200 \r\ndate: Thu, 01 Jan 1970 00:16:40 GMT\r\ncache-control: max-age=60\r\netag: \"v1\"\r\ncontent-length: 5\r\n\r\nworld
+f 3 1020 49
+GET /a HTTP/1.1\r\nhost: h\r\nif-none-match: \"v1\"\r\n\r\n
+r 3 1020 94
+HTTP/1.1 304 \r\ndate: Thu, 01 Jan 1970 00:17:00 GMT\r\ncache-control: max-age=100\r\netag: \"v1\"\r\n\r\n
+q 1 1050 28
+GET /a HTTP/1.1\r\nhost: h\r\n\r\n
+a 1 1050 153
+HTTP/1.1 200 \r\ndate: Thu, 01 Jan 1970 00:17:00 GMT\r\ncache-control: max-age=100\r\netag: \"v1\"\r\nage: 30\r\ncache-status: hcache;hit\r\ncontent-length: 5\r\n\r\nhello
+";
+
+/// The same, and a hit of the second.
+pub(crate) const SECOND_OF_TWO_FRESHENED: &[u8] = b"HCT1
+f 1 1000 28
+GET /a HTTP/1.1\r\nhost: h\r\n\r\n
+r 1 1000 117
+HTTP/1.1 200 \r\ndate: Thu, 01 Jan 1970 00:16:40 GMT\r\ncache-control: max-age=60\r\netag: \"v1\"\r\ncontent-length: 5\r\n\r\nhello
+f 2 1000 28
+GET /a HTTP/1.1\r\nhost: h\r\n\r\n
+r 2 1000 117
+HTTP/1.1 200 \r\ndate: Thu, 01 Jan 1970 00:16:40 GMT\r\ncache-control: max-age=60\r\netag: \"v1\"\r\ncontent-length: 5\r\n\r\nworld
+f 3 1020 49
+GET /a HTTP/1.1\r\nhost: h\r\nif-none-match: \"v1\"\r\n\r\n
+r 3 1020 94
+HTTP/1.1 304 \r\ndate: Thu, 01 Jan 1970 00:17:00 GMT\r\ncache-control: max-age=100\r\netag: \"v1\"\r\n\r\n
+q 1 1050 28
+GET /a HTTP/1.1\r\nhost: h\r\n\r\n
+a 1 1050 153
+HTTP/1.1 200 \r\ndate: Thu, 01 Jan 1970 00:17:00 GMT\r\ncache-control: max-age=100\r\netag: \"v1\"\r\nage: 30\r\ncache-status: hcache;hit\r\ncontent-length: 5\r\n\r\nworld
 ";
 
 /// Hits of a stale response while another is asked for, and a reply of the origin after that.

@@ -2,12 +2,12 @@
 
 ghost use Rattle.std.specs.Prelude.{◌≡◌};
 ghost use Rattle.hc_transcript.specs.Items.{item_of};
-ghost use Rattle.hc_history.specs.Recorded.{history_of};
+ghost use Rattle.hc_history.specs.Past.{history_of};
 ghost use Rattle.hc_history.specs.Windows.{is_error_status, is_forward_of, is_error, is_failure, some_since};
 
 use crate::kept::same_target;
 use crate::open::{OpenForward, open_forward};
-use crate::recorded::Recorded;
+use crate::past::PastItem;
 use hc_head::Target;
 use hc_transcript::OwnedItem;
 
@@ -30,14 +30,14 @@ fn is_forward_of(target: &Target, forward: Option<OpenForward<'_>>) -> bool
 }
 
 /// Whether the item behind those says that the origin can't answer for the target now.
-fn is_error(target: &Target, earlier: &[Recorded], recorded: &Recorded) -> bool
-    ensures { result ≡ is_error target.now (history_of earlier.now) (item_of recorded.now.item) }
+fn is_error(target: &Target, earlier: &[PastItem], past: &PastItem) -> bool
+    ensures { result ≡ is_error target.now (history_of earlier.now) (item_of past.now.item) }
 {
     let OwnedItem::OriginResponse {
         forward,
         response,
         ..
-    } = recorded.item()
+    } = past.item()
     else {
         return false;
     };
@@ -45,17 +45,17 @@ fn is_error(target: &Target, earlier: &[Recorded], recorded: &Recorded) -> bool
 }
 
 /// Whether the item behind those is the failure of a forward of the target.
-fn is_failure(target: &Target, earlier: &[Recorded], recorded: &Recorded) -> bool
-    ensures { result ≡ is_failure target.now (history_of earlier.now) (item_of recorded.now.item) }
+fn is_failure(target: &Target, earlier: &[PastItem], past: &PastItem) -> bool
+    ensures { result ≡ is_failure target.now (history_of earlier.now) (item_of past.now.item) }
 {
-    let OwnedItem::OriginFailure { forward, .. } = recorded.item() else {
+    let OwnedItem::OriginFailure { forward, .. } = past.item() else {
         return false;
     };
     is_forward_of(target, open_forward(earlier, *forward))
 }
 
 /// Whether an error of a forward of the target stands after that position.
-pub(crate) fn has_error(target: &Target, since: u64, items: &[Recorded]) -> bool
+pub(crate) fn has_error(target: &Target, since: u64, items: &[PastItem]) -> bool
     ensures { result ≡ some_since (is_error target.now) since (history_of items.now) }
 {
     let mut items = items;
@@ -69,7 +69,7 @@ pub(crate) fn has_error(target: &Target, since: u64, items: &[Recorded]) -> bool
 }
 
 /// Whether a failure of a forward of the target stands after that position.
-pub(crate) fn has_failure(target: &Target, since: u64, items: &[Recorded]) -> bool
+pub(crate) fn has_failure(target: &Target, since: u64, items: &[PastItem]) -> bool
     ensures { result ≡ some_since (is_failure target.now) since (history_of items.now) }
 {
     let mut items = items;

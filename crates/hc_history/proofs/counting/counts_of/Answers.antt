@@ -5,4 +5,4 @@ use Rattle.hc_history.proofs.counting.counts_of.Goals as goal
 
 pub count-requires : goal.count-requires
 count-requires c =
-    at_most c.loop-recorded.counts (take c.loop-recorded.recorded-index c.args.items.now) 9223372036854775807 c.loop-recorded.invariant (grind (arith, common_steps))
+    at_most c.loop-past.counts (take c.loop-past.past-index c.args.items.now) 9223372036854775807 c.loop-past.invariant (grind (arith, common_steps))

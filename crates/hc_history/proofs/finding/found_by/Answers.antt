@@ -1,8 +1,13 @@
-use Rattle.std.proofs.Common.{sym, subst}
+use Rattle.std.proofs.Common.{sym, subst, IfOk}
 use Rattle.hc_status.specs.declared.marks.Mark.{Mark}
-use Rattle.hc_history.specs.Recorded.{history_of}
+use Rattle.hc_history.specs.Past.{history_of}
 use Rattle.hc_history.specs.Judging.{IsFoundBy}
 use Rattle.hc_history.proofs.finding.found_by.Goals as goal
+
+pub returns-in-Hit : goal.returns-in-Hit
+returns-in-Hit c =
+    subst (λ (mark : Mark). IfOk c.found_of_hit.result (IsFoundBy mark c.args.claim.now (history_of c.args.items.now))) (sym c.in-Hit.is)
+    (c.found_of_hit.ensures c.in-Hit.ttl)
 
 pub returns-in-Unmarked : goal.returns-in-Unmarked
 returns-in-Unmarked c =

@@ -1,13 +1,13 @@
 use Rattle.std.proofs.Common.{refl, sym, ◌∙◌, inr, arith}
-use Rattle.hc_history.specs.Recorded.{history_of}
+use Rattle.hc_history.specs.Past.{history_of}
 use Rattle.hc_history.specs.Reused.{forwarded_count}
 use Rattle.hc_history.proofs.FurthestLemmas.{Pass-only}
 use Rattle.hc_history.proofs.JudgingLemmas.{passes}
 use Rattle.hc_history.proofs.finding.found_of_forwarded.Goals as goal
 
-pub returns-then-furthest-ge-FORWARDED_COUNT : goal.returns-then-furthest-ge-FORWARDED_COUNT
-returns-then-furthest-ge-FORWARDED_COUNT c =
-    inr (passes c.args.claim.now (history_of c.args.items.now) c.in_ok-furthest.furthest forwarded_count c.in_ok-furthest.ensures (omega arith) c.if-furthest-ge-FORWARDED_COUNT.true)
+pub returns-then-passed-ge-FORWARDED_COUNT : goal.returns-then-passed-ge-FORWARDED_COUNT
+returns-then-passed-ge-FORWARDED_COUNT c =
+    inr (passes c.args.claim.now (history_of c.args.items.now) c.in_ok-passed.passed forwarded_count c.in_ok-passed.ensures (omega arith) c.if-passed-ge-FORWARDED_COUNT.true)
 
 pub returns : goal.returns
 returns c = (
@@ -16,8 +16,8 @@ returns c = (
     sym c.is_forwarded.ensures ∙ c.if-is_forwarded.false,
     λ pass. omega (
       arith,
-      c.in_ok-furthest.ensures,
-      c.if-furthest-ge-FORWARDED_COUNT.false,
+      c.in_ok-passed.ensures,
+      c.if-passed-ge-FORWARDED_COUNT.false,
       Pass-only forwarded_count c.args.claim.now (history_of c.args.items.now) (omega arith) pass,
     ),
   ),

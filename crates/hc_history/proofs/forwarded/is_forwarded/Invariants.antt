@@ -1,6 +1,6 @@
 use Rattle.std.proofs.Common.{◌≡◌, length}
 use Rattle.hc_history.specs.Forwarded.{is_forwarded}
-use Rattle.hc_history.specs.Recorded.{history_of}
+use Rattle.hc_history.specs.Past.{history_of}
 use Rattle.hc_history.proofs.forwarded.is_forwarded.Given as goal
 
 -- the items that are left decide

@@ -1,12 +1,12 @@
 use Rattle.std.proofs.Common.{◌≡◌, ◌∙◌, max, arith, rules}
-use Rattle.hc_history.specs.Recorded.{history_of}
+use Rattle.hc_history.specs.Past.{history_of}
 use Rattle.hc_history.proofs.JudgingLemmas.{furthest_more}
 use Rattle.hc_history.proofs.furthest.furthest.Goals as goal
 
 pub loop-position-preserved : goal.loop-position-preserved
 loop-position-preserved c =
-    let greater : c.max-most.result ≡ max c.loop-position.most c.in_ok-passed.passed = search rules in (
+    let greater : c.max-most.result ≡ max c.loop-position.most c.in_ok-here.here = search rules in (
       greater
-          ∙ furthest_more c.args.claim.now (history_of c.args.items.now) c.loop-position.position c.loop-position.most c.in_ok-passed.passed c.loop-position.invariant.0 c.in_ok-passed.ensures,
+          ∙ furthest_more c.args.claim.now (history_of c.args.items.now) c.loop-position.position c.loop-position.most c.in_ok-here.here c.loop-position.invariant.0 c.in_ok-here.ensures,
       omega (arith, c.loop-position-test.true),
     )

@@ -1,5 +1,5 @@
 use Rattle.std.proofs.Common.{◌≡◌, ◌≤◌, ◌-◌, length}
-use Rattle.hc_history.specs.Recorded.{history_of}
+use Rattle.hc_history.specs.Past.{history_of}
 use Rattle.hc_history.specs.Furthest.{furthest_up_to}
 use Rattle.hc_history.proofs.furthest.furthest.Given as goal
 

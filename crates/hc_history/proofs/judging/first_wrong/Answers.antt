@@ -1,7 +1,7 @@
 use Rattle.std.proofs.Common.{◌+◌, sym, subst, take, drop, List}
 use Rattle.hc_transcript.specs.Items.{Item, item_of}
 use Rattle.hc_history.specs.declared.verdicts.Finding.{Finding}
-use Rattle.hc_history.specs.Recorded.{history_of}
+use Rattle.hc_history.specs.Past.{history_of}
 use Rattle.hc_history.specs.Right.{AllRight}
 use Rattle.hc_history.specs.Judging.{IsFound}
 use Rattle.hc_history.proofs.JudgingLemmas.{history_at, history_next, position_at, open_in}

@@ -1,5 +1,5 @@
 use Rattle.std.proofs.Common.{take}
-use Rattle.hc_history.specs.Recorded.{history_of}
+use Rattle.hc_history.specs.Past.{history_of}
 use Rattle.hc_history.specs.Right.{AllRight}
 use Rattle.hc_history.specs.Judging.{AllAnswerOpen}
 use Rattle.hc_history.proofs.judging.first_wrong.Given as goal

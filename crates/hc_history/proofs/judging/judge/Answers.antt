@@ -1,6 +1,6 @@
 use Rattle.std.proofs.Common.{subst, Option, ℕ}
 use Rattle.hc_history.specs.declared.reasons.Reason.{Reason}
-use Rattle.hc_history.specs.Recorded.{history_of}
+use Rattle.hc_history.specs.Past.{history_of}
 use Rattle.hc_history.specs.Judging.{IsFirstWrong}
 use Rattle.hc_history.proofs.JudgingLemmas.{first_open, stops_at}
 use Rattle.hc_history.proofs.judging.judge.Goals as goal

@@ -1,6 +1,6 @@
 use Rattle.std.proofs.Common.{◌≡◌, take}
 use Rattle.hc_transcript.specs.History.{exchange_of}
-use Rattle.hc_history.specs.Recorded.{history_of}
+use Rattle.hc_history.specs.Past.{history_of}
 use Rattle.hc_history.proofs.open.open_exchange.Given as goal
 
 -- what is open behind the items so far

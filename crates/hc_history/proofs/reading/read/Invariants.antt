@@ -1,5 +1,5 @@
 use Rattle.hc_transcript.specs.Reader.{unread}
-use Rattle.hc_history.specs.Reading.{HasRead}
+use Rattle.hc_history.proofs.ReadingLemmas.{HasRead}
 use Rattle.hc_history.proofs.reading.read.Given as goal
 
 -- what was read so far

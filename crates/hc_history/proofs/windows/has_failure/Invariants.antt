@@ -1,6 +1,6 @@
 use Rattle.std.proofs.Common.{◌≡◌, length}
 use Rattle.hc_history.specs.Windows.{is_failure, some_since}
-use Rattle.hc_history.specs.Recorded.{history_of}
+use Rattle.hc_history.specs.Past.{history_of}
 use Rattle.hc_history.proofs.windows.has_failure.Given as goal
 
 -- the items that are left decide

@@ -7,18 +7,18 @@ use hc_transcript::OwnedItem;
 
 /// An item of a transcript.
 #[derive(Debug, Drop)]
-pub(crate) struct Recorded {
+pub(crate) struct PastItem {
     item: OwnedItem,
     // No record is later than the year 9999.
     ghost in_time: { moment_of (item_of item) < 253402300800 },
 }
 
-impl Recorded {
+impl PastItem {
     pub(crate) fn new(item: OwnedItem) -> Self
         requires { moment_of (item_of item) < 253402300800 }
         ensures { result.item ≡ item }
     {
-        Recorded { item }
+        PastItem { item }
     }
 
     pub(crate) fn item(&self) -> &OwnedItem

@@ -7,11 +7,11 @@ use Rattle.hc_framing.specs.declared.message.Message.{Message}
 use Rattle.hc_transcript.specs.Items.{Item, OriginResponse, Forward, item_of}
 use Rattle.hc_transcript.specs.History.{next_position, forward_of}
 use Rattle.hc_history.specs.declared.kept.Kept.{Kept}
-use Rattle.hc_history.specs.declared.recorded.Recorded.{Recorded}
+use Rattle.hc_history.specs.declared.past.PastItem.{PastItem}
 use Rattle.hc_history.specs.States.{kept_answered, kept_answered_to, state_after}
-use Rattle.hc_history.specs.Recorded.{history_of}
+use Rattle.hc_history.specs.Past.{history_of}
 
-pub position_behind : (items : List Recorded) → next_position (history_of items) ≡ length items + 1
+pub position_behind : (items : List PastItem) → next_position (history_of items) ≡ length items + 1
 position_behind items = ap (λ n. n + 1) (length-reverse (map (λ r. item_of r.item) items) ∙ length-map items (λ r. item_of r.item))
 
 -- what an answer of the origin makes of a stored response
