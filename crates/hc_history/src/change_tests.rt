@@ -331,7 +331,7 @@ fn a_digit_in_the_forward(rt: HostRuntime) {
 /// What a digit in the response brings.
 const DIGIT_IN_THE_RESPONSE: &[Changed] = &[
     (b"r ", Verdict::Malformed(3, RecordFault::Line)),
-    // Another date, which the hit lacks.
+    // Another forward is open.
     (b"1", Verdict::Malformed(3, RecordFault::NothingOpen)),
     (b" ", Verdict::Malformed(3, RecordFault::Line)),
     (b"1000", Verdict::Malformed(4, RecordFault::MomentBack)),
@@ -346,6 +346,7 @@ const DIGIT_IN_THE_RESPONSE: &[Changed] = &[
     (b":", Verdict::Malformed(3, RecordFault::Message)),
     // What is no date gives way to that of the moment, which is the same.
     (b" Thu, 01 Jan ", HIT),
+    // Another date, which the hit lacks.
     (b"1", Verdict::No(6, Reason::Fields)),
     (b"970 0", HIT),
     (b"0", Verdict::No(6, Reason::Fields)),
@@ -382,13 +383,14 @@ fn a_digit_in_the_response(rt: HostRuntime) {
 /// What a digit in the unmarked reply brings.
 const DIGIT_IN_THE_UNMARKED_REPLY: &[Changed] = &[
     (b"a ", Verdict::Malformed(4, RecordFault::Line)),
-    // More octets than there are.
+    // Another exchange is open.
     (b"1", Verdict::Malformed(4, RecordFault::NothingOpen)),
     (b" ", Verdict::Malformed(4, RecordFault::Line)),
     (b"10", Verdict::Malformed(5, RecordFault::MomentBack)),
     // A later reply, and still before the next request.
     (b"00", HIT),
     (b" ", Verdict::Malformed(4, RecordFault::Line)),
+    // More octets than there are.
     (b"1", Verdict::Malformed(4, RecordFault::Torn)),
     (b"05\n", Verdict::Malformed(4, RecordFault::Line)),
     (b"HTTP/1.1 ", Verdict::Malformed(4, RecordFault::Message)),

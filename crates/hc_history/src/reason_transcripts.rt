@@ -520,7 +520,7 @@ a 1 1070 140
 HTTP/1.1 200 \r\ndate: Thu, 01 Jan 1970 00:16:40 GMT\r\ncache-control: max-age=60\r\nage: 70\r\ncache-status: hcache;hit\r\ncontent-length: 5\r\n\r\nhello
 ";
 
-/// The same with the failure before the request.
+/// The same with the forward and its failure before the request.
 pub(crate) const HIT_AFTER_A_FAILURE: &[u8] = b"HCT1
 f 1 1000 28
 GET /a HTTP/1.1\r\nhost: h\r\n\r\n
@@ -692,7 +692,7 @@ a 1 1050 149
 HTTP/1.1 200 \r\ncache-control: no-cache\r\netag: \"v1\"\r\ndate: Thu, 01 Jan 1970 00:17:30 GMT\r\nage: 0\r\ncache-status: hcache;hit\r\ncontent-length: 5\r\n\r\nhello
 ";
 
-/// The same with the 304 before the request.
+/// The same with the forward and its 304 before the request.
 pub(crate) const HIT_VALIDATED_BEFORE_THE_WINDOW: &[u8] = b"HCT1
 f 1 1000 28
 GET /a HTTP/1.1\r\nhost: h\r\n\r\n
@@ -708,7 +708,7 @@ a 1 1050 149
 HTTP/1.1 200 \r\ncache-control: no-cache\r\netag: \"v1\"\r\ndate: Thu, 01 Jan 1970 00:17:30 GMT\r\nage: 0\r\ncache-status: hcache;hit\r\ncontent-length: 5\r\n\r\nhello
 ";
 
-/// The same with the 304 in the window, and its forward before the request.
+/// The same with the request between the forward and its 304.
 pub(crate) const HIT_VALIDATED_BY_AN_EARLIER_FORWARD: &[u8] = b"HCT1
 f 1 1000 28
 GET /a HTTP/1.1\r\nhost: h\r\n\r\n
@@ -796,7 +796,7 @@ a 1 1059 128
 HTTP/1.1 304 \r\ndate: Thu, 01 Jan 1970 00:16:40 GMT\r\ncache-control: max-age=60\r\netag: \"v1\"\r\nage: 59\r\ncache-status: hcache;hit\r\n\r\n
 ";
 
-/// A 304 to a request for what is later than the response.
+/// A 304 to a request that has the date of the last modification.
 pub(crate) const NOT_MODIFIED_SINCE: &[u8] = b"HCT1
 f 1 1000 28
 GET /a HTTP/1.1\r\nhost: h\r\n\r\n
@@ -808,7 +808,7 @@ a 1 1059 116
 HTTP/1.1 304 \r\ndate: Thu, 01 Jan 1970 00:16:40 GMT\r\ncache-control: max-age=60\r\nage: 59\r\ncache-status: hcache;hit\r\n\r\n
 ";
 
-/// The same, but the response is later.
+/// The same, but the request has a date a second earlier.
 pub(crate) const MODIFIED_SINCE: &[u8] = b"HCT1
 f 1 1000 28
 GET /a HTTP/1.1\r\nhost: h\r\n\r\n
@@ -912,7 +912,7 @@ a 1 1059 149
 HTTP/1.1 200 \r\ndate: Thu, 01 Jan 1970 00:16:40 GMT\r\ncache-control: max-age=60\r\nx-id: 1\r\nage: 59\r\ncache-status: hcache;hit\r\ncontent-length: 5\r\n\r\nhello
 ";
 
-/// The same without that field.
+/// The same response, and a hit without that field.
 pub(crate) const HIT_WITHOUT_A_FIELD_OF_A_CONNECTION: &[u8] = b"HCT1
 f 1 1000 28
 GET /a HTTP/1.1\r\nhost: h\r\n\r\n

@@ -376,7 +376,7 @@ a 3 1050 159
 HTTP/1.1 200 \r\ndate: Thu, 01 Jan 1970 00:16:40 GMT\r\ncache-control: max-age=10\r\netag: \"v1\"\r\nage: 30\r\ncache-status: hcache;hit;ttl=70\r\ncontent-length: 5\r\n\r\nhello
 ";
 
-/// The same hit with the Age counted from before the 304.
+/// The hit with the fields of the 304, and the Age counted from before it.
 pub(crate) const HIT_WITH_AN_AGE_FROM_BEFORE_A_304: &[u8] = b"HCT1
 q 1 1000 28
 GET /a HTTP/1.1\r\nhost: h\r\n\r\n
@@ -734,7 +734,7 @@ a 4 1631 172
 HTTP/1.1 200 \r\ndate: Thu, 01 Jan 1970 00:27:11 GMT\r\ncache-control: max-age=600, stale-while-revalidate=30\r\ncache-status: hcache;fwd=stale;stored\r\ncontent-length: 5\r\n\r\nhello
 ";
 
-/// The same, with a hit a second later.
+/// The same, with a hit a second later in place of that reply.
 pub(crate) const STALE_FOR_TOO_LONG: &[u8] = b"HCT1
 q 1 1000 28
 GET /a HTTP/1.1\r\nhost: h\r\n\r\n
@@ -784,7 +784,7 @@ a 3 1600 186
 HTTP/1.1 200 \r\ndate: Thu, 01 Jan 1970 00:26:40 GMT\r\ncache-control: max-age=600, stale-while-revalidate=30, s-maxage=600\r\ncache-status: hcache;fwd=stale;stored\r\ncontent-length: 5\r\n\r\nhello
 ";
 
-/// The same, with a hit a second after the last.
+/// The same response, and a hit a second after the last that is right.
 pub(crate) const STALE_UNDER_S_MAXAGE: &[u8] = b"HCT1
 q 1 1000 28
 GET /a HTTP/1.1\r\nhost: h\r\n\r\n
