@@ -50,6 +50,10 @@ mod reason_tests;
 #[cfg(test)]
 mod reason_transcripts;
 #[cfg(test)]
+mod request_tests;
+#[cfg(test)]
+mod request_transcripts;
+#[cfg(test)]
 mod tests;
 #[cfg(test)]
 mod transcripts;
