@@ -28,6 +28,14 @@ fn no_response_of_the_target(rt: HostRuntime) {
 }
 
 #[test]
+fn a_response_in_the_window_is_stored(rt: HostRuntime) {
+    assert_eq!(rt;
+        judged(rt.alloc(), HIT_OF_A_RESPONSE_IN_ITS_WINDOW),
+        Ok(yes(4, 1, 0, 0))
+    );
+}
+
+#[test]
 fn no_response_of_the_method(rt: HostRuntime) {
     assert_eq!(rt;
         judged(rt.alloc(), HIT_BY_POST),
@@ -38,6 +46,10 @@ fn no_response_of_the_method(rt: HostRuntime) {
         Ok(no(4, Reason::NoResponse))
     );
     assert_eq!(rt; judged(rt.alloc(), HIT_BY_HEAD), Ok(yes(4, 1, 0, 0)));
+    assert_eq!(rt;
+        judged(rt.alloc(), HIT_OF_AN_ANSWER_TO_HEAD),
+        Ok(no(4, Reason::NoResponse))
+    );
 }
 
 #[test]
@@ -123,6 +135,14 @@ fn only_its_304_makes_it_valid_again(rt: HostRuntime) {
 }
 
 #[test]
+fn what_is_valid_again_is_invalidated_again(rt: HostRuntime) {
+    assert_eq!(rt;
+        judged(rt.alloc(), HIT_AFTER_A_304_AND_A_POST),
+        Ok(no(10, Reason::Invalidated))
+    );
+}
+
+#[test]
 fn no_lifetime_is_stated(rt: HostRuntime) {
     assert_eq!(rt;
         judged(rt.alloc(), HIT_WITHOUT_A_LIFETIME),
@@ -154,6 +174,10 @@ fn neither_fresh_nor_allowed_stale(rt: HostRuntime) {
     );
     assert_eq!(rt;
         judged(rt.alloc(), HIT_THAT_MAY_NEVER_BE_STALE),
+        Ok(no(4, Reason::NotAllowed))
+    );
+    assert_eq!(rt;
+        judged(rt.alloc(), HIT_WHILE_REVALIDATING_FOR_NO_TIME),
         Ok(no(4, Reason::NotAllowed))
     );
 }
@@ -223,6 +247,22 @@ fn errors_that_permit_stale(rt: HostRuntime) {
     );
     assert_eq!(rt;
         judged(rt.alloc(), HIT_ON_AN_ERROR_THAT_THE_CLIENT_TAKES),
+        Ok(yes(6, 1, 0, 0))
+    );
+    assert_eq!(rt;
+        judged(rt.alloc(), HIT_ON_AN_UNKNOWN_METHOD),
+        Ok(no(6, Reason::NotAllowed))
+    );
+}
+
+#[test]
+fn errors_of_the_target_permit_stale(rt: HostRuntime) {
+    assert_eq!(rt;
+        judged(rt.alloc(), HIT_ON_AN_ERROR_OF_ANOTHER_PATH),
+        Ok(no(6, Reason::NotAllowed))
+    );
+    assert_eq!(rt;
+        judged(rt.alloc(), HIT_ON_AN_ERROR_OF_A_POST),
         Ok(yes(6, 1, 0, 0))
     );
 }
@@ -301,6 +341,10 @@ fn a_304_that_the_client_did_not_earn(rt: HostRuntime) {
         judged(rt.alloc(), NOT_MODIFIED_FOR_THE_TAG),
         Ok(yes(4, 1, 0, 0))
     );
+    assert_eq!(rt;
+        judged(rt.alloc(), NOT_MODIFIED_FOR_HEAD),
+        Ok(yes(4, 1, 0, 0))
+    );
 }
 
 #[test]
@@ -321,6 +365,10 @@ fn other_fields(rt: HostRuntime) {
         judged_ignoring(rt.alloc(), HIT_WITH_A_FIELD_MORE, &[b"x-id"]),
         Ok(yes(4, 1, 0, 0))
     );
+    assert_eq!(rt;
+        judged(rt.alloc(), HIT_WITH_LINES_JOINED),
+        Ok(no(4, Reason::Fields))
+    );
 }
 
 #[test]
@@ -333,6 +381,11 @@ fn fields_that_do_not_matter(rt: HostRuntime) {
         judged(rt.alloc(), HIT_WITH_FIELDS_OF_ITS_CONNECTION),
         Ok(yes(4, 1, 0, 0))
     );
+    assert_eq!(rt;
+        judged(rt.alloc(), HIT_WITH_PROXY_AUTHENTICATE),
+        Ok(yes(4, 1, 0, 0))
+    );
+    assert_eq!(rt; judged(rt.alloc(), HIT_WITH_UPGRADE), Ok(yes(4, 1, 0, 0)));
 }
 
 #[test]
@@ -527,6 +580,10 @@ fn no_answer_to_what_was_asked(rt: HostRuntime) {
         judged(rt.alloc(), FORWARDED_BY_GET_FOR_HEAD),
         Ok(yes(4, 0, 1, 0))
     );
+    assert_eq!(rt;
+        judged(rt.alloc(), FORWARDED_BY_HEAD_FOR_GET),
+        Ok(no(4, Reason::NotForwarded))
+    );
 }
 
 #[test]
@@ -542,6 +599,19 @@ fn no_answer_that_the_reply_carries(rt: HostRuntime) {
     assert_eq!(rt;
         judged(rt.alloc(), FORWARDED_WITH_OTHER_FIELDS),
         Ok(yes(4, 0, 1, 0))
+    );
+}
+
+#[test]
+fn a_part_is_right_by_its_answer(rt: HostRuntime) {
+    assert_eq!(rt; judged(rt.alloc(), PART_FORWARDED), Ok(yes(4, 0, 1, 0)));
+    assert_eq!(rt;
+        judged_strictly(rt.alloc(), PART_FORWARDED),
+        Ok(yes(4, 0, 1, 0))
+    );
+    assert_eq!(rt;
+        judged(rt.alloc(), PART_FORWARDED_TO_NOBODY),
+        Ok(no(2, Reason::NotForwarded))
     );
 }
 
@@ -610,6 +680,22 @@ fn the_reason_is_that_of_the_response_that_goes_furthest(rt: HostRuntime) {
         Ok(no(6, Reason::Fields))
     );
     assert_eq!(rt; judged(rt.alloc(), SECOND_IS_RIGHT), Ok(yes(6, 1, 0, 0)));
+}
+
+#[test]
+fn what_is_selected_goes_further_though_it_is_invalid(rt: HostRuntime) {
+    assert_eq!(rt;
+        judged(rt.alloc(), INVALIDATED_GOES_FURTHER),
+        Ok(no(8, Reason::Invalidated))
+    );
+    assert_eq!(rt;
+        judged(rt.alloc(), INVALIDATED_LAST_GOES_FURTHER),
+        Ok(no(8, Reason::Invalidated))
+    );
+    assert_eq!(rt;
+        judged(rt.alloc(), NEITHER_SELECTED_NOR_VALID),
+        Ok(no(6, Reason::Vary))
+    );
 }
 
 #[test]

@@ -20,6 +20,18 @@ r 1 1000 105
 HTTP/1.1 200 \r\ndate: Thu, 01 Jan 1970 00:16:40 GMT\r\ncache-control: max-age=60\r\ncontent-length: 5\r\n\r\nhello
 ";
 
+/// A response behind the request, and its hit.
+pub(crate) const HIT_OF_A_RESPONSE_IN_ITS_WINDOW: &[u8] = b"HCT1
+q 1 1000 28
+GET /a HTTP/1.1\r\nhost: h\r\n\r\n
+f 1 1000 28
+GET /a HTTP/1.1\r\nhost: h\r\n\r\n
+r 1 1000 105
+HTTP/1.1 200 \r\ndate: Thu, 01 Jan 1970 00:16:40 GMT\r\ncache-control: max-age=60\r\ncontent-length: 5\r\n\r\nhello
+a 1 1000 139
+HTTP/1.1 200 \r\ndate: Thu, 01 Jan 1970 00:16:40 GMT\r\ncache-control: max-age=60\r\nage: 0\r\ncache-status: hcache;hit\r\ncontent-length: 5\r\n\r\nhello
+";
+
 /// A response of another path.
 pub(crate) const HIT_OF_ANOTHER_PATH: &[u8] = b"HCT1
 f 1 1000 28
@@ -78,6 +90,18 @@ q 1 1059 28
 GET /a HTTP/1.1\r\nhost: h\r\n\r\n
 a 1 1059 140
 HTTP/1.1 200 \r\ndate: Thu, 01 Jan 1970 00:16:40 GMT\r\ncache-control: max-age=60\r\nage: 59\r\ncache-status: hcache;hit\r\ncontent-length: 5\r\n\r\nhello
+";
+
+/// A response to a HEAD.
+pub(crate) const HIT_OF_AN_ANSWER_TO_HEAD: &[u8] = b"HCT1
+f 1 1000 29
+HEAD /a HTTP/1.1\r\nhost: h\r\n\r\n
+r 1 1000 81
+HTTP/1.1 200 \r\ndate: Thu, 01 Jan 1970 00:16:40 GMT\r\ncache-control: max-age=60\r\n\r\n
+q 1 1059 29
+HEAD /a HTTP/1.1\r\nhost: h\r\n\r\n
+a 1 1059 116
+HTTP/1.1 200 \r\ndate: Thu, 01 Jan 1970 00:16:40 GMT\r\ncache-control: max-age=60\r\nage: 59\r\ncache-status: hcache;hit\r\n\r\n
 ";
 
 /// A hit for a HEAD.
@@ -348,6 +372,30 @@ a 1 1050 152
 HTTP/1.1 200 \r\ndate: Thu, 01 Jan 1970 00:16:40 GMT\r\ncache-control: max-age=60\r\netag: \"v1\"\r\nage: 50\r\ncache-status: hcache;hit\r\ncontent-length: 5\r\n\r\nhello
 ";
 
+/// A POST, a 304 that is about the response, and a POST again.
+pub(crate) const HIT_AFTER_A_304_AND_A_POST: &[u8] = b"HCT1
+f 1 1000 28
+GET /a HTTP/1.1\r\nhost: h\r\n\r\n
+r 1 1000 117
+HTTP/1.1 200 \r\ndate: Thu, 01 Jan 1970 00:16:40 GMT\r\ncache-control: max-age=10\r\netag: \"v1\"\r\ncontent-length: 5\r\n\r\nhello
+f 2 1010 48
+POST /a HTTP/1.1\r\nhost: h\r\ncontent-length: 0\r\n\r\n
+r 2 1010 17
+HTTP/1.1 204 \r\n\r\n
+f 3 1020 49
+GET /a HTTP/1.1\r\nhost: h\r\nif-none-match: \"v1\"\r\n\r\n
+r 3 1020 94
+HTTP/1.1 304 \r\ndate: Thu, 01 Jan 1970 00:17:00 GMT\r\ncache-control: max-age=100\r\netag: \"v1\"\r\n\r\n
+f 4 1030 48
+POST /a HTTP/1.1\r\nhost: h\r\ncontent-length: 0\r\n\r\n
+r 4 1030 17
+HTTP/1.1 204 \r\n\r\n
+q 1 1050 28
+GET /a HTTP/1.1\r\nhost: h\r\n\r\n
+a 1 1050 153
+HTTP/1.1 200 \r\ndate: Thu, 01 Jan 1970 00:17:00 GMT\r\ncache-control: max-age=100\r\netag: \"v1\"\r\nage: 30\r\ncache-status: hcache;hit\r\ncontent-length: 5\r\n\r\nhello
+";
+
 /// A response that states no lifetime.
 pub(crate) const HIT_WITHOUT_A_LIFETIME: &[u8] = b"HCT1
 f 1 1000 28
@@ -454,6 +502,18 @@ q 1 1070 54
 GET /a HTTP/1.1\r\nhost: h\r\ncache-control: max-stale\r\n\r\n
 a 1 1070 158
 HTTP/1.1 200 \r\ndate: Thu, 01 Jan 1970 00:16:40 GMT\r\ncache-control: max-age=60, proxy-revalidate\r\nage: 70\r\ncache-status: hcache;hit\r\ncontent-length: 5\r\n\r\nhello
+";
+
+/// A stale response that may be served while it is validated, for a time that it doesn't state.
+pub(crate) const HIT_WHILE_REVALIDATING_FOR_NO_TIME: &[u8] = b"HCT1
+f 1 1000 28
+GET /a HTTP/1.1\r\nhost: h\r\n\r\n
+r 1 1000 129
+HTTP/1.1 200 \r\ndate: Thu, 01 Jan 1970 00:16:40 GMT\r\ncache-control: max-age=60, stale-while-revalidate\r\ncontent-length: 5\r\n\r\nhello
+q 1 1070 28
+GET /a HTTP/1.1\r\nhost: h\r\n\r\n
+a 1 1070 164
+HTTP/1.1 200 \r\ndate: Thu, 01 Jan 1970 00:16:40 GMT\r\ncache-control: max-age=60, stale-while-revalidate\r\nage: 70\r\ncache-status: hcache;hit\r\ncontent-length: 5\r\n\r\nhello
 ";
 
 /// An error of the origin, in whose place a response may be served stale.
@@ -568,6 +628,22 @@ a 1 1070 159
 HTTP/1.1 200 \r\ndate: Thu, 01 Jan 1970 00:16:40 GMT\r\ncache-control: max-age=60, stale-if-error=10\r\nage: 70\r\ncache-status: hcache;hit\r\ncontent-length: 5\r\n\r\nhello
 ";
 
+/// An error of an origin that doesn't know the method.
+pub(crate) const HIT_ON_AN_UNKNOWN_METHOD: &[u8] = b"HCT1
+f 1 1000 28
+GET /a HTTP/1.1\r\nhost: h\r\n\r\n
+r 1 1000 124
+HTTP/1.1 200 \r\ndate: Thu, 01 Jan 1970 00:16:40 GMT\r\ncache-control: max-age=60, stale-if-error=10\r\ncontent-length: 5\r\n\r\nhello
+q 1 1070 28
+GET /a HTTP/1.1\r\nhost: h\r\n\r\n
+f 2 1070 28
+GET /a HTTP/1.1\r\nhost: h\r\n\r\n
+r 2 1070 36
+HTTP/1.1 501 \r\ncontent-length: 0\r\n\r\n
+a 1 1070 159
+HTTP/1.1 200 \r\ndate: Thu, 01 Jan 1970 00:16:40 GMT\r\ncache-control: max-age=60, stale-if-error=10\r\nage: 70\r\ncache-status: hcache;hit\r\ncontent-length: 5\r\n\r\nhello
+";
+
 /// An answer right behind the request, to a forward before it.
 pub(crate) const FORWARDED_BY_AN_EARLIER_FORWARD: &[u8] = b"HCT1
 f 1 1000 28
@@ -638,6 +714,38 @@ q 1 1070 28
 GET /a HTTP/1.1\r\nhost: h\r\n\r\n
 f 2 1070 28
 GET /a HTTP/1.1\r\nhost: h\r\n\r\n
+r 2 1070 36
+HTTP/1.1 503 \r\ncontent-length: 0\r\n\r\n
+a 1 1070 159
+HTTP/1.1 200 \r\ndate: Thu, 01 Jan 1970 00:16:40 GMT\r\ncache-control: max-age=60, stale-if-error=10\r\nage: 70\r\ncache-status: hcache;hit\r\ncontent-length: 5\r\n\r\nhello
+";
+
+/// An error of another path.
+pub(crate) const HIT_ON_AN_ERROR_OF_ANOTHER_PATH: &[u8] = b"HCT1
+f 1 1000 28
+GET /a HTTP/1.1\r\nhost: h\r\n\r\n
+r 1 1000 124
+HTTP/1.1 200 \r\ndate: Thu, 01 Jan 1970 00:16:40 GMT\r\ncache-control: max-age=60, stale-if-error=10\r\ncontent-length: 5\r\n\r\nhello
+q 1 1070 28
+GET /a HTTP/1.1\r\nhost: h\r\n\r\n
+f 2 1070 28
+GET /b HTTP/1.1\r\nhost: h\r\n\r\n
+r 2 1070 36
+HTTP/1.1 503 \r\ncontent-length: 0\r\n\r\n
+a 1 1070 159
+HTTP/1.1 200 \r\ndate: Thu, 01 Jan 1970 00:16:40 GMT\r\ncache-control: max-age=60, stale-if-error=10\r\nage: 70\r\ncache-status: hcache;hit\r\ncontent-length: 5\r\n\r\nhello
+";
+
+/// An error of another method.
+pub(crate) const HIT_ON_AN_ERROR_OF_A_POST: &[u8] = b"HCT1
+f 1 1000 28
+GET /a HTTP/1.1\r\nhost: h\r\n\r\n
+r 1 1000 124
+HTTP/1.1 200 \r\ndate: Thu, 01 Jan 1970 00:16:40 GMT\r\ncache-control: max-age=60, stale-if-error=10\r\ncontent-length: 5\r\n\r\nhello
+q 1 1070 28
+GET /a HTTP/1.1\r\nhost: h\r\n\r\n
+f 2 1070 48
+POST /a HTTP/1.1\r\nhost: h\r\ncontent-length: 0\r\n\r\n
 r 2 1070 36
 HTTP/1.1 503 \r\ncontent-length: 0\r\n\r\n
 a 1 1070 159
@@ -796,6 +904,18 @@ a 1 1059 128
 HTTP/1.1 304 \r\ndate: Thu, 01 Jan 1970 00:16:40 GMT\r\ncache-control: max-age=60\r\netag: \"v1\"\r\nage: 59\r\ncache-status: hcache;hit\r\n\r\n
 ";
 
+/// A 304 to a HEAD that has the tag.
+pub(crate) const NOT_MODIFIED_FOR_HEAD: &[u8] = b"HCT1
+f 1 1000 28
+GET /a HTTP/1.1\r\nhost: h\r\n\r\n
+r 1 1000 117
+HTTP/1.1 200 \r\ndate: Thu, 01 Jan 1970 00:16:40 GMT\r\ncache-control: max-age=60\r\netag: \"v1\"\r\ncontent-length: 5\r\n\r\nhello
+q 1 1059 50
+HEAD /a HTTP/1.1\r\nhost: h\r\nif-none-match: \"v1\"\r\n\r\n
+a 1 1059 128
+HTTP/1.1 304 \r\ndate: Thu, 01 Jan 1970 00:16:40 GMT\r\ncache-control: max-age=60\r\netag: \"v1\"\r\nage: 59\r\ncache-status: hcache;hit\r\n\r\n
+";
+
 /// A 304 to a request that has the date of the last modification.
 pub(crate) const NOT_MODIFIED_SINCE: &[u8] = b"HCT1
 f 1 1000 28
@@ -876,6 +996,18 @@ a 1 1059 158
 HTTP/1.1 200 \r\ndate: Thu, 01 Jan 1970 00:16:40 GMT\r\ncache-control: max-age=60\r\nx-id: 2\r\nx-id: 1\r\nage: 59\r\ncache-status: hcache;hit\r\ncontent-length: 5\r\n\r\nhello
 ";
 
+/// A hit that joins two lines of one name.
+pub(crate) const HIT_WITH_LINES_JOINED: &[u8] = b"HCT1
+f 1 1000 28
+GET /a HTTP/1.1\r\nhost: h\r\n\r\n
+r 1 1000 123
+HTTP/1.1 200 \r\ndate: Thu, 01 Jan 1970 00:16:40 GMT\r\ncache-control: max-age=60\r\nx-id: 1\r\nx-id: 2\r\ncontent-length: 5\r\n\r\nhello
+q 1 1059 28
+GET /a HTTP/1.1\r\nhost: h\r\n\r\n
+a 1 1059 152
+HTTP/1.1 200 \r\ndate: Thu, 01 Jan 1970 00:16:40 GMT\r\ncache-control: max-age=60\r\nx-id: 1, 2\r\nage: 59\r\ncache-status: hcache;hit\r\ncontent-length: 5\r\n\r\nhello
+";
+
 /// A hit with lines of different names in another order.
 pub(crate) const HIT_WITH_NAMES_IN_ANOTHER_ORDER: &[u8] = b"HCT1
 f 1 1000 28
@@ -898,6 +1030,30 @@ q 1 1059 28
 GET /a HTTP/1.1\r\nhost: h\r\n\r\n
 a 1 1059 184
 HTTP/1.1 200 \r\ndate: Thu, 01 Jan 1970 00:16:40 GMT\r\ncache-control: max-age=60\r\nage: 59\r\ncache-status: hcache;hit\r\nvia: 1.1 hcache\r\nconnection: X-Id\r\nx-id: 1\r\ncontent-length: 5\r\n\r\nhello
+";
+
+/// A hit with a field that asks for credentials of the next proxy.
+pub(crate) const HIT_WITH_PROXY_AUTHENTICATE: &[u8] = b"HCT1
+f 1 1000 28
+GET /a HTTP/1.1\r\nhost: h\r\n\r\n
+r 1 1000 105
+HTTP/1.1 200 \r\ndate: Thu, 01 Jan 1970 00:16:40 GMT\r\ncache-control: max-age=60\r\ncontent-length: 5\r\n\r\nhello
+q 1 1059 28
+GET /a HTTP/1.1\r\nhost: h\r\n\r\n
+a 1 1059 167
+HTTP/1.1 200 \r\ndate: Thu, 01 Jan 1970 00:16:40 GMT\r\ncache-control: max-age=60\r\nproxy-authenticate: Basic\r\nage: 59\r\ncache-status: hcache;hit\r\ncontent-length: 5\r\n\r\nhello
+";
+
+/// A hit with a field that offers another protocol.
+pub(crate) const HIT_WITH_UPGRADE: &[u8] = b"HCT1
+f 1 1000 28
+GET /a HTTP/1.1\r\nhost: h\r\n\r\n
+r 1 1000 105
+HTTP/1.1 200 \r\ndate: Thu, 01 Jan 1970 00:16:40 GMT\r\ncache-control: max-age=60\r\ncontent-length: 5\r\n\r\nhello
+q 1 1059 28
+GET /a HTTP/1.1\r\nhost: h\r\n\r\n
+a 1 1059 154
+HTTP/1.1 200 \r\ndate: Thu, 01 Jan 1970 00:16:40 GMT\r\ncache-control: max-age=60\r\nupgrade: h2c\r\nage: 59\r\ncache-status: hcache;hit\r\ncontent-length: 5\r\n\r\nhello
 ";
 
 /// A hit with a field that was for the connection to the origin alone.
@@ -1305,6 +1461,38 @@ a 1 1000 114
 HTTP/1.1 200 \r\ndate: Thu, 01 Jan 1970 00:16:40 GMT\r\ncache-control: no-store\r\ncache-status: hcache;fwd=uri-miss\r\n\r\n
 ";
 
+/// A reply to GET, and an answer to HEAD.
+pub(crate) const FORWARDED_BY_HEAD_FOR_GET: &[u8] = b"HCT1
+q 1 1000 28
+GET /a HTTP/1.1\r\nhost: h\r\n\r\n
+f 1 1000 29
+HEAD /a HTTP/1.1\r\nhost: h\r\n\r\n
+r 1 1000 79
+HTTP/1.1 200 \r\ndate: Thu, 01 Jan 1970 00:16:40 GMT\r\ncache-control: no-store\r\n\r\n
+a 1 1000 133
+HTTP/1.1 200 \r\ndate: Thu, 01 Jan 1970 00:16:40 GMT\r\ncache-control: no-store\r\ncache-status: hcache;fwd=uri-miss\r\ncontent-length: 0\r\n\r\n
+";
+
+/// A part of a body that is the answer of the origin.
+pub(crate) const PART_FORWARDED: &[u8] = b"HCT1
+q 1 1000 46
+GET /a HTTP/1.1\r\nhost: h\r\nrange: bytes=0-4\r\n\r\n
+f 1 1000 46
+GET /a HTTP/1.1\r\nhost: h\r\nrange: bytes=0-4\r\n\r\n
+r 1 1000 107
+HTTP/1.1 206 \r\ndate: Thu, 01 Jan 1970 00:16:40 GMT\r\ncontent-range: bytes 0-4/10\r\ncontent-length: 5\r\n\r\nhello
+a 1 1000 140
+HTTP/1.1 206 \r\ndate: Thu, 01 Jan 1970 00:16:40 GMT\r\ncontent-range: bytes 0-4/10\r\ncache-status: hcache;fwd=bypass\r\ncontent-length: 5\r\n\r\nhello
+";
+
+/// A part of a body that is marked as forwarded, and no answer.
+pub(crate) const PART_FORWARDED_TO_NOBODY: &[u8] = b"HCT1
+q 1 1000 46
+GET /a HTTP/1.1\r\nhost: h\r\nrange: bytes=0-4\r\n\r\n
+a 1 1000 140
+HTTP/1.1 206 \r\ndate: Thu, 01 Jan 1970 00:16:40 GMT\r\ncontent-range: bytes 0-4/10\r\ncache-status: hcache;fwd=bypass\r\ncontent-length: 5\r\n\r\nhello
+";
+
 /// A reply with other fields than the answer.
 pub(crate) const FORWARDED_WITH_OTHER_FIELDS: &[u8] = b"HCT1
 q 1 1000 28
@@ -1423,6 +1611,62 @@ q 1 1059 28
 GET /a HTTP/1.1\r\nhost: h\r\n\r\n
 a 1 1059 140
 HTTP/1.1 200 \r\ndate: Thu, 01 Jan 1970 00:16:40 GMT\r\ncache-control: max-age=60\r\nage: 59\r\ncache-status: hcache;hit\r\ncontent-length: 5\r\n\r\nhello
+";
+
+/// A response that a POST invalidated, and one that isn't selected.
+pub(crate) const INVALIDATED_GOES_FURTHER: &[u8] = b"HCT1
+f 1 1000 28
+GET /a HTTP/1.1\r\nhost: h\r\n\r\n
+r 1 1000 105
+HTTP/1.1 200 \r\ndate: Thu, 01 Jan 1970 00:16:40 GMT\r\ncache-control: max-age=60\r\ncontent-length: 5\r\n\r\nhello
+f 2 1010 48
+POST /a HTTP/1.1\r\nhost: h\r\ncontent-length: 0\r\n\r\n
+r 2 1010 17
+HTTP/1.1 204 \r\n\r\n
+f 3 1020 28
+GET /a HTTP/1.1\r\nhost: h\r\n\r\n
+r 3 1020 114
+HTTP/1.1 200 \r\ndate: Thu, 01 Jan 1970 00:17:00 GMT\r\ncache-control: max-age=60\r\nvary: *\r\ncontent-length: 5\r\n\r\nhello
+q 1 1059 28
+GET /a HTTP/1.1\r\nhost: h\r\n\r\n
+a 1 1059 140
+HTTP/1.1 200 \r\ndate: Thu, 01 Jan 1970 00:16:40 GMT\r\ncache-control: max-age=60\r\nage: 59\r\ncache-status: hcache;hit\r\ncontent-length: 5\r\n\r\nhello
+";
+
+/// A response that isn't selected, and one that a POST invalidated.
+pub(crate) const INVALIDATED_LAST_GOES_FURTHER: &[u8] = b"HCT1
+f 1 1000 28
+GET /a HTTP/1.1\r\nhost: h\r\n\r\n
+r 1 1000 114
+HTTP/1.1 200 \r\ndate: Thu, 01 Jan 1970 00:16:40 GMT\r\ncache-control: max-age=60\r\nvary: *\r\ncontent-length: 5\r\n\r\nhello
+f 2 1000 28
+GET /a HTTP/1.1\r\nhost: h\r\n\r\n
+r 2 1000 105
+HTTP/1.1 200 \r\ndate: Thu, 01 Jan 1970 00:16:40 GMT\r\ncache-control: max-age=60\r\ncontent-length: 5\r\n\r\nhello
+f 3 1010 48
+POST /a HTTP/1.1\r\nhost: h\r\ncontent-length: 0\r\n\r\n
+r 3 1010 17
+HTTP/1.1 204 \r\n\r\n
+q 1 1059 28
+GET /a HTTP/1.1\r\nhost: h\r\n\r\n
+a 1 1059 140
+HTTP/1.1 200 \r\ndate: Thu, 01 Jan 1970 00:16:40 GMT\r\ncache-control: max-age=60\r\nage: 59\r\ncache-status: hcache;hit\r\ncontent-length: 5\r\n\r\nhello
+";
+
+/// A response that isn't selected and that a POST invalidated.
+pub(crate) const NEITHER_SELECTED_NOR_VALID: &[u8] = b"HCT1
+f 1 1000 28
+GET /a HTTP/1.1\r\nhost: h\r\n\r\n
+r 1 1000 114
+HTTP/1.1 200 \r\ndate: Thu, 01 Jan 1970 00:16:40 GMT\r\ncache-control: max-age=60\r\nvary: *\r\ncontent-length: 5\r\n\r\nhello
+f 2 1010 48
+POST /a HTTP/1.1\r\nhost: h\r\ncontent-length: 0\r\n\r\n
+r 2 1010 17
+HTTP/1.1 204 \r\n\r\n
+q 1 1059 28
+GET /a HTTP/1.1\r\nhost: h\r\n\r\n
+a 1 1059 149
+HTTP/1.1 200 \r\ndate: Thu, 01 Jan 1970 00:16:40 GMT\r\ncache-control: max-age=60\r\nvary: *\r\nage: 59\r\ncache-status: hcache;hit\r\ncontent-length: 5\r\n\r\nhello
 ";
 
 /// A response with another body, and another with other fields.
