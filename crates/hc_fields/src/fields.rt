@@ -11,7 +11,9 @@ use std::marker::Model;
 /// space around it.
 #[derive(Debug, Drop)]
 pub struct Field {
+    /// In lower case.
     pub name: Octets,
+    /// Without the white space around it.
     pub value: Octets,
 }
 

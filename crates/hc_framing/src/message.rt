@@ -3,6 +3,8 @@ use hc_fields::Octets;
 /// A message: its head, without the fields that frame the body, and its body.
 #[derive(Debug, Drop)]
 pub struct Message<H> {
+    /// Without the fields that frame the body.
     pub head: H,
+    /// As it is once its framing is taken off.
     pub body: Octets,
 }

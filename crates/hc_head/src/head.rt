@@ -7,16 +7,22 @@ use std::alloc::{AllocError, Global};
 /// The version of a message (RFC 9112 section 2.3).
 #[derive(Clone, Copy, Debug, PartialEq, Eq)]
 pub enum Version {
+    /// HTTP/1.0.
     Http10,
+    /// HTTP/1.1.
     Http11,
 }
 
 /// The head of a request: its request line and its field lines (RFC 9112 section 3).
 #[derive(Debug, Drop)]
 pub struct RequestHead {
+    /// The method, in its own case (RFC 9110 section 9).
     pub method: Octets,
+    /// The target as it was written (RFC 9112 section 3.2).
     pub target: Octets,
+    /// The version of whoever sent it.
     pub version: Version,
+    /// The field lines, in order.
     pub fields: Fields,
 }
 
@@ -24,15 +30,20 @@ pub struct RequestHead {
 /// (RFC 9112 section 4).
 #[derive(Debug, Drop)]
 pub struct ResponseHead {
+    /// From 100 to 999 (RFC 9110 section 15).
     pub status: u16,
+    /// The version of whoever sent it.
     pub version: Version,
+    /// The field lines, in order.
     pub fields: Fields,
 }
 
 /// What a request is about: a host with its port, and a path with its query (RFC 9112 section 3.3).
 #[derive(Debug, Drop)]
 pub struct Target {
+    /// The host in lower case, and its port unless that is 80.
     pub host: Octets,
+    /// The path with its query, as it was written.
     pub path: Octets,
 }
 
@@ -51,7 +62,9 @@ impl Target {
 /// How many octets a head may have, and how many fields.
 #[derive(Clone, Copy, Debug, PartialEq, Eq)]
 pub struct Room {
+    /// The most octets of a head.
     pub octets: usize,
+    /// The most field lines of a head.
     pub fields: usize,
 }
 

@@ -11,10 +11,15 @@ use crate::numeral::{numeral, numeral_before_space};
 /// What a record tells.
 #[derive(Clone, Copy, Debug, PartialEq, Eq)]
 pub enum Kind {
+    /// `q`
     ClientRequest,
+    /// `f`
     OriginRequest,
+    /// `r`
     OriginResponse,
+    /// `x`
     OriginFailure,
+    /// `a`
     ClientReply,
 }
 
@@ -22,9 +27,13 @@ pub enum Kind {
 /// whole seconds since 1970, and how many octets its message has.
 #[derive(Clone, Copy, Debug, PartialEq, Eq)]
 pub struct Line {
+    /// What passed.
     pub kind: Kind,
+    /// The number of its exchange or its forward.
     pub number: u64,
+    /// In whole seconds since 1970.
     pub moment: u64,
+    /// How many octets the message has.
     pub size: u64,
 }
 
