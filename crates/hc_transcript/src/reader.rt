@@ -123,6 +123,8 @@ impl RecordReader {
         ensures unread { unread self.new ≡ unread self.old }
         ensures counted { records_read self.new ≡ records_read self.old }
         ensures position { reader_position self.new ≡ reader_position self.old }
+        ensures failed { (f : RecordFault) → HasFailed self.old f → HasFailed self.new f }
+        ensures taken { ¬ (HasRecord self.new) }
     {
         self.current.take().unwrap().item
     }
