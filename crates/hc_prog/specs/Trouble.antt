@@ -1,5 +1,5 @@
 -- What the program says where it gives no verdict.
-use Rattle.std.specs.Prelude.{List, ℕ, [], ◌∷◌, ◌++◌, codes}
+use Rattle.std.specs.Prelude.{List, ℕ, Bool, true, false, [], ◌∷◌, ◌++◌, codes}
 use Rattle.hc_audit.specs.declared.fault.AuditFault.{AuditFault}
 use Rattle.hc_audit.specs.declared.fault.AuditFault.TheVariants as fault
 use Rattle.hc_prog.specs.declared.trouble.Trouble.{Trouble}
@@ -9,8 +9,13 @@ use Rattle.hc_prog.specs.declared.trouble.Trouble.TheVariants.{Unsupported, Memo
 abbrev pub trouble_line : Trouble → List ℕ
 trouble_line Unsupported = codes "error: unsupported" ++ 10 ∷ []
 trouble_line Memory = codes "error: memory" ++ 10 ∷ []
-trouble_line Input = codes "error: device" ++ 10 ∷ []
-trouble_line Output = codes "error: device" ++ 10 ∷ []
+trouble_line (Input reason) = codes "error: device" ++ 10 ∷ []
+trouble_line (Output reason) = codes "error: device" ++ 10 ∷ []
+
+-- whether it is that the answer can't be written
+abbrev pub is_of_output : Trouble → Bool
+is_of_output (Output reason) = true
+is_of_output trouble = false
 
 -- what a fault of the auditor is to the program
 abbrev pub trouble_of : AuditFault → Trouble

@@ -1,16 +1,18 @@
 //! The audit of one transcript: from a reader to a line on a writer and an exit status.
-ghost use Rattle.std.specs.Prelude.{◌≡◌, ◌≢◌, ◌⊎◌, ◌<◌, ℕ, List, length, IfErr, IfOk, IfSome, OnOk, vec_len};
+ghost use Rattle.std.specs.Prelude.{◌≡◌, ◌≢◌, ◌⊎◌, ◌<◌, ℕ, List, false, length, IfErr, IfOk, IfSome, OnOk, vec_len};
 ghost use Rattle.std.specs.Io.KnownBytes.{IsAtEnd, Keeps};
 ghost use Rattle.hc_audit.specs.ThinVerdicts.{IsVerdict};
 ghost use Rattle.hc_audit.specs.Judging.{AgreesWith};
 ghost use Rattle.hc_prog.specs.Audit.{AnswersFor, Feeds, SaysLine, SaysVerdict};
 ghost use Rattle.hc_prog.specs.Line.{status_of};
+ghost use Rattle.hc_prog.specs.Trouble.{is_of_output};
 
 use crate::line::verdict_line;
 use crate::print::printed;
 use crate::trouble::Trouble;
 use hc_audit::{Auditor, Verdict};
 use std::alloc::{AllocError, Global};
+use std::io;
 use std::io::{ErrorKind, Read, Write};
 
 /// The most octets that one read takes.
@@ -19,7 +21,8 @@ pub const PIECE: usize = 65_536;
 /// The most reads of one transcript. One that has not ended by then counts as a device that failed.
 pub const READS: u64 = 4_294_967_296;
 
-/// Audits the transcript that `input` gives up to its end, and answers the exit status.
+/// Audits the transcript that `input` gives up to its end, and answers the exit status. `name` is what
+/// the input is called where it fails.
 ///
 /// A verdict is one line on `output`, and the status is 0 for a transcript that is right and 2 for
 /// one that is malformed. Where there is none, by a read or a write that fails, by memory or by a
@@ -27,6 +30,7 @@ pub const READS: u64 = 4_294_967_296;
 /// `faults` that fails is passed over.
 pub fn audit<R: Read, W: Write, E: Write>(
     alloc: Global,
+    name: &str,
     input: &mut R,
     output: &mut W,
     faults: &mut E,
@@ -42,7 +46,7 @@ pub fn audit<R: Read, W: Write, E: Write>(
 {
     match concluded(alloc, input, output) {
         Ok(status) => status,
-        Err(trouble) => trouble.told(faults),
+        Err(trouble) => trouble.told(name, faults),
     }
 }
 
@@ -53,7 +57,7 @@ fn concluded<R: Read, W: Write>(alloc: Global, input: &mut R, output: &mut W) ->
     ensures end { OnOk result (IsAtEnd (R.remaining input.new)) }
     ensures late { IsAtEnd (R.remaining input.new)
         ⊎ Keeps (W.contents output.old) (W.contents output.new) }
-    ensures quiet { IfErr result (λ trouble. trouble ≢ Trouble.Output
+    ensures quiet { IfErr result (λ trouble. is_of_output trouble ≡ false
         → Keeps (W.contents output.old) (W.contents output.new)) }
 {
     let verdict = judged(alloc, input)?;
@@ -64,7 +68,7 @@ fn concluded<R: Read, W: Write>(alloc: Global, input: &mut R, output: &mut W) ->
 fn judged<R: Read>(alloc: Global, input: &mut R) -> Result<Verdict, Trouble>
     ensures verdict { IfOk result (λ verdict. IfSome (R.remaining input.old) (λ octets. IsVerdict octets verdict)) }
     ensures end { OnOk result (IsAtEnd (R.remaining input.new)) }
-    ensures err { IfErr result (λ trouble. trouble ≢ Trouble.Output) }
+    ensures err { IfErr result (λ trouble. is_of_output trouble ≡ false) }
 {
     let mut piece = buffer(alloc)?;
     let mut auditor = Auditor::new(alloc);
@@ -85,17 +89,17 @@ fn feed_all<R: Read>(auditor: &mut Auditor, input: &mut R, piece: &mut [u8]) -> 
     ensures fed { (octets : List ℕ) → AgreesWith auditor.old octets
         → OnOk result (Feeds auditor.new octets (R.remaining input.old) (R.remaining input.new)) }
     ensures end { OnOk result (IsAtEnd (R.remaining input.new)) }
-    ensures err { IfErr result (λ trouble. trouble ≢ Trouble.Output) }
+    ensures err { IfErr result (λ trouble. is_of_output trouble ≡ false) }
 {
     'pieces: for _ in 0..READS {
         match input.read(piece) {
             Ok(0) => return Ok(()),
             Ok(count) => auditor.feed(&piece[..count])?,
             Err(error) if error.kind() == ErrorKind::Interrupted => {}
-            Err(_) => return Err(Trouble::Input),
+            Err(error) => return Err(Trouble::Input(error)),
         }
     }
-    Err(Trouble::Input)
+    Err(Trouble::Input(io::Error::other("too many reads")))
 }
 
 // Writes the verdict's line on `output`, and answers its status.
@@ -103,13 +107,13 @@ fn said<W: Write>(alloc: Global, verdict: &Verdict, output: &mut W) -> Result<u8
     ensures ok { IfOk result (λ status.
         SaysLine verdict.now status (W.contents output.old) (W.contents output.new)) }
     ensures status { IfOk result (λ status. status ≡ status_of verdict.now) }
-    ensures quiet { IfErr result (λ trouble. trouble ≢ Trouble.Output
+    ensures quiet { IfErr result (λ trouble. is_of_output trouble ≡ false
         → Keeps (W.contents output.old) (W.contents output.new)) }
 {
     let line = verdict_line(alloc, verdict)?;
     match printed(line.as_str(), output) {
         Ok(()) => Ok(status(verdict)),
-        Err(_) => Err(Trouble::Output),
+        Err(error) => Err(Trouble::Output(error)),
     }
 }
 

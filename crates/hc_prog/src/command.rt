@@ -59,12 +59,12 @@ fn command<'a>(alloc: Global) -> Result<Command<'a>, AllocError>
         .required(true)
         .help("The transcript, or - for standard input");
     let audit = Command::new(alloc, "audit")
-        .about("Says whether each reply in a transcript is right")
+        .about("Says whether each hit in a transcript is shown right, by a plain test of reuse")
         .arg(file)?;
     Command::new(alloc, "hcache")
         .bin_name("hcache")?
         .version("0.1.0")
-        .about("Audits the transcripts of a cache")
+        .about("Audits the transcripts of a cache. Its yes is that of a plain test so far")
         .subcommand_required(true)
         .subcommand(audit)
 }

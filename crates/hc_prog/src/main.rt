@@ -1,7 +1,7 @@
 //! `hcache`: a program that audits a transcript of a cache.
 //!
-//! `hcache audit FILE` reads a transcript, says on standard output whether each reply in it is
-//! right, and ends with a status: 0 for a transcript that is right, 2 for one that is malformed, 3
+//! `hcache audit FILE` reads a transcript, says on standard output whether each hit in it is shown
+//! right by a plain test of reuse, and ends with a status: 0 for a transcript that is right, 2 for one that is malformed, 3
 //! where no verdict could be given, 64 for a command line that asks for nothing known.
 #![tactic(auto)]
 

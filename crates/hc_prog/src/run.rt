@@ -24,10 +24,12 @@ where
 {
     match arguments(rt) {
         Ok(words) => answered(rt, words.as_slice(), output, faults),
-        Err(error) if error.kind() == io::ErrorKind::OutOfMemory => Trouble::Memory.told(faults),
+        Err(error) if error.kind() == io::ErrorKind::OutOfMemory => Trouble::Memory.told(
+            "", faults,
+        ),
         Err(_) => match command::not_text(rt.alloc()) {
             Ok(error) => shown(&error, output, faults),
-            Err(_) => Trouble::Memory.told(faults),
+            Err(_) => Trouble::Memory.told("", faults),
         },
     }
 }
@@ -71,11 +73,17 @@ where
         (E.contents faults.old) (E.contents faults.new) }
 {
     if file == "-" {
-        return audit::audit(rt.alloc(), &mut rt.reader(), output, faults);
+        return audit::audit(
+            rt.alloc(),
+            "standard input",
+            &mut rt.reader(),
+            output,
+            faults,
+        );
     }
     match fs::open(rt, file) {
-        Ok(mut opened) => audit::audit(rt.alloc(), &mut opened, output, faults),
-        Err(_) => Trouble::Input.told(faults),
+        Ok(mut opened) => audit::audit(rt.alloc(), file, &mut opened, output, faults),
+        Err(error) => Trouble::Input(error).told(file, faults),
     }
 }
 
@@ -86,10 +94,10 @@ fn shown<W: Write, E: Write>(error: &Error, output: &mut W, faults: &mut E) -> u
     ensures asked { result ≡ 0 → Keeps (E.contents faults.old) (E.contents faults.new) }
 {
     match error.kind() {
-        ErrorKind::OutOfMemory => Trouble::Memory.told(faults),
+        ErrorKind::OutOfMemory => Trouble::Memory.told("", faults),
         ErrorKind::DisplayHelp | ErrorKind::DisplayVersion => match printed(error, output) {
             Ok(()) => 0,
-            Err(_) => Trouble::Output.told(faults),
+            Err(error) => Trouble::Output(error).told("", faults),
         },
         _ => {
             let _ = printed(error, faults);

@@ -6,19 +6,20 @@ ghost use Rattle.hc_prog.specs.declared.trouble.Trouble.TheVariants.{Memory, Uns
 use crate::print::printed;
 use hc_audit::AuditFault;
 use std::alloc::AllocError;
+use std::io;
 use std::io::Write;
 
 /// Why the program gives no verdict.
-#[derive(Clone, Copy, Debug, PartialEq, Eq)]
+#[derive(Clone, Copy, Debug)]
 pub enum Trouble {
     /// A reply of the transcript can't be judged yet.
     Unsupported,
     /// Memory was refused.
     Memory,
-    /// The transcript can't be opened or read to its end.
-    Input,
-    /// The answer can't be written.
-    Output,
+    /// The transcript can't be opened or read to its end, for this reason.
+    Input(io::Error),
+    /// The answer can't be written, for this reason.
+    Output(io::Error),
 }
 
 impl Trouble {
@@ -32,17 +33,30 @@ impl Trouble {
         match self {
             Trouble::Unsupported => "error: unsupported\n",
             Trouble::Memory => "error: memory\n",
-            Trouble::Input | Trouble::Output => "error: device\n",
+            Trouble::Input(_) | Trouble::Output(_) => "error: device\n",
         }
     }
 
-    /// Says it on `faults`, and answers the exit status. A write that fails is passed over.
-    pub fn told<E: Write>(self, faults: &mut E) -> u8
+    /// Says it on `faults`, and answers the exit status. Where a device failed, a second line names
+    /// it, of which the transcript is the one with that name, and gives the system's reason. A
+    /// write that fails is passed over.
+    pub fn told<E: Write>(self, name: &str, faults: &mut E) -> u8
         ensures { result ≡ 3 }
     {
         let _ = printed(self.line(), faults);
+        match self {
+            Trouble::Input(reason) => explain(name, reason, faults),
+            Trouble::Output(reason) => explain("standard output", reason, faults),
+            Trouble::Unsupported | Trouble::Memory => {}
+        }
         Trouble::STATUS
     }
+}
+
+// Says what failed, and why.
+fn explain<E: Write>(name: &str, reason: io::Error, faults: &mut E) {
+    let _ = writeln!(faults, "{name}: {reason}");
+    let _ = faults.flush();
 }
 
 impl From<AllocError> for Trouble {
