@@ -2,7 +2,7 @@
 
 ghost use Rattle.std.specs.Prelude.{◌≡◌};
 ghost use Rattle.hc_directives.specs.Directives.{first_directive, seconds_of};
-ghost use Rattle.hc_fresh.specs.Lifetimes.{seconds_stated, seconds_until, expires_lifetime, stated_lifetime, freshness_lifetime, states_lifetime, forbids_stale};
+ghost use Rattle.hc_fresh.specs.Lifetimes.{seconds_stated, seconds_until, expires_lifetime, stated_lifetime, freshness_lifetime, explicit, stale_forbidden};
 
 use crate::dates::read_date;
 use hc_directives::{Directives, Seconds};
@@ -63,7 +63,7 @@ pub fn lifetime(fields: &Fields, date: u64) -> u32
 
 /// Whether a response states a lifetime, readable or not.
 pub fn explicit(fields: &Fields) -> bool
-    ensures { result ≡ states_lifetime fields.now }
+    ensures { result ≡ explicit fields.now }
 {
     let directives = Directives::read(fields);
     directives.has(b"s-maxage") || directives.has(b"max-age") || fields.contains(b"expires")
@@ -71,7 +71,7 @@ pub fn explicit(fields: &Fields) -> bool
 
 /// Whether a response says that a shared cache never serves it stale (RFC 9111 section 4.2.4).
 pub fn stale_forbidden(fields: &Fields) -> bool
-    ensures { result ≡ forbids_stale fields.now }
+    ensures { result ≡ stale_forbidden fields.now }
 {
     let directives = Directives::read(fields);
     directives.has(b"no-cache")
