@@ -6,7 +6,7 @@ use Rattle.hc_directives.specs.declared.cache_control.Seconds.{Seconds}
 use Rattle.hc_directives.specs.declared.cache_control.Seconds.TheVariants.{Absent, Bare, Value, Unreadable}
 use Rattle.hc_directives.specs.declared.known.KnownDirectives.{KnownDirectives}
 use Rattle.hc_directives.specs.Directives.{Directive, is_named, has_directive, first_directive, seconds_read, seconds_of_argument, seconds_of}
-use Rattle.hc_directives.specs.Known.{seconds_said, known_directives}
+use Rattle.hc_directives.specs.Known.{is_there, seconds_said, known_directives}
 use Rattle.hc_directives.specs.KnownSteps.{first_seconds, none_known, with_directive, with_directives}
 
 -- what was said before, or what the directives say where nothing was
@@ -120,3 +120,22 @@ all_after known (d ∷ ds) = all_after (with_directive known d) ds ∙ one_more 
 pub all_known : (ds : List Directive) → with_directives none_known ds ≡ known_directives ds
 unfolding seconds_after
 all_known ds = all_after none_known ds
+
+-- ---- seconds that are there
+
+read_there : (number : Option ℕ) → is_there (seconds_read number) ≡ true
+read_there None = refl
+read_there (Some n) = refl
+
+argument_there : (argument : Option (List ℕ)) → is_there (seconds_of_argument argument) ≡ true
+argument_there None = refl
+argument_there (Some text) = read_there (number_of text)
+
+pub seconds_are_there : (name : List ℕ) (directives : List Directive) → is_there (seconds_said name directives) ≡ has_directive name directives
+seconds_are_there name [] = refl
+seconds_are_there name (d ∷ ds) = go (is_named name d) (seconds_are_there name ds)
+  where
+    go : (named : Bool) → is_there (seconds_said name ds) ≡ has_directive name ds
+        → is_there (seconds_of (cond named (Some d) (first_directive name ds))) ≡ (named || has_directive name ds)
+    go true e = argument_there d.argument
+    go false e = e

@@ -1,8 +1,16 @@
 -- The directives that the rules of a cache ask for (RFC 9111 section 5.2, RFC 5861 sections 3 and 4).
-use Rattle.std.specs.Prelude.{ℕ, List, codes}
+use Rattle.std.specs.Prelude.{ℕ, Bool, true, false, List, codes}
 use Rattle.hc_directives.specs.declared.cache_control.Seconds.{Seconds}
+use Rattle.hc_directives.specs.declared.cache_control.Seconds.TheVariants.{Absent, Bare, Value, Unreadable}
 use Rattle.hc_directives.specs.declared.known.KnownDirectives.{KnownDirectives}
 use Rattle.hc_directives.specs.Directives.{Directive, has_directive, first_directive, seconds_of}
+
+-- whether a directive has the name, whatever it says
+abbrev pub is_there : Seconds → Bool
+is_there Absent = false
+is_there Bare = true
+is_there (Value seconds) = true
+is_there Unreadable = true
 
 -- the seconds that the first directive of that name says
 abbrev pub seconds_said : List ℕ → List Directive → Seconds

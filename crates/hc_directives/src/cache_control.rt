@@ -23,6 +23,17 @@ pub enum Seconds {
     Unreadable,
 }
 
+impl Seconds {
+    ghost use Rattle.hc_directives.specs.Known.{is_there};
+
+    /// Whether a directive has the name, whatever it says.
+    pub fn is_there(self) -> bool
+        ensures { result ≡ is_there self }
+    {
+        self != Seconds::Absent
+    }
+}
+
 /// The directives in the Cache-Control lines of a message (RFC 9111 section 5.2), which contracts
 /// see as the list of them, with their names in lower case and their arguments unescaped, and the
 /// count of the members that are no directives. It lends the fields and takes no memory.

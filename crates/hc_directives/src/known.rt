@@ -9,7 +9,7 @@ use crate::cache_control::Seconds;
 use crate::spelling::Spelling;
 
 /// Whether the name was there before, or is that of this directive.
-fn is_there(before: bool, name: &[u8], directive: &Spelling<'_>) -> bool
+fn has_name(before: bool, name: &[u8], directive: &Spelling<'_>) -> bool
     ensures { result ≡ (before || is_named name.now (directive_meant directive.now)) }
 {
     before || directive.is_named(name)
@@ -90,14 +90,14 @@ impl KnownDirectives {
         ensures { result ≡ with_directive self (directive_meant directive.now) }
     {
         KnownDirectives {
-            no_store: is_there(self.no_store, b"no-store", directive),
-            no_cache: is_there(self.no_cache, b"no-cache", directive),
-            private: is_there(self.private, b"private", directive),
-            public: is_there(self.public, b"public", directive),
-            must_understand: is_there(self.must_understand, b"must-understand", directive),
-            must_revalidate: is_there(self.must_revalidate, b"must-revalidate", directive),
-            proxy_revalidate: is_there(self.proxy_revalidate, b"proxy-revalidate", directive),
-            only_if_cached: is_there(self.only_if_cached, b"only-if-cached", directive),
+            no_store: has_name(self.no_store, b"no-store", directive),
+            no_cache: has_name(self.no_cache, b"no-cache", directive),
+            private: has_name(self.private, b"private", directive),
+            public: has_name(self.public, b"public", directive),
+            must_understand: has_name(self.must_understand, b"must-understand", directive),
+            must_revalidate: has_name(self.must_revalidate, b"must-revalidate", directive),
+            proxy_revalidate: has_name(self.proxy_revalidate, b"proxy-revalidate", directive),
+            only_if_cached: has_name(self.only_if_cached, b"only-if-cached", directive),
             s_maxage: first_seconds(self.s_maxage, b"s-maxage", directive),
             max_age: first_seconds(self.max_age, b"max-age", directive),
             max_stale: first_seconds(self.max_stale, b"max-stale", directive),

@@ -56,7 +56,7 @@ permits_authorized fields = says (codes "must-revalidate") fields || says (codes
 
 -- whether it says that it may be stored, or its status does
 abbrev pub invites_storing : ResponseHead → Bool
-invites_storing response = says (codes "public") response.fields || explicit response.fields || is_heuristically_cacheable response.status
+invites_storing response = says (codes "public") response.fields || is_heuristically_cacheable response.status || explicit response.fields
 
 -- ---- both
 
