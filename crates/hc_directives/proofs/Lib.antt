@@ -1,3 +1,4 @@
 pub mod QuotedLemmas
 pub mod DirectiveLemmas
 pub mod TextLemmas
+pub mod KnownLemmas

@@ -2,4 +2,6 @@ pub mod QuotedStrings
 pub mod QuotedSteps
 pub mod Directives
 pub mod Spellings
+pub mod Known
+pub mod KnownSteps
 pub mod Texts

@@ -3,7 +3,9 @@
 ghost use Rattle.std.specs.Prelude.{◌≡◌, min, option_map};
 ghost use Rattle.hc_directives.specs.Directives.{CacheControl, cache_control, read_members, has_directive, first_directive, seconds_of};
 ghost use Rattle.hc_directives.specs.Spellings.{directive_meant};
+ghost use Rattle.hc_directives.specs.Known.{known_directives};
 
+use crate::known::KnownDirectives;
 use crate::spelling::{Spelling, read_directive};
 use hc_fields::{Fields, Members};
 use std::marker::Model;
@@ -19,6 +21,17 @@ pub enum Seconds {
     Value(u32),
     /// Its argument is no number.
     Unreadable,
+}
+
+impl Seconds {
+    ghost use Rattle.hc_directives.specs.Known.{is_there};
+
+    /// Whether a directive has the name, whatever it says.
+    pub fn is_there(self) -> bool
+        ensures { result ≡ is_there self }
+    {
+        self != Seconds::Absent
+    }
 }
 
 /// The directives in the Cache-Control lines of a message (RFC 9111 section 5.2), which contracts
@@ -76,16 +89,25 @@ impl<'a> Directives<'a> {
     pub fn seconds(&self, name: &[u8]) -> Seconds
         ensures { result ≡ seconds_of (first_directive name.now self.now.directives) }
     {
-        let Some(directive) = self.first(name) else {
-            return Seconds::Absent;
-        };
-        let Some(argument) = directive.argument else {
-            return Seconds::Bare;
-        };
-        match argument.number() {
-            Some(seconds) => Seconds::Value(seconds),
-            None => Seconds::Unreadable,
+        match self.first(name) {
+            Some(directive) => directive.seconds(),
+            None => Seconds::Absent,
         }
+    }
+
+    /// What the rules of a cache ask for, read at once.
+    #[tactic(auto, using(crate::proofs::KnownLemmas::all_known))]
+    pub fn known(&self) -> KnownDirectives
+        ensures { result ≡ known_directives self.now.directives }
+    {
+        let mut known = KnownDirectives::none();
+        for member in self.members() {
+            let Some(directive) = read_directive(member) else {
+                continue;
+            };
+            known = known.with(&directive);
+        }
+        known
     }
 
     /// How many members are no directives, at most `usize::MAX`.

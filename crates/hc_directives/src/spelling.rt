@@ -3,9 +3,10 @@
 ghost use Rattle.std.specs.Prelude.{◌≡◌, MatchOption, option_map};
 ghost use Rattle.std.specs.List.{position, before_first, after_first};
 ghost use Rattle.hc_fields.specs.Numbers.{number_of};
-ghost use Rattle.hc_directives.specs.Directives.{is_equals, argument_of, directive_of, is_named};
+ghost use Rattle.hc_directives.specs.Directives.{is_equals, argument_of, directive_of, is_named, seconds_of_argument};
 ghost use Rattle.hc_directives.specs.Spellings.{argument_meant, directive_meant};
 
+use crate::cache_control::Seconds;
 use crate::quoted::{quoted_number, quoted_text};
 use hc_fields::{is_token, number};
 
@@ -43,6 +44,19 @@ impl Spelling<'_> {
         ensures { result ≡ is_named name.now (directive_meant self.now) }
     {
         self.name.eq_ignore_ascii_case(name)
+    }
+
+    /// The seconds that the directive says.
+    pub(crate) fn seconds(&self) -> Seconds
+        ensures { result ≡ seconds_of_argument (option_map argument_meant self.now.argument) }
+    {
+        let Some(argument) = self.argument else {
+            return Seconds::Bare;
+        };
+        match argument.number() {
+            Some(seconds) => Seconds::Value(seconds),
+            None => Seconds::Unreadable,
+        }
     }
 }
 

@@ -10,7 +10,7 @@ use Rattle.hc_fields.specs.Numbers.{number_of, is_number}
 use Rattle.hc_directives.specs.Directives.{Directive, cache_control, first_directive, seconds_of, seconds_of_argument, seconds_read}
 use Rattle.hc_fresh.specs.declared.ages.Times.{Times}
 use Rattle.hc_fresh.specs.Lifetimes.{seconds_stated, seconds_until, directive_lifetime, freshness_lifetime}
-use Rattle.hc_fresh.specs.Ages.{age_line, age_value, current_age, is_fresh, corrected_initial_age}
+use Rattle.hc_fresh.specs.Ages.{age_line, age_value, current_age, fresh, corrected_initial_age}
 
 -- at most the limit
 abbrev IsSmall : ℕ → Type 0
@@ -75,6 +75,6 @@ older initial response now later h = omega arith
 not_over : (lifetime age older : ℕ) → age ≤ older → nat_lt age lifetime ≡ false → nat_lt older lifetime ≡ false
 not_over lifetime age older h k = grind (arith, nat_tests)
 
-pub stays_stale : (lifetime : ℕ) (times : Times) (now later : ℕ) → now ≤ later → is_fresh lifetime (current_age times now) ≡ false → is_fresh lifetime (current_age times later) ≡ false
+pub stays_stale : (lifetime : ℕ) (times : Times) (now later : ℕ) → now ≤ later → fresh lifetime (current_age times now) ≡ false → fresh lifetime (current_age times later) ≡ false
 stays_stale lifetime times now later h k =
     not_over lifetime (current_age times now) (current_age times later) (older (corrected_initial_age times) times.response_time now later h) k

@@ -46,8 +46,8 @@ current_age times now = min 2147483648 (corrected_initial_age times + resident_t
 -- ---- ages against lifetimes (section 4.2)
 
 -- whether a response of that lifetime and age is fresh
-abbrev pub is_fresh : ℕ → ℕ → Bool
-is_fresh lifetime age = nat_lt age lifetime
+abbrev pub fresh : ℕ → ℕ → Bool
+fresh lifetime age = nat_lt age lifetime
 
 -- by how much the age is over the lifetime, 0 where it isn't
 abbrev pub staleness : ℕ → ℕ → ℕ

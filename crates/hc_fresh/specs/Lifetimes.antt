@@ -47,11 +47,11 @@ abbrev pub says : List ℕ → List Field → Bool
 says name fields = has_directive name (cache_control fields).directives
 
 -- whether s-maxage, max-age or Expires is there, whatever it says
-abbrev pub states_lifetime : List Field → Bool
-states_lifetime fields = says (codes "s-maxage") fields || says (codes "max-age") fields || has_name (codes "expires") fields
+abbrev pub explicit : List Field → Bool
+explicit fields = says (codes "s-maxage") fields || says (codes "max-age") fields || has_name (codes "expires") fields
 
 -- whether a directive forbids that a shared cache serves the response stale, whatever its argument (section 4.2.4)
-abbrev pub forbids_stale : List Field → Bool
-forbids_stale fields =
+abbrev pub stale_forbidden : List Field → Bool
+stale_forbidden fields =
     says (codes "no-cache") fields || says (codes "must-revalidate") fields
     || says (codes "proxy-revalidate") fields || says (codes "s-maxage") fields

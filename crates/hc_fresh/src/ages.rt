@@ -1,7 +1,7 @@
 //! The age of a stored response (RFC 9111 section 4.2.3), and whether it is fresh at that age.
 
 ghost use Rattle.std.specs.Prelude.{◌≡◌};
-ghost use Rattle.hc_fresh.specs.Ages.{age_stated, age_value, current_age, is_fresh, staleness};
+ghost use Rattle.hc_fresh.specs.Ages.{age_stated, age_value, current_age, fresh, staleness};
 
 use hc_fields::{Fields, list_members, number};
 
@@ -51,7 +51,7 @@ pub fn current_age(times: Times, now: u64) -> u32
 
 /// Whether a response of that freshness lifetime is fresh at that age (RFC 9111 section 4.2).
 pub fn fresh(lifetime: u32, age: u32) -> bool
-    ensures { result ≡ is_fresh lifetime age }
+    ensures { result ≡ fresh lifetime age }
 {
     lifetime > age
 }

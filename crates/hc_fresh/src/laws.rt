@@ -6,7 +6,7 @@ ghost use Rattle.hc_fresh.specs.declared.ages.Times.{Times};
 ghost use Rattle.hc_fresh.specs.Dates.{date_of, imf_fixdate_at};
 ghost use Rattle.hc_fresh.specs.DateLines.{date_stated, dated};
 ghost use Rattle.hc_fresh.specs.Lifetimes.{freshness_lifetime};
-ghost use Rattle.hc_fresh.specs.Ages.{age_value, current_age, is_fresh};
+ghost use Rattle.hc_fresh.specs.Ages.{age_value, current_age, fresh};
 
 /// The date of a moment before the year 10000, as it is written, is read as that moment.
 pub fn written_date_read_back()
@@ -34,6 +34,6 @@ pub fn age_value_has_a_limit()
 /// A response that is stale stays so for as long as its times do.
 pub fn stale_response_stays_stale()
     ensures { (lifetime : ℕ) (times : Times) (now later : ℕ) → now ≤ later
-        → is_fresh lifetime (current_age times now) ≡ false
-        → is_fresh lifetime (current_age times later) ≡ false }
+        → fresh lifetime (current_age times now) ≡ false
+        → fresh lifetime (current_age times later) ≡ false }
 {}

@@ -1,8 +1,7 @@
 //! How long a stored response stays fresh (RFC 9111 section 4.2.1).
 
 ghost use Rattle.std.specs.Prelude.{◌≡◌};
-ghost use Rattle.hc_directives.specs.Directives.{first_directive, seconds_of};
-ghost use Rattle.hc_fresh.specs.Lifetimes.{seconds_stated, seconds_until, expires_lifetime, stated_lifetime, freshness_lifetime, states_lifetime, forbids_stale};
+ghost use Rattle.hc_fresh.specs.Lifetimes.{seconds_stated, seconds_until, expires_lifetime, stated_lifetime, freshness_lifetime, explicit, stale_forbidden};
 
 use crate::dates::read_date;
 use hc_directives::{Directives, Seconds};
@@ -11,11 +10,11 @@ use hc_fields::Fields;
 /// Greater lifetimes are this one (RFC 9111 section 1.2.2).
 const GREATEST: u64 = 2_147_483_648;
 
-/// The lifetime that the directive of that name states, if it is there.
-fn stated_by(directives: &Directives<'_>, name: &[u8]) -> Option<u32>
-    ensures { result ≡ seconds_stated (seconds_of (first_directive name.now directives.now.directives)) }
+/// The lifetime that a directive states, if it is there.
+fn seconds_stated(said: Seconds) -> Option<u32>
+    ensures { result ≡ seconds_stated said }
 {
-    match directives.seconds(name) {
+    match said {
         Seconds::Absent => None,
         Seconds::Value(seconds) => Some(seconds),
         Seconds::Bare | Seconds::Unreadable => Some(0),
@@ -44,11 +43,11 @@ fn stated_by_expires(fields: &Fields, date: u64) -> Option<u32>
 fn stated(fields: &Fields, date: u64) -> Option<u32>
     ensures { result ≡ stated_lifetime fields.now date }
 {
-    let directives = Directives::read(fields);
-    if let Some(seconds) = stated_by(&directives, b"s-maxage") {
+    let known = Directives::read(fields).known();
+    if let Some(seconds) = seconds_stated(known.s_maxage) {
         return Some(seconds);
     }
-    if let Some(seconds) = stated_by(&directives, b"max-age") {
+    if let Some(seconds) = seconds_stated(known.max_age) {
         return Some(seconds);
     }
     stated_by_expires(fields, date)
@@ -62,20 +61,19 @@ pub fn lifetime(fields: &Fields, date: u64) -> u32
 }
 
 /// Whether a response states a lifetime, readable or not.
+#[tactic(auto, using(hc_directives::proofs::KnownLemmas::seconds_are_there))]
 pub fn explicit(fields: &Fields) -> bool
-    ensures { result ≡ states_lifetime fields.now }
+    ensures { result ≡ explicit fields.now }
 {
-    let directives = Directives::read(fields);
-    directives.has(b"s-maxage") || directives.has(b"max-age") || fields.contains(b"expires")
+    let known = Directives::read(fields).known();
+    known.s_maxage.is_there() || known.max_age.is_there() || fields.contains(b"expires")
 }
 
 /// Whether a response says that a shared cache never serves it stale (RFC 9111 section 4.2.4).
+#[tactic(auto, using(hc_directives::proofs::KnownLemmas::seconds_are_there))]
 pub fn stale_forbidden(fields: &Fields) -> bool
-    ensures { result ≡ forbids_stale fields.now }
+    ensures { result ≡ stale_forbidden fields.now }
 {
-    let directives = Directives::read(fields);
-    directives.has(b"no-cache")
-        || directives.has(b"must-revalidate")
-        || directives.has(b"proxy-revalidate")
-        || directives.has(b"s-maxage")
+    let known = Directives::read(fields).known();
+    known.no_cache || known.must_revalidate || known.proxy_revalidate || known.s_maxage.is_there()
 }

@@ -6,9 +6,9 @@ use Rattle.hc_fields.specs.declared.fields.Field.{Field}
 use Rattle.hc_fields.specs.Values.{values_of, only_value}
 use Rattle.hc_fields.specs.Connection.{left_out_of_store}
 use Rattle.hc_fields.specs.Numbers.{number_of}
-use Rattle.hc_fresh.specs.Lifetimes.{states_lifetime}
+use Rattle.hc_fresh.specs.Lifetimes.{explicit}
 use Rattle.hc_rules.specs.Selecting.{selects}
-use Rattle.hc_rules.specs.Conditions.{condition_holds}
+use Rattle.hc_rules.specs.Conditions.{client_condition}
 use Rattle.hc_update.specs.declared.stored.Stored.{Stored}
 use Rattle.hc_history.specs.Claims.{Claim, asks_head}
 use Rattle.hc_history.specs.declared.kept.Kept.{Kept}
@@ -33,7 +33,7 @@ is_valid state = not state.invalid
 
 -- 4: it states a lifetime (RFC 9111 section 4.2.1), or may be used without
 abbrev pub is_explicit : Claim → Stored → Bool
-is_explicit claim state = states_lifetime state.fields || is_usable claim state
+is_explicit claim state = explicit state.fields || is_usable claim state
 
 -- 6: the reply has its status and its body, none where the request is HEAD; or the reply is a 304 that the client's condition earns (RFC 9111 section 4.3.2)
 abbrev pub has_body : Claim → List ℕ → Bool
@@ -41,7 +41,7 @@ has_body claim body = if asks_head claim then length claim.reply.body == 0 else 
 
 abbrev pub is_earned_304 : Claim → Stored → Bool
 is_earned_304 claim state =
-    claim.reply.head.status == 304 && length claim.reply.body == 0 && condition_holds claim.request.fields state.status state.fields
+    claim.reply.head.status == 304 && length claim.reply.body == 0 && client_condition claim.request.fields state.status state.fields
 
 abbrev pub has_its_body : Claim → Stored → Bool
 has_its_body claim state = (claim.reply.head.status == state.status && has_body claim state.body) || is_earned_304 claim state

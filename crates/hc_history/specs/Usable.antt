@@ -4,7 +4,7 @@ use Rattle.hc_fields.specs.declared.fields.Field.{Field}
 use Rattle.hc_directives.specs.declared.cache_control.Seconds.{Seconds}
 use Rattle.hc_directives.specs.declared.cache_control.Seconds.TheVariants.{Absent, Bare, Value, Unreadable}
 use Rattle.hc_directives.specs.Directives.{cache_control, first_directive, seconds_of}
-use Rattle.hc_fresh.specs.Lifetimes.{freshness_lifetime, says, forbids_stale}
+use Rattle.hc_fresh.specs.Lifetimes.{freshness_lifetime, says, stale_forbidden}
 use Rattle.hc_fresh.specs.Ages.{current_age, staleness as staleness_by}
 use Rattle.hc_update.specs.declared.stored.Stored.{Stored}
 use Rattle.hc_history.specs.Claims.{Claim}
@@ -61,7 +61,7 @@ on_error claim state =
 -- the state may be served stale: nothing in it forbids that, and one of these permits it, or the origin can't be reached, so that a failure stands in the window
 abbrev pub permits_stale : Claim → Stored → Bool
 permits_stale claim state =
-    not (forbids_stale state.fields)
+    not (stale_forbidden state.fields)
     && (by_request claim state || while_revalidating claim state || on_error claim state || claim.has_failure)
 
 -- ---- usable

@@ -44,8 +44,8 @@ is_not_later (Some modified) (Some since) = nat_le modified since
 
 -- whether the client's condition holds for a stored response of that status and those fields; that it holds for the status 200 alone, and
 -- that no Date stands in for a Last-Modified, is this project's own choice
-abbrev pub condition_holds : List Field → ℕ → List Field → Bool
-condition_holds presented status fields =
+abbrev pub client_condition : List Field → ℕ → List Field → Bool
+client_condition presented status fields =
     status == 200
     && (if has_name (codes "if-none-match") presented then has_stored presented fields
     else is_not_later (only_date (codes "last-modified") fields) (only_date (codes "if-modified-since") presented))

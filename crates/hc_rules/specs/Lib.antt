@@ -2,3 +2,4 @@ pub mod Storing
 pub mod Validators
 pub mod Selecting
 pub mod Conditions
+pub mod Laws

@@ -6,7 +6,7 @@ use Rattle.hc_fields.specs.declared.fields.Field.{Field}
 use Rattle.hc_fields.specs.Values.{has_name}
 use Rattle.hc_head.specs.declared.head.RequestHead.{RequestHead}
 use Rattle.hc_head.specs.declared.head.ResponseHead.{ResponseHead}
-use Rattle.hc_fresh.specs.Lifetimes.{says, states_lifetime}
+use Rattle.hc_fresh.specs.Lifetimes.{says, explicit}
 
 -- ---- statuses
 
@@ -56,7 +56,7 @@ permits_authorized fields = says (codes "must-revalidate") fields || says (codes
 
 -- whether it says that it may be stored, or its status does
 abbrev pub invites_storing : ResponseHead → Bool
-invites_storing response = says (codes "public") response.fields || states_lifetime response.fields || is_heuristically_cacheable response.status
+invites_storing response = says (codes "public") response.fields || is_heuristically_cacheable response.status || explicit response.fields
 
 -- ---- both
 

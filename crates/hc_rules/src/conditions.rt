@@ -1,7 +1,7 @@
 //! Whether a client may be told that what it has still holds (RFC 9111 section 4.3.2).
 
 ghost use Rattle.std.specs.Prelude.{◌≡◌, Some, option_copied};
-ghost use Rattle.hc_rules.specs.Conditions.{condition_holds, has_stored, is_not_later, is_wildcard, lists_tag, match_weakly, only_date};
+ghost use Rattle.hc_rules.specs.Conditions.{client_condition, has_stored, is_not_later, is_wildcard, lists_tag, match_weakly, only_date};
 
 use crate::tags::{tag, without_weak_mark};
 use hc_fields::{Fields, trimmed};
@@ -66,7 +66,7 @@ fn is_not_later(modified: Option<u64>, since: Option<u64>) -> bool
 /// without an If-None-Match, whether the response isn't later than its If-Modified-Since. It never
 /// does for another status than 200.
 pub fn client_condition(presented: &Fields, status: u16, fields: &Fields) -> bool
-    ensures { result ≡ condition_holds presented.now status fields.now }
+    ensures { result ≡ client_condition presented.now status fields.now }
 {
     if status != OK {
         return false;

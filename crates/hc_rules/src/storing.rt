@@ -1,9 +1,11 @@
 //! What a shared cache may store (RFC 9111 section 3).
 
-ghost use Rattle.std.specs.Prelude.{◌≡◌};
-ghost use Rattle.hc_rules.specs.Storing.{asks_for_storable, invites_storing, has_authorization, is_heuristically_cacheable, is_not_private, is_storable, is_understood, is_understood_if_asked, no_store_permits, may_store, permits_authorized};
+ghost use Rattle.std.specs.Prelude.{◌≡◌, ◌||◌, not};
+ghost use Rattle.hc_directives.specs.Known.{is_there};
+ghost use Rattle.hc_fresh.specs.Lifetimes.{explicit};
+ghost use Rattle.hc_rules.specs.Storing.{asks_for_storable, has_authorization, is_heuristically_cacheable, is_storable, is_understood, may_store};
 
-use hc_directives::Directives;
+use hc_directives::{Directives, KnownDirectives};
 use hc_fields::Fields;
 use hc_fresh::explicit;
 use hc_head::{RequestHead, ResponseHead};
@@ -50,50 +52,47 @@ fn has_authorization(forward: &RequestHead) -> bool
     forward.fields.contains(b"authorization")
 }
 
-fn is_understood_if_asked(response: &ResponseHead) -> bool
-    ensures { result ≡ is_understood_if_asked response.now }
+/// Whether `must-understand`, if it is there, is about a status that is understood.
+fn is_understood_if_asked(known: &KnownDirectives, status: u16) -> bool
+    ensures { result ≡ (not known.now.must_understand || is_understood status) }
 {
-    !Directives::read(&response.fields).has(b"must-understand") || is_understood(response.status)
+    !known.must_understand || is_understood(status)
 }
 
-fn no_store_permits(fields: &Fields) -> bool
-    ensures { result ≡ no_store_permits fields.now }
+/// Whether `no-store` is absent, or `must-understand` is there as well.
+fn no_store_permits(known: &KnownDirectives) -> bool
+    ensures { result ≡ (not known.now.no_store || known.now.must_understand) }
 {
-    let directives = Directives::read(fields);
-    !directives.has(b"no-store") || directives.has(b"must-understand")
+    !known.no_store || known.must_understand
 }
 
-fn is_not_private(fields: &Fields) -> bool
-    ensures { result ≡ is_not_private fields.now }
+/// Whether what answers an authorized request may be shared.
+fn permits_authorized(known: &KnownDirectives) -> bool
+    ensures { result ≡ (known.now.must_revalidate || known.now.public || is_there known.now.s_maxage) }
 {
-    !Directives::read(fields).has(b"private")
+    known.must_revalidate || known.public || known.s_maxage.is_there()
 }
 
-fn permits_authorized(fields: &Fields) -> bool
-    ensures { result ≡ permits_authorized fields.now }
+/// Whether the response says that it may be stored, or its status does.
+fn invites_storing(known: &KnownDirectives, response: &ResponseHead) -> bool
+    ensures { result ≡ (known.now.public || is_heuristically_cacheable response.now.status || explicit response.now.fields) }
 {
-    let directives = Directives::read(fields);
-    directives.has(b"must-revalidate") || directives.has(b"public") || directives.has(b"s-maxage")
-}
-
-fn invites_storing(response: &ResponseHead) -> bool
-    ensures { result ≡ invites_storing response.now }
-{
-    Directives::read(&response.fields).has(b"public")
-        || explicit(&response.fields)
-        || is_heuristically_cacheable(response.status)
+    known.public || is_heuristically_cacheable(response.status) || explicit(&response.fields)
 }
 
 /// Whether a shared cache may store the response to that request, which is the one that was sent to
 /// the origin.
+#[tactic(auto, using(hc_directives::proofs::KnownLemmas::seconds_are_there))]
 pub fn may_store(forward: &RequestHead, response: &ResponseHead) -> bool
     ensures { result ≡ may_store forward.now response.now }
 {
-    asks_for_storable(forward)
-        && is_storable(response.status)
-        && is_understood_if_asked(response)
-        && no_store_permits(&response.fields)
-        && is_not_private(&response.fields)
-        && (!has_authorization(forward) || permits_authorized(&response.fields))
-        && invites_storing(response)
+    if !asks_for_storable(forward) || !is_storable(response.status) {
+        return false;
+    }
+    let known = Directives::read(&response.fields).known();
+    is_understood_if_asked(&known, response.status)
+        && no_store_permits(&known)
+        && !known.private
+        && (!has_authorization(forward) || permits_authorized(&known))
+        && invites_storing(&known, response)
 }
