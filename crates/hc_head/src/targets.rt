@@ -8,7 +8,7 @@ ghost use Rattle.hc_head.specs.declared.head.Target.{Target};
 ghost use Rattle.hc_head.specs.declared.fault.HeadFault.TheVariants.{Memory};
 ghost use Rattle.hc_head.specs.HostScan.{authority_of};
 ghost use Rattle.hc_head.specs.Hosts.{Authority, HasAuthority};
-ghost use Rattle.hc_head.specs.Targets.{Asterisk, FindsTarget, FollowsScheme, GivesTarget, HasForm, HasHost, HasTarget, IsAbsoluteForm, IsOriginForm, MayName, absolute_path, is_path_start};
+ghost use Rattle.hc_head.specs.Targets.{Asterisk, FindsTarget, FollowsScheme, GivesTarget, HasForm, HasHost, HasTarget, IsAbsoluteForm, IsOriginForm, MayName, absolute_path, is_path_start, same_target};
 
 use crate::fault::HeadFault;
 use crate::head::{RequestHead, Target};
@@ -198,6 +198,13 @@ pub fn target(alloc: Global, head: &RequestHead) -> Result<Target, HeadFault>
     ensures found { (target : Target) → HasTarget head.now target → FindsTarget result target }
 {
     read_target(alloc, head)
+}
+
+/// Whether both are the same host and the same path.
+pub fn same_target(one: &Target, other: &Target) -> bool
+    ensures { result ≡ same_target one.now other.now }
+{
+    one == other
 }
 
 /// A request has one target at most.
