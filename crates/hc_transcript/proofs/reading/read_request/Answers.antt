@@ -1,5 +1,5 @@
 use Rattle.hc_transcript.proofs.ReadingLemmas.{no_request, no_target}
-use Rattle.hc_transcript.proofs.reading.request_of.Goals as goal
+use Rattle.hc_transcript.proofs.reading.read_request.Goals as goal
 
 pub returns-in_err-request : goal.returns-in_err-request
 returns-in_err-request c = no_request c.args.octets.now _ c.from_residual.result c.from_residual.ensures.1 c.in_err-request.ensures.found
