@@ -8,10 +8,10 @@ use Rattle.hc_transcript.specs.declared.fault.RecordFault.TheVariants as fault
 use Rattle.hc_transcript.specs.declared.line.Line.{Line}
 use Rattle.hc_transcript.specs.Records.{line_text}
 use Rattle.hc_transcript.specs.Lines.{IsLineText, BeginsLine}
-use Rattle.hc_transcript.specs.Frames.{IsFramed, IsUnfinished, FailsCheck, Breaks}
+use Rattle.hc_transcript.specs.Malformed.{IsFramed, IsUnfinished, FailsCheck, BreaksLine}
 
 -- a line that fails a check breaks the octets
-pub breaks_by_check : (check : Line → Option RecordFault) (f : RecordFault) (octets : List ℕ) → FailsCheck check f octets → Breaks check f octets
+pub breaks_by_check : (check : Line → Option RecordFault) (f : RecordFault) (octets : List ℕ) → FailsCheck check f octets → BreaksLine check f octets
 breaks_by_check check fault.Line octets fails = inr (inr (inr fails))
 breaks_by_check check fault.Opening octets fails = fails
 breaks_by_check check fault.Torn octets fails = fails
@@ -55,16 +55,16 @@ begins_text : (octets text : List ℕ) (end : ℕ) → text ≡ take end octets 
 begins_text octets text end text-is begins = subst (λ (t : List ℕ). BeginsLine octets t) (sym text-is) begins
 
 pub no_line_breaks : (check : Line → Option RecordFault) (octets text : List ℕ) (end : ℕ) → text ≡ take end octets → BeginsLine octets (take end octets)
-    → ((l : Line) → ¬ (IsLineText text l)) → Breaks check fault.Line octets
+    → ((l : Line) → ¬ (IsLineText text l)) → BreaksLine check fault.Line octets
 no_line_breaks check octets text end text-is begins none = inr (inl (record { text = text; begins = begins_text octets text end text-is begins; none = none }))
 
 pub check_breaks : (check : Line → Option RecordFault) (octets text : List ℕ) (end : ℕ) (l : Line) (f : RecordFault) → text ≡ take end octets → BeginsLine octets (take end octets)
-    → IsLineText text l → check l ≡ Some f → Breaks check f octets
+    → IsLineText text l → check l ≡ Some f → BreaksLine check f octets
 check_breaks check octets text end l f text-is begins is fails =
     breaks_by_check check f octets (record { text = text; line = l; has = record { begins = begins_text octets text end text-is begins; is = is }; fails = fails })
 
 pub wrong_end_breaks : (check : Line → Option RecordFault) (octets text behind : List ℕ) (end : ℕ) (l : Line) → text ≡ take end octets → behind ≡ drop end octets → end < length octets
-    → BeginsLine octets (take end octets) → IsLineText text l → check l ≡ None → l.size + 2 ≤ length behind → get_or behind (l.size + 1) 0 ≢ 10 → Breaks check fault.Line octets
+    → BeginsLine octets (take end octets) → IsLineText text l → check l ≡ None → l.size + 2 ≤ length behind → get_or behind (l.size + 1) 0 ≢ 10 → BreaksLine check fault.Line octets
 wrong_end_breaks check octets text behind end l text-is behind-is lt begins is keeps enough wrong =
     let b = begins_text octets text end text-is begins in
     let long : length text ≡ end = omega (arith, ap length text-is, length-take end octets) in

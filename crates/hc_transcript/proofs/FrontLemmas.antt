@@ -7,16 +7,15 @@ use Rattle.hc_transcript.specs.declared.fault.RecordFault.{RecordFault}
 use Rattle.hc_transcript.specs.declared.fault.RecordFault.TheVariants as fault
 use Rattle.hc_transcript.specs.declared.line.Line.{Line}
 use Rattle.hc_transcript.specs.declared.record.Record.{Record}
-use Rattle.hc_transcript.specs.declared.record.Record.TheVariants.{ClientRequest, OriginRequest, OriginResponse, OriginFailure, ClientReply}
-use Rattle.hc_transcript.specs.Records.{letter, line_text, line_of, message_of, record_text}
+use Rattle.hc_transcript.specs.declared.record.Passed.{Passed}
+use Rattle.hc_transcript.specs.declared.record.Passed.TheVariants.{ClientRequest, OriginRequest, OriginResponse, OriginFailure, ClientReply}
+use Rattle.hc_transcript.specs.Records.{letter, line_text, passed_kind, passed_octets, line_of, message_of, record_text}
 use Rattle.hc_transcript.specs.Lines.{IsLineText, BeginsLine, HasLongLine, is_feed}
 use Rattle.hc_transcript.specs.Items.{Item}
 use Rattle.hc_transcript.specs.History.{exchange_of, forward_of, last_moment, last_exchange, last_forward}
 use Rattle.hc_transcript.specs.Checks.{line_fault}
-use Rattle.hc_transcript.specs.Transcript.{answers_head, IsReadAs, Follows}
-use Rattle.hc_transcript.specs.MessageFaults.{IsNoMessage}
-use Rattle.hc_transcript.specs.Frames.{HasLine, IsFramed, IsUnfinishedLine, IsUnfinished, HasNoLine, FailsCheck, HasWrongEnd, Breaks}
-use Rattle.hc_transcript.specs.Reader.{HasNoMessage, BreaksRecord}
+use Rattle.hc_transcript.specs.Transcript.{is_to_head, IsReadAs, Follows}
+use Rattle.hc_transcript.specs.Malformed.{HasLine, IsFramed, IsUnfinishedLine, IsUnfinished, HasNoLine, FailsCheck, HasWrongEnd, BreaksLine, IsNoMessage, HasNoMessage, BreaksRecord}
 use Rattle.hc_transcript.proofs.MarkLemmas.{first_mark_unique}
 use Rattle.hc_transcript.proofs.FirstLineLemmas.{no_line_without_feed}
 use Rattle.hc_transcript.proofs.LineLaws.{IsLineText_unique, IsLineText_line_text, line_text_plain, line_text_short, BeginsLine-append}
@@ -84,21 +83,20 @@ one_front h l k m n rest tail keeps too m-is n-is e =
     let after : 10 ∷ rest ≡ 10 ∷ tail = sym (drop-append_seam m (10 ∷ rest)) ∙ (λ i. drop (long i) (behind i)) ∙ drop-append_seam n (10 ∷ tail) in
     (line, message, ap (drop 1) after)
 
-message_size : (r : Record) → length (message_of r) ≡ (line_of r).size
-message_size (ClientRequest exchange moment message) = refl
-message_size (OriginRequest forward moment message) = refl
-message_size (OriginResponse forward moment message) = refl
-message_size (OriginFailure forward moment) = refl
-message_size (ClientReply exchange moment message) = refl
+-- what passed is its kind and its octets
+one_passed : (p q : Passed) → passed_kind p ≡ passed_kind q → passed_octets p ≡ passed_octets q → p ≡ q
+one_passed (ClientRequest m) (ClientRequest n) kind octets = ap ClientRequest octets
+one_passed (OriginRequest m) (OriginRequest n) kind octets = ap OriginRequest octets
+one_passed (OriginResponse m) (OriginResponse n) kind octets = ap OriginResponse octets
+one_passed OriginFailure OriginFailure kind octets = refl
+one_passed (ClientReply m) (ClientReply n) kind octets = ap ClientReply octets
+one_passed p q kind octets = absurd (omega (arith, ap letter kind))
 
 -- a record is its line and its message
 one_line_and_message : (r o : Record) → line_of r ≡ line_of o → message_of r ≡ message_of o → r ≡ o
-one_line_and_message (ClientRequest a b m) (ClientRequest c d n) line message = λ i. ClientRequest (line i).number (line i).moment (message i)
-one_line_and_message (OriginRequest a b m) (OriginRequest c d n) line message = λ i. OriginRequest (line i).number (line i).moment (message i)
-one_line_and_message (OriginResponse a b m) (OriginResponse c d n) line message = λ i. OriginResponse (line i).number (line i).moment (message i)
-one_line_and_message (OriginFailure a b) (OriginFailure c d) line message = λ i. OriginFailure (line i).number (line i).moment
-one_line_and_message (ClientReply a b m) (ClientReply c d n) line message = λ i. ClientReply (line i).number (line i).moment (message i)
-one_line_and_message r o line message = absurd (omega (arith, ap (λ (l : Line). letter l.kind) line))
+one_line_and_message r o line message =
+    let of-is : r.of ≡ o.of = one_passed r.of o.of (ap (λ (l : Line). l.kind) line) message in
+    λ i. record { number = (line i).number; moment = (line i).moment; of = of-is i }
 
 -- the text of a record, and octets behind it
 pub text_behind : (r : Record) (tail : List ℕ) → record_text r ++ tail ≡ line_text (line_of r) ++ 10 ∷ (message_of r ++ 10 ∷ tail)
@@ -109,16 +107,16 @@ text_behind r tail =
 pub one_record : (h : List Item) (r o : Record) (item other : Item) (rest tail : List ℕ) → Follows h r item → Follows h o other → record_text r ++ rest ≡ record_text o ++ tail
     → (r ≡ o) × (item ≡ other) × (rest ≡ tail)
 one_record h r o item other rest tail f g e =
-    let parts = one_front h (line_of r) (line_of o) (message_of r) (message_of o) rest tail f.keeps g.keeps (message_size r) (message_size o) (sym (text_behind r rest) ∙ e ∙ text_behind o tail) in
+    let parts = one_front h (line_of r) (line_of o) (message_of r) (message_of o) rest tail f.keeps g.keeps refl refl (sym (text_behind r rest) ∙ e ∙ text_behind o tail) in
     let same : r ≡ o = one_line_and_message r o parts.0 parts.1 in
     let read : IsReadAs h o item = subst (λ (x : Record). IsReadAs h x item) same f.reads in
     let l = line_of o in
-    (same, one_item l.kind l.number l.moment (answers_head l.kind l.number h) (message_of o) item other read g.reads, parts.2)
+    (same, one_item l.kind l.number l.moment (is_to_head l.kind l.number h) (message_of o) item other read g.reads, parts.2)
 
 framed_record : (h : List Item) (r : Record) (item : Item) (octets tail : List ℕ) → Follows h r item → octets ≡ record_text r ++ tail
     → IsFramed (line_fault h) octets (line_of r) (message_of r) (length (line_text (line_of r)) + (line_of r).size + 2)
 framed_record h r item octets tail f e =
-    record { rest = tail; octets_are = e ∙ text_behind r tail; size_is = message_size r; len_is = refl; keeps = f.keeps }
+    record { rest = tail; octets_are = e ∙ text_behind r tail; size_is = refl; len_is = refl; keeps = f.keeps }
 
 -- ---- where no record stands
 
@@ -183,7 +181,7 @@ long_line check octets long = record {
   some = omega (arith, long.long);
 }
 
-wrong_line : (check : Line → Option RecordFault) (octets : List ℕ) → HasNoLine check octets → HasNoLineEver check octets
+wrong_line : (check : Line → Option RecordFault) (octets : List ℕ) → HasNoLine octets → HasNoLineEver check octets
 wrong_line check octets wrong = record {
   none = λ text l has. wrong.none l (subst (λ (t : List ℕ). IsLineText t l) (sym (one_text octets wrong.text text wrong.begins has.begins)) has.is);
   ended = λ line. line.none wrong.text wrong.begins;
@@ -259,7 +257,7 @@ no_unfinished_break f h octets b u = no_unfinished_cause f h octets (cause f h o
 
 -- what is left where a record stands and breaks the octets: its message is none
 no_message_alone : (f : RecordFault) (h : List Item) (octets : List ℕ) (l : Line) (message : List ℕ) (len : ℕ) → Cause f h octets → IsFramed (line_fault h) octets l message len
-    → IsNoMessage l.kind (answers_head l.kind l.number h) message
+    → IsNoMessage l.kind (is_to_head l.kind l.number h) message
 no_message_alone f h octets l message len (no_line is none) framed = absurd (none.none (line_text l) l (framed_line h octets l message len framed))
 no_message_alone f h octets l message len (wrong_end is wrong) framed = absurd (wrong_end_no_record h octets l message len wrong framed)
 no_message_alone f h octets l message len (fails_check fails) framed =
@@ -267,8 +265,8 @@ no_message_alone f h octets l message len (fails_check fails) framed =
 no_message_alone f h octets l message len (no_message is none) framed =
     let other = none.framed in
     let same = one_front h none.line l none.message message other.rest framed.rest other.keeps framed.keeps other.size_is framed.size_is (sym other.octets_are ∙ framed.octets_are) in
-    subst (λ (k : Line). IsNoMessage k.kind (answers_head k.kind k.number h) message) same.0
-    (subst (λ (m : List ℕ). IsNoMessage none.line.kind (answers_head none.line.kind none.line.number h) m) same.1 none.none)
+    subst (λ (k : Line). IsNoMessage k.kind (is_to_head k.kind k.number h) message) same.0
+    (subst (λ (m : List ℕ). IsNoMessage none.line.kind (is_to_head none.line.kind none.line.number h) m) same.1 none.none)
 
 -- no record that follows the history begins the octets
 abbrev pub HasNoRecord : List Item → List ℕ → Type 0
@@ -278,7 +276,7 @@ pub no_record_broken : (f : RecordFault) (h : List Item) (octets : List ℕ) →
 no_record_broken f h octets b r item tail follows e =
     let l = line_of r in
     let none = no_message_alone f h octets l (message_of r) (length (line_text l) + l.size + 2) (cause f h octets b) (framed_record h r item octets tail follows e) in
-    no_item l.kind l.number l.moment (answers_head l.kind l.number h) (message_of r) item none follows.reads
+    no_item l.kind l.number l.moment (is_to_head l.kind l.number h) (message_of r) item none follows.reads
 
 pub no_record_unfinished : (h : List Item) (octets : List ℕ) → IsUnfinished (line_fault h) octets → HasNoRecord h octets
 no_record_unfinished h octets u r item tail follows e =
@@ -319,7 +317,7 @@ framed_more check octets more l message len framed = record {
   keeps = framed.keeps;
 }
 
-line_breaks_more : (check : Line → Option RecordFault) (octets more : List ℕ) → Breaks check fault.Line octets → Breaks check fault.Line (octets ++ more)
+line_breaks_more : (check : Line → Option RecordFault) (octets more : List ℕ) → BreaksLine check fault.Line octets → BreaksLine check fault.Line (octets ++ more)
 line_breaks_more check octets more (inl long) =
     inl (record { long = omega (arith, long.long, length-append octets more); no_feed = ap (list_any is_feed) (take-append-le 64 octets more long.long) ∙ long.no_feed })
 line_breaks_more check octets more (inr (inl wrong)) = inr (inl (record { text = wrong.text; begins = BeginsLine-append octets more wrong.text wrong.begins; none = wrong.none }))

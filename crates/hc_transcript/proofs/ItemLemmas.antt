@@ -16,7 +16,7 @@ use Rattle.hc_transcript.specs.declared.line.Kind.{Kind}
 use Rattle.hc_transcript.specs.declared.line.Kind.TheVariants as kind
 use Rattle.hc_transcript.specs.Items.{Item, ClientRequest, OriginRequest, OriginResponse, ClientReply}
 use Rattle.hc_transcript.specs.Transcript.{ReadsRequest, ReadsResponse, IsItemOf}
-use Rattle.hc_transcript.specs.MessageFaults.{IsNoRequest, LacksTarget, IsNoResponse, IsInterim, IsNoMessage}
+use Rattle.hc_transcript.specs.Malformed.{IsNoRequest, LacksTarget, IsNoResponse, IsInterim, IsNoMessage}
 
 -- octets are one request at most
 one_request : (octets : List ℕ) (m n : Message RequestHead) → IsWholeRequest octets RECORDED m → IsWholeRequest octets RECORDED n → m ≡ n

@@ -8,8 +8,7 @@ use Rattle.hc_transcript.specs.Records.{opening, record_text, records_text}
 use Rattle.hc_transcript.specs.Items.{Item}
 use Rattle.hc_transcript.specs.Checks.{line_fault}
 use Rattle.hc_transcript.specs.Transcript.{Follows, AreReadAs, Splits, GoesOn, IsTranscript}
-use Rattle.hc_transcript.specs.Frames.{IsUnfinished}
-use Rattle.hc_transcript.specs.Reader.{HasNoOpening, IsUnfinishedOpening, BreaksRecord, BreaksAfter}
+use Rattle.hc_transcript.specs.Malformed.{HasNoOpening, IsUnfinishedOpening, IsUnfinished, BreaksRecord, BreaksAfter}
 use Rattle.hc_transcript.proofs.FrontLemmas.{one_record, one_fault, break_is_some, no_unfinished_break, HasNoRecord, no_record_broken, no_record_unfinished, no_record_empty, breaks_more}
 
 -- as many records are the same

@@ -1,29 +1,34 @@
 -- What a reader of records keeps, from call to call.
-use Rattle.std.proofs.Common.{◌≡◌, ◌≢◌, ℕ, ◌+◌, Bool, true, false, cond, List, [], ◌∷◌, ◌++◌, length, take, drop, Option, Some, None, refl, sym, ap, subst, ◌∙◌, arith, inr, append_assoc, length-append, length-drop, ◌<◌}
+use Rattle.std.proofs.Common.{◌≡◌, ◌≢◌, ℕ, ◌+◌, Bool, true, false, cond, List, [], ◌∷◌, ◌++◌, length, take, drop, Option, Some, None, is_some, refl, sym, ap, subst, ◌∙◌, arith, inr, append_assoc, length-append, length-drop, ◌<◌}
 use Rattle.std.proofs.Math.Seq.{drop-append_seam}
 use Rattle.std.proofs.lemmas.List.{take-append-drop, append-nil}
 use Rattle.std.proofs.lemmas.Slice.Eq.{bytes_eq-Decides}
 use Rattle.std.specs.Prelude.{nat_eq, ◌==◌}
 use Rattle.std.proofs.lemmas.Bool.{eqb-true, eqb-false}
+use Rattle.std.specs.Ordering.{nat_cmp}
+use Rattle.std.specs.BTreeMap.{get}
 use Rattle.std.specs.List.{starts_with}
 use Rattle.hc_transcript.specs.declared.fault.RecordFault.{RecordFault}
 use Rattle.hc_transcript.specs.declared.fault.RecordFault.TheVariants as fault
 use Rattle.hc_transcript.specs.declared.item.OwnedItem.{OwnedItem}
 use Rattle.hc_transcript.specs.declared.line.Line.{Line}
-use Rattle.hc_transcript.specs.declared.reader.Found.{Found}
+use Rattle.hc_transcript.specs.declared.open_numbers.Standing.{Standing}
 use Rattle.hc_transcript.specs.declared.reader.RecordReader.{RecordReader}
+use Rattle.hc_transcript.specs.declared.line.Kind.{Kind}
+use Rattle.hc_transcript.specs.declared.line.Kind.TheVariants as kind
+use Rattle.hc_transcript.specs.declared.record.Passed.{Passed}
+use Rattle.hc_transcript.specs.declared.record.Passed.TheVariants as passed
 use Rattle.hc_transcript.specs.declared.record.Record.{Record}
 use Rattle.hc_transcript.specs.Items.{Item, item_of}
 use Rattle.hc_transcript.specs.History.{next_position}
-use Rattle.hc_transcript.specs.Records.{opening, line_text, line_of, message_of, record_text, records_text}
-use Rattle.hc_transcript.specs.Checks.{line_fault}
-use Rattle.hc_transcript.specs.Transcript.{answers_head, IsItemOf, IsReadAs, Splits, IsTranscript}
-use Rattle.hc_transcript.specs.MessageFaults.{IsNoMessage}
-use Rattle.hc_transcript.specs.Reading.{Refuses}
+use Rattle.hc_transcript.specs.Records.{opening, line_text, passed_kind, passed_octets, line_of, message_of, record_text, records_text}
+use Rattle.hc_transcript.specs.Checks.{line_fault, has_right_length}
+use Rattle.hc_transcript.specs.Transcript.{is_to_head, IsItemOf, IsReadAs, Splits, IsTranscript}
+use Rattle.hc_transcript.specs.Reading.{Refuses, IsItemWith}
 use Rattle.hc_transcript.specs.Standing.{StandsAs, standing_fault}
-use Rattle.hc_transcript.specs.Frames.{IsFramed, IsUnfinished, Breaks}
-use Rattle.hc_transcript.specs.Reader.{BreaksRecord, ReadsTo, Agrees, WaitsBy, Waits, Stops, Advances, reader_position, HasNoMessage, IsUnfinishedOpening, HasUnreadBy, is_whole_by}
-use Rattle.hc_transcript.proofs.CheckLemmas.{standing_fault_is, no_message_check}
+use Rattle.hc_transcript.specs.Malformed.{IsFramed, IsUnfinished, BreaksLine, IsNoMessage, HasNoMessage, BreaksRecord, IsUnfinishedOpening}
+use Rattle.hc_transcript.specs.Reader.{ReadsTo, Agrees, WaitsBy, Waits, MeetsFault, Advances, reader_position, HasUnreadBy, is_whole_by}
+use Rattle.hc_transcript.proofs.CheckLemmas.{standing_fault_is, no_message_check, in_order}
 
 -- the checks by what the reader keeps are those after the history
 checks_same : (r : RecordReader) (octets : List ℕ) (records : List Record) (h : List Item) → Agrees r octets records h → standing_fault r.standing ≡ line_fault h
@@ -36,7 +41,7 @@ position_of : (r : RecordReader) (h : List Item) → r.is_open ≡ true → Stan
 position_of r h is stands = ap (λ (b : Bool). cond b (r.standing.records + 1) 0) is ∙ ap (λ (n : ℕ). n + 1) stands.records
 
 -- a line that fails a check breaks the record
-record_breaks : (s : RecordReader) (f : RecordFault) (h : List Item) (octets : List ℕ) → Breaks (line_fault h) f octets → BreaksRecord f h octets
+record_breaks : (s : RecordReader) (f : RecordFault) (h : List Item) (octets : List ℕ) → BreaksLine (line_fault h) f octets → BreaksRecord f h octets
 record_breaks s fault.Message h octets b = absurd (no_message_check b.line _ _ _ _ _ b.fails)
 record_breaks s fault.Opening h octets b = b
 record_breaks s fault.Line h octets b = b
@@ -48,9 +53,9 @@ record_breaks s fault.TooLong h octets b = b
 record_breaks s fault.Memory h octets b = b
 
 pub stops_by_line : (r : RecordReader) (octets : List ℕ) (records : List Record) (h : List Item) (f : RecordFault) → r.is_open ≡ true → Agrees r octets records h
-    → Breaks (standing_fault r.standing) f r.held → Stops r octets h f
+    → BreaksLine (standing_fault r.standing) f r.held → MeetsFault r octets h f
 stops_by_line r octets records h f is agrees breaks =
-    let b : Breaks (line_fault h) f r.held = subst (λ (check : Line → Option RecordFault). Breaks check f r.held) (checks_same r octets records h agrees) breaks in
+    let b : BreaksLine (line_fault h) f r.held = subst (λ (check : Line → Option RecordFault). BreaksLine check f r.held) (checks_same r octets records h agrees) breaks in
     inr (record { records = records; rest = r.held; splits = opened r octets records h is agrees; breaks = record_breaks r f h r.held b }, position_of r h is agrees.stands)
 
 -- octets that are no message break the record
@@ -66,8 +71,8 @@ item_breaks fault.NothingOpen h octets Nothing so refuses other = absurd refuses
 item_breaks fault.TooLong h octets Nothing so refuses other = absurd refuses
 
 pub stops_by_item : (r : RecordReader) (octets : List ℕ) (records : List Record) (h : List Item) (f : RecordFault) (l : Line) (message : List ℕ) (len : ℕ) (to_head : Bool)
-    → r.is_open ≡ true → Agrees r octets records h → IsFramed (standing_fault r.standing) r.held l message len → to_head ≡ answers_head l.kind l.number h
-    → Refuses f (IsNoMessage l.kind to_head message) → f ≢ fault.Memory → Stops r octets h f
+    → r.is_open ≡ true → Agrees r octets records h → IsFramed (standing_fault r.standing) r.held l message len → to_head ≡ is_to_head l.kind l.number h
+    → Refuses f (IsNoMessage l.kind to_head message) → f ≢ fault.Memory → MeetsFault r octets h f
 stops_by_item r octets records h f l message len to_head is agrees framed head-is refuses other =
     let framed' : IsFramed (line_fault h) r.held l message len = subst (λ (check : Line → Option RecordFault). IsFramed check r.held l message len) (checks_same r octets records h agrees) framed in
     let none : IsNoMessage l.kind to_head message → HasNoMessage h r.held =
@@ -82,6 +87,45 @@ waits_on r octets records h is agrees waits =
     subst (λ (b : Bool). WaitsBy b h r.held) (sym is)
     (subst (λ (check : Line → Option RecordFault). IsUnfinished check r.held) (checks_same r octets records h agrees) waits)
 
+-- ---- the record of a line and a message
+
+abbrev passed_as : Kind → List ℕ → Passed
+passed_as kind.ClientRequest message = passed.ClientRequest message
+passed_as kind.OriginRequest message = passed.OriginRequest message
+passed_as kind.OriginResponse message = passed.OriginResponse message
+passed_as kind.OriginFailure message = passed.OriginFailure
+passed_as kind.ClientReply message = passed.ClientReply message
+
+kind_as : (k : Kind) (message : List ℕ) → passed_kind (passed_as k message) ≡ k
+kind_as kind.ClientRequest message = refl
+kind_as kind.OriginRequest message = refl
+kind_as kind.OriginResponse message = refl
+kind_as kind.OriginFailure message = refl
+kind_as kind.ClientReply message = refl
+
+empty_of : (held : List ℕ) → (length held == 0) ≡ true → held ≡ []
+empty_of [] e = refl
+empty_of (b ∷ held) e = absurd (omega (arith, eqb-true (length (b ∷ held)) 0 e))
+
+octets_as : (k : Kind) (message : List ℕ) → has_right_length k (length message) ≡ true → passed_octets (passed_as k message) ≡ message
+octets_as kind.ClientRequest message right = refl
+octets_as kind.OriginRequest message right = refl
+octets_as kind.OriginResponse message right = refl
+octets_as kind.OriginFailure message right = sym (empty_of message right)
+octets_as kind.ClientReply message right = refl
+
+abbrev record_as : Line → List ℕ → Record
+record_as l message = record { number = l.number; moment = l.moment; of = passed_as l.kind message }
+
+line_as : (l : Line) (message : List ℕ) → length message ≡ l.size → message_of (record_as l message) ≡ message → line_of (record_as l message) ≡ l
+line_as l message size-is message-is =
+    let size : length (message_of (record_as l message)) ≡ l.size = ap length message-is ∙ size-is in
+    λ i. record { kind = kind_as l.kind message i; number = l.number; moment = l.moment; size = size i }
+
+right_length : (s : Standing) (l : Line) → standing_fault s l ≡ None → has_right_length l.kind l.size ≡ true
+right_length s l none =
+    (in_order l s.moment s.exchange s.forward (is_some (get nat_cmp s.exchanges l.number)) (is_some (get nat_cmp s.forwards l.number)) none).right_length
+
 -- the text of a record, as it stands in the octets
 text_is : (one : Record) (l : Line) (message rest : List ℕ) → line_of one ≡ l → message_of one ≡ message → line_text l ++ 10 ∷ (message ++ 10 ∷ rest) ≡ record_text one ++ rest
 text_is one l message rest line-is message-is =
@@ -93,26 +137,37 @@ record_len : (one : Record) (l : Line) (message : List ℕ) (len : ℕ) → line
 record_len one l message len line-is message-is size-is len-is =
     omega (arith, len-is, size-is, ap (λ (k : Line). length (line_text k)) line-is, ap length message-is, length-append (line_text (line_of one)) (10 ∷ (message_of one ++ 10 ∷ [])), length-append (message_of one) (10 ∷ []))
 
-pub advances : (old new : RecordReader) (octets : List ℕ) (records : List Record) (h : List Item) (l : Line) (message : List ℕ) (len : ℕ) (to_head : Bool) (one : Record) (item : OwnedItem)
-    → old.is_open ≡ true → Agrees old octets records h → IsFramed (standing_fault old.standing) old.held l message len → to_head ≡ answers_head l.kind l.number h
-    → IsItemOf l.kind l.number l.moment to_head message (item_of item) → line_of one ≡ l → message_of one ≡ message
-    → new.held ≡ drop len old.held → new.is_open ≡ true → new.fault ≡ old.fault → StandsAs new.standing (item_of item ∷ h)
-    → (found : Found) → new.current ≡ Some found → found.record ≡ one → found.item ≡ item → Advances new octets records h
-advances old new octets records h l message len to_head one item is agrees framed head-is reads line-is message-is held-is is' fault-is stands found current-is record-is item-is =
-    let splits = opened old octets records h is agrees in
-    let text : old.held ≡ record_text one ++ framed.rest = framed.octets_are ∙ text_is one l message framed.rest line-is message-is in
+-- one record more was read off the octets
+splits_next : (octets : List ℕ) (records : List Record) (h : List Item) (held : List ℕ) (l : Line) (message : List ℕ) (len : ℕ) (one : Record) (item : Item)
+    → Splits octets records h held → IsFramed (line_fault h) held l message len → IsItemOf l.kind l.number l.moment (is_to_head l.kind l.number h) message item
+    → line_of one ≡ l → message_of one ≡ message → Splits octets (one ∷ records) (item ∷ h) (drop len held)
+splits_next octets records h held l message len one item splits framed reads line-is message-is =
+    let text : held ≡ record_text one ++ framed.rest = framed.octets_are ∙ text_is one l message framed.rest line-is message-is in
     let len-is : len ≡ length (record_text one) = record_len one l message len line-is message-is framed.size_is framed.len_is in
-    let rest : new.held ≡ framed.rest = held-is ∙ ap (drop len) text ∙ ap (λ (k : ℕ). drop k (record_text one ++ framed.rest)) len-is ∙ drop-append_seam (record_text one) framed.rest in
-    let octets-are : octets ≡ opening ++ (records_text (one ∷ records) ++ new.held) =
+    let rest : drop len held ≡ framed.rest = ap (drop len) text ∙ ap (λ (k : ℕ). drop k (record_text one ++ framed.rest)) len-is ∙ drop-append_seam (record_text one) framed.rest in
+    let octets-are : octets ≡ opening ++ (records_text (one ∷ records) ++ drop len held) =
     splits.octets_are ∙ ap (λ (t : List ℕ). opening ++ (records_text records ++ t)) text ∙ ap (λ (t : List ℕ). opening ++ t) (sym (append_assoc (records_text records) (record_text one) framed.rest))
     ∙ ap (λ (t : List ℕ). opening ++ (records_text (one ∷ records) ++ t)) (sym rest) in
-    let keeps : line_fault h (line_of one) ≡ None =
-    ap (line_fault h) line-is ∙ sym (ap (λ (check : Line → Option RecordFault). check l) (checks_same old octets records h agrees)) ∙ framed.keeps in
-    let reads' : IsItemOf l.kind l.number l.moment (answers_head l.kind l.number h) message (item_of item) = subst (λ (b : Bool). IsItemOf l.kind l.number l.moment b message (item_of item)) head-is reads in
-    let reads-one : IsReadAs h one (item_of item) =
-    subst (λ (k : Line). IsItemOf k.kind k.number k.moment (answers_head k.kind k.number h) (message_of one) (item_of item)) (sym line-is)
-    (subst (λ (m : List ℕ). IsItemOf l.kind l.number l.moment (answers_head l.kind l.number h) m (item_of item)) (sym message-is) reads') in
-    let whole : Splits octets (one ∷ records) (item_of item ∷ h) new.held = record { octets_are = octets-are; are_read = (splits.are_read, record { keeps = keeps; reads = reads-one }) } in
+    let reads-one : IsReadAs h one item =
+    subst (λ (k : Line). IsItemOf k.kind k.number k.moment (is_to_head k.kind k.number h) (message_of one) item) (sym line-is)
+    (subst (λ (m : List ℕ). IsItemOf l.kind l.number l.moment (is_to_head l.kind l.number h) m item) (sym message-is) reads) in
+    record { octets_are = octets-are; are_read = (splits.are_read, record { keeps = ap (line_fault h) line-is ∙ framed.keeps; reads = reads-one }) }
+
+pub advances : (old new : RecordReader) (octets : List ℕ) (records : List Record) (h : List Item) (l : Line) (message : List ℕ) (len : ℕ) (to_head : Bool) (item : OwnedItem)
+    → old.is_open ≡ true → Agrees old octets records h → IsFramed (standing_fault old.standing) old.held l message len → to_head ≡ is_to_head l.kind l.number h
+    → IsItemWith l to_head message item → new.held ≡ drop len old.held → new.is_open ≡ true → new.fault ≡ old.fault → StandsAs new.standing (item_of item ∷ h)
+    → new.current ≡ Some item → Advances new octets records h
+advances old new octets records h l message len to_head item is agrees framed head-is read held-is is' fault-is stands current-is =
+    let one = record_as l message in
+    let message-is : message_of one ≡ message =
+    octets_as l.kind message (ap (has_right_length l.kind) framed.size_is ∙ right_length old.standing l framed.keeps) in
+    let line-is : line_of one ≡ l = line_as l message framed.size_is message-is in
+    let framed' : IsFramed (line_fault h) old.held l message len = subst (λ (check : Line → Option RecordFault). IsFramed check old.held l message len) (checks_same old octets records h agrees) framed in
+    let reads : IsItemOf l.kind l.number l.moment (is_to_head l.kind l.number h) message (item_of item) =
+    subst (λ (b : Bool). IsItemOf l.kind l.number l.moment b message (item_of item)) head-is read.reads in
+    let whole : Splits octets (one ∷ records) (item_of item ∷ h) new.held =
+    subst (λ (rest : List ℕ). Splits octets (one ∷ records) (item_of item ∷ h) rest) (sym held-is)
+    (splits_next octets records h old.held l message len one (item_of item) (opened old octets records h is agrees) framed' reads line-is message-is) in
     record {
       one = one;
       item = item_of item;
@@ -121,7 +176,7 @@ advances old new octets records h l message len to_head one item is agrees frame
         reads = subst (λ (b : Bool). ReadsTo b octets (one ∷ records) (item_of item ∷ h) new.held) (sym is') whole;
         stands = stands;
       };
-      lends = record { found = found; is_found = current-is; record_is = record-is; item_is = ap item_of item-is };
+      lends = record { held = item; is_held = current-is; item_is = refl };
     }
 
 -- ---- the opening
@@ -148,10 +203,6 @@ shrinks check held l message len framed =
     omega (arith, framed.len_is, length-drop len held, ap length framed.octets_are, length-append (line_text l) (10 ∷ (message ++ 10 ∷ framed.rest)), length-append message (10 ∷ framed.rest))
 
 -- ---- the end
-
-empty_of : (held : List ℕ) → (length held == 0) ≡ true → held ≡ []
-empty_of [] e = refl
-empty_of (b ∷ held) e = absurd (omega (arith, eqb-true (length (b ∷ held)) 0 e))
 
 not_empty_of : (held : List ℕ) → (length held == 0) ≡ false → held ≢ []
 not_empty_of held e is = eqb-false (length held) 0 e (ap length is)

@@ -13,8 +13,8 @@ use Rattle.hc_framing.specs.declared.fault.FrameFault.TheVariants as frames
 use Rattle.hc_framing.specs.declared.message.Message.{Message}
 use Rattle.hc_framing.specs.Faults.{IsWholeRequest, IsWholeResponse}
 use Rattle.hc_transcript.specs.declared.fault.RecordFault.{RecordFault}
-use Rattle.hc_transcript.specs.MessageFaults.{IsNoRequest, LacksTarget, IsNoResponse, IsInterim, message_fault, target_fault}
-use Rattle.hc_transcript.specs.Reading.{Refuses, GivesRequest, GivesResponse}
+use Rattle.hc_transcript.specs.Malformed.{IsNoRequest, LacksTarget, IsNoResponse, IsInterim}
+use Rattle.hc_transcript.specs.Reading.{Refuses, message_fault, target_fault, GivesRequestRead, GivesResponseRead}
 
 -- a fault of a message that isn't of memory says it
 message_refused : (f : FrameFault) (Nothing : Type 0) → (f ≢ frames.Memory → Nothing) → Refuses (message_fault f) Nothing
@@ -39,7 +39,7 @@ target_refused heads.Target Nothing says = says (λ e. cc)
 
 -- octets that are no request
 pub no_request : (octets : List ℕ) (f : FrameFault) (answer : Result (Message RequestHead × Target) RecordFault) → IsErrAnd answer (λ g. g ≡ message_fault f)
-    → ((m : Message RequestHead) → IsWholeRequest octets RECORDED m → f ≡ frames.Memory) → GivesRequest answer octets
+    → ((m : Message RequestHead) → IsWholeRequest octets RECORDED m → f ≡ frames.Memory) → GivesRequestRead answer octets
 no_request octets f (Ok r) is none = absurd is
 no_request octets f (Err g) is none =
     subst (λ (h : RecordFault). Refuses h (IsNoRequest octets ⊎ LacksTarget octets)) (sym is)
@@ -47,7 +47,7 @@ no_request octets f (Err g) is none =
 
 -- a request without a target
 pub no_target : (octets : List ℕ) (m : Message RequestHead) (f : HeadFault) (answer : Result (Message RequestHead × Target) RecordFault) → IsErrAnd answer (λ g. g ≡ target_fault f)
-    → IsWholeRequest octets RECORDED m → ((t : Target) → HasTarget m.head t → f ≡ heads.Memory) → GivesRequest answer octets
+    → IsWholeRequest octets RECORDED m → ((t : Target) → HasTarget m.head t → f ≡ heads.Memory) → GivesRequestRead answer octets
 no_target octets m f (Ok r) is whole none = absurd is
 no_target octets m f (Err g) is whole none =
     subst (λ (h : RecordFault). Refuses h (IsNoRequest octets ⊎ LacksTarget octets)) (sym is)
@@ -55,7 +55,7 @@ no_target octets m f (Err g) is whole none =
 
 -- octets that are no response
 pub no_response : (to_head : Bool) (octets : List ℕ) (f : FrameFault) (answer : Result (Message ResponseHead) RecordFault) → IsErrAnd answer (λ g. g ≡ message_fault f)
-    → ((m : Message ResponseHead) → IsWholeResponse to_head octets RECORDED m → f ≡ frames.Memory) → GivesResponse to_head answer octets
+    → ((m : Message ResponseHead) → IsWholeResponse to_head octets RECORDED m → f ≡ frames.Memory) → GivesResponseRead to_head answer octets
 no_response to_head octets f (Ok r) is none = absurd is
 no_response to_head octets f (Err g) is none =
     subst (λ (h : RecordFault). Refuses h (IsNoResponse to_head octets ⊎ IsInterim to_head octets)) (sym is)

@@ -9,11 +9,9 @@ next_position h = length h + 1
 -- what an item at a position makes of the open exchange of a number: a request opens it, its reply closes it
 abbrev pub exchange_after : ℕ → ℕ → Item → Option Exchange → Option Exchange
 exchange_after e position (ClientRequest number moment request target) before =
-    if number == e then Some (record { position = position; request = request; target = target }) else before
-exchange_after e position (OriginRequest number moment request target) before = before
-exchange_after e position (OriginResponse number moment response) before = before
-exchange_after e position (OriginFailure number moment) before = before
+    if number == e then Some (record { number = number; position = position; request = request.head; target = target }) else before
 exchange_after e position (ClientReply number moment reply) before = if number == e then None else before
+exchange_after e position item before = before
 
 -- the open exchange of a number
 abbrev pub exchange_of : ℕ → List Item → Option Exchange
@@ -22,12 +20,11 @@ exchange_of e (i ∷ h) = exchange_after e (next_position h) i (exchange_of e h)
 
 -- what an item makes of the open forward of a number: a request opens it, its response or its failure closes it
 abbrev pub forward_after : ℕ → Item → Option Forward → Option Forward
-forward_after f (ClientRequest number moment request target) before = before
 forward_after f (OriginRequest number moment request target) before =
-    if number == f then Some (record { moment = moment; request = request; target = target }) else before
+    if number == f then Some (record { moment = moment; request = request.head; target = target }) else before
 forward_after f (OriginResponse number moment response) before = if number == f then None else before
 forward_after f (OriginFailure number moment) before = if number == f then None else before
-forward_after f (ClientReply number moment reply) before = before
+forward_after f item before = before
 
 -- the open forward of a number
 abbrev pub forward_of : ℕ → List Item → Option Forward
@@ -42,10 +39,7 @@ last_moment (i ∷ h) = moment_of i
 -- what an item makes of the number of the newest exchange
 abbrev pub exchange_number_after : Item → ℕ → ℕ
 exchange_number_after (ClientRequest number moment request target) before = number
-exchange_number_after (OriginRequest number moment request target) before = before
-exchange_number_after (OriginResponse number moment response) before = before
-exchange_number_after (OriginFailure number moment) before = before
-exchange_number_after (ClientReply number moment reply) before = before
+exchange_number_after item before = before
 
 -- the number of the newest exchange; 0 where there is none
 abbrev pub last_exchange : List Item → ℕ
@@ -54,11 +48,8 @@ last_exchange (i ∷ h) = exchange_number_after i (last_exchange h)
 
 -- what an item makes of the number of the newest forward
 abbrev pub forward_number_after : Item → ℕ → ℕ
-forward_number_after (ClientRequest number moment request target) before = before
 forward_number_after (OriginRequest number moment request target) before = number
-forward_number_after (OriginResponse number moment response) before = before
-forward_number_after (OriginFailure number moment) before = before
-forward_number_after (ClientReply number moment reply) before = before
+forward_number_after item before = before
 
 -- the number of the newest forward; 0 where there is none
 abbrev pub last_forward : List Item → ℕ

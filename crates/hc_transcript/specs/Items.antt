@@ -5,10 +5,11 @@ use Rattle.hc_head.specs.declared.head.RequestHead.{RequestHead}
 use Rattle.hc_head.specs.declared.head.ResponseHead.{ResponseHead}
 use Rattle.hc_head.specs.declared.head.Target.{Target}
 use Rattle.hc_framing.specs.declared.message.Message.{Message}
+use Rattle.hc_transcript.specs.declared.item.Meaning.{Meaning}
+use Rattle.hc_transcript.specs.declared.item.Meaning.TheVariants as meaning
 use Rattle.hc_transcript.specs.declared.item.OwnedItem.{OwnedItem}
 use Rattle.hc_transcript.specs.declared.line.Kind.{Kind}
 use Rattle.hc_transcript.specs.declared.line.Kind.TheVariants as kind
-use Rattle.hc_transcript.specs.declared.item.OwnedItem.TheVariants as owned
 
 -- numbers are of exchanges and forwards, moments are whole seconds since 1970
 pub data Item : Type 0 where
@@ -25,21 +26,22 @@ moment_of (OriginResponse number moment response) = moment
 moment_of (OriginFailure number moment) = moment
 moment_of (ClientReply number moment reply) = moment
 
--- an open exchange: the position of its request, the request and its target
+-- an open exchange: its number, the position of its request, the head of the request and its target
 pub record Exchange : Type 0 where
+  pub number : ℕ
   pub position : ℕ
-  pub request : Message RequestHead
+  pub request : RequestHead
   pub target : Target
 
--- an open forward: its moment, its request and its target
+-- an open forward: its moment, the head of its request and its target
 pub record Forward : Type 0 where
   pub moment : ℕ
-  pub request : Message RequestHead
+  pub request : RequestHead
   pub target : Target
 
 -- a request whose response has no body (RFC 9110 section 9.3.2)
-abbrev pub is_head : Message RequestHead → Bool
-is_head request = bytes_eq request.head.method (codes "HEAD")
+abbrev pub is_head : RequestHead → Bool
+is_head request = bytes_eq request.method (codes "HEAD")
 
 -- whether what answers the exchange, or the forward, answers HEAD
 abbrev pub exchange_is_head : Option Exchange → Bool
@@ -50,25 +52,22 @@ abbrev pub forward_is_head : Option Forward → Bool
 forward_is_head None = false
 forward_is_head (Some forward) = is_head forward.request
 
+-- what a meaning is under a number, at a moment
+abbrev pub item_with : ℕ → ℕ → Meaning → Item
+item_with number moment (meaning.ClientRequest request target) = ClientRequest number moment request target
+item_with number moment (meaning.OriginRequest request target) = OriginRequest number moment request target
+item_with number moment (meaning.OriginResponse response) = OriginResponse number moment response
+item_with number moment meaning.OriginFailure = OriginFailure number moment
+item_with number moment (meaning.ClientReply reply) = ClientReply number moment reply
+
 -- what an item that is held means
 abbrev pub item_of : OwnedItem → Item
-item_of (owned.ClientRequest exchange moment request target) = ClientRequest exchange moment request target
-item_of (owned.OriginRequest forward moment request target) = OriginRequest forward moment request target
-item_of (owned.OriginResponse forward moment response) = OriginResponse forward moment response
-item_of (owned.OriginFailure forward moment) = OriginFailure forward moment
-item_of (owned.ClientReply exchange moment reply) = ClientReply exchange moment reply
+item_of item = item_with item.number item.moment item.of
 
--- the kind of the record that bears the item, and its number
-abbrev pub item_kind : OwnedItem → Kind
-item_kind (owned.ClientRequest exchange moment request target) = kind.ClientRequest
-item_kind (owned.OriginRequest forward moment request target) = kind.OriginRequest
-item_kind (owned.OriginResponse forward moment response) = kind.OriginResponse
-item_kind (owned.OriginFailure forward moment) = kind.OriginFailure
-item_kind (owned.ClientReply exchange moment reply) = kind.ClientReply
-
-abbrev pub item_number : OwnedItem → ℕ
-item_number (owned.ClientRequest exchange moment request target) = exchange
-item_number (owned.OriginRequest forward moment request target) = forward
-item_number (owned.OriginResponse forward moment response) = forward
-item_number (owned.OriginFailure forward moment) = forward
-item_number (owned.ClientReply exchange moment reply) = exchange
+-- the kind of the record that bears the meaning
+abbrev pub meaning_kind : Meaning → Kind
+meaning_kind (meaning.ClientRequest request target) = kind.ClientRequest
+meaning_kind (meaning.OriginRequest request target) = kind.OriginRequest
+meaning_kind (meaning.OriginResponse response) = kind.OriginResponse
+meaning_kind meaning.OriginFailure = kind.OriginFailure
+meaning_kind (meaning.ClientReply reply) = kind.ClientReply

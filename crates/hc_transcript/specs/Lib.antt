@@ -6,8 +6,7 @@ pub mod Items
 pub mod History
 pub mod Checks
 pub mod Transcript
-pub mod MessageFaults
+pub mod Malformed
 pub mod Reading
 pub mod Standing
-pub mod Frames
 pub mod Reader

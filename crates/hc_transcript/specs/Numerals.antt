@@ -1,4 +1,4 @@
--- A number and the space behind it.
+-- Plumbing: a number and the space behind it.
 use Rattle.std.specs.Prelude.{◌≡◌, ℕ, List, ◌∷◌, ◌++◌}
 use Rattle.hc_transcript.specs.Lines.{Writes}
 

@@ -2,46 +2,16 @@
 use Rattle.std.specs.Prelude.{◌≡◌, ◌≢◌, ℕ, ◌+◌, ◌⊎◌, Bool, true, false, List, [], ◌∷◌, ◌++◌, length, Some, None, Result, Ok, Err, IsSome, bytes_eq, ◌==◌, if◌then◌else◌}
 use Rattle.hc_transcript.specs.declared.fault.RecordFault.{RecordFault}
 use Rattle.hc_transcript.specs.declared.fault.RecordFault.TheVariants as fault
-use Rattle.hc_transcript.specs.declared.line.Line.{Line}
-use Rattle.hc_transcript.specs.declared.reader.Found.{Found}
+use Rattle.hc_transcript.specs.declared.item.OwnedItem.{OwnedItem}
 use Rattle.hc_transcript.specs.declared.reader.RecordReader.{RecordReader}
 use Rattle.hc_transcript.specs.declared.record.Record.{Record}
 use Rattle.hc_transcript.specs.Items.{Item, item_of}
 use Rattle.hc_transcript.specs.History.{next_position}
 use Rattle.hc_transcript.specs.Records.{opening}
 use Rattle.hc_transcript.specs.Checks.{line_fault}
-use Rattle.hc_transcript.specs.Transcript.{answers_head, Splits}
-use Rattle.hc_transcript.specs.MessageFaults.{IsNoMessage}
+use Rattle.hc_transcript.specs.Transcript.{Splits}
+use Rattle.hc_transcript.specs.Malformed.{HasNoOpening, IsUnfinishedOpening, IsUnfinished, BreaksAfter}
 use Rattle.hc_transcript.specs.Standing.{StandsAs}
-use Rattle.hc_transcript.specs.Frames.{IsFramed, IsUnfinished, Breaks}
-
--- the octets, with whatever follows, don't begin with the opening
-abbrev pub HasNoOpening : List ℕ → Type 0
-HasNoOpening octets = (more rest : List ℕ) → octets ++ more ≢ opening ++ rest
-
--- the octets may go on to the opening
-abbrev pub IsUnfinishedOpening : List ℕ → Type 0
-IsUnfinishedOpening octets = (more : List ℕ) × (opening ≡ octets ++ more) × (more ≢ [])
-
--- a record stands there after the history, whose octets are no message of its kind
-pub record HasNoMessage (h : List Item) (octets : List ℕ) : Type 0 where
-  pub line : Line
-  pub message : List ℕ
-  pub len : ℕ
-  pub framed : IsFramed (line_fault h) octets line message len
-  pub none : IsNoMessage line.kind (answers_head line.kind line.number h) message
-
--- where a fault of the next record stands, in the order of the checks
-abbrev pub BreaksRecord : RecordFault → List Item → List ℕ → Type 0
-BreaksRecord fault.Message h octets = HasNoMessage h octets
-BreaksRecord f h octets = Breaks (line_fault h) f octets
-
--- after these records the octets break by the fault
-pub record BreaksAfter (octets : List ℕ) (h : List Item) (f : RecordFault) : Type 0 where
-  pub records : List Record
-  pub rest : List ℕ
-  pub splits : Splits octets records h rest
-  pub breaks : BreaksRecord f h rest
 
 -- what the octets are to a reader before the opening was read, and after it
 abbrev pub ReadsTo : Bool → List ℕ → List Record → List Item → List ℕ → Type 0
@@ -89,16 +59,15 @@ HasUnreadBy true held = held ≢ []
 abbrev pub HasUnread : RecordReader → Type 0
 HasUnread r = HasUnreadBy r.is_open r.held
 
--- the reader lends a record, and what it means
-pub record Lends (r : RecordReader) (one : Record) (item : Item) : Type 0 where
-  pub found : Found
-  pub is_found : r.current ≡ Some found
-  pub record_is : found.record ≡ one
-  pub item_is : item_of found.item ≡ item
+-- the reader lends what the record that was read last means
+pub record Lends (r : RecordReader) (item : Item) : Type 0 where
+  pub held : OwnedItem
+  pub is_held : r.current ≡ Some held
+  pub item_is : item_of held ≡ item
 
--- the reader has a record to lend
-abbrev pub HasRecord : RecordReader → Type 0
-HasRecord r = IsSome r.current
+-- the reader has an item to lend
+abbrev pub HasItem : RecordReader → Type 0
+HasItem r = IsSome r.current
 
 -- the reader answers the fault for ever
 abbrev pub HasFailed : RecordReader → RecordFault → Type 0
@@ -108,9 +77,9 @@ HasFailed r f = r.fault ≡ Some f
 abbrev pub reader_position : RecordReader → ℕ
 reader_position r = if r.is_open then r.standing.records + 1 else 0
 
--- the octets break where the reader stands, behind the records of the history
-abbrev pub Stops : RecordReader → List ℕ → List Item → RecordFault → Type 0
-Stops r octets h f =
+-- the reader has met a fault where the octets break, behind the records of the history
+abbrev pub MeetsFault : RecordReader → List ℕ → List Item → RecordFault → Type 0
+MeetsFault r octets h f =
     (HasNoOpening octets × ((f ≡ fault.Opening) × (reader_position r ≡ 0)))
     ⊎ (BreaksAfter octets h f × (reader_position r ≡ next_position h))
 
@@ -119,13 +88,13 @@ pub record Advances (r : RecordReader) (octets : List ℕ) (records : List Recor
   pub one : Record
   pub item : Item
   pub agrees : Agrees r octets (one ∷ records) (item ∷ h)
-  pub lends : Lends r one item
+  pub lends : Lends r item
 
 -- what the answer to a call of `advance` says
 abbrev pub GivesAdvance : Result Bool RecordFault → RecordReader → List ℕ → List Record → List Item → Type 0
 GivesAdvance (Ok true) r octets records h = Advances r octets records h
 GivesAdvance (Ok false) r octets records h = Agrees r octets records h × Waits r h
-GivesAdvance (Err f) r octets records h = f ≢ fault.Memory → Stops r octets h f
+GivesAdvance (Err f) r octets records h = f ≢ fault.Memory → MeetsFault r octets h f
 
 -- what the answer to a reading of the opening says
 abbrev pub GivesOpening : Result Bool RecordFault → RecordReader → RecordReader → Type 0

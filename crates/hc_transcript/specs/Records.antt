@@ -5,7 +5,8 @@ use Rattle.hc_transcript.specs.declared.line.Kind.{Kind}
 use Rattle.hc_transcript.specs.declared.line.Kind.TheVariants as kind
 use Rattle.hc_transcript.specs.declared.line.Line.{Line}
 use Rattle.hc_transcript.specs.declared.record.Record.{Record}
-use Rattle.hc_transcript.specs.declared.record.Record.TheVariants.{ClientRequest, OriginRequest, OriginResponse, OriginFailure, ClientReply}
+use Rattle.hc_transcript.specs.declared.record.Passed.{Passed}
+use Rattle.hc_transcript.specs.declared.record.Passed.TheVariants.{ClientRequest, OriginRequest, OriginResponse, OriginFailure, ClientReply}
 
 -- the letter of a kind: q, f, r, x or a
 abbrev pub letter : Kind → ℕ
@@ -19,21 +20,29 @@ letter kind.ClientReply = 97
 abbrev pub line_text : Line → List ℕ
 line_text l = letter l.kind ∷ 32 ∷ (decimal l.number ++ 32 ∷ (decimal l.moment ++ 32 ∷ decimal l.size))
 
--- the octets of a record's message; a failure has none
+-- the kind of what passed
+abbrev pub passed_kind : Passed → Kind
+passed_kind (ClientRequest message) = kind.ClientRequest
+passed_kind (OriginRequest message) = kind.OriginRequest
+passed_kind (OriginResponse message) = kind.OriginResponse
+passed_kind OriginFailure = kind.OriginFailure
+passed_kind (ClientReply message) = kind.ClientReply
+
+-- the octets that passed; of a failure none
+abbrev pub passed_octets : Passed → List ℕ
+passed_octets (ClientRequest message) = message
+passed_octets (OriginRequest message) = message
+passed_octets (OriginResponse message) = message
+passed_octets OriginFailure = []
+passed_octets (ClientReply message) = message
+
+-- the octets of a record's message
 abbrev pub message_of : Record → List ℕ
-message_of (ClientRequest exchange moment message) = message
-message_of (OriginRequest forward moment message) = message
-message_of (OriginResponse forward moment message) = message
-message_of (OriginFailure forward moment) = []
-message_of (ClientReply exchange moment message) = message
+message_of r = passed_octets r.of
 
 -- the line that begins a record
 abbrev pub line_of : Record → Line
-line_of (ClientRequest exchange moment message) = record { kind = kind.ClientRequest; number = exchange; moment = moment; size = length message }
-line_of (OriginRequest forward moment message) = record { kind = kind.OriginRequest; number = forward; moment = moment; size = length message }
-line_of (OriginResponse forward moment message) = record { kind = kind.OriginResponse; number = forward; moment = moment; size = length message }
-line_of (OriginFailure forward moment) = record { kind = kind.OriginFailure; number = forward; moment = moment; size = 0 }
-line_of (ClientReply exchange moment message) = record { kind = kind.ClientReply; number = exchange; moment = moment; size = length message }
+line_of r = record { kind = passed_kind r.of; number = r.number; moment = r.moment; size = length (message_of r) }
 
 -- a record: its line, the octets of its message, and a line feed behind each
 abbrev pub record_text : Record → List ℕ

@@ -1,4 +1,4 @@
--- What a beginning of a transcript leaves for the records after it.
+-- Plumbing: what a beginning of a transcript leaves for the records after it.
 use Rattle.std.specs.Prelude.{◌≡◌, ℕ, ◌+◌, ◌<◌, ◌≤◌, Bool, List, length, Option, Some, None, IsSome, is_some, ◌==◌, if◌then◌else◌}
 use Rattle.std.specs.Option.{option_map}
 use Rattle.std.specs.Ordering.{nat_cmp}
@@ -9,7 +9,7 @@ use Rattle.hc_transcript.specs.declared.line.Kind.{Kind}
 use Rattle.hc_transcript.specs.declared.line.Kind.TheVariants as kind
 use Rattle.hc_transcript.specs.declared.line.Line.{Line}
 use Rattle.hc_transcript.specs.declared.open_numbers.Standing.{Standing}
-use Rattle.hc_transcript.specs.Items.{Item, Exchange, Forward, is_head, item_kind, item_number}
+use Rattle.hc_transcript.specs.Items.{Item, Exchange, Forward, is_head, meaning_kind}
 use Rattle.hc_transcript.specs.Checks.{first_fault}
 use Rattle.hc_transcript.specs.History.{exchange_of, forward_of, last_moment, last_exchange, last_forward}
 
@@ -42,7 +42,7 @@ CanFollowAs kind.OriginFailure s number = IsSome (get nat_cmp s.forwards number)
 CanFollowAs kind.ClientReply s number = IsSome (get nat_cmp s.exchanges number)
 
 abbrev pub CanFollow : Standing → OwnedItem → Type 0
-CanFollow s item = CanFollowAs (item_kind item) s (item_number item)
+CanFollow s item = CanFollowAs (meaning_kind item.of) s item.number
 
 -- what a record makes of it
 pub record OpensExchange (old new : Standing) (number moment : ℕ) (is_head : Bool) : Type 0 where

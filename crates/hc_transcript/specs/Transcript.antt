@@ -38,17 +38,17 @@ IsItemOf kind.ClientReply number moment to_head octets item =
     (reply : Message ResponseHead) × ReadsResponse to_head octets reply × (item ≡ ClientReply number moment reply)
 
 -- whether what such a record bears answers HEAD, by what is open after a history
-abbrev pub answers_head : Kind → ℕ → List Item → Bool
-answers_head kind.ClientRequest number h = false
-answers_head kind.OriginRequest number h = false
-answers_head kind.OriginResponse number h = forward_is_head (forward_of number h)
-answers_head kind.OriginFailure number h = false
-answers_head kind.ClientReply number h = exchange_is_head (exchange_of number h)
+abbrev pub is_to_head : Kind → ℕ → List Item → Bool
+is_to_head kind.ClientRequest number h = false
+is_to_head kind.OriginRequest number h = false
+is_to_head kind.OriginResponse number h = forward_is_head (forward_of number h)
+is_to_head kind.OriginFailure number h = false
+is_to_head kind.ClientReply number h = exchange_is_head (exchange_of number h)
 
 -- how a record is read after a history
 abbrev pub IsReadAs : List Item → Record → Item → Type 0
 IsReadAs h r item =
-    let l = line_of r in IsItemOf l.kind l.number l.moment (answers_head l.kind l.number h) (message_of r) item
+    let l = line_of r in IsItemOf l.kind l.number l.moment (is_to_head l.kind l.number h) (message_of r) item
 
 -- the record keeps to the format after the history, and is read as the item
 pub record Follows (h : List Item) (r : Record) (item : Item) : Type 0 where

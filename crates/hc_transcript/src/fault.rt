@@ -2,7 +2,7 @@
 
 ghost use Rattle.std.specs.Prelude.{◌≡◌};
 ghost use Rattle.hc_transcript.specs.declared.fault.RecordFault.TheVariants.{Memory};
-ghost use Rattle.hc_transcript.specs.MessageFaults.{message_fault, target_fault};
+ghost use Rattle.hc_transcript.specs.Reading.{message_fault, target_fault};
 
 use hc_framing::FrameFault;
 use hc_head::HeadFault;

@@ -2,7 +2,7 @@
 
 ghost use Rattle.std.specs.Prelude.{◌≡◌};
 ghost use Rattle.hc_transcript.specs.Standing.{standing_fault};
-ghost use Rattle.hc_transcript.specs.Frames.{GivesFrame};
+ghost use Rattle.hc_transcript.specs.Reading.{GivesFrame};
 
 use crate::fault::RecordFault;
 use crate::first_line::{LONGEST_LINE, line_end};

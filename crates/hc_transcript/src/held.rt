@@ -6,11 +6,13 @@ use std::alloc::{AllocError, Global};
 use std::marker::Model;
 
 /// Octets in one buffer, of which those before `start` were read. Contracts see the rest of them.
-/// What was read is dropped once it is more than half, so each octet is moved at most once for
-/// each octet that was read.
+/// Those from `last` on were read last, and stay until they are let go. What was read before them
+/// is dropped once it is more than half, so each octet is moved at most once for each octet that
+/// was read.
 #[derive(Debug, Drop)]
 pub(crate) struct Held {
     bytes: Vec<u8>,
+    last: usize,
     start: usize,
 }
 
@@ -21,7 +23,7 @@ impl Model for Held {
 
     ghost view = { λ h. drop h.start h.bytes.items };
 
-    ghost invariant = { λ h. h.start ≤ length h.bytes.items };
+    ghost invariant = { λ h. (h.last ≤ h.start) × (h.start ≤ length h.bytes.items) };
 }
 
 impl Held {
@@ -30,6 +32,7 @@ impl Held {
     {
         Held {
             bytes: Vec::new(alloc),
+            last: 0,
             start: 0,
         }
     }
@@ -50,25 +53,34 @@ impl Held {
         self.bytes.extend_from_slice(piece)
     }
 
-    /// Drops what was read, once it is more than half.
+    /// Drops what was let go, once it is more than half.
     fn compact(&mut self)
         ensures { self.new ≡ self.old }
     {
-        let start = self.start;
-        if start <= self.bytes.len() / 2 {
+        let gone = self.last;
+        if gone <= self.bytes.len() / 2 {
             return;
         }
-        let left = self.bytes.len() - start;
-        self.bytes.as_mut_slice().rotate_left(start);
+        let left = self.bytes.len() - gone;
+        self.bytes.as_mut_slice().rotate_left(gone);
         self.bytes.truncate(left);
-        self.start = 0;
+        self.start -= gone;
+        self.last = 0;
     }
 
-    /// Reads so many octets off the front.
+    /// Reads so many octets off the front, which stay until they are let go.
     pub(crate) fn skip(&mut self, count: usize)
         requires { count ≤ length self.old }
         ensures { self.new ≡ drop count self.old }
     {
+        self.last = self.start;
         self.start += count;
+    }
+
+    /// Lets go what was read last.
+    pub(crate) fn let_go(&mut self)
+        ensures { self.new ≡ self.old }
+    {
+        self.last = self.start;
     }
 }

@@ -5,38 +5,34 @@ ghost use Rattle.std.specs.Prelude.{◌≡◌, IfSome, IfNone};
 use hc_framing::Message;
 use hc_head::{RequestHead, ResponseHead, Target};
 
-/// A record with its message read. Moments are whole seconds since 1970.
+/// A record with its message read.
 #[derive(Debug, Drop)]
-pub enum OwnedItem {
+pub struct OwnedItem {
+    /// The number of its exchange or its forward.
+    pub number: u64,
+    /// In whole seconds since 1970.
+    pub moment: u64,
+    /// What passed.
+    pub of: Meaning,
+}
+
+/// What passed, read.
+#[derive(Debug, Drop)]
+pub enum Meaning {
     /// What a client asked, and for what.
     ClientRequest {
-        exchange: u64,
-        moment: u64,
         request: Message<RequestHead>,
         target: Target,
     },
     /// What the origin was asked, and for what.
     OriginRequest {
-        forward: u64,
-        moment: u64,
         request: Message<RequestHead>,
         target: Target,
     },
     /// What the origin answered.
-    OriginResponse {
-        forward: u64,
-        moment: u64,
-        response: Message<ResponseHead>,
-    },
+    OriginResponse(Message<ResponseHead>),
     /// The origin gave no answer.
-    OriginFailure {
-        forward: u64,
-        moment: u64,
-    },
+    OriginFailure,
     /// What the client was answered.
-    ClientReply {
-        exchange: u64,
-        moment: u64,
-        reply: Message<ResponseHead>,
-    },
+    ClientReply(Message<ResponseHead>),
 }

@@ -8,9 +8,7 @@ ghost use Rattle.hc_transcript.specs.Records.{record_text};
 ghost use Rattle.hc_transcript.specs.Items.{Item};
 ghost use Rattle.hc_transcript.specs.Checks.{line_fault};
 ghost use Rattle.hc_transcript.specs.Transcript.{IsItemOf, Follows, Splits, GoesOn, IsTranscript};
-ghost use Rattle.hc_transcript.specs.MessageFaults.{IsNoMessage};
-ghost use Rattle.hc_transcript.specs.Frames.{IsUnfinished};
-ghost use Rattle.hc_transcript.specs.Reader.{HasNoOpening, IsUnfinishedOpening, BreaksAfter};
+ghost use Rattle.hc_transcript.specs.Malformed.{HasNoOpening, IsUnfinishedOpening, IsUnfinished, IsNoMessage, BreaksAfter};
 
 /// A record's octets are read as one item at most, and as none where they are no message of its
 /// kind.

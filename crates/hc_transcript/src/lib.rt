@@ -16,14 +16,14 @@ mod record;
 mod writing;
 
 pub use fault::RecordFault;
-pub use item::OwnedItem;
+pub use item::{Meaning, OwnedItem};
 pub use laws::{
     breaks_once, broken_for_ever, one_item, one_transcript, unfinished_once,
     written_record_read_back,
 };
 pub use line::{Kind, Line};
 pub use reader::RecordReader;
-pub use record::Record;
+pub use record::{Passed, Record};
 pub use writing::{OPENING, write_record};
 
 #[cfg(test)]

@@ -5,12 +5,11 @@ ghost use Rattle.std.specs.Ordering.{nat_cmp};
 ghost use Rattle.std.specs.BTreeMap.{get, btree_map_len};
 ghost use Rattle.hc_transcript.specs.Items.{Item, item_of, is_head};
 ghost use Rattle.hc_transcript.specs.Checks.{has_right_length, has_right_number, answers_open};
-ghost use Rattle.hc_transcript.specs.Transcript.{answers_head};
+ghost use Rattle.hc_transcript.specs.Transcript.{is_to_head};
 
 use crate::fault::RecordFault;
-use crate::item::OwnedItem;
+use crate::item::{Meaning, OwnedItem};
 use crate::line::{Kind, Line};
-use hc_framing::Message;
 use hc_head::RequestHead;
 use std::alloc::{AllocError, Global};
 use std::collections::BTreeMap;
@@ -70,10 +69,10 @@ fn answers_open(kind: Kind, has_exchange: bool, has_forward: bool) -> bool
     }
 }
 
-fn is_head(request: &Message<RequestHead>) -> bool
+fn is_head(request: &RequestHead) -> bool
     ensures { result ≡ is_head request.now }
 {
-    request.head.method.as_slice() == b"HEAD".as_slice()
+    request.method.as_slice() == b"HEAD".as_slice()
 }
 
 impl Standing {
@@ -122,8 +121,8 @@ impl Standing {
     }
 
     /// Whether what a record of that kind bears answers HEAD.
-    pub(crate) fn answers_head(&self, kind: Kind, number: u64) -> bool
-        ensures { (h : List Item) → StandsAs self.now h → result ≡ answers_head kind number h }
+    pub(crate) fn is_to_head(&self, kind: Kind, number: u64) -> bool
+        ensures { (h : List Item) → StandsAs self.now h → result ≡ is_to_head kind number h }
     {
         match kind {
             Kind::OriginResponse => self.forwards.get(&number).copied().unwrap_or(false),
@@ -138,32 +137,18 @@ impl Standing {
         ensures ok { (h : List Item) → StandsAs self.old h → OnOk result (StandsAs self.new (item_of item.now ∷ h)) }
         ensures records { self.new.records ≡ (if is_ok result then self.old.records + 1 else self.old.records) }
     {
-        match item {
-            OwnedItem::ClientRequest {
-                exchange,
-                moment,
-                request,
-                ..
-            } => self.open_exchange(*exchange, *moment, is_head(request)),
-            OwnedItem::OriginRequest {
-                forward,
-                moment,
-                request,
-                ..
-            } => self.open_forward(*forward, *moment, is_head(request)),
-            OwnedItem::OriginResponse {
-                forward,
-                moment,
-                ..
-            } => Ok(self.close_forward(*forward, *moment)),
-            OwnedItem::OriginFailure { forward, moment } => {
-                Ok(self.close_forward(*forward, *moment))
+        let number = item.number;
+        let moment = item.moment;
+        match &item.of {
+            Meaning::ClientRequest { request, .. } => {
+                self.open_exchange(number, moment, is_head(&request.head))
             }
-            OwnedItem::ClientReply {
-                exchange,
-                moment,
-                ..
-            } => Ok(self.close_exchange(*exchange, *moment)),
+            Meaning::OriginRequest { request, .. } => {
+                self.open_forward(number, moment, is_head(&request.head))
+            }
+            Meaning::OriginResponse(_) => Ok(self.close_forward(number, moment)),
+            Meaning::OriginFailure => Ok(self.close_forward(number, moment)),
+            Meaning::ClientReply(_) => Ok(self.close_exchange(number, moment)),
         }
     }
 

@@ -10,32 +10,24 @@ use crate::framed::record_at;
 use crate::held::Held;
 use crate::item::OwnedItem;
 use crate::open_numbers::Standing;
-use crate::reading::{item_of, record_of};
-use crate::record::Record;
+use crate::reading::read_item;
 use crate::writing::OPENING;
 use std::alloc::Global;
 
-/// A record that was read, and what it means.
-#[derive(Debug, Drop)]
-struct Found {
-    record: Record,
-    item: OwnedItem,
-}
-
 /// Reads the records of a transcript that comes in pieces. It holds the octets that were fed and
-/// not yet read, and the last record.
+/// not yet read, those of the record that was read last, and what that record means.
 #[derive(Debug, Drop)]
 pub struct RecordReader {
     alloc: Global,
     held: Held,
     is_open: bool,
     standing: Standing,
-    current: Option<Found>,
+    current: Option<OwnedItem>,
     fault: Option<RecordFault>,
 }
 
 impl RecordReader {
-    ghost use Rattle.hc_transcript.specs.Reader.{Agrees, GivesAdvance, HasFailed, HasRecord, Lends, CountsRecord, HasUnread, unread, records_read, reader_position, is_whole_by, GivesOpening};
+    ghost use Rattle.hc_transcript.specs.Reader.{Agrees, GivesAdvance, HasFailed, HasItem, Lends, CountsRecord, HasUnread, unread, records_read, reader_position, is_whole_by, GivesOpening};
 
     /// A reader that was given nothing.
     pub fn new(alloc: Global) -> Self
@@ -57,8 +49,8 @@ impl RecordReader {
             → OnOk result (Agrees self.new (octets ++ piece.now) records h) }
         ensures counted { records_read self.new ≡ records_read self.old }
         // A record that was read is lent as before.
-        ensures keeps { (one : Record) (item : Item) → Lends self.old one item → Lends self.new one item }
-        ensures lends { HasRecord self.old → HasRecord self.new }
+        ensures keeps { (item : Item) → Lends self.old item → Lends self.new item }
+        ensures lends { HasItem self.old → HasItem self.new }
         // Only memory can fail, unless a fault was answered before.
         ensures err { IfErr result (λ f. HasFailed self.new f × ((f ≡ RecordFault.Memory) ⊎ HasFailed self.old f)) }
         ensures failed { (f : RecordFault) → HasFailed self.old f → result ≡ Err f }
@@ -73,13 +65,13 @@ impl RecordReader {
         Ok(())
     }
 
-    /// Reads the next record, if it is whole: `true` where one was read, which `current` then lends.
+    /// Reads the next record, if it is whole: `true` where one was read, which `item` then lends.
     /// After a fault that fault is answered again.
     pub fn advance(&mut self) -> Result<bool, RecordFault>
         // Which records were read of which octets, and where each fault stands.
         ensures gives { (octets : List ℕ) (records : List Record) (h : List Item) → Agrees self.old octets records h
             → GivesAdvance result self.new octets records h }
-        ensures lends { result ≡ Ok true → HasRecord self.new }
+        ensures lends { result ≡ Ok true → HasItem self.new }
         ensures shrinks { result ≡ Ok true → unread self.new < unread self.old }
         ensures counted { CountsRecord result (records_read self.old) (records_read self.new) }
         ensures err { IfErr result (HasFailed self.new) }
@@ -88,6 +80,7 @@ impl RecordReader {
         if let Some(fault) = self.fault {
             return Err(fault);
         }
+        self.held.let_go();
         match self.step() {
             Ok(found) => Ok(found),
             Err(fault) => {
@@ -97,36 +90,28 @@ impl RecordReader {
         }
     }
 
-    /// The record that was read last.
-    pub fn current(&self) -> &Record
-        requires { HasRecord self.now }
-        ensures { (one : Record) (item : Item) → Lends self.now one item → result.now ≡ one }
-    {
-        &self.current.as_ref().unwrap().record
-    }
-
     /// What the record that was read last means.
     pub fn item(&self) -> &OwnedItem
-        requires { HasRecord self.now }
-        ensures { (one : Record) (item : Item) → Lends self.now one item → item_of result.now ≡ item }
+        requires { HasItem self.now }
+        ensures { (item : Item) → Lends self.now item → item_of result.now ≡ item }
     {
-        &self.current.as_ref().unwrap().item
+        self.current.as_ref().unwrap()
     }
 
     /// Takes out what the record that was read last means, after which none is lent until the next is
     /// read.
     pub fn take_item(&mut self) -> OwnedItem
-        requires { HasRecord self.old }
-        ensures item { (one : Record) (item : Item) → Lends self.old one item → item_of result ≡ item }
+        requires { HasItem self.old }
+        ensures item { (item : Item) → Lends self.old item → item_of result ≡ item }
         ensures agrees { (octets : List ℕ) (records : List Record) (h : List Item) → Agrees self.old octets records h
             → Agrees self.new octets records h }
         ensures unread { unread self.new ≡ unread self.old }
         ensures counted { records_read self.new ≡ records_read self.old }
         ensures position { reader_position self.new ≡ reader_position self.old }
         ensures failed { (f : RecordFault) → HasFailed self.old f → HasFailed self.new f }
-        ensures taken { ¬ (HasRecord self.new) }
+        ensures taken { ¬ (HasItem self.new) }
     {
-        self.current.take().unwrap().item
+        self.current.take().unwrap()
     }
 
     /// How many records were read, at most 4 * 10 ^ 12.
@@ -154,7 +139,7 @@ impl RecordReader {
         ensures ok { (octets : List ℕ) (records : List Record) (h : List Item) → Agrees self.old octets records h
             → OnOk result (IsTranscript octets records h) }
         ensures err { IfErr result (λ f. HasFailed self.new f × ((f ≡ RecordFault.Torn) ⊎ HasFailed self.old f)) }
-        ensures keeps { (one : Record) (item : Item) → Lends self.old one item → Lends self.new one item }
+        ensures keeps { (item : Item) → Lends self.old item → Lends self.new item }
         ensures position { reader_position self.new ≡ reader_position self.old }
         ensures torn { (octets : List ℕ) (records : List Record) (h : List Item) → Agrees self.old octets records h
             → OnErr result (HasUnread self.old) }
@@ -185,7 +170,7 @@ impl RecordReader {
     fn step(&mut self) -> Result<bool, RecordFault>
         ensures gives { (octets : List ℕ) (records : List Record) (h : List Item) → Agrees self.old octets records h
             → GivesAdvance result self.new octets records h }
-        ensures lends { result ≡ Ok true → HasRecord self.new }
+        ensures lends { result ≡ Ok true → HasItem self.new }
         ensures shrinks { result ≡ Ok true → unread self.new < unread self.old }
         ensures counted { CountsRecord result (records_read self.old) (records_read self.new) }
     {
@@ -222,7 +207,7 @@ impl RecordReader {
         requires { self.old.is_open ≡ true }
         ensures gives { (octets : List ℕ) (records : List Record) (h : List Item) → Agrees self.old octets records h
             → GivesAdvance result self.new octets records h }
-        ensures lends { result ≡ Ok true → HasRecord self.new }
+        ensures lends { result ≡ Ok true → HasItem self.new }
         ensures shrinks { result ≡ Ok true → unread self.new < unread self.old }
         ensures counted { CountsRecord result (records_read self.old) (records_read self.new) }
     {
@@ -233,15 +218,14 @@ impl RecordReader {
         };
         let to_head = self
             .standing
-            .answers_head(framed.line.kind, framed.line.number);
-        let item = match item_of(self.alloc, &framed.line, framed.message, to_head) {
+            .is_to_head(framed.line.kind, framed.line.number);
+        let item = match read_item(self.alloc, &framed.line, framed.message, to_head) {
             Err(fault) => return Err(fault),
             Ok(item) => item,
         };
-        let record = record_of(self.alloc, &framed.line, framed.message)?;
         let len = framed.len;
         self.standing.note(&item)?;
-        self.current = Some(Found { record, item });
+        self.current = Some(item);
         self.held.skip(len);
         Ok(true)
     }

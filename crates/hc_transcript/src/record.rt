@@ -1,36 +1,27 @@
 use hc_fields::Octets;
 
-/// A record of a transcript: what passed, the number of its exchange or forward, the moment in
-/// whole seconds since 1970, and the octets of the message as they passed.
+/// A record of a transcript: what passed, the number of its exchange or forward, and the moment.
 #[derive(Debug, Drop)]
-pub enum Record {
+pub struct Record {
+    /// The number of its exchange or its forward.
+    pub number: u64,
+    /// In whole seconds since 1970.
+    pub moment: u64,
+    /// What passed.
+    pub of: Passed,
+}
+
+/// What passed, with the octets of its message as they were.
+#[derive(Debug, Drop)]
+pub enum Passed {
     /// What a client asked.
-    ClientRequest {
-        exchange: u64,
-        moment: u64,
-        message: Octets,
-    },
+    ClientRequest(Octets),
     /// What the origin was asked.
-    OriginRequest {
-        forward: u64,
-        moment: u64,
-        message: Octets,
-    },
+    OriginRequest(Octets),
     /// What the origin answered.
-    OriginResponse {
-        forward: u64,
-        moment: u64,
-        message: Octets,
-    },
+    OriginResponse(Octets),
     /// The origin gave no answer.
-    OriginFailure {
-        forward: u64,
-        moment: u64,
-    },
+    OriginFailure,
     /// What the client was answered.
-    ClientReply {
-        exchange: u64,
-        moment: u64,
-        message: Octets,
-    },
+    ClientReply(Octets),
 }

@@ -16,23 +16,12 @@ x 1 1001 0
 
 /// The letter that a record of that meaning has.
 fn item_letter(item: &OwnedItem) -> u8 {
-    match item {
-        OwnedItem::ClientRequest { .. } => b'q',
-        OwnedItem::OriginRequest { .. } => b'f',
-        OwnedItem::OriginResponse { .. } => b'r',
-        OwnedItem::OriginFailure { .. } => b'x',
-        OwnedItem::ClientReply { .. } => b'a',
-    }
-}
-
-/// The letter of a record in upper case.
-fn record_letter(record: &Record) -> u8 {
-    match record {
-        Record::ClientRequest { .. } => b'Q',
-        Record::OriginRequest { .. } => b'F',
-        Record::OriginResponse { .. } => b'R',
-        Record::OriginFailure { .. } => b'X',
-        Record::ClientReply { .. } => b'A',
+    match item.of {
+        Meaning::ClientRequest { .. } => b'q',
+        Meaning::OriginRequest { .. } => b'f',
+        Meaning::OriginResponse(_) => b'r',
+        Meaning::OriginFailure => b'x',
+        Meaning::ClientReply(_) => b'a',
     }
 }
 
@@ -44,7 +33,6 @@ fn read_piece(
 ) -> Result<(), RecordFault> {
     reader.feed(piece)?;
     if reader.advance()? {
-        letters.push(record_letter(reader.current()))?;
         letters.push(item_letter(reader.item()))?;
     }
     Ok(())
@@ -91,7 +79,7 @@ fn tell(alloc: Global, octets: &[u8]) -> Result<Told, RecordFault> {
 #[test]
 fn records_are_read_in_any_pieces(rt: HostRuntime) -> Result<(), Fail> {
     let told = tell(rt.alloc(), RECORDS)?;
-    assert_eq!(rt; told.letters.as_slice(), b"QqFfXx".as_slice());
+    assert_eq!(rt; told.letters.as_slice(), b"qfx".as_slice());
     assert_eq!(rt; told.records, 3);
     assert_eq!(rt; told.position, 4);
     Ok(())
@@ -117,8 +105,8 @@ fn answered(alloc: Global, method: &str, response: &[u8]) -> Result<Vec<u8>, All
 
 /// The body of an answer of the origin.
 fn item_body(alloc: Global, item: &OwnedItem) -> Result<Octets, RecordFault> {
-    match item {
-        OwnedItem::OriginResponse { response, .. } => Ok(response.body.copy(alloc)?),
+    match &item.of {
+        Meaning::OriginResponse(response) => Ok(response.body.copy(alloc)?),
         _ => Err(RecordFault::Torn),
     }
 }
@@ -147,8 +135,8 @@ fn body_of(alloc: Global, method: &str, response: &[u8]) -> Result<Octets, Recor
 
 /// The target of what a client asked.
 fn item_target(alloc: Global, item: &OwnedItem) -> Result<Target, RecordFault> {
-    match item {
-        OwnedItem::ClientRequest { target, .. } => Ok(target.copy(alloc)?),
+    match &item.of {
+        Meaning::ClientRequest { target, .. } => Ok(target.copy(alloc)?),
         _ => Err(RecordFault::Torn),
     }
 }
@@ -325,32 +313,14 @@ fn written(
     message: &[u8],
 ) -> Result<Octets, AllocError> {
     let message = Octets::from_slice(alloc, message)?;
-    let record = match kind {
-        Kind::ClientRequest => Record::ClientRequest {
-            exchange: number,
-            moment,
-            message,
-        },
-        Kind::OriginRequest => Record::OriginRequest {
-            forward: number,
-            moment,
-            message,
-        },
-        Kind::OriginResponse => Record::OriginResponse {
-            forward: number,
-            moment,
-            message,
-        },
-        Kind::OriginFailure => Record::OriginFailure {
-            forward: number,
-            moment,
-        },
-        Kind::ClientReply => Record::ClientReply {
-            exchange: number,
-            moment,
-            message,
-        },
+    let of = match kind {
+        Kind::ClientRequest => Passed::ClientRequest(message),
+        Kind::OriginRequest => Passed::OriginRequest(message),
+        Kind::OriginResponse => Passed::OriginResponse(message),
+        Kind::OriginFailure => Passed::OriginFailure,
+        Kind::ClientReply => Passed::ClientReply(message),
     };
+    let record = Record { number, moment, of };
     write_record(alloc, &record)
 }
 
@@ -422,7 +392,7 @@ fn six_records(alloc: Global) -> Result<Vec<u8>, AllocError> {
 fn written_records_are_read_back(rt: HostRuntime) -> Result<(), Fail> {
     let octets = six_records(rt.alloc())?;
     let told = tell(rt.alloc(), &octets)?;
-    assert_eq!(rt; told.letters.as_slice(), b"QqFfRrAaFfXx".as_slice());
+    assert_eq!(rt; told.letters.as_slice(), b"qfrafx".as_slice());
     assert_eq!(rt; told.records, 6);
     assert_eq!(rt; told.position, 7);
     Ok(())

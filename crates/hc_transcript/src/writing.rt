@@ -1,10 +1,10 @@
 //! Writing transcripts.
 
 ghost use Rattle.std.specs.Prelude.{◌≡◌, [], ◌∷◌, ◌++◌, IfOk, OnOk};
-ghost use Rattle.hc_transcript.specs.Records.{letter, line_text, line_of, message_of, record_text};
+ghost use Rattle.hc_transcript.specs.Records.{letter, line_text, line_of, passed_kind, passed_octets, record_text};
 
 use crate::line::{Kind, Line};
-use crate::record::Record;
+use crate::record::{Passed, Record};
 use hc_fields::Octets;
 use std::alloc::{AllocError, Global};
 use std::io::Write;
@@ -25,16 +25,29 @@ fn letter(kind: Kind) -> &'static str
     }
 }
 
-/// The octets of a record's message; a failure has none.
-fn message_of(record: &Record) -> &[u8]
-    ensures { result.now ≡ message_of «record».now }
+/// The kind of what passed.
+fn passed_kind(passed: &Passed) -> Kind
+    ensures { result ≡ passed_kind passed.now }
 {
-    match record {
-        Record::ClientRequest { message, .. }
-        | Record::OriginRequest { message, .. }
-        | Record::OriginResponse { message, .. }
-        | Record::ClientReply { message, .. } => message.as_slice(),
-        Record::OriginFailure { .. } => b"",
+    match passed {
+        Passed::ClientRequest(_) => Kind::ClientRequest,
+        Passed::OriginRequest(_) => Kind::OriginRequest,
+        Passed::OriginResponse(_) => Kind::OriginResponse,
+        Passed::OriginFailure => Kind::OriginFailure,
+        Passed::ClientReply(_) => Kind::ClientReply,
+    }
+}
+
+/// The octets that passed; of a failure none.
+fn passed_octets(passed: &Passed) -> &[u8]
+    ensures { result.now ≡ passed_octets passed.now }
+{
+    match passed {
+        Passed::ClientRequest(message)
+        | Passed::OriginRequest(message)
+        | Passed::OriginResponse(message)
+        | Passed::ClientReply(message) => message.as_slice(),
+        Passed::OriginFailure => b"",
     }
 }
 
@@ -42,54 +55,11 @@ fn message_of(record: &Record) -> &[u8]
 fn line_of(record: &Record) -> Line
     ensures { result ≡ line_of «record».now }
 {
-    let size = message_of(record).len() as u64;
-    match record {
-        Record::ClientRequest {
-            exchange,
-            moment,
-            ..
-        } => Line {
-            kind: Kind::ClientRequest,
-            number: *exchange,
-            moment: *moment,
-            size,
-        },
-        Record::OriginRequest {
-            forward,
-            moment,
-            ..
-        } => Line {
-            kind: Kind::OriginRequest,
-            number: *forward,
-            moment: *moment,
-            size,
-        },
-        Record::OriginResponse {
-            forward,
-            moment,
-            ..
-        } => Line {
-            kind: Kind::OriginResponse,
-            number: *forward,
-            moment: *moment,
-            size,
-        },
-        Record::OriginFailure { forward, moment } => Line {
-            kind: Kind::OriginFailure,
-            number: *forward,
-            moment: *moment,
-            size,
-        },
-        Record::ClientReply {
-            exchange,
-            moment,
-            ..
-        } => Line {
-            kind: Kind::ClientReply,
-            number: *exchange,
-            moment: *moment,
-            size,
-        },
+    Line {
+        kind: passed_kind(&record.of),
+        number: record.number,
+        moment: record.moment,
+        size: passed_octets(&record.of).len() as u64,
     }
 }
 
@@ -110,7 +80,7 @@ pub fn write_record(alloc: Global, record: &Record) -> Result<Octets, AllocError
 {
     let mut text = Vec::new(alloc);
     write_line(&mut text, &line_of(record))?;
-    text.extend_from_slice(message_of(record))?;
+    text.extend_from_slice(passed_octets(&record.of))?;
     text.extend_from_slice(b"\n")?;
     Ok(Octets::from_vec(text))
 }

@@ -11,17 +11,16 @@ pub returns-in-Ok-None-clause-gives : goal.returns-in-Ok-None-clause-gives
 returns-in-Ok-None-clause-gives c = λ octets records h agrees.
     (agrees, waits_on c.args.self.now octets records h c.requires agrees (rw (c.as_slice.ensures, c.in-Ok-None.field-0-is) at c.in-Ok-None.ensures))
 
-pub returns-in-Err-item_of-clause-gives : goal.returns-in-Err-item_of-clause-gives
-returns-in-Err-item_of-clause-gives c = λ octets records h agrees other.
-    stops_by_item c.args.self.now octets records h c.in-Err-item_of.fault c.in-Ok-Some.framed.line c.in-Ok-Some.framed.message.now c.in-Ok-Some.framed.len c.answers_head-to_head.result
-    c.requires agrees (rw (c.as_slice.ensures, c.in-Ok-Some.field-0-is) at c.in-Ok-Some.ensures) (c.answers_head-to_head.ensures h agrees.stands) c.in-Err-item_of.ensures.gives other
+pub returns-in-Err-read_item-clause-gives : goal.returns-in-Err-read_item-clause-gives
+returns-in-Err-read_item-clause-gives c = λ octets records h agrees other.
+    stops_by_item c.args.self.now octets records h c.in-Err-read_item.fault c.in-Ok-Some.framed.line c.in-Ok-Some.framed.message.now c.in-Ok-Some.framed.len c.is_to_head-to_head.result
+    c.requires agrees (rw (c.as_slice.ensures, c.in-Ok-Some.field-0-is) at c.in-Ok-Some.ensures) (c.is_to_head-to_head.ensures h agrees.stands) c.in-Err-read_item.ensures other
 
 pub returns-clause-gives : goal.returns-clause-gives
 returns-clause-gives c = λ octets records h agrees.
-    advances c.args.self.now _ octets records h c.in-Ok-Some.framed.line c.in-Ok-Some.framed.message.now c.in-Ok-Some.framed.len c.answers_head-to_head.result c.in_ok-record.record c.in-Ok.item
-    c.requires agrees (rw (c.as_slice.ensures, c.in-Ok-Some.field-0-is) at c.in-Ok-Some.ensures) (c.answers_head-to_head.ensures h agrees.stands) c.in-Ok.ensures.gives
-    c.in_ok-record.ensures.0 c.in_ok-record.ensures.1 c.skip.ensures c.requires refl (c.in_ok-note.ensures.ok h agrees.stands)
-    (record { «record» = c.in_ok-record.record; item = c.in-Ok.item }) refl refl refl
+    advances c.args.self.now _ octets records h c.in-Ok-Some.framed.line c.in-Ok-Some.framed.message.now c.in-Ok-Some.framed.len c.is_to_head-to_head.result c.in-Ok.item
+    c.requires agrees (rw (c.as_slice.ensures, c.in-Ok-Some.field-0-is) at c.in-Ok-Some.ensures) (c.is_to_head-to_head.ensures h agrees.stands) c.in-Ok.ensures
+    c.skip.ensures c.requires refl (c.in_ok-note.ensures.ok h agrees.stands) refl
 
 pub returns-clause-shrinks : goal.returns-clause-shrinks
 returns-clause-shrinks c = λ read.
