@@ -1,5 +1,5 @@
 -- What is known once every directive was read.
-use Rattle.std.proofs.Common.{◌≡◌, ℕ, Bool, true, false, cond, ◌||◌, List, [], ◌∷◌, Option, Some, None, refl, sym, ap, ◌∙◌}
+use Rattle.std.proofs.Common.{◌≡◌, ℕ, Bool, true, false, cond, ◌||◌, List, [], ◌∷◌, Option, Some, None, refl, ◌∙◌}
 use Rattle.std.specs.Prelude.{codes}
 use Rattle.hc_fields.specs.Numbers.{number_of}
 use Rattle.hc_directives.specs.declared.cache_control.Seconds.{Seconds}

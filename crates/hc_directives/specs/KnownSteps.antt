@@ -1,5 +1,5 @@
 -- The known directives read one by one. These definitions are what private functions return.
-use Rattle.std.specs.Prelude.{ℕ, Bool, false, ◌||◌, List, [], ◌∷◌, codes, if◌then◌else◌}
+use Rattle.std.specs.Prelude.{ℕ, false, ◌||◌, List, [], ◌∷◌, codes, if◌then◌else◌}
 use Rattle.hc_directives.specs.declared.cache_control.Seconds.{Seconds}
 use Rattle.hc_directives.specs.declared.cache_control.Seconds.TheVariants.{Absent, Bare, Value, Unreadable}
 use Rattle.hc_directives.specs.declared.known.KnownDirectives.{KnownDirectives}
