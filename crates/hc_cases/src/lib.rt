@@ -6,6 +6,7 @@
 
 mod answers;
 mod asking;
+mod blocks;
 mod escapes;
 mod list;
 mod print;
@@ -14,6 +15,7 @@ mod words;
 
 pub use answers::{answer_all, status};
 pub use asking::{Ask, Unanswered};
+pub use blocks::{fields_of_block, fields_of_lines};
 pub use escapes::unescaped;
 pub use showing::{show, show_short};
 pub use words::octets_of;
