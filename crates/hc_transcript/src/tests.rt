@@ -118,7 +118,7 @@ fn answered(alloc: Global, method: &str, response: &[u8]) -> Result<Vec<u8>, All
 /// The body of an answer of the origin.
 fn item_body(alloc: Global, item: &OwnedItem) -> Result<Octets, RecordFault> {
     match item {
-        OwnedItem::OriginResponse { response, .. } => Ok(response.body.copy(alloc)?),
+        OwnedItem::OriginResponse { response, .. } => Ok(Octets::from_slice(alloc, response.body.as_slice())?),
         _ => Err(RecordFault::Torn),
     }
 }
