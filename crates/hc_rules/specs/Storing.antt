@@ -1,11 +1,11 @@
 -- What a shared cache may store (RFC 9111 section 3).
 use Rattle.std.specs.Prelude.{ℕ, Bool, ◌&&◌, ◌||◌, ◌==◌, not, List, [], ◌∷◌, codes, nat_le}
 use Rattle.std.specs.List.{list_any}
-use Rattle.std.specs.Str.{bytes_eq}
 use Rattle.hc_fields.specs.declared.fields.Field.{Field}
 use Rattle.hc_fields.specs.Values.{has_name}
 use Rattle.hc_head.specs.declared.head.RequestHead.{RequestHead}
 use Rattle.hc_head.specs.declared.head.ResponseHead.{ResponseHead}
+use Rattle.hc_head.specs.Methods.{is_get}
 use Rattle.hc_fresh.specs.Lifetimes.{says, explicit}
 
 -- ---- statuses
@@ -30,7 +30,7 @@ is_understood status = is_heuristically_cacheable status || status == 302 || sta
 
 -- a GET that doesn't say no-store (section 5.2.1.5)
 abbrev pub asks_for_storable : RequestHead → Bool
-asks_for_storable forward = bytes_eq forward.method (codes "GET") && not (says (codes "no-store") forward.fields)
+asks_for_storable forward = is_get forward.method && not (says (codes "no-store") forward.fields)
 
 -- whether the request has Authorization
 abbrev pub has_authorization : RequestHead → Bool

@@ -6,9 +6,8 @@ ghost use Rattle.hc_fresh.specs.Lifetimes.{explicit};
 ghost use Rattle.hc_rules.specs.Storing.{asks_for_storable, has_authorization, is_heuristically_cacheable, is_storable, is_understood, may_store};
 
 use hc_directives::{Directives, KnownDirectives};
-use hc_fields::Fields;
 use hc_fresh::explicit;
-use hc_head::{RequestHead, ResponseHead};
+use hc_head::{RequestHead, ResponseHead, is_get};
 
 /// The statuses that may be stored where nothing says so (RFC 9110 section 15.1), but 206.
 const HEURISTICALLY_CACHEABLE: [u16; 11] = [200, 203, 204, 300, 301, 308, 404, 405, 410, 414, 501];
@@ -42,8 +41,7 @@ fn is_understood(status: u16) -> bool
 pub fn asks_for_storable(forward: &RequestHead) -> bool
     ensures { result ≡ asks_for_storable forward.now }
 {
-    forward.method.as_slice() == b"GET".as_slice()
-        && !Directives::read(&forward.fields).has(b"no-store")
+    is_get(forward.method.as_slice()) && !Directives::read(&forward.fields).has(b"no-store")
 }
 
 fn has_authorization(forward: &RequestHead) -> bool
