@@ -49,6 +49,13 @@ impl Octets {
         Octets { bytes }
     }
 
+    /// The octets as a vector, which is moved.
+    pub fn into_vec(self) -> Vec<u8>
+        ensures { result.items ≡ self }
+    {
+        self.bytes
+    }
+
     /// The octets themselves.
     pub fn as_slice(&self) -> &[u8]
         ensures { result.now ≡ self.now }

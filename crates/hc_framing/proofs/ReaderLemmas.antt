@@ -1,5 +1,5 @@
 -- What a reader of messages keeps, from piece to piece.
-use Rattle.std.proofs.Common.{◌≡◌, ◌≢◌, ℕ, ◌+◌, ◌-◌, ◌≤◌, ◌<◌, List, [], ◌∷◌, ◌++◌, length, take, drop, Result, Ok, Err, Option, Some, None, rules, refl, sym, ap, subst, ◌∙◌, arith, append_assoc, append-nil, length-append, length-drop, length-take, inl, inr}
+use Rattle.std.proofs.Common.{◌≡◌, ◌≢◌, ℕ, ◌+◌, ◌-◌, ◌≤◌, ◌<◌, List, [], ◌∷◌, ◌++◌, length, take, drop, Result, Ok, Err, Option, Some, None, IfSome, rules, refl, sym, ap, subst, ◌∙◌, arith, append_assoc, append-nil, length-append, length-drop, length-take, inl, inr}
 use Rattle.std.specs.Prelude.{IfErr}
 use Rattle.std.proofs.lemmas.Bool.{cases_lt}
 use Rattle.std.proofs.lemmas.List.{drop-append-le, take-append-drop, drop_all, take_all, take-append-le}
@@ -28,7 +28,7 @@ use Rattle.hc_framing.specs.Bodies.{BreaksBody}
 use Rattle.hc_framing.specs.Framing.{IsFramingFault}
 use Rattle.hc_framing.specs.BodyReading.{AgreesBody, FaultsBody}
 use Rattle.hc_framing.specs.Faults.{ShowsFault, BreaksBehind, StandsIn, StandsAtEnd, GoesOnBehind, IsWholeIn, GivesMessage, FindsMessage}
-use Rattle.hc_framing.specs.Reader.{HasFailed, Holds, HasMessage, HasRoomLeft, KeepsHead, KeepsBody, AgreesAt, Agrees, CanFeed, HasNoMessage, BeginsIn, EndsAfter, FeedGives, FeedFinds, IsInTime, EndsHere, EndGives, OnWhole, IsHeadOf, ShowsHead, UnlessMemory}
+use Rattle.hc_framing.specs.Reader.{HasFailed, Holds, HasMessage, HasRoomLeft, KeepsHead, KeepsBody, AgreesAt, Agrees, CanFeed, HasNoMessage, BeginsIn, EndsAfter, FeedGives, FeedFinds, IsInTime, EndsHere, EndGives, OnWhole, IsHeadOf, ShowsHead, ShowsHeadAfter}
 use Rattle.hc_framing.specs.ReaderParts.{HasRead, FaultsHead, ReadsHead, FeedsBody, BeginsBodyGives}
 use Rattle.hc_head.specs.declared.head.Step.TheVariants as steps
 use Rattle.hc_framing.specs.declared.body.Stage as bodies
@@ -236,7 +236,7 @@ module _ {H : Type 0} (Begins : List ℕ → H → ℕ → Type 0) (field_count 
   -- a body that has ended with so many octets of a piece, behind its head
   pub body_ends : (kind : Kind) (r s : MessageReader H) (octets piece : List ℕ) (room : Room) (used : ℕ) (head : H) (len : ℕ) (frame : Framing)
       → IsWholeHead Begins field_count octets room head len → framing kind head ≡ Ok frame → s.stage ≡ at.End → s.head ≡ Some (bare head)
-      → used ≤ length piece → BeginsBody frame (drop len octets ++ take used piece) s.body.octets (length (drop len octets) + used)
+      → used ≤ length piece → BeginsBody frame (drop len octets ++ take used piece) s.body.whole (length (drop len octets) + used)
       → EndsAfter Begins field_count framing bare kind room s octets piece used
   body_ends kind r s octets piece room used head len frame begins framed stage-is head-is within body =
       let t = take used piece in
@@ -244,7 +244,7 @@ module _ {H : Type 0} (Begins : List ℕ → H → ℕ → Type 0) (field_count 
       let on = head_goes_on octets t room head len begins in
       record {
         within = within;
-        message = record { head = bare head; body = s.body.octets };
+        message = record { head = bare head; body = s.body.whole };
         begins = record {
           begins = record {
             head = head;
@@ -253,7 +253,7 @@ module _ {H : Type 0} (Begins : List ℕ → H → ℕ → Type 0) (field_count 
             frame = frame;
             framed = framed;
             body_len = length (drop len octets) + used;
-            body = subst (λ (o : List ℕ). BeginsBody frame o s.body.octets (length (drop len octets) + used)) (sym (drop-append-le len octets t inside)) body;
+            body = subst (λ (o : List ℕ). BeginsBody frame o s.body.whole (length (drop len octets) + used)) (sym (drop-append-le len octets t inside)) body;
             head_is = refl;
             len_is = omega (arith, length-drop len octets, inside);
           };
@@ -439,8 +439,8 @@ module _ {H : Type 0} (Begins : List ℕ → H → ℕ → Type 0) (field_count 
       let seen = octets ++ take used piece in
       let within : used ≤ length piece = omega (arith, p.searches.within, ap length p.searches.near_is, length-take most piece) in
       let none : length (drop h.len seen) ≡ 0 = ap length h.none_behind in
-      let behind : BeginsBody frame (drop h.len seen ++ take taken rest) z.body.octets (length (drop h.len seen) + taken) =
-      subst (λ (o : List ℕ). BeginsBody frame (o ++ take taken rest) z.body.octets (length o + taken)) (sym h.none_behind) (subst (λ (n : ℕ). BeginsBody frame (take taken rest) z.body.octets n) (omega arith) begun.2.1) in
+      let behind : BeginsBody frame (drop h.len seen ++ take taken rest) z.body.whole (length (drop h.len seen) + taken) =
+      subst (λ (o : List ℕ). BeginsBody frame (o ++ take taken rest) z.body.whole (length o + taken)) (sym h.none_behind) (subst (λ (n : ℕ). BeginsBody frame (take taken rest) z.body.whole n) (omega arith) begun.2.1) in
       let e = body_ends kind s z seen rest room taken h.head h.len frame h.begins h.framed begun.1 (begun.0.head_is ∙ h.head_is) begun.2.0 behind in
       let octets-are : seen ++ take taken rest ≡ octets ++ take (used + taken) piece =
       append_assoc octets (take used piece) (take taken rest) ∙ ap (λ (o : List ℕ). octets ++ (take used piece ++ take taken o)) p.rest_is ∙ ap (λ (o : List ℕ). octets ++ o) (sym (take-add used taken piece)) in
@@ -633,7 +633,7 @@ module _ {H : Type 0} (Begins : List ℕ → H → ℕ → Type 0) (field_count 
 
   pub closes : (kind : Kind) (room : Room) (r s : MessageReader H) (octets : List ℕ) → r.stage ≡ at.Body → Agrees Begins field_count framing bare kind room r octets
       → ((frame : Framing) (behind : List ℕ) → AgreesBody frame r.body behind → frame ≡ UntilClose)
-      → s.stage ≡ at.End → s.head ≡ r.head → s.body ≡ r.body → EndsHere Begins field_count framing bare kind room s octets
+      → s.stage ≡ at.End → s.head ≡ r.head → s.body.whole ≡ r.body.octets → EndsHere Begins field_count framing bare kind room s octets
   closes kind room r s octets stage agrees until stage-is head-is body-is =
       let k = subst (λ (t : Stage). AgreesAt Begins field_count framing bare t kind room r octets) stage agrees.2 in
       record {
@@ -651,7 +651,7 @@ module _ {H : Type 0} (Begins : List ℕ → H → ℕ → Type 0) (field_count 
           octets_fit = k.begins.octets_fit;
           fields_fit = k.begins.fields_fit;
         };
-        holds = record { stage_is = stage-is; head_is = head-is ∙ k.head_is; body_is = ap (λ (b : BodyReader). b.octets) body-is };
+        holds = record { stage_is = stage-is; head_is = head-is ∙ k.head_is; body_is = body-is };
       }
 
   pub cut_in_body : (kind : Kind) (room : Room) (r : MessageReader H) (octets : List ℕ) → r.stage ≡ at.Body → Agrees Begins field_count framing bare kind room r octets
@@ -859,20 +859,27 @@ module _ {H : Type 0} (Begins : List ℕ → H → ℕ → Type 0) (field_count 
       (head_goes_on (octets ++ take used piece) (drop used piece) room m.head m.head_len (head_in kind (octets ++ take used piece) room gives.message (length octets + used) gives.begins)))
       m.framed (gives.holds.head_is ∙ ap (λ (h : H). Some h) m.head_is)
 
-  unless : (fault : FrameFault) (claim : Type 0) → claim → UnlessMemory {A = Progress} (Err fault) claim
-  unless faults.Memory claim holds = tt
-  unless (faults.Head f) claim holds = holds
-  unless faults.BothLengths claim holds = holds
-  unless faults.BadLength claim holds = holds
-  unless faults.BadCoding claim holds = holds
-  unless faults.BadChunk claim holds = holds
-  unless faults.BodyTooLong claim holds = holds
-  unless faults.Truncated claim holds = holds
-  unless faults.Failed claim holds = holds
+  -- what is shown is the head, also where memory ran out
+  only_head : (kind : Kind) (room : Room) (octets : List ℕ) (shown : Option H) → ShowsHead Begins field_count framing bare kind room octets shown
+      → IfSome shown (IsHeadOf Begins field_count framing bare kind room octets)
+  only_head kind room octets None shows = tt
+  only_head kind room octets (Some shown) shows = shows
+
+  shows_after : (fault : FrameFault) (kind : Kind) (room : Room) (octets : List ℕ) (shown : Option H) → ShowsHead Begins field_count framing bare kind room octets shown
+      → ShowsHeadAfter Begins field_count framing bare (Err fault) kind room octets shown
+  shows_after faults.Memory kind room octets shown shows = only_head kind room octets shown shows
+  shows_after (faults.Head f) kind room octets shown shows = shows
+  shows_after faults.BothLengths kind room octets shown shows = shows
+  shows_after faults.BadLength kind room octets shown shows = shows
+  shows_after faults.BadCoding kind room octets shown shows = shows
+  shows_after faults.BadChunk kind room octets shown shows = shows
+  shows_after faults.BodyTooLong kind room octets shown shows = shows
+  shows_after faults.Truncated kind room octets shown shows = shows
+  shows_after faults.Failed kind room octets shown shows = shows
 
   -- while the head is read
   pub head_faulty_shows : (kind : Kind) (room : Room) (r q s : MessageReader H) (octets piece near rest : List ℕ) (most used : ℕ) (fault : FrameFault) → Step kind room r q octets piece near rest most used
-      → ReadsHead Begins field_count framing bare (Err fault) q s → UnlessMemory {A = Progress} (Err fault) (ShowsHead Begins field_count framing bare kind room (octets ++ piece) s.head)
+      → ReadsHead Begins field_count framing bare (Err fault) q s → ShowsHeadAfter Begins field_count framing bare (Err fault) kind room (octets ++ piece) s.head
   head_faulty_shows kind room r q s octets piece near rest most used fault p reads =
       let k = keeps kind room r q octets piece near rest most used p in
       go fault reads.1 (head_faulty kind room r q octets piece near rest most used fault p reads.1) (reads.0 ∙ p.shown_is ∙ k.no_head)
@@ -892,7 +899,7 @@ module _ {H : Type 0} (Begins : List ℕ → H → ℕ → Type 0) (field_count 
       lost f gives other h = finds_head Begins field_count laws.one_head laws.goes_on (octets ++ piece) room (Err f) h.head h.len gives h.begins
 
       go : (f : FrameFault) → FaultsHead Begins field_count framing bare f q → StandsIn Begins field_count (framing kind) bare f (octets ++ piece) room → s.head ≡ None
-          → UnlessMemory {A = Progress} (Err f) (ShowsHead Begins field_count framing bare kind room (octets ++ piece) s.head)
+          → ShowsHeadAfter Begins field_count framing bare (Err f) kind room (octets ++ piece) s.head
       go (faults.Head heads.Memory) h stands none = absurd (stands.0 refl)
       go (faults.Head heads.Syntax) h stands none = hidden none (lost heads.Syntax stands.1)
       go (faults.Head heads.TooManyFields) h stands none = hidden none (lost heads.TooManyFields stands.1)
@@ -905,30 +912,30 @@ module _ {H : Type 0} (Begins : List ℕ → H → ℕ → Type 0) (field_count 
       go faults.BadChunk h stands none = absurd h.1
       go faults.BodyTooLong h stands none = by faults.BodyTooLong none (told h.0)
       go faults.Truncated h stands none = absurd h.1
-      go faults.Memory h stands none = tt
+      go faults.Memory h stands none = subst (λ (shown : Option H). IfSome shown (IsHeadOf Begins field_count framing bare kind room (octets ++ piece))) (sym none) tt
       go faults.Failed h stands none = absurd h.1
 
   -- while the body is read
   pub body_faulty_shows : (kind : Kind) (room : Room) (r s : MessageReader H) (octets piece : List ℕ) (fault : FrameFault) → r.stage ≡ at.Body
       → Agrees Begins field_count framing bare kind room r octets → FeedsBody (Err fault) r s piece
-      → UnlessMemory {A = Progress} (Err fault) (ShowsHead Begins field_count framing bare kind room (octets ++ piece) s.head)
+      → ShowsHeadAfter Begins field_count framing bare (Err fault) kind room (octets ++ piece) s.head
   body_faulty_shows kind room r s octets piece fault stage agrees feeds =
       let k = subst (λ (t : Stage). AgreesAt Begins field_count framing bare t kind room r octets) stage agrees.2 in
-      unless fault _ (shown_some kind room (octets ++ piece) k.head k.len k.frame s.head (head_goes_on octets piece room k.head k.len k.begins) k.framed (feeds.0 ∙ k.head_is))
+      shows_after fault kind room (octets ++ piece) s.head (shown_some kind room (octets ++ piece) k.head k.len k.frame s.head (head_goes_on octets piece room k.head k.len k.begins) k.framed (feeds.0 ∙ k.head_is))
 
   pub body_shows : (r s : MessageReader H) (piece : List ℕ) (result : Result Progress FrameFault) → r.stage ≡ at.Body → FeedsBody result r s piece
       → IfErr result (λ fault. (kind : Kind) (room : Room) (octets : List ℕ) → Agrees Begins field_count framing bare kind room r octets
-      → UnlessMemory result (ShowsHead Begins field_count framing bare kind room (octets ++ piece) s.head))
+      → ShowsHeadAfter Begins field_count framing bare result kind room (octets ++ piece) s.head)
   body_shows r s piece (Ok progress) stage feeds = tt
   body_shows r s piece (Err fault) stage feeds = λ kind room octets agrees. body_faulty_shows kind room r s octets piece fault stage agrees feeds
 
   pub body_broken_shows : (kind : Kind) (room : Room) (r q s z : MessageReader H) (octets piece near rest : List ℕ) (most used : ℕ) (frame : Framing) (fault : FrameFault) → Step kind room r q octets piece near rest most used
       → ReadsHead Begins field_count framing bare (Ok (Some frame)) q s → BeginsBodyGives frame (Err fault) s z rest
-      → UnlessMemory {A = Progress} (Err fault) (ShowsHead Begins field_count framing bare kind room (octets ++ piece) z.head)
+      → ShowsHeadAfter Begins field_count framing bare (Err fault) kind room (octets ++ piece) z.head
   body_broken_shows kind room r q s z octets piece near rest most used frame fault p reads begun =
       let h = head_whole kind room r q s octets piece near rest most used frame p reads in
       let seen = octets ++ take used piece in
-      unless fault _ (subst (λ (o : List ℕ). ShowsHead Begins field_count framing bare kind room o z.head) (joined octets piece rest used p.rest_is)
+      shows_after fault kind room (octets ++ piece) z.head (subst (λ (o : List ℕ). ShowsHead Begins field_count framing bare kind room o z.head) (joined octets piece rest used p.rest_is)
       (shown_some kind room (seen ++ rest) h.head h.len frame z.head (head_goes_on seen rest room h.head h.len h.begins) h.framed (begun.0 ∙ h.head_is)))
 
 -- ---- requests and responses

@@ -1,5 +1,5 @@
 -- A reader of messages in pieces, and the octets that it was given, of which it keeps those of the head or of the body.
-use Rattle.std.specs.Prelude.{◌≡◌, ◌≢◌, ℕ, ◌+◌, ◌<◌, ◌≤◌, ◌⊎◌, List, [], ◌++◌, length, take, drop, Option, Some, None, Result, Ok, Err}
+use Rattle.std.specs.Prelude.{◌≡◌, ◌≢◌, ℕ, ◌+◌, ◌<◌, ◌≤◌, ◌⊎◌, List, [], ◌++◌, length, take, drop, Option, Some, None, IfSome, Result, Ok, Err}
 use Rattle.hc_head.specs.declared.head.Room.{Room}
 use Rattle.hc_head.specs.declared.empty_line.Search.TheVariants.{Blank, Found}
 use Rattle.hc_head.specs.EmptyLine.{searched}
@@ -26,7 +26,7 @@ HasFailed r = r.stage ≡ Failed
 pub record Holds {H : Type 0} (r : MessageReader H) (message : Message H) : Type 0 where
   pub stage_is : r.stage ≡ End
   pub head_is : r.head ≡ Some message.head
-  pub body_is : r.body.octets ≡ message.body
+  pub body_is : r.body.whole ≡ message.body
 
 -- it has found some message
 abbrev pub HasMessage : {H : Type 0} → MessageReader H → Type 0
@@ -108,9 +108,16 @@ module _ {H : Type 0} (Begins : List ℕ → H → ℕ → Type 0) (field_count 
     pub framed : framing kind head ≡ Ok frame
     pub shown_is : shown ≡ bare head
 
+  -- the head of the octets is shown, where it is there
   abbrev pub ShowsHead : Kind → Room → List ℕ → Option H → Type 0
   ShowsHead kind room octets None = (shown : H) → ¬ (IsHeadOf kind room octets shown)
   ShowsHead kind room octets (Some shown) = IsHeadOf kind room octets shown
+
+  -- the same after an answer to a piece: where memory ran out, nothing else is shown
+  abbrev pub ShowsHeadAfter : Result Progress FrameFault → Kind → Room → List ℕ → Option H → Type 0
+  ShowsHeadAfter (Ok progress) kind room octets shown = ShowsHead kind room octets shown
+  ShowsHeadAfter (Err faults.Memory) kind room octets shown = IfSome shown (IsHeadOf kind room octets)
+  ShowsHeadAfter (Err fault) kind room octets shown = ShowsHead kind room octets shown
 
   -- a head hasn't come and has room left, or the body behind it is so far within the syntax, line by line
   abbrev pub IsInTime : Kind → Room → List ℕ → Type 0
@@ -133,12 +140,6 @@ abbrev pub FeedFinds : {H : Type 0} → Result Progress FrameFault → MessageRe
 FeedFinds (Ok More) r octets message len = ⊥
 FeedFinds (Ok (Whole used)) r octets message len = (length octets + used ≡ len) × Holds r message
 FeedFinds (Err fault) r octets message len = fault ≡ faults.Memory
-
--- the claim stands unless memory ran out
-abbrev pub UnlessMemory : {A : Type 0} → Result A FrameFault → Type 0 → Type 0
-UnlessMemory (Ok a) claim = claim
-UnlessMemory (Err faults.Memory) claim = Unit {0}
-UnlessMemory (Err fault) claim = claim
 
 -- the claim stands where the message is whole
 abbrev pub OnWhole : Result Progress FrameFault → Type 0 → Type 0

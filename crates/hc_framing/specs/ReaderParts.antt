@@ -81,3 +81,8 @@ BeginsBodyGives frame (Err fault) r s piece = SameShown r s × FaultsBody fault 
 pub record IsClosed {H : Type 0} (r : MessageReader H) : Type 0 where
   pub stage_is : r.stage ≡ Body
   pub until : (frame : Framing) (octets : List ℕ) → AgreesBody frame r.body octets → frame ≡ UntilClose
+
+-- the body that has come is whole, and the head is the same
+pub record IsFrozen {H : Type 0} (r s : MessageReader H) : Type 0 where
+  pub head_is : s.head ≡ r.head
+  pub body_is : s.body.whole ≡ r.body.octets

@@ -27,7 +27,8 @@ enum Stage {
     Failed,
 }
 
-/// Reads a message that comes in pieces. Each octet of its body is kept once, where it stays.
+/// Reads a message that comes in pieces. Each octet of its body is kept once, and stays where it is
+/// when the message is whole.
 #[derive(Debug, Drop)]
 pub struct MessageReader<H> {
     alloc: Global,
@@ -68,13 +69,13 @@ fn head_fault(fault: HeadFault) -> FrameFault
 
 impl<H: MessageHead> MessageReader<H> {
     ghost use Rattle.std.specs.Prelude.{◌≡◌, ◌≢◌, ℕ, ◌<◌, ◌≤◌, List, [], ◌++◌, length, take, OnOk, OnErr, IfOk, IfErr};
-    ghost use Rattle.std.specs.Option.{option_copied};
+    ghost use Rattle.std.specs.Option.{IsSome, option_copied};
     ghost use Rattle.hc_head.specs.declared.head.Room.{Room};
     ghost use Rattle.hc_framing.specs.declared.kind.Kind.{Kind};
     ghost use Rattle.hc_framing.specs.declared.message.Message.{Message};
     ghost use Rattle.hc_framing.specs.BodyReading.{IsReading};
-    ghost use Rattle.hc_framing.specs.Reader.{HasFailed, Holds, HasMessage, Agrees, IsAgreeing, CanFeed, HasNoMessage, BeginsIn, FeedGives, FeedFinds, IsInTime, EndGives, OnWhole, ShowsHead, UnlessMemory};
-    ghost use Rattle.hc_framing.specs.ReaderParts.{is_due, ReadsHead, BeginsBodyGives, FeedsBody, IsClosed};
+    ghost use Rattle.hc_framing.specs.Reader.{HasFailed, Holds, HasMessage, Agrees, IsAgreeing, CanFeed, HasNoMessage, BeginsIn, FeedGives, FeedFinds, IsInTime, EndGives, OnWhole, ShowsHeadAfter};
+    ghost use Rattle.hc_framing.specs.ReaderParts.{is_due, ReadsHead, BeginsBodyGives, FeedsBody, IsClosed, IsFrozen};
     ghost use Rattle.hc_framing.specs.Faults.{StandsAtEnd};
 
     /// A reader of a message of that kind, whose head has to keep to the room.
@@ -111,7 +112,7 @@ impl<H: MessageHead> MessageReader<H> {
         let MessageReader { head, body, .. } = self;
         Message {
             head: head.unwrap(),
-            body: body.octets(),
+            body: body.into_whole(),
         }
     }
 
@@ -135,10 +136,12 @@ impl<H: MessageHead> MessageReader<H> {
         ensures in_time { result ≡ Ok Progress.More → (kind : Kind) (room : Room) (octets : List ℕ)
             → Agrees H.begins H.field_count H.framing_of H.without_framing kind room self.old octets
             → IsInTime H.begins H.field_count H.framing_of H.without_framing kind room (octets ++ piece.now) }
-        // The head is shown once it has come and frames the body, and stays whatever comes.
+        // The head is shown once it has come and frames the body.
         ensures head { (kind : Kind) (room : Room) (octets : List ℕ)
             → Agrees H.begins H.field_count H.framing_of H.without_framing kind room self.old octets
-            → UnlessMemory result (ShowsHead H.begins H.field_count H.framing_of H.without_framing kind room (octets ++ piece.now) self.new.head) }
+            → ShowsHeadAfter H.begins H.field_count H.framing_of H.without_framing result kind room (octets ++ piece.now) self.new.head }
+        // A head that is there stays, whatever the answer.
+        ensures keeps { IsSome self.old.head → self.new.head ≡ self.old.head }
         // It takes pieces until it has answered `Whole`.
         ensures can { result ≡ Ok Progress.More
             → CanFeed H.begins H.field_count H.framing_of H.without_framing self.new }
@@ -164,7 +167,8 @@ impl<H: MessageHead> MessageReader<H> {
             → FeedGives H.begins H.field_count H.framing_of H.without_framing result kind room self.new octets piece.now }
         ensures head { IfErr result (λ fault. (kind : Kind) (room : Room) (octets : List ℕ)
             → Agrees H.begins H.field_count H.framing_of H.without_framing kind room self.old octets
-            → UnlessMemory result (ShowsHead H.begins H.field_count H.framing_of H.without_framing kind room (octets ++ piece.now) self.new.head)) }
+            → ShowsHeadAfter H.begins H.field_count H.framing_of H.without_framing result kind room (octets ++ piece.now) self.new.head) }
+        ensures keeps { IsSome self.old.head → self.new.head ≡ self.old.head }
         ensures failed { HasFailed self.old → result ≡ Err FrameFault.Failed }
         ensures stays { HasFailed self.old → self.new.head ≡ self.old.head }
     {
@@ -185,7 +189,8 @@ impl<H: MessageHead> MessageReader<H> {
             → FeedGives H.begins H.field_count H.framing_of H.without_framing result kind room self.new octets piece.now }
         ensures head { IfErr result (λ fault. (kind : Kind) (room : Room) (octets : List ℕ)
             → Agrees H.begins H.field_count H.framing_of H.without_framing kind room self.old octets
-            → UnlessMemory result (ShowsHead H.begins H.field_count H.framing_of H.without_framing kind room (octets ++ piece.now) self.new.head)) }
+            → ShowsHeadAfter H.begins H.field_count H.framing_of H.without_framing result kind room (octets ++ piece.now) self.new.head) }
+        ensures keeps { IsSome self.old.head → self.new.head ≡ self.old.head }
     {
         let near = front_of(piece, self.room.octets.saturating_sub(self.start.len()));
         let (search, used) = find_empty_line(self.search, near);
@@ -276,7 +281,7 @@ impl<H: MessageHead> MessageReader<H> {
         ensures failed { HasFailed self.old → result ≡ Err FrameFault.Failed }
         ensures stays { self.new.head ≡ self.old.head }
     {
-        match self.closed() {
+        match self.close() {
             Ok(()) => {
                 self.stage = Stage::End;
                 Ok(Progress::Whole(0))
@@ -285,6 +290,25 @@ impl<H: MessageHead> MessageReader<H> {
                 self.stage = Stage::Failed;
                 Err(fault)
             }
+        }
+    }
+
+    /// Makes the message whole, if it lasts until the close.
+    fn close(&mut self) -> Result<(), FrameFault>
+        requires { CanFeed H.begins H.field_count H.framing_of H.without_framing self.old }
+        ensures ok { OnOk result (IsClosed self.old × IsFrozen self.old self.new) }
+        ensures err { IfErr result (λ fault. (kind : Kind) (room : Room) (octets : List ℕ)
+            → Agrees H.begins H.field_count H.framing_of H.without_framing kind room self.old octets
+            → StandsAtEnd H.begins H.field_count (H.framing_of kind) H.without_framing fault octets room) }
+        ensures failed { HasFailed self.old → result ≡ Err FrameFault.Failed }
+        ensures stays { self.new.head ≡ self.old.head }
+    {
+        match self.closed() {
+            Ok(()) => {
+                self.body.freeze()?;
+                Ok(())
+            }
+            Err(fault) => Err(fault),
         }
     }
 

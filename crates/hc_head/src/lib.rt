@@ -22,7 +22,7 @@ pub use kind::Head;
 pub use methods::{is_get, is_head, is_unsafe};
 pub use requests::{one_request_head, read_request};
 pub use responses::{one_response_head, read_response};
-pub use targets::{one_target, same_target, target};
+pub use targets::{one_target, same_target, target, targets_compare_by_host_and_path};
 pub use writable::{
     request_text_read_back, response_text_read_back, writable_request, writable_response,
 };

@@ -1,7 +1,9 @@
 //! The target of a request.
 
-ghost use Rattle.std.specs.Prelude.{◌≡◌, ◌≤◌, ◌⊎◌, ◌↔◌, ℕ, not, List, [], length, IfOk, IfErr, IfSome, IfNone, IsTrue};
+ghost use Rattle.std.specs.Prelude.{◌≡◌, ◌≤◌, ◌⊎◌, ◌↔◌, ℕ, true, not, List, [], length, IfOk, IfErr, IfSome, IfNone, IsTrue};
 ghost use Rattle.std.specs.List.{prefix_len};
+ghost use Rattle.std.specs.Ordering.{nat_cmp, ordering_then};
+ghost use Rattle.std.specs.Cmp.Lexicographic.{slice_cmp};
 ghost use Rattle.http_uri.specs.Grammar.{IsAuthority, IsPathInput};
 ghost use Rattle.hc_head.specs.declared.head.RequestHead.{RequestHead};
 ghost use Rattle.hc_head.specs.declared.head.Target.{Target};
@@ -214,4 +216,13 @@ pub fn one_target()
     // A text is a host and a port in one way.
     ensures authority { (text : List ℕ) (one other : Authority)
         → HasAuthority text one → HasAuthority text other → one ≡ other }
+{}
+
+/// Targets are equal where they are the same host and the same path, and their order goes by the
+/// host and then by the path, octet by octet.
+pub fn targets_compare_by_host_and_path()
+    ensures equal { (one other : Target) → ⟦<Target as PartialEq>⟧.eq one other ≡ same_target one other }
+    ensures same { (one other : Target) → same_target one other ≡ true ↔ one ≡ other }
+    ensures order { (one other : Target) → ⟦<Target as Ord>⟧.cmp one other
+        ≡ ordering_then (slice_cmp nat_cmp one.host other.host) (slice_cmp nat_cmp one.path other.path) }
 {}

@@ -20,10 +20,10 @@ failed_or_not stage body failed = search (rules, sym body ∙ failed)
 
 pub returns-in-Ok-clause-gives : goal.returns-in-Ok-clause-gives
 returns-in-Ok-clause-gives g c = λ kind room octets agrees.
-    (refl, closes g.H.Head.begins g.H.Head.field_count g.H.MessageHead.framing_of g.H.MessageHead.without_framing (laws g) kind room c.args.self.now _ octets c.in-Ok.ensures.ok.stage_is agrees c.in-Ok.ensures.ok.until refl refl refl)
+    (refl, closes g.H.Head.begins g.H.Head.field_count g.H.MessageHead.framing_of g.H.MessageHead.without_framing (laws g) kind room c.args.self.now _ octets c.in-Ok.ensures.ok.0.stage_is agrees c.in-Ok.ensures.ok.0.until refl c.in-Ok.ensures.ok.1.head_is c.in-Ok.ensures.ok.1.body_is)
 
 pub returns-in-Ok-clause-has : goal.returns-in-Ok-clause-has
 returns-in-Ok-clause-has g c = elim c.requires [
-  | inl a ↦ let e = closes g.H.Head.begins g.H.Head.field_count g.H.MessageHead.framing_of g.H.MessageHead.without_framing (laws g) a.kind a.room c.args.self.now _ a.octets c.in-Ok.ensures.ok.stage_is a.agrees c.in-Ok.ensures.ok.until refl refl refl in (e.message, e.holds)
-  | inr failed ↦ absurd (failed_or_not c.args.self.now.stage c.in-Ok.ensures.ok.stage_is failed)
+  | inl a ↦ let e = closes g.H.Head.begins g.H.Head.field_count g.H.MessageHead.framing_of g.H.MessageHead.without_framing (laws g) a.kind a.room c.args.self.now _ a.octets c.in-Ok.ensures.ok.0.stage_is a.agrees c.in-Ok.ensures.ok.0.until refl c.in-Ok.ensures.ok.1.head_is c.in-Ok.ensures.ok.1.body_is in (e.message, e.holds)
+  | inr failed ↦ absurd (failed_or_not c.args.self.now.stage c.in-Ok.ensures.ok.0.stage_is failed)
 ]
