@@ -11,6 +11,7 @@ use Rattle.hc_transcript.specs.declared.line.Kind.{Kind}
 use Rattle.hc_transcript.specs.declared.line.Kind.TheVariants as kind
 use Rattle.hc_transcript.specs.declared.line.Line.{Line}
 use Rattle.hc_transcript.specs.declared.open_numbers.Standing.{Standing}
+use Rattle.hc_transcript.specs.Limits.{greatest_number, greatest_moment, longest_message}
 use Rattle.hc_transcript.specs.Items.{Item}
 use Rattle.hc_transcript.specs.History.{exchange_of, forward_of}
 use Rattle.hc_transcript.specs.Checks.{has_right_length, has_right_number, answers_open, first_fault, line_fault}
@@ -35,38 +36,38 @@ both false b e = cc
 
 -- what a line that passes the checks is
 pub record IsInOrder (l : Line) (moment exchange forward : ℕ) (has_exchange has_forward : Bool) : Type 0 where
-  pub moment_fits : l.moment ≤ 253402300799
+  pub moment_fits : l.moment ≤ greatest_moment
   pub right_length : has_right_length l.kind l.size ≡ true
-  pub size_fits : l.size ≤ 16908288
+  pub size_fits : l.size ≤ longest_message
   pub right_number : has_right_number l.kind exchange forward l.number ≡ true
   pub is_open : answers_open l.kind has_exchange has_forward ≡ true
 
 pub in_order : (l : Line) (m e f : ℕ) (he hf : Bool) → first_fault l m e f he hf ≡ None → IsInOrder l m e f he hf
 in_order l m e f he hf none =
-    let a = passes (nat_le l.moment 253402300799 && has_right_length l.kind l.size) fault.Line _ none in
-    let b = both (nat_le l.moment 253402300799) (has_right_length l.kind l.size) a.0 in
-    let c = passes (nat_le l.size 16908288) fault.TooLong _ a.1 in
+    let a = passes (nat_le l.moment greatest_moment && has_right_length l.kind l.size) fault.Line _ none in
+    let b = both (nat_le l.moment greatest_moment) (has_right_length l.kind l.size) a.0 in
+    let c = passes (nat_le l.size longest_message) fault.TooLong _ a.1 in
     let d = passes_not (nat_lt l.moment m) fault.MomentBack _ c.1 in
     let g = passes (has_right_number l.kind e f l.number) fault.Number _ d.1 in
     let i = passes (answers_open l.kind he hf) fault.NothingOpen _ g.1 in
     record { moment_fits = grind (arith, nat_tests, b.0); right_length = b.1; size_fits = grind (arith, nat_tests, c.0); right_number = g.0; is_open = i.0 }
 
-number_in_range : (k : Kind) (e f n : ℕ) → has_right_number k e f n ≡ true → n ≤ 999999999999
-number_in_range kind.ClientRequest e f n right = let b = both (nat_lt e n) (nat_le n 999999999999) right in grind (arith, nat_tests, b.1)
-number_in_range kind.OriginRequest e f n right = let b = both (nat_lt f n) (nat_le n 999999999999) right in grind (arith, nat_tests, b.1)
-number_in_range kind.OriginResponse e f n right = let b = both (nat_lt 0 n) (nat_le n 999999999999) right in grind (arith, nat_tests, b.1)
-number_in_range kind.OriginFailure e f n right = let b = both (nat_lt 0 n) (nat_le n 999999999999) right in grind (arith, nat_tests, b.1)
-number_in_range kind.ClientReply e f n right = let b = both (nat_lt 0 n) (nat_le n 999999999999) right in grind (arith, nat_tests, b.1)
+number_in_range : (k : Kind) (e f n : ℕ) → has_right_number k e f n ≡ true → n ≤ greatest_number
+number_in_range kind.ClientRequest e f n right = let b = both (nat_lt e n) (nat_le n greatest_number) right in grind (arith, nat_tests, b.1)
+number_in_range kind.OriginRequest e f n right = let b = both (nat_lt f n) (nat_le n greatest_number) right in grind (arith, nat_tests, b.1)
+number_in_range kind.OriginResponse e f n right = let b = both (nat_lt 0 n) (nat_le n greatest_number) right in grind (arith, nat_tests, b.1)
+number_in_range kind.OriginFailure e f n right = let b = both (nat_lt 0 n) (nat_le n greatest_number) right in grind (arith, nat_tests, b.1)
+number_in_range kind.ClientReply e f n right = let b = both (nat_lt 0 n) (nat_le n greatest_number) right in grind (arith, nat_tests, b.1)
 
-pub number_fits : (l : Line) (m e f : ℕ) (he hf : Bool) → IsInOrder l m e f he hf → l.number ≤ 999999999999
+pub number_fits : (l : Line) (m e f : ℕ) (he hf : Bool) → IsInOrder l m e f he hf → l.number ≤ greatest_number
 number_fits l m e f he hf o = number_in_range l.kind e f l.number o.right_number
 
 is_there : (o : Option Bool) → is_some o ≡ true → IsSome o
 is_there (Some b) e = e
 is_there None e = cc
 
-opens : (last n : ℕ) → (nat_lt last n && nat_le n 999999999999) ≡ true → (last < n) × (n ≤ 999999999999)
-opens last n right = let b = both (nat_lt last n) (nat_le n 999999999999) right in (grind (arith, nat_tests, b.0), grind (arith, nat_tests, b.1))
+opens : (last n : ℕ) → (nat_lt last n && nat_le n greatest_number) ≡ true → (last < n) × (n ≤ greatest_number)
+opens last n right = let b = both (nat_lt last n) (nat_le n greatest_number) right in (grind (arith, nat_tests, b.0), grind (arith, nat_tests, b.1))
 
 follows : (k : Kind) (s : Standing) (n : ℕ) → has_right_number k s.exchange s.forward n ≡ true
     → answers_open k (is_some (get nat_cmp s.exchanges n)) (is_some (get nat_cmp s.forwards n)) ≡ true → CanFollowAs k s n
@@ -100,7 +101,7 @@ standing_fault_is s h l stands =
 pub written_line : (s : Standing) (text : List ℕ) (l : Line) → standing_fault s l ≡ None → IsLineText text l → text ≡ line_text l
 written_line s text l none is =
     let o = in_order l s.moment s.exchange s.forward (is_some (get nat_cmp s.exchanges l.number)) (is_some (get nat_cmp s.forwards l.number)) none in
-    let number : l.number ≤ 999999999999 = number_fits l s.moment s.exchange s.forward _ _ o in
+    let number : l.number ≤ greatest_number = number_fits l s.moment s.exchange s.forward _ _ o in
     line_text_written text l is (omega arith) (omega (arith, o.moment_fits)) (omega (arith, o.size_fits))
 
 -- the checks of a line say nothing of its message
@@ -117,8 +118,8 @@ Differs g =
 
 no_check : (g : RecordFault) (l : Line) (m e f : ℕ) (he hf : Bool) → Differs g → first_fault l m e f he hf ≡ Some g → ⊥
 no_check g l m e f he hf d =
-    not_some (not (nat_le l.moment 253402300799 && has_right_length l.kind l.size)) fault.Line g _ d.0
-    (not_some (not (nat_le l.size 16908288)) fault.TooLong g _ d.1
+    not_some (not (nat_le l.moment greatest_moment && has_right_length l.kind l.size)) fault.Line g _ d.0
+    (not_some (not (nat_le l.size longest_message)) fault.TooLong g _ d.1
     (not_some (nat_lt l.moment m) fault.MomentBack g _ d.2
     (not_some (not (has_right_number l.kind e f l.number)) fault.Number g _ d.3
     (not_some (not (answers_open l.kind he hf)) fault.NothingOpen g _ d.4 (none_is_some g)))))

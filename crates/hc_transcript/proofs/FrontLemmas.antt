@@ -11,6 +11,7 @@ use Rattle.hc_transcript.specs.declared.record.Passed.{Passed}
 use Rattle.hc_transcript.specs.declared.record.Passed.TheVariants.{ClientRequest, OriginRequest, OriginResponse, OriginFailure, ClientReply}
 use Rattle.hc_transcript.specs.Records.{letter, line_text, passed_kind, passed_octets, line_of, message_of, record_text}
 use Rattle.hc_transcript.specs.Lines.{IsLineText, BeginsLine, HasLongLine, is_feed}
+use Rattle.hc_transcript.specs.Limits.{greatest_number, greatest_moment, longest_message, longest_line}
 use Rattle.hc_transcript.specs.Items.{Item}
 use Rattle.hc_transcript.specs.History.{exchange_of, forward_of, last_moment, last_exchange, last_forward}
 use Rattle.hc_transcript.specs.Checks.{line_fault}
@@ -27,9 +28,9 @@ use Rattle.hc_transcript.proofs.ItemLemmas.{one_item, no_item}
 
 -- the numbers of a line that passes the checks
 record Fits (l : Line) : Type 0 where
-  pub number : l.number ≤ 999999999999
-  pub moment : l.moment ≤ 253402300799
-  pub size : l.size ≤ 16908288
+  pub number : l.number ≤ greatest_number
+  pub moment : l.moment ≤ greatest_moment
+  pub size : l.size ≤ longest_message
 
 fits : (h : List Item) (l : Line) → line_fault h l ≡ None → Fits l
 fits h l none =
@@ -319,7 +320,7 @@ framed_more check octets more l message len framed = record {
 
 line_breaks_more : (check : Line → Option RecordFault) (octets more : List ℕ) → BreaksLine check fault.Line octets → BreaksLine check fault.Line (octets ++ more)
 line_breaks_more check octets more (inl long) =
-    inl (record { long = omega (arith, long.long, length-append octets more); no_feed = ap (list_any is_feed) (take-append-le 64 octets more long.long) ∙ long.no_feed })
+    inl (record { long = omega (arith, long.long, length-append octets more); no_feed = ap (list_any is_feed) (take-append-le longest_line octets more long.long) ∙ long.no_feed })
 line_breaks_more check octets more (inr (inl wrong)) = inr (inl (record { text = wrong.text; begins = BeginsLine-append octets more wrong.text wrong.begins; none = wrong.none }))
 line_breaks_more check octets more (inr (inr (inl wrong))) = inr (inr (inl (wrong_end_more check octets more wrong)))
 line_breaks_more check octets more (inr (inr (inr fails))) = inr (inr (inr (fails_more check fault.Line octets more fails)))

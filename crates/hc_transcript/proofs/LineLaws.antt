@@ -13,6 +13,7 @@ use Rattle.hc_fields.specs.Numbers.{is_number}
 use Rattle.hc_transcript.specs.declared.line.Kind.{Kind}
 use Rattle.hc_transcript.specs.declared.line.Kind.TheVariants.{ClientRequest, OriginRequest, OriginResponse, OriginFailure, ClientReply}
 use Rattle.hc_transcript.specs.declared.line.Line.{Line}
+use Rattle.hc_transcript.specs.Limits.{greatest_number, greatest_moment, longest_message, longest_line}
 use Rattle.hc_transcript.specs.Records.{letter, line_text}
 use Rattle.hc_transcript.specs.Lines.{Writes, IsLineText, is_feed, BeginsLine}
 use Rattle.hc_transcript.specs.Numerals.{SplitsAtSpace}
@@ -116,8 +117,8 @@ line_text_plain l number moment size =
     list_any-append is_feed (decimal l.number) (32 ∷ (decimal l.moment ++ 32 ∷ decimal l.size)) ∙ rw (decimal_no_feed l.number number, behind) refl in
     rw (letter_no_feed l.kind, whole) refl
 
--- a line of a number of twelve digits, a moment to the end of the year 9999 and a size to 16908288 takes fewer than 64 octets
-pub line_text_short : (l : Line) → l.number ≤ 999999999999 → l.moment ≤ 253402300799 → l.size ≤ 16908288 → length (line_text l) < 64
+-- a line of a number of twelve digits, a moment to the end of the year 9999 and the size of a message leaves room for its line feed
+pub line_text_short : (l : Line) → l.number ≤ greatest_number → l.moment ≤ greatest_moment → l.size ≤ longest_message → length (line_text l) < longest_line
 line_text_short l number moment size =
     let first = length-decimal-le 12 l.number (lit< tt) (omega arith) (omega arith) in
     let second = length-decimal-le 12 l.moment (lit< tt) (omega arith) (omega arith) in

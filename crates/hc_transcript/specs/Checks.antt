@@ -5,6 +5,7 @@ use Rattle.hc_transcript.specs.declared.fault.RecordFault.TheVariants as fault
 use Rattle.hc_transcript.specs.declared.line.Kind.{Kind}
 use Rattle.hc_transcript.specs.declared.line.Kind.TheVariants as kind
 use Rattle.hc_transcript.specs.declared.line.Line.{Line}
+use Rattle.hc_transcript.specs.Limits.{greatest_number, greatest_moment, longest_message}
 use Rattle.hc_transcript.specs.Items.{Item}
 use Rattle.hc_transcript.specs.History.{exchange_of, forward_of, last_moment, last_exchange, last_forward}
 
@@ -15,16 +16,6 @@ has_right_length kind.OriginRequest size = true
 has_right_length kind.OriginResponse size = true
 has_right_length kind.OriginFailure size = size == 0
 has_right_length kind.ClientReply size = true
-
--- the greatest number of an exchange or a forward, the last moment of the year 9999, and the longest message
-abbrev pub greatest_number : ℕ
-greatest_number = 999999999999
-
-abbrev pub greatest_moment : ℕ
-greatest_moment = 253402300799
-
-abbrev pub longest_message : ℕ
-longest_message = 16908288
 
 -- a request opens a number greater than the last of its kind, up to the greatest; an answer has a number from 1 up to it
 abbrev pub has_right_number : Kind → ℕ → ℕ → ℕ → Bool

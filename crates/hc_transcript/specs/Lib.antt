@@ -1,4 +1,5 @@
 pub mod Names
+pub mod Limits
 pub mod Records
 pub mod Lines
 pub mod Numerals

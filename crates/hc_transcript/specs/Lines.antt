@@ -3,6 +3,7 @@ use Rattle.std.specs.Prelude.{◌≡◌, ℕ, ◌<◌, ◌≤◌, Bool, false, L
 use Rattle.std.specs.List.{list_any}
 use Rattle.hc_fields.specs.Numbers.{decimal_of}
 use Rattle.hc_transcript.specs.declared.line.Line.{Line}
+use Rattle.hc_transcript.specs.Limits.{longest_line}
 use Rattle.hc_transcript.specs.Records.{letter}
 
 -- a decimal without a leading zero writes the number
@@ -24,14 +25,14 @@ pub record IsLineText (text : List ℕ) (l : Line) : Type 0 where
 abbrev pub is_feed : ℕ → Bool
 is_feed c = c == 10
 
--- the octets begin with that text and a line feed, within the 64 octets that a line may have
+-- the octets begin with that text and a line feed, within the octets that a line may have
 pub record BeginsLine (octets text : List ℕ) : Type 0 where
   pub after : List ℕ
   pub octets_are : octets ≡ text ++ 10 ∷ after
   pub no_feed : list_any is_feed text ≡ false
-  pub short : length text < 64
+  pub short : length text < longest_line
 
--- 64 octets and no line feed among them
+-- as many octets as a line may have, and no line feed among them
 pub record HasLongLine (octets : List ℕ) : Type 0 where
-  pub long : 64 ≤ length octets
-  pub no_feed : list_any is_feed (take 64 octets) ≡ false
+  pub long : longest_line ≤ length octets
+  pub no_feed : list_any is_feed (take longest_line octets) ≡ false

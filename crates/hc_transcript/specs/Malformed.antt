@@ -13,6 +13,7 @@ use Rattle.hc_transcript.specs.declared.line.Kind.{Kind}
 use Rattle.hc_transcript.specs.declared.line.Kind.TheVariants as kind
 use Rattle.hc_transcript.specs.declared.line.Line.{Line}
 use Rattle.hc_transcript.specs.declared.record.Record.{Record}
+use Rattle.hc_transcript.specs.Limits.{longest_line}
 use Rattle.hc_transcript.specs.Records.{opening, line_text}
 use Rattle.hc_transcript.specs.Lines.{IsLineText, BeginsLine, HasLongLine}
 use Rattle.hc_transcript.specs.Items.{Item}
@@ -78,7 +79,7 @@ module _ (check : Line → Option RecordFault) where
 
   -- there is no line feed yet, and room for one
   pub record IsUnfinishedLine (octets : List ℕ) : Type 0 where
-    pub short : length octets < 64
+    pub short : length octets < longest_line
     pub none : (text : List ℕ) → ¬ (BeginsLine octets text)
 
   -- the line passes the check, and octets of the record are to come

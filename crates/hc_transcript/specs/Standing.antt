@@ -9,6 +9,7 @@ use Rattle.hc_transcript.specs.declared.line.Kind.{Kind}
 use Rattle.hc_transcript.specs.declared.line.Kind.TheVariants as kind
 use Rattle.hc_transcript.specs.declared.line.Line.{Line}
 use Rattle.hc_transcript.specs.declared.open_numbers.Standing.{Standing}
+use Rattle.hc_transcript.specs.Limits.{greatest_number}
 use Rattle.hc_transcript.specs.Items.{Item, Exchange, Forward, is_head, meaning_kind}
 use Rattle.hc_transcript.specs.Checks.{first_fault}
 use Rattle.hc_transcript.specs.History.{exchange_of, forward_of, last_moment, last_exchange, last_forward}
@@ -35,8 +36,8 @@ standing_fault s l =
 
 -- the number may be opened, or is open
 abbrev pub CanFollowAs : Kind → Standing → ℕ → Type 0
-CanFollowAs kind.ClientRequest s number = (s.exchange < number) × (number ≤ 999999999999)
-CanFollowAs kind.OriginRequest s number = (s.forward < number) × (number ≤ 999999999999)
+CanFollowAs kind.ClientRequest s number = (s.exchange < number) × (number ≤ greatest_number)
+CanFollowAs kind.OriginRequest s number = (s.forward < number) × (number ≤ greatest_number)
 CanFollowAs kind.OriginResponse s number = IsSome (get nat_cmp s.forwards number)
 CanFollowAs kind.OriginFailure s number = IsSome (get nat_cmp s.forwards number)
 CanFollowAs kind.ClientReply s number = IsSome (get nat_cmp s.exchanges number)

@@ -1,15 +1,15 @@
 //! The first line of a record.
 
 ghost use Rattle.std.specs.Prelude.{◌≡◌, ℕ, ◌<◌, ◌≤◌, List, length, take, IfSome, IfNone};
+ghost use Rattle.hc_transcript.specs.Limits.{longest_line};
 ghost use Rattle.hc_transcript.specs.Lines.{BeginsLine, HasLongLine};
 
-/// How many octets a line may have with its line feed.
-pub(crate) const LONGEST_LINE: usize = 64;
+use crate::limits::LONGEST_LINE;
 
-/// Where the first line ends, within the 64 octets that a line may have with its line feed.
+/// Where the first line ends, within the octets that a line may have with its line feed.
 pub(crate) fn line_end(bytes: &[u8]) -> Option<usize>
     ensures found { IfSome result (λ end. (end < length bytes.now) × BeginsLine bytes.now (take end bytes.now)) }
-    ensures long { IfNone result (64 ≤ length bytes.now → HasLongLine bytes.now) }
+    ensures long { IfNone result (longest_line ≤ length bytes.now → HasLongLine bytes.now) }
     ensures none { IfNone result ((text : List ℕ) → ¬ (BeginsLine bytes.now text)) }
 {
     for (at, octet) in bytes.iter().enumerate() {

@@ -5,7 +5,8 @@ ghost use Rattle.hc_transcript.specs.Standing.{standing_fault};
 ghost use Rattle.hc_transcript.specs.Reading.{GivesFrame};
 
 use crate::fault::RecordFault;
-use crate::first_line::{LONGEST_LINE, line_end};
+use crate::first_line::line_end;
+use crate::limits::LONGEST_LINE;
 use crate::line::{Line, parse_line};
 use crate::open_numbers::Standing;
 

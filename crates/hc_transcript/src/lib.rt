@@ -7,6 +7,7 @@ mod framed;
 mod held;
 mod item;
 mod laws;
+mod limits;
 mod line;
 mod numeral;
 mod open_numbers;
@@ -21,6 +22,7 @@ pub use laws::{
     breaks_once, broken_for_ever, one_item, one_transcript, unfinished_once,
     written_record_read_back,
 };
+pub use limits::{GREATEST_MOMENT, GREATEST_NUMBER, LONGEST_MESSAGE};
 pub use line::{Kind, Line};
 pub use reader::RecordReader;
 pub use record::{Passed, Record};

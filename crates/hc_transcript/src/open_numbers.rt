@@ -3,25 +3,18 @@
 ghost use Rattle.std.specs.Prelude.{◌≡◌, ℕ, ◌+◌, ◌*◌, ◌<◌, ◌≤◌, List, [], ◌∷◌, OnOk, OnErr, IsSome, is_ok, if◌then◌else◌};
 ghost use Rattle.std.specs.Ordering.{nat_cmp};
 ghost use Rattle.std.specs.BTreeMap.{get, btree_map_len};
+ghost use Rattle.hc_transcript.specs.Limits.{greatest_number};
 ghost use Rattle.hc_transcript.specs.Items.{Item, item_of, is_head};
 ghost use Rattle.hc_transcript.specs.Checks.{has_right_length, has_right_number, answers_open};
 ghost use Rattle.hc_transcript.specs.Transcript.{is_to_head};
 
 use crate::fault::RecordFault;
 use crate::item::{Meaning, OwnedItem};
+use crate::limits::{GREATEST_MOMENT, GREATEST_NUMBER, LONGEST_MESSAGE};
 use crate::line::{Kind, Line};
 use hc_head::RequestHead;
 use std::alloc::{AllocError, Global};
 use std::collections::BTreeMap;
-
-/// No exchange and no forward has a greater number.
-const GREATEST_NUMBER: u64 = 999_999_999_999;
-
-/// No moment is later: the end of the year 9999, in whole seconds since 1970.
-const GREATEST_MOMENT: u64 = 253_402_300_799;
-
-/// No message is longer, in octets.
-const LONGEST_MESSAGE: u64 = 16_908_288;
 
 /// What a beginning of a transcript leaves for the records after it. The maps tell of each open
 /// number whether its request is HEAD.
@@ -33,8 +26,8 @@ pub(crate) struct Standing {
     forward: u64,
     exchanges: BTreeMap<u64, bool>,
     forwards: BTreeMap<u64, bool>,
-    ghost exchange_in_range: { exchange ≤ 999999999999 },
-    ghost forward_in_range: { forward ≤ 999999999999 },
+    ghost exchange_in_range: { exchange ≤ greatest_number },
+    ghost forward_in_range: { forward ≤ greatest_number },
     // Each record opens a number or closes one, so records can't overflow.
     ghost few: { records + (btree_map_len exchanges + btree_map_len forwards) ≤ 2 * (exchange + forward) },
 }
@@ -153,7 +146,7 @@ impl Standing {
     }
 
     fn open_exchange(&mut self, number: u64, moment: u64, is_head: bool) -> Result<(), AllocError>
-        requires { (self.old.exchange < number) × (number ≤ 999999999999) }
+        requires { (self.old.exchange < number) × (number ≤ greatest_number) }
         ensures ok { OnOk result (OpensExchange self.old self.new number moment is_head) }
         ensures err { OnErr result (self.new.records ≡ self.old.records) }
     {
@@ -165,7 +158,7 @@ impl Standing {
     }
 
     fn open_forward(&mut self, number: u64, moment: u64, is_head: bool) -> Result<(), AllocError>
-        requires { (self.old.forward < number) × (number ≤ 999999999999) }
+        requires { (self.old.forward < number) × (number ≤ greatest_number) }
         ensures ok { OnOk result (OpensForward self.old self.new number moment is_head) }
         ensures err { OnErr result (self.new.records ≡ self.old.records) }
     {

@@ -1,4 +1,5 @@
 use Rattle.std.proofs.Common.{◌≡◌, arith}
+use Rattle.hc_transcript.specs.Limits.{longest_line}
 use Rattle.hc_transcript.proofs.FirstLineLemmas.{line_before_feed, no_line_without_feed}
 use Rattle.hc_transcript.proofs.first_line.line_end.Goals as goal
 
@@ -12,5 +13,5 @@ returns-then-octet-eq10-clause-found c =
 
 pub returns-clause-long : goal.returns-clause-long
 returns-clause-long c = λ long.
-    let at : c.loop-at.at ≡ 64 = omega arith in
+    let at : c.loop-at.at ≡ longest_line = omega arith in
     record { long = long; no_feed = rw at at c.loop-at.invariant.no_feed }
