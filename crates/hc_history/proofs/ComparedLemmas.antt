@@ -5,7 +5,7 @@ use Rattle.std.proofs.lemmas.List.Folds.{list_all-append, list_all-map}
 use Rattle.hc_fields.specs.declared.fields.Field.{Field}
 use Rattle.hc_update.specs.declared.stored.Stored.{Stored}
 use Rattle.hc_history.specs.Claims.{Claim}
-use Rattle.hc_history.specs.Filters.{has_its_fields, is_exempt, names_of, repeated_names, same_values}
+use Rattle.hc_history.specs.Filters.{has_its_fields, not_modified, is_exempt, names_of, repeated_names, same_values}
 
 -- whether the reply has the values of that name, or they aren't compared
 abbrev pub has_values : Claim → Stored → List ℕ → Bool
@@ -17,7 +17,7 @@ has_lines claim state lines = list_all (λ (f : Field). has_values claim state f
 
 -- the names besides those of the reply
 others : Claim → Stored → List (List ℕ)
-others claim state = if claim.reply.head.status == 304 then repeated_names else names_of state.fields
+others claim state = if claim.reply.head.status == not_modified then repeated_names else names_of state.fields
 
 lines_first : (p : List ℕ → Bool) (lines : List Field) (names : List (List ℕ))
     → list_all p (names_of lines ++ names) ≡ (list_all (λ (f : Field). p f.name) lines && list_all p names)
@@ -36,13 +36,13 @@ there : (claim : Claim) (state : Stored) → has_lines claim state claim.reply.h
     → has_its_fields claim state ≡ list_all (has_values claim state) (others claim state)
 there claim state e = in_two claim state ∙ ap (λ (b : Bool). b && list_all (has_values claim state) (others claim state)) e
 
-pub fields_of_304 : (claim : Claim) (state : Stored) → has_lines claim state claim.reply.head.fields ≡ true → (claim.reply.head.status == 304) ≡ true
+pub fields_of_304 : (claim : Claim) (state : Stored) → has_lines claim state claim.reply.head.fields ≡ true → (claim.reply.head.status == not_modified) ≡ true
     → list_all (has_values claim state) repeated_names ≡ has_its_fields claim state
 unfolding others
 fields_of_304 claim state e is =
     sym (there claim state e ∙ ap (λ (b : Bool). list_all (has_values claim state) (if b then repeated_names else names_of state.fields)) is)
 
-pub fields_of_other : (claim : Claim) (state : Stored) → has_lines claim state claim.reply.head.fields ≡ true → (claim.reply.head.status == 304) ≡ false
+pub fields_of_other : (claim : Claim) (state : Stored) → has_lines claim state claim.reply.head.fields ≡ true → (claim.reply.head.status == not_modified) ≡ false
     → has_lines claim state state.fields ≡ has_its_fields claim state
 unfolding others
 fields_of_other claim state e is =

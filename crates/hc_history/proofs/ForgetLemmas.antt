@@ -79,8 +79,8 @@ answered_lost : (forward : Forward) (position moment : ℕ) (response : Message 
     → remaining (state_answered forward position moment response state) ≡ remnant state
 answered_lost forward position moment response state lost =
     let apart = parts state.invalid (has_validator state.fields) lost in
-    let never : identifies state forward.request.head response.head ≡ false = never_identified state forward.request.head response.head apart.1 in
-    rw never (elim (invalidates forward.request.head.method response.head.status) as (λ b. remaining (cond b (invalidated state) state) ≡ remnant state) [
+    let never : identifies state forward.request response.head ≡ false = never_identified state forward.request response.head apart.1 in
+    rw never (elim (invalidates forward.request.method response.head.status) as (λ b. remaining (cond b (invalidated state) state) ≡ remnant state) [
       | true ↦ remaining_lost (invalidated state) (ap not apart.1)
       | false ↦ remaining_lost state lost
     ])

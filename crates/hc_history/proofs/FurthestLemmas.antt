@@ -1,7 +1,7 @@
 -- How far a reply gets tells the first filter that leaves nobody.
 use Rattle.std.proofs.Common.{◌≡◌, ℕ, zero, suc, ◌+◌, ◌≤◌, ◌<◌, Bool, true, false, List, [], ◌∷◌, length, take, Option, Some, None, refl, sym, ap, subst, ◌∙◌, arith, max, ◌⊎◌, inl, inr}
 use Rattle.std.specs.List.{list_all}
-use Rattle.std.proofs.lemmas.Bool.{cases_lt}
+use Rattle.std.proofs.lemmas.Bool.{cases_lt, lt-ltb, le-ltb}
 use Rattle.hc_transcript.specs.Items.{Item}
 use Rattle.hc_history.specs.declared.reasons.Reason.{Reason}
 use Rattle.hc_history.specs.Names.{reason_number}
@@ -9,8 +9,8 @@ use Rattle.hc_history.specs.Claims.{Claim}
 use Rattle.hc_history.specs.declared.kept.Kept.{Kept}
 use Rattle.hc_history.specs.States.{state_at}
 use Rattle.hc_history.specs.Filters.{filters}
-use Rattle.hc_history.specs.Reused.{Pass, IsFirstFailed, filter_count}
-use Rattle.hc_history.specs.Furthest.{passed, passed_by, furthest_up_to, furthest}
+use Rattle.hc_history.specs.Reused.{Pass, IsFirstFailed, anywhere, filter_count}
+use Rattle.hc_history.specs.Furthest.{passed, passed_by, passed_later, furthest_up_to, furthest}
 use Rattle.hc_history.proofs.StateLemmas.{place_of}
 
 -- the first n hold where n is at most the number that hold from the first on
@@ -34,52 +34,64 @@ passed_few (false ∷ tests) = omega arith
 at_most_max : (n a b : ℕ) → n ≤ max a b → (n ≤ a) ⊎ (n ≤ b)
 at_most_max n a b le = elim (cases_lt a n) [ inl lt ↦ inr (omega arith) | inr ge ↦ inl ge ]
 
-found_at : (claim : Claim) (h : List Item) (position n : ℕ) (o : Option Kept) → state_at position h ≡ o → 1 ≤ n → n ≤ passed_by claim o → Pass n claim h
-found_at claim h position n None is one le = absurd (omega arith)
-found_at claim h position n (Some kept) is one le =
-    record { position = position; kept = kept; is_its_state = is; holds = hold_to (filters claim kept) n le }
+found_at : (since : ℕ) (claim : Claim) (h : List Item) (position n : ℕ) (o : Option Kept) → since < position → state_at position h ≡ o → 1 ≤ n → n ≤ passed_by claim o
+    → Pass n since claim h
+found_at since claim h position n None later is one le = absurd (omega arith)
+found_at since claim h position n (Some kept) later is one le =
+    record { position = position; kept = kept; is_later = later; is_its_state = is; holds = hold_to (filters claim kept) n le }
 
-found_up_to : (claim : Claim) (h : List Item) (m n : ℕ) → 1 ≤ n → n ≤ furthest_up_to claim m h → Pass n claim h
-found_up_to claim h zero n one le = absurd (omega arith)
-found_up_to claim h (suc m) n one le =
-    elim (at_most_max n (furthest_up_to claim m h) (passed_by claim (state_at (suc m) h)) le) [
-      | inl before ↦ found_up_to claim h m n one before
-      | inr here ↦ found_at claim h (suc m) n (state_at (suc m) h) refl one here
+-- where somebody passes, it is later
+found_later : (since : ℕ) (claim : Claim) (h : List Item) (position n : ℕ) → 1 ≤ n → n ≤ passed_later since claim position (state_at position h) → Pass n since claim h
+found_later since claim h position n one le =
+    elim (cases_lt since position) [
+      | inl lt ↦ found_at since claim h position n (state_at position h) lt refl one (rw (lt-ltb since position lt) at le)
+      | inr ge ↦ absurd (let nobody : n ≤ 0 = rw (le-ltb since position ge) at le in omega arith)
     ]
 
-pub Pass-found : (n : ℕ) (claim : Claim) (h : List Item) → 1 ≤ n → n ≤ furthest claim h → Pass n claim h
-Pass-found n claim h one le = found_up_to claim h (length h) n one le
+found_up_to : (since : ℕ) (claim : Claim) (h : List Item) (m n : ℕ) → 1 ≤ n → n ≤ furthest_up_to since claim m h → Pass n since claim h
+found_up_to since claim h zero n one le = absurd (omega arith)
+found_up_to since claim h (suc m) n one le =
+    elim (at_most_max n (furthest_up_to since claim m h) (passed_later since claim (suc m) (state_at (suc m) h)) le) [
+      | inl before ↦ found_up_to since claim h m n one before
+      | inr here ↦ found_later since claim h (suc m) n one here
+    ]
 
-passed_up_to : (claim : Claim) (h : List Item) (position m : ℕ) (kept : Kept) → state_at position h ≡ Some kept → 1 ≤ position → position ≤ m
-    → passed (filters claim kept) ≤ furthest_up_to claim m h
-passed_up_to claim h position zero kept is one le = absurd (omega arith)
-passed_up_to claim h position (suc m) kept is one le =
+pub Pass-found : (n since : ℕ) (claim : Claim) (h : List Item) → 1 ≤ n → n ≤ furthest since claim h → Pass n since claim h
+Pass-found n since claim h one le = found_up_to since claim h (length h) n one le
+
+passed_there : (since : ℕ) (claim : Claim) (position : ℕ) (o : Option Kept) (kept : Kept) → since < position → o ≡ Some kept
+    → passed_later since claim position o ≡ passed (filters claim kept)
+passed_there since claim position o kept lt is = rw (lt-ltb since position lt, is) refl
+
+passed_up_to : (since : ℕ) (claim : Claim) (h : List Item) (position m : ℕ) (kept : Kept) → since < position → state_at position h ≡ Some kept → position ≤ m
+    → passed (filters claim kept) ≤ furthest_up_to since claim m h
+passed_up_to since claim h position zero kept later is le = absurd (omega arith)
+passed_up_to since claim h position (suc m) kept later is le =
     elim (cases_lt m position) [
       | inl last ↦
           let e : position ≡ suc m = omega arith in
-          let at_it : passed_by claim (state_at (suc m) h) ≡ passed (filters claim kept) =
-          ap (passed_by claim) (subst (λ (k : ℕ). state_at k h ≡ Some kept) e is) in
-          omega arith
-      | inr before ↦ omega (arith, passed_up_to claim h position m kept is one before)
+          let there = passed_there since claim (suc m) (state_at (suc m) h) kept (omega arith) (subst (λ (k : ℕ). state_at k h ≡ Some kept) e is) in
+          omega (arith, there)
+      | inr before ↦ omega (arith, passed_up_to since claim h position m kept later is before)
     ]
 
-pub Pass-only : (n : ℕ) (claim : Claim) (h : List Item) → n ≤ filter_count → Pass n claim h → n ≤ furthest claim h
-Pass-only n claim h few p =
+pub Pass-only : (n since : ℕ) (claim : Claim) (h : List Item) → n ≤ filter_count → Pass n since claim h → n ≤ furthest since claim h
+Pass-only n since claim h few p =
     let place = place_of p.position h p.kept p.is_its_state in
     let passes : n ≤ passed (filters claim p.kept) = hold_from (filters claim p.kept) n few p.holds in
-    let at_most : passed (filters claim p.kept) ≤ furthest claim h = passed_up_to claim h p.position (length h) p.kept p.is_its_state place.0 place.1 in
+    let at_most : passed (filters claim p.kept) ≤ furthest since claim h = passed_up_to since claim h p.position (length h) p.kept p.is_later p.is_its_state place.1 in
     omega arith
 
 -- the first filter that leaves nobody is the one behind the furthest
-pub first_failed : (claim : Claim) (h : List Item) → furthest claim h < filter_count → IsFirstFailed (furthest claim h + 1) claim h
+pub first_failed : (claim : Claim) (h : List Item) → furthest anywhere claim h < filter_count → IsFirstFailed (furthest anywhere claim h + 1) claim h
 first_failed claim h lt = record {
   is_filter = (omega arith, omega arith);
-  leaves_nobody = λ p. let le = Pass-only (furthest claim h + 1) claim h (omega arith) p in absurd (omega arith);
-  earlier = λ k one below. Pass-found k claim h one (omega arith);
+  leaves_nobody = λ p. let le = Pass-only (furthest anywhere claim h + 1) anywhere claim h (omega arith) p in absurd (omega arith);
+  earlier = λ k one below. Pass-found k anywhere claim h one (omega arith);
 }
 
-pub all_passed : (claim : Claim) (h : List Item) → furthest claim h ≡ filter_count → Pass filter_count claim h
-all_passed claim h all = Pass-found filter_count claim h (omega arith) (omega arith)
+pub all_passed : (since : ℕ) (claim : Claim) (h : List Item) → furthest since claim h ≡ filter_count → Pass filter_count since claim h
+all_passed since claim h all = Pass-found filter_count since claim h (omega arith) (omega arith)
 
 -- who passes more filters passes fewer
 take_all : (tests : List Bool) (n m : ℕ) → n ≤ m → list_all (λ b. b) (take m tests) ≡ true → list_all (λ b. b) (take n tests) ≡ true
@@ -89,16 +101,21 @@ take_all (b ∷ tests) (suc n) zero le all = absurd (omega arith)
 take_all (true ∷ tests) (suc n) (suc m) le all = take_all tests n m (omega arith) all
 take_all (false ∷ tests) (suc n) (suc m) le all = all
 
-pub Pass-fewer : (n m : ℕ) (claim : Claim) (h : List Item) → n ≤ m → Pass m claim h → Pass n claim h
-Pass-fewer n m claim h le p =
-    record { position = p.position; kept = p.kept; is_its_state = p.is_its_state; holds = take_all (filters claim p.kept) n m le p.holds }
+pub Pass-fewer : (n m since : ℕ) (claim : Claim) (h : List Item) → n ≤ m → Pass m since claim h → Pass n since claim h
+Pass-fewer n m since claim h le p = record {
+  position = p.position;
+  kept = p.kept;
+  is_later = p.is_later;
+  is_its_state = p.is_its_state;
+  holds = take_all (filters claim p.kept) n m le p.holds;
+}
 
 -- the reason of the filter behind as many as the furthest response passes
-pub failed_for : (claim : Claim) (h : List Item) (n : ℕ) (why : Reason) → n ≡ furthest claim h → reason_number why ≡ n + 1 → n + 1 ≤ filter_count
+pub failed_for : (claim : Claim) (h : List Item) (n : ℕ) (why : Reason) → n ≡ furthest anywhere claim h → reason_number why ≡ n + 1 → n + 1 ≤ filter_count
     → IsFirstFailed (reason_number why) claim h
 failed_for claim h n why n-is why-is few =
     subst (λ (k : ℕ). IsFirstFailed k claim h) (ap (λ (m : ℕ). m + 1) (sym n-is) ∙ sym why-is) (first_failed claim h (omega (arith, n-is, few)))
 
 -- so many filters are passed by one response
-pub passes : (claim : Claim) (h : List Item) (n k : ℕ) → n ≡ furthest claim h → 1 ≤ k → k ≤ n → Pass k claim h
-passes claim h n k n-is one few = Pass-found k claim h one (omega (arith, n-is, few))
+pub passes : (since : ℕ) (claim : Claim) (h : List Item) (n k : ℕ) → n ≡ furthest since claim h → 1 ≤ k → k ≤ n → Pass k since claim h
+passes since claim h n k n-is one few = Pass-found k since claim h one (omega (arith, n-is, few))

@@ -9,3 +9,4 @@ pub mod LiveLemmas
 pub mod NoteLemmas
 pub mod VerdictLemmas
 pub mod ComparedLemmas
+pub mod SeenLemmas

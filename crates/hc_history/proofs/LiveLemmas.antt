@@ -1,5 +1,5 @@
 -- What is kept of the responses of a target tells how many filters one passes.
-use Rattle.std.proofs.Common.{◌≡◌, ℕ, zero, suc, Bool, true, false, not, ◌&&◌, ◌||◌, cond, List, [], ◌∷◌, ◌++◌, length, max, Option, Some, None, refl, ap, sym, ◌∙◌, arith}
+use Rattle.std.proofs.Common.{◌≡◌, ℕ, zero, suc, Bool, true, false, not, ◌&&◌, ◌||◌, cond, List, [], ◌∷◌, ◌++◌, length, max, ltb, Option, Some, None, refl, ap, sym, ◌∙◌, arith}
 use Rattle.std.specs.Prelude.{filter, codes}
 use Rattle.std.specs.List.{list_all, flat_map}
 use Rattle.std.specs.Str.{bytes_eq}
@@ -7,16 +7,18 @@ use Rattle.hc_fields.specs.declared.fields.Field.{Field}
 use Rattle.hc_fields.specs.Values.{values_of}
 use Rattle.hc_fields.specs.Lists.{list_members}
 use Rattle.hc_head.specs.declared.head.Target.{Target}
+use Rattle.hc_head.specs.Methods.{is_get}
+use Rattle.hc_head.specs.Targets.{same_target}
 use Rattle.hc_rules.specs.Selecting.{is_met, selects}
 use Rattle.hc_rules.specs.Validators.{has_validator}
 use Rattle.hc_update.specs.declared.stored.Stored.{Stored}
 use Rattle.hc_transcript.specs.Items.{Item}
 use Rattle.hc_history.specs.Claims.{Claim, asks_head}
 use Rattle.hc_history.specs.declared.kept.Kept.{Kept}
-use Rattle.hc_history.specs.States.{same_target, state_at}
+use Rattle.hc_history.specs.States.{state_at}
 use Rattle.hc_history.specs.Filters.{filters}
 use Rattle.hc_history.specs.Seen.{is_lost, vary_lines, remaining, Live, live_at, live_up_to, live_of}
-use Rattle.hc_history.specs.Furthest.{passed, passed_by, furthest_up_to, furthest, furthest_live}
+use Rattle.hc_history.specs.Furthest.{passed, passed_by, passed_later, furthest_up_to, furthest, furthest_live}
 use Rattle.hc_history.proofs.TargetLemmas.{same_target_one}
 use Rattle.hc_history.proofs.ForgetLemmas.{remaining_lost, remaining_kept}
 
@@ -68,30 +70,39 @@ and_false false = refl
 
 -- a response of another target passes no filter
 passed_other : (claim : Claim) (kept : Kept) → same_target kept.target claim.target ≡ false → passed (filters claim kept) ≡ 0
-passed_other claim kept other = rw (other, and_false (bytes_eq claim.request.method (codes "GET") || asks_head claim)) refl
+passed_other claim kept other = rw (other, and_false (is_get claim.request.method || asks_head claim)) refl
 
-one_live_by : (claim : Claim) (position : ℕ) (kept : Kept) (same : Bool) → same_target kept.target claim.target ≡ same
-    → furthest_live claim (cond same (record { position = position; state = remaining kept.state } ∷ []) []) ≡ passed (filters claim kept)
-one_live_by claim position kept true is =
+none_later : (n : ℕ) (b : Bool) → n ≡ 0 → cond b n 0 ≡ 0
+none_later n true none = none
+none_later n false none = refl
+
+at_most_zero : (n : ℕ) → max n 0 ≡ n
+at_most_zero n = omega arith
+
+one_live_by : (since : ℕ) (claim : Claim) (position : ℕ) (kept : Kept) (same : Bool) → same_target kept.target claim.target ≡ same
+    → furthest_live since claim (cond same (record { position = position; state = remaining kept.state } ∷ []) []) ≡ passed_later since claim position (Some kept)
+one_live_by since claim position kept true is =
     let whole = passed_remaining claim claim.target kept.state in
     let at_target = ap (λ (t : Target). passed (filters claim (record { target = t; state = kept.state }))) (same_target_one kept.target claim.target is) in
-    omega (arith, whole, at_target)
-one_live_by claim position kept false is = sym (passed_other claim kept is)
+    at_most_zero (passed_later since claim position (Some (record { target = claim.target; state = remaining kept.state })))
+    ∙ ap (λ (n : ℕ). cond (ltb since position) n 0) (whole ∙ sym at_target)
+one_live_by since claim position kept false is = sym (none_later (passed (filters claim kept)) (ltb since position) (passed_other claim kept is))
 
-one_live : (claim : Claim) (position : ℕ) (o : Option Kept) → furthest_live claim (live_at claim.target position o) ≡ passed_by claim o
-one_live claim position None = refl
-one_live claim position (Some kept) = one_live_by claim position kept (same_target kept.target claim.target) refl
+one_live : (since : ℕ) (claim : Claim) (position : ℕ) (o : Option Kept) → furthest_live since claim (live_at claim.target position o) ≡ passed_later since claim position o
+one_live since claim position None = sym (none_later 0 (ltb since position) refl)
+one_live since claim position (Some kept) = one_live_by since claim position kept (same_target kept.target claim.target) refl
 
-live_append : (claim : Claim) (xs ys : List Live) → furthest_live claim (xs ++ ys) ≡ max (furthest_live claim xs) (furthest_live claim ys)
-live_append claim [] ys = omega arith
-live_append claim (x ∷ xs) ys = omega (arith, live_append claim xs ys)
+live_append : (since : ℕ) (claim : Claim) (xs ys : List Live)
+    → furthest_live since claim (xs ++ ys) ≡ max (furthest_live since claim xs) (furthest_live since claim ys)
+live_append since claim [] ys = omega arith
+live_append since claim (x ∷ xs) ys = omega (arith, live_append since claim xs ys)
 
-up_to_live : (claim : Claim) (n : ℕ) (h : List Item) → furthest_live claim (live_up_to claim.target n h) ≡ furthest_up_to claim n h
-up_to_live claim zero h = refl
-up_to_live claim (suc n) h =
-    live_append claim (live_up_to claim.target n h) (live_at claim.target (suc n) (state_at (suc n) h))
-    ∙ ap (λ (m : ℕ). max m (furthest_live claim (live_at claim.target (suc n) (state_at (suc n) h)))) (up_to_live claim n h)
-    ∙ ap (λ (m : ℕ). max (furthest_up_to claim n h) m) (one_live claim (suc n) (state_at (suc n) h))
+up_to_live : (since : ℕ) (claim : Claim) (n : ℕ) (h : List Item) → furthest_live since claim (live_up_to claim.target n h) ≡ furthest_up_to since claim n h
+up_to_live since claim zero h = refl
+up_to_live since claim (suc n) h =
+    live_append since claim (live_up_to claim.target n h) (live_at claim.target (suc n) (state_at (suc n) h))
+    ∙ ap (λ (m : ℕ). max m (furthest_live since claim (live_at claim.target (suc n) (state_at (suc n) h)))) (up_to_live since claim n h)
+    ∙ ap (λ (m : ℕ). max (furthest_up_to since claim n h) m) (one_live since claim (suc n) (state_at (suc n) h))
 
-pub furthest_is_live : (claim : Claim) (h : List Item) → furthest_live claim (live_of claim.target h) ≡ furthest claim h
-furthest_is_live claim h = up_to_live claim (length h) h
+pub furthest_is_live : (since : ℕ) (claim : Claim) (h : List Item) → furthest_live since claim (live_of claim.target h) ≡ furthest since claim h
+furthest_is_live since claim h = up_to_live since claim (length h) h

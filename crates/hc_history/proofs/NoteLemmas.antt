@@ -6,15 +6,16 @@ use Rattle.std.proofs.lemmas.List.{map-append, append-nil}
 use Rattle.hc_head.specs.declared.head.RequestHead.{RequestHead}
 use Rattle.hc_head.specs.declared.head.ResponseHead.{ResponseHead}
 use Rattle.hc_head.specs.declared.head.Target.{Target}
+use Rattle.hc_head.specs.Targets.{same_target}
 use Rattle.hc_framing.specs.declared.message.Message.{Message}
 use Rattle.hc_update.specs.States.{initial_state}
-use Rattle.hc_transcript.specs.Items.{Item, ClientRequest, OriginRequest, OriginResponse, OriginFailure, ClientReply, Exchange, Forward}
+use Rattle.hc_transcript.specs.Items.{Item, ClientRequest, OriginResponse, OriginFailure, ClientReply, Exchange, Forward}
 use Rattle.hc_transcript.specs.History.{next_position, exchange_of, forward_of, exchange_after, forward_after}
 use Rattle.hc_history.specs.declared.kept.Kept.{Kept}
-use Rattle.hc_history.specs.States.{same_target, begun_by, begun_to, state_begun, state_answered, kept_answered_to, state_after, state_at}
+use Rattle.hc_history.specs.States.{begun_by, begun_to, state_begun, state_answered, kept_answered_to, state_after, state_at}
 use Rattle.hc_history.specs.Windows.{is_error_by, is_failure_by, is_error, is_failure}
-use Rattle.hc_history.specs.Seen.{remaining, Live, live_at, live_up_to, live_of, Answer, answers_by, answers_since, answers_to, Seen, IsSeenAs}
-use Rattle.hc_history.specs.Noting.{live_answered, lives_answered, lives_after, answer_in, answers_after, Notes}
+use Rattle.hc_history.specs.Seen.{remaining, Live, live_at, live_up_to, live_of, WindowResponse, response_in, responses_since, window_responses_of, Seen, IsSeenAs}
+use Rattle.hc_history.specs.Noting.{live_answered, lives_answered, lives_after, added_to_window, window_after, Notes}
 use Rattle.hc_history.proofs.TargetLemmas.{same_target_one}
 use Rattle.hc_history.proofs.StateLemmas.{earlier_at}
 use Rattle.hc_history.proofs.ForgetLemmas.{remaining_answered}
@@ -68,25 +69,16 @@ walked_at target (Some forward) position moment j response (Some kept) =
 
 -- what an item makes of the live responses of a target, without what it begins
 abbrev walk : Target → List Item → Item → List Live → List Live
-walk target h (ClientRequest number moment request asked) lives = lives
-walk target h (OriginRequest number moment request asked) lives = lives
 walk target h (OriginResponse number moment response) lives = walked target (forward_of number h) (next_position h) moment response lives
-walk target h (OriginFailure number moment) lives = lives
-walk target h (ClientReply number moment reply) lives = lives
+walk target h item lives = lives
 
 walk_append : (target : Target) (h : List Item) (item : Item) (xs ys : List Live) → walk target h item (xs ++ ys) ≡ walk target h item xs ++ walk target h item ys
-walk_append target h (ClientRequest number moment request asked) xs ys = refl
-walk_append target h (OriginRequest number moment request asked) xs ys = refl
 walk_append target h (OriginResponse number moment response) xs ys = walked_append target (forward_of number h) (next_position h) moment response xs ys
-walk_append target h (OriginFailure number moment) xs ys = refl
-walk_append target h (ClientReply number moment reply) xs ys = refl
+walk_append target h item xs ys = refl
 
 walk_none : (target : Target) (h : List Item) (item : Item) → [] ≡ walk target h item []
-walk_none target h (ClientRequest number moment request asked) = refl
-walk_none target h (OriginRequest number moment request asked) = refl
 walk_none target h (OriginResponse number moment response) = walked_none target (forward_of number h) (next_position h) moment response
-walk_none target h (OriginFailure number moment) = refl
-walk_none target h (ClientReply number moment reply) = refl
+walk_none target h item = refl
 
 map_same : (f : Kept → Kept) → ((kept : Kept) → f kept ≡ kept) → (o : Option Kept) → option_map f o ≡ o
 map_same f same None = refl
@@ -94,11 +86,8 @@ map_same f same (Some kept) = ap Some (same kept)
 
 walk_at : (target : Target) (h : List Item) (item : Item) (j : ℕ) (o : Option Kept) → live_at target j (option_map (state_after h item) o) ≡ walk target h item (live_at target j o)
 unfolding state_after
-walk_at target h (ClientRequest number moment request asked) j o = ap (live_at target j) (map_same _ (λ k. refl) o)
-walk_at target h (OriginRequest number moment request asked) j o = ap (live_at target j) (map_same _ (λ k. refl) o)
 walk_at target h (OriginResponse number moment response) j o = walked_at target (forward_of number h) (next_position h) moment j response o
-walk_at target h (OriginFailure number moment) j o = ap (live_at target j) (map_same _ (λ k. refl) o)
-walk_at target h (ClientReply number moment reply) j o = ap (live_at target j) (map_same _ (λ k. refl) o)
+walk_at target h item j o = ap (live_at target j) (map_same _ (λ k. refl) o)
 
 walk_up_to : (target : Target) (h : List Item) (item : Item) (n : ℕ) → n ≤ length h → live_up_to target n (item ∷ h) ≡ walk target h item (live_up_to target n h)
 walk_up_to target h item zero le = walk_none target h item
@@ -119,7 +108,7 @@ live_behind target h item =
 
 -- what a response to a forward of another target begins isn't of this one
 begun_elsewhere : (target : Target) (forward : Forward) (position moment : ℕ) (response : Message ResponseHead) (stores : Bool) → same_target forward.target target ≡ false
-    → live_at target position (cond stores (Some (record { target = forward.target; state = initial_state forward.request.head forward.moment response moment })) None) ≡ []
+    → live_at target position (cond stores (Some (record { target = forward.target; state = initial_state forward.request forward.moment response moment })) None) ≡ []
 begun_elsewhere target forward position moment response true other = rw other refl
 begun_elsewhere target forward position moment response false other = refl
 
@@ -136,37 +125,32 @@ answered_is target (Some forward) position moment response lives = go (same_targ
 
 noted_is : (target : Target) (h : List Item) (item : Item) (lives : List Live)
     → walk target h item lives ++ live_at target (next_position h) (state_begun h item) ≡ lives_after target (λ f. forward_of f h) (next_position h) item lives
-noted_is target h (ClientRequest number moment request asked) lives = append-nil lives
-noted_is target h (OriginRequest number moment request asked) lives = append-nil lives
 noted_is target h (OriginResponse number moment response) lives = answered_is target (forward_of number h) (next_position h) moment response lives
-noted_is target h (OriginFailure number moment) lives = append-nil lives
-noted_is target h (ClientReply number moment reply) lives = append-nil lives
+noted_is target h item lives = append-nil lives
 
 same_lives : (a b : ℕ → Option Forward) → ((f : ℕ) → a f ≡ b f) → (target : Target) (position : ℕ) (item : Item) (lives : List Live)
     → lives_after target a position item lives ≡ lives_after target b position item lives
-same_lives a b same target position (ClientRequest number moment request asked) lives = refl
-same_lives a b same target position (OriginRequest number moment request asked) lives = refl
 same_lives a b same target position (OriginResponse number moment response) lives =
     ap (λ (o : Option Forward). lives_answered target o position moment response lives) (same number)
-same_lives a b same target position (OriginFailure number moment) lives = refl
-same_lives a b same target position (ClientReply number moment reply) lives = refl
+same_lives a b same target position item lives = refl
 
 -- ---- windows
 
-answers_past : (target : Target) (since : ℕ) (h : List Item) → length h ≤ since → answers_since target since h ≡ []
-answers_past target since [] le = refl
-answers_past target since (item ∷ h) le = rw (le-ltb since (length h + 1) (omega arith)) (answers_past target since h (omega arith))
+responses_past : (target : Target) (since : ℕ) (h : List Item) → length h ≤ since → responses_since target since h ≡ []
+responses_past target since [] le = refl
+responses_past target since (item ∷ h) le =
+    rw (le-ltb since (length h + 1) (omega arith)) (append-nil (responses_since target since h) ∙ responses_past target since h (omega arith))
 
 position_in : Option Exchange → ℕ
 position_in None = 0
 position_in (Some exchange) = exchange.position
 
-opened_place : (h : List Item) (request : Message RequestHead) (target : Target) (exchange : Exchange) (b : Bool) (o : Option Exchange)
+opened_place : (h : List Item) (number : ℕ) (request : RequestHead) (target : Target) (exchange : Exchange) (b : Bool) (o : Option Exchange)
     → (o ≡ Some exchange → exchange.position ≤ length h)
-    → cond b (Some (record { position = next_position h; request = request; target = target })) o ≡ Some exchange → exchange.position ≤ length h + 1
+    → cond b (Some (record { number = number; position = next_position h; request = request; target = target })) o ≡ Some exchange → exchange.position ≤ length h + 1
 unfolding position_in
-opened_place h request target exchange true o before is = let at_it = ap position_in is in omega (arith, at_it)
-opened_place h request target exchange false o before is = let place = before is in omega (arith, place)
+opened_place h number request target exchange true o before is = let at_it = ap position_in is in omega (arith, at_it)
+opened_place h number request target exchange false o before is = let place = before is in omega (arith, place)
 
 closed_place : (h : List Item) (exchange : Exchange) (b : Bool) (o : Option Exchange)
     → (o ≡ Some exchange → exchange.position ≤ length h) → cond b None o ≡ Some exchange → exchange.position ≤ length h + 1
@@ -177,73 +161,62 @@ closed_place h exchange false o before is = let place = before is in omega (arit
 exchange_place : (e : ℕ) (h : List Item) (exchange : Exchange) → exchange_of e h ≡ Some exchange → exchange.position ≤ length h
 exchange_place e [] exchange is = cc
 exchange_place e (ClientRequest number moment request target ∷ h) exchange is =
-    omega (arith, opened_place h request target exchange (eqb number e) (exchange_of e h) (exchange_place e h exchange) is)
-exchange_place e (OriginRequest number moment request target ∷ h) exchange is = omega (arith, exchange_place e h exchange is)
-exchange_place e (OriginResponse number moment response ∷ h) exchange is = omega (arith, exchange_place e h exchange is)
-exchange_place e (OriginFailure number moment ∷ h) exchange is = omega (arith, exchange_place e h exchange is)
+    omega (arith, opened_place h number request.head target exchange (eqb number e) (exchange_of e h) (exchange_place e h exchange) is)
 exchange_place e (ClientReply number moment reply ∷ h) exchange is =
     omega (arith, closed_place h exchange (eqb number e) (exchange_of e h) (exchange_place e h exchange) is)
+exchange_place e (item ∷ h) exchange is = omega (arith, exchange_place e h exchange is)
 
--- an item that is no answer adds nothing to a window
-nothing_added : (b : Bool) (answers : List Answer) → cond b [] [] ++ answers ≡ answers
-nothing_added true answers = refl
-nothing_added false answers = refl
+-- an item that is no response adds nothing to a window
+nothing_added : (b : Bool) (window : List WindowResponse) → window ++ cond b [] [] ≡ window
+nothing_added true window = append-nil window
+nothing_added false window = append-nil window
 
-quiet : (h : List Item) (item : Item) → ((target : Target) → answers_by target h item ≡ []) → (o : Option Exchange) → answers_to o (item ∷ h) ≡ answers_to o h
+quiet : (h : List Item) (item : Item) → ((target : Target) → response_in target h item ≡ []) → (o : Option Exchange)
+    → window_responses_of o (item ∷ h) ≡ window_responses_of o h
 quiet h item none None = refl
 quiet h item none (Some exchange) =
-    ap (λ (added : List Answer). cond (ltb exchange.position (next_position h)) added [] ++ answers_since exchange.target exchange.position h) (none exchange.target)
-    ∙ nothing_added (ltb exchange.position (next_position h)) (answers_since exchange.target exchange.position h)
+    ap (λ (added : List WindowResponse). responses_since exchange.target exchange.position h ++ cond (ltb exchange.position (next_position h)) added []) (none exchange.target)
+    ∙ nothing_added (ltb exchange.position (next_position h)) (responses_since exchange.target exchange.position h)
 
 loud : (h : List Item) (number moment e : ℕ) (response : Message ResponseHead) (o : Option Exchange) → exchange_of e h ≡ o
-    → answers_to o (OriginResponse number moment response ∷ h) ≡ answer_in o (forward_of number h) response ++ answers_to o h
+    → window_responses_of o (OriginResponse number moment response ∷ h) ≡ window_responses_of o h ++ added_to_window o (forward_of number h) response
 loud h number moment e response None is = refl
 loud h number moment e response (Some exchange) is =
     rw (lt-ltb exchange.position (length h + 1) (let place = exchange_place e h exchange is in omega arith)) refl
 
 opened : (h : List Item) (number moment e : ℕ) (request : Message RequestHead) (target : Target) (b : Bool)
-    → answers_to (cond b (Some (record { position = next_position h; request = request; target = target })) (exchange_of e h)) (ClientRequest number moment request target ∷ h)
-    ≡ cond b [] (answers_to (exchange_of e h) h)
-opened h number moment e request target true = answers_past target (length h + 1) (ClientRequest number moment request target ∷ h) (omega arith)
+    → window_responses_of (cond b (Some (record { number = number; position = next_position h; request = request.head; target = target })) (exchange_of e h)) (ClientRequest number moment request target ∷ h)
+    ≡ cond b [] (window_responses_of (exchange_of e h) h)
+opened h number moment e request target true = responses_past target (length h + 1) (ClientRequest number moment request target ∷ h) (omega arith)
 opened h number moment e request target false = quiet h (ClientRequest number moment request target) (λ t. refl) (exchange_of e h)
 
 closed : (h : List Item) (number moment e : ℕ) (reply : Message ResponseHead) (b : Bool)
-    → answers_to (cond b None (exchange_of e h)) (ClientReply number moment reply ∷ h) ≡ cond b [] (answers_to (exchange_of e h) h)
+    → window_responses_of (cond b None (exchange_of e h)) (ClientReply number moment reply ∷ h) ≡ cond b [] (window_responses_of (exchange_of e h) h)
 closed h number moment e reply true = refl
 closed h number moment e reply false = quiet h (ClientReply number moment reply) (λ t. refl) (exchange_of e h)
 
-answers_behind : (e : ℕ) (h : List Item) (item : Item) → answers_to (exchange_of e (item ∷ h)) (item ∷ h)
-    ≡ answers_after e (exchange_of e h) (λ f. forward_of f h) item (answers_to (exchange_of e h) h)
-answers_behind e h (ClientRequest number moment request target) = opened h number moment e request target (eqb number e)
-answers_behind e h (OriginRequest number moment request target) = quiet h (OriginRequest number moment request target) (λ t. refl) (exchange_of e h)
-answers_behind e h (OriginResponse number moment response) = loud h number moment e response (exchange_of e h) refl
-answers_behind e h (OriginFailure number moment) = quiet h (OriginFailure number moment) (λ t. refl) (exchange_of e h)
-answers_behind e h (ClientReply number moment reply) = closed h number moment e reply (eqb number e)
+window_behind : (e : ℕ) (h : List Item) (item : Item) → window_responses_of (exchange_of e (item ∷ h)) (item ∷ h)
+    ≡ window_after e (exchange_of e h) (λ f. forward_of f h) item (window_responses_of (exchange_of e h) h)
+window_behind e h (ClientRequest number moment request target) = opened h number moment e request target (eqb number e)
+window_behind e h (OriginResponse number moment response) = loud h number moment e response (exchange_of e h) refl
+window_behind e h (ClientReply number moment reply) = closed h number moment e reply (eqb number e)
+window_behind e h item = quiet h item (λ t. refl) (exchange_of e h)
 
-same_answers : (a b : ℕ → Option Forward) → ((f : ℕ) → a f ≡ b f) → (e : ℕ) (o : Option Exchange) (item : Item) (answers : List Answer)
-    → answers_after e o a item answers ≡ answers_after e o b item answers
-same_answers a b same e o (ClientRequest number moment request target) answers = refl
-same_answers a b same e o (OriginRequest number moment request target) answers = refl
-same_answers a b same e o (OriginResponse number moment response) answers = ap (λ (f : Option Forward). answer_in o f response ++ answers) (same number)
-same_answers a b same e o (OriginFailure number moment) answers = refl
-same_answers a b same e o (ClientReply number moment reply) answers = refl
+same_window : (a b : ℕ → Option Forward) → ((f : ℕ) → a f ≡ b f) → (e : ℕ) (o : Option Exchange) (item : Item) (window : List WindowResponse)
+    → window_after e o a item window ≡ window_after e o b item window
+same_window a b same e o (OriginResponse number moment response) window = ap (λ (f : Option Forward). window ++ added_to_window o f response) (same number)
+same_window a b same e o item window = refl
 
 -- ---- errors and failures
 
 same_error : (a b : ℕ → Option Forward) → ((f : ℕ) → a f ≡ b f) → (target : Target) (item : Item) → is_error_by target a item ≡ is_error_by target b item
-same_error a b same target (ClientRequest number moment request asked) = refl
-same_error a b same target (OriginRequest number moment request asked) = refl
 same_error a b same target (OriginResponse number moment response) =
     ap (λ (f : Option Forward). is_error_by target (λ n. f) (OriginResponse number moment response)) (same number)
-same_error a b same target (OriginFailure number moment) = refl
-same_error a b same target (ClientReply number moment reply) = refl
+same_error a b same target item = refl
 
 same_failure : (a b : ℕ → Option Forward) → ((f : ℕ) → a f ≡ b f) → (target : Target) (item : Item) → is_failure_by target a item ≡ is_failure_by target b item
-same_failure a b same target (ClientRequest number moment request asked) = refl
-same_failure a b same target (OriginRequest number moment request asked) = refl
-same_failure a b same target (OriginResponse number moment response) = refl
 same_failure a b same target (OriginFailure number moment) = ap (λ (f : Option Forward). is_failure_by target (λ n. f) (OriginFailure number moment)) (same number)
-same_failure a b same target (ClientReply number moment reply) = refl
+same_failure a b same target item = refl
 
 -- ---- all of it
 
@@ -256,11 +229,11 @@ noted old new h item is n = record {
       ∙ sym (live_behind target h item);
   exchange = λ e. n.exchange e ∙ ap (exchange_after e (next_position h) item) (is.exchange e);
   forward = λ f. n.forward f ∙ ap (forward_after f item) (is.forward f);
-  answers = λ e. n.answers e
-      ∙ ap (λ (o : Option Exchange). answers_after e o old.forward item (old.answers e)) (is.exchange e)
-      ∙ same_answers old.forward (λ f. forward_of f h) is.forward e (exchange_of e h) item (old.answers e)
-      ∙ ap (answers_after e (exchange_of e h) (λ f. forward_of f h) item) (is.answers e)
-      ∙ sym (answers_behind e h item);
+  window = λ e. n.window e
+      ∙ ap (λ (o : Option Exchange). window_after e o old.forward item (old.window e)) (is.exchange e)
+      ∙ same_window old.forward (λ f. forward_of f h) is.forward e (exchange_of e h) item (old.window e)
+      ∙ ap (window_after e (exchange_of e h) (λ f. forward_of f h) item) (is.window e)
+      ∙ sym (window_behind e h item);
   error = λ target. n.error target
       ∙ ap (λ (b : Bool). cond b (next_position h) (old.error target)) (same_error old.forward (λ f. forward_of f h) is.forward target item)
       ∙ ap (λ (p : ℕ). cond (is_error target h item) (next_position h) p) (is.error target);

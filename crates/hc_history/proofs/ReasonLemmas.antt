@@ -9,7 +9,7 @@ use Rattle.hc_history.specs.declared.reasons.Reason.{Reason}
 use Rattle.hc_history.specs.declared.reasons.Reason.TheVariants as reason
 use Rattle.hc_history.specs.Names.{reason_number}
 use Rattle.hc_history.specs.Claims.{Claim}
-use Rattle.hc_history.specs.Reused.{IsFirstFailed, filter_count}
+use Rattle.hc_history.specs.Reused.{IsFirstFailed, anywhere, filter_count}
 use Rattle.hc_history.specs.Right.{IsRightBy, IsWrongBy}
 use Rattle.hc_history.proofs.FurthestLemmas.{Pass-fewer}
 
@@ -67,7 +67,7 @@ apart : {b : Bool} → b ≡ true → b ≡ false → ⊥
 apart yes_it no_it = cc
 
 pub not_both : (mark : Mark) (claim : Claim) (h : List Item) (why : Reason) → IsRightBy mark claim h → ¬ (IsWrongBy mark claim h why)
-not_both (Hit ttl) claim h why right wrong = wrong.leaves_nobody (Pass-fewer (reason_number why) filter_count claim h wrong.is_filter.1 right)
+not_both (Hit ttl) claim h why right wrong = wrong.leaves_nobody (Pass-fewer (reason_number why) filter_count anywhere claim h wrong.is_filter.1 right)
 not_both Forwarded claim h why right wrong = elim right [ inl carried ↦ apart carried wrong.1.0 | inr pass ↦ wrong.1.1 pass ]
 not_both Both claim h why right wrong = right
 not_both Unmarked claim h why right wrong = apart right wrong.1

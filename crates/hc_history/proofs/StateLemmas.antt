@@ -3,6 +3,7 @@ use Rattle.std.proofs.Common.{◌≡◌, ℕ, ◌+◌, ◌≤◌, true, false, L
 use Rattle.std.specs.Option.{option_map}
 use Rattle.std.proofs.lemmas.Bool.{cases_eq, ne_eqb}
 use Rattle.hc_head.specs.declared.head.ResponseHead.{ResponseHead}
+use Rattle.hc_head.specs.Targets.{same_target}
 use Rattle.hc_framing.specs.declared.message.Message.{Message}
 use Rattle.hc_fields.specs.declared.fields.Field.{Field}
 use Rattle.hc_update.specs.declared.stored.Stored.{Stored}
@@ -11,7 +12,7 @@ use Rattle.hc_update.specs.Identifying.{identifies}
 use Rattle.hc_transcript.specs.Items.{Item, OriginResponse, Forward}
 use Rattle.hc_transcript.specs.History.{next_position, forward_of}
 use Rattle.hc_history.specs.declared.kept.Kept.{Kept}
-use Rattle.hc_history.specs.States.{same_target, kept_answered_to, state_after, state_at}
+use Rattle.hc_history.specs.States.{kept_answered_to, state_after, state_at}
 
 pub map_is_some : {A B : Type 0} (f : A → B) (o : Option A) (y : B) → option_map f o ≡ Some y → (x : A) × (o ≡ Some x)
 map_is_some f None y is = cc
@@ -37,13 +38,13 @@ pub freshened_valid : (state : Stored) (received : List Field) (request_time res
 freshened_valid state received request_time response_time position = refl
 
 answered_to : (o : Option Forward) (forward : Forward) (position moment : ℕ) (response : Message ResponseHead) (kept : Kept) → o ≡ Some forward
-    → same_target forward.target kept.target ≡ true → identifies kept.state forward.request.head response.head ≡ true
+    → same_target forward.target kept.target ≡ true → identifies kept.state forward.request response.head ≡ true
     → kept_answered_to o position moment response kept
     ≡ record { target = kept.target; state = freshened kept.state response.head.fields forward.moment moment position }
 answered_to o forward position moment response kept is same found = rw is (rw (same, found) refl)
 
 after_update : (h : List Item) (number moment : ℕ) (response : Message ResponseHead) (forward : Forward) (kept : Kept) → forward_of number h ≡ Some forward
-    → same_target forward.target kept.target ≡ true → identifies kept.state forward.request.head response.head ≡ true
+    → same_target forward.target kept.target ≡ true → identifies kept.state forward.request response.head ≡ true
     → state_after h (OriginResponse number moment response) kept
     ≡ record { target = kept.target; state = freshened kept.state response.head.fields forward.moment moment (next_position h) }
 unfolding state_after
@@ -51,7 +52,7 @@ after_update h number moment response forward kept is same found = answered_to (
 
 pub update_freshens : (h : List Item) (number moment position : ℕ) (response : Message ResponseHead) (forward : Forward) (kept : Kept)
     → state_at position h ≡ Some kept → forward_of number h ≡ Some forward
-    → same_target forward.target kept.target ≡ true → identifies kept.state forward.request.head response.head ≡ true
+    → same_target forward.target kept.target ≡ true → identifies kept.state forward.request response.head ≡ true
     → state_at position (OriginResponse number moment response ∷ h)
     ≡ Some (record { target = kept.target; state = freshened kept.state response.head.fields forward.moment moment (next_position h) })
 update_freshens h number moment position response forward kept is open_forward same found =

@@ -3,20 +3,21 @@ use Rattle.std.proofs.Common.{◌≡◌, ℕ, ◌≤◌, ◌<◌, Bool, true, fa
 use Rattle.std.specs.Option.{option_map}
 use Rattle.std.proofs.lemmas.Bool.{cases_eq, ne_eqb, eq-eqb}
 use Rattle.hc_head.specs.declared.head.ResponseHead.{ResponseHead}
+use Rattle.hc_head.specs.Targets.{same_target}
 use Rattle.hc_framing.specs.declared.message.Message.{Message}
 use Rattle.hc_rules.specs.Storing.{may_store}
 use Rattle.hc_update.specs.declared.stored.Stored.{Stored}
 use Rattle.hc_update.specs.States.{initial_state, freshened, invalidated, invalidates}
 use Rattle.hc_update.specs.Identifying.{identifies}
-use Rattle.hc_transcript.specs.Items.{Item, ClientRequest, OriginRequest, OriginResponse, OriginFailure, ClientReply, Forward}
+use Rattle.hc_transcript.specs.Items.{Item, OriginResponse, Forward}
 use Rattle.hc_transcript.specs.History.{next_position, forward_of}
 use Rattle.hc_history.specs.declared.kept.Kept.{Kept}
-use Rattle.hc_history.specs.States.{same_target, begun_to, state_begun, state_answered, kept_answered_to, state_after, state_at}
+use Rattle.hc_history.specs.States.{begun_to, state_begun, state_answered, kept_answered_to, state_after, state_at}
 use Rattle.hc_history.proofs.StateLemmas.{map_is_some, place_of}
 
 -- nothing has validated what has just come
 begun_by_never : (forward : Forward) (moment : ℕ) (response : Message ResponseHead) (kept : Kept) (stores : Bool)
-    → cond stores (Some (record { target = forward.target; state = initial_state forward.request.head forward.moment response moment })) None ≡ Some kept
+    → cond stores (Some (record { target = forward.target; state = initial_state forward.request forward.moment response moment })) None ≡ Some kept
     → None ≡ kept.state.validated_at
 begun_by_never forward moment response kept true is = ap validated_in is
   where
@@ -27,14 +28,11 @@ begun_by_never forward moment response kept false is = cc
 
 begun_to_never : (o : Option Forward) (moment : ℕ) (response : Message ResponseHead) (kept : Kept) → begun_to o moment response ≡ Some kept → None ≡ kept.state.validated_at
 begun_to_never None moment response kept is = cc
-begun_to_never (Some forward) moment response kept is = begun_by_never forward moment response kept (may_store forward.request.head response.head) is
+begun_to_never (Some forward) moment response kept is = begun_by_never forward moment response kept (may_store forward.request response.head) is
 
 begun_never : (h : List Item) (item : Item) (kept : Kept) → state_begun h item ≡ Some kept → None ≡ kept.state.validated_at
-begun_never h (ClientRequest number moment request target) kept is = cc
-begun_never h (OriginRequest number moment request target) kept is = cc
 begun_never h (OriginResponse number moment response) kept is = begun_to_never (forward_of number h) moment response kept is
-begun_never h (OriginFailure number moment) kept is = cc
-begun_never h (ClientReply number moment reply) kept is = cc
+begun_never h item kept is = cc
 
 -- validated as before, or at that position
 abbrev Validates : ℕ → Kept → Kept → Type 0
@@ -50,8 +48,8 @@ state_validated forward position moment response state false false = inl refl
 kept_validated : (forward : Forward) (position moment : ℕ) (response : Message ResponseHead) (kept : Kept) (same : Bool)
     → Validates position kept (cond same (record { target = kept.target; state = state_answered forward position moment response kept.state }) kept)
 kept_validated forward position moment response kept true =
-    state_validated forward position moment response kept.state (identifies kept.state forward.request.head response.head)
-    (invalidates forward.request.head.method response.head.status)
+    state_validated forward position moment response kept.state (identifies kept.state forward.request response.head)
+    (invalidates forward.request.method response.head.status)
 kept_validated forward position moment response kept false = inl refl
 
 answered_validated : (o : Option Forward) (position moment : ℕ) (response : Message ResponseHead) (kept : Kept) → Validates position kept (kept_answered_to o position moment response kept)
@@ -60,11 +58,8 @@ answered_validated (Some forward) position moment response kept = kept_validated
 
 after_validated : (h : List Item) (item : Item) (kept : Kept) → Validates (next_position h) kept (state_after h item kept)
 unfolding state_after
-after_validated h (ClientRequest number moment request target) kept = inl refl
-after_validated h (OriginRequest number moment request target) kept = inl refl
 after_validated h (OriginResponse number moment response) kept = answered_validated (forward_of number h) (next_position h) moment response kept
-after_validated h (OriginFailure number moment) kept = inl refl
-after_validated h (ClientReply number moment reply) kept = inl refl
+after_validated h item kept = inl refl
 
 unwrapped : {A : Type 0} (one other : A) → Some one ≡ Some other → one ≡ other
 unwrapped one other e = cc

@@ -6,10 +6,10 @@ use Rattle.hc_transcript.specs.declared.fault.RecordFault.{RecordFault}
 use Rattle.hc_transcript.specs.declared.fault.RecordFault.TheVariants as fault
 use Rattle.hc_transcript.specs.declared.record.Record.{Record}
 use Rattle.hc_transcript.specs.Records.{opening, records_text}
-use Rattle.hc_transcript.specs.Items.{Item, ClientRequest, OriginRequest, OriginResponse, OriginFailure, ClientReply, Exchange}
+use Rattle.hc_transcript.specs.Items.{Item, ClientReply, Exchange}
 use Rattle.hc_transcript.specs.History.{next_position, exchange_of}
 use Rattle.hc_transcript.specs.Checks.{line_fault}
-use Rattle.hc_transcript.specs.Frames.{IsUnfinished}
+use Rattle.hc_transcript.specs.Malformed.{IsUnfinished, BreaksOpening, IsMalformedAfter}
 use Rattle.hc_transcript.specs.Transcript.{Splits, IsTranscript}
 use Rattle.hc_transcript.proofs.OnceLemmas.{front, one as one_reading, one_break, break_last, broken_is_no_transcript, one_unfinished, unfinished_last, unfinished_is_no_transcript, unfinished_is_unbroken, no_opening_no_records, no_opening_is_hopeless, unfinished_opening_no_records, broken_more, no_opening_more}
 use Rattle.hc_history.specs.declared.reasons.Reason.{Reason}
@@ -21,7 +21,7 @@ use Rattle.hc_history.specs.Counting.{counts_of}
 use Rattle.hc_history.specs.Marks.{reply_mark}
 use Rattle.hc_history.specs.Claims.{claim_of}
 use Rattle.hc_history.specs.Right.{IsRightTo, IsWrongTo, IsRight, IsWrong, AllRight}
-use Rattle.hc_history.specs.Verdicts.{IsAllRight, StopsAt, BreaksBehind, BreaksOpening, BreaksAt, IsVerdict}
+use Rattle.hc_history.specs.Verdicts.{IsAllRight, IsWrongAt, IsMalformedAt, IsVerdict}
 use Rattle.hc_history.proofs.ReasonLemmas.{not_both, one_reason}
 
 -- ---- right and wrong replies
@@ -33,11 +33,8 @@ right_to_wrong settings (Some exchange) moment reply h why right wrong =
     not_both (reply_mark reply) (claim_of settings exchange moment reply h) h why right wrong
 
 right_wrong : (settings : Settings) (h : List Item) (item : Item) (why : Reason) → IsRight settings h item → ¬ (IsWrong settings h item why)
-right_wrong settings h (ClientRequest number moment request target) why right wrong = wrong
-right_wrong settings h (OriginRequest number moment request target) why right wrong = wrong
-right_wrong settings h (OriginResponse number moment response) why right wrong = wrong
-right_wrong settings h (OriginFailure number moment) why right wrong = wrong
 right_wrong settings h (ClientReply number moment reply) why right wrong = right_to_wrong settings (exchange_of number h) moment reply h why right wrong
+right_wrong settings h item why right wrong = wrong
 
 wrong_to_once : (settings : Settings) (o : Option Exchange) (moment : ℕ) (reply : Message ResponseHead) (h : List Item) (why other : Reason)
     → IsWrongTo settings o moment reply h why → IsWrongTo settings o moment reply h other → why ≡ other
@@ -46,11 +43,8 @@ wrong_to_once settings (Some exchange) moment reply h why other one two =
     one_reason (reply_mark reply) (claim_of settings exchange moment reply h) h why other one two
 
 wrong_once : (settings : Settings) (h : List Item) (item : Item) (why other : Reason) → IsWrong settings h item why → IsWrong settings h item other → why ≡ other
-wrong_once settings h (ClientRequest number moment request target) why other one two = absurd one
-wrong_once settings h (OriginRequest number moment request target) why other one two = absurd one
-wrong_once settings h (OriginResponse number moment response) why other one two = absurd one
-wrong_once settings h (OriginFailure number moment) why other one two = absurd one
 wrong_once settings h (ClientReply number moment reply) why other one two = wrong_to_once settings (exchange_of number h) moment reply h why other one two
+wrong_once settings h item why other one two = absurd one
 
 -- where every reply is right, so is the first of any front
 right_within : (settings : Settings) (items : List Item) (item : Item) (h : List Item) → AllRight settings (items ++ item ∷ h) → IsRight settings h item
@@ -73,12 +67,12 @@ nothing_unfinished h = inl (record { short = omega arith; none = λ text begins.
 
 -- what the octets break behind is the last history that is read of them
 last_read : (octets : List ℕ) (h : List Item) (f : RecordFault) (records : List Record) (g : List Item) (rest : List ℕ)
-    → BreaksBehind octets h f → Splits octets records g rest → (items : List Item) × (h ≡ items ++ g)
+    → IsMalformedAfter octets h f → Splits octets records g rest → (items : List Item) × (h ≡ items ++ g)
 last_read octets h f records g rest (inl broken) splits = break_last octets h f records g rest broken splits
 last_read octets h f records g rest (inr torn) splits =
     unfinished_last octets torn.1.records records h g torn.1.rest rest torn.1.splits torn.1.torn splits
 
-break_read : (octets : List ℕ) (h : List Item) (f : RecordFault) → BreaksBehind octets h f → (records : List Record) × (rest : List ℕ) × Splits octets records h rest
+break_read : (octets : List ℕ) (h : List Item) (f : RecordFault) → IsMalformedAfter octets h f → (records : List Record) × (rest : List ℕ) × Splits octets records h rest
 break_read octets h f (inl broken) = (broken.records, broken.rest, broken.splits)
 break_read octets h f (inr torn) = (torn.1.records, torn.1.rest, torn.1.splits)
 
@@ -92,7 +86,7 @@ one_opening_fault octets f e (inl none) (inr short) = absurd (no_opening_is_hope
 one_opening_fault octets f e (inr short) (inl none) = absurd (no_opening_is_hopeless octets none.0 short.0)
 one_opening_fault octets f e (inr short) (inr other) = short.1 ∙ sym other.1
 
-one_break_behind : (octets : List ℕ) (h g : List Item) (f e : RecordFault) → BreaksBehind octets h f → BreaksBehind octets g e → (h ≡ g) × (f ≡ e)
+one_break_behind : (octets : List ℕ) (h g : List Item) (f e : RecordFault) → IsMalformedAfter octets h f → IsMalformedAfter octets g e → (h ≡ g) × (f ≡ e)
 one_break_behind octets h g f e (inl one) (inl other) = one_break octets h g f e one other
 one_break_behind octets h g f e (inl one) (inr torn) =
     absurd (unfinished_is_unbroken octets torn.1.records g h torn.1.rest f torn.1.splits torn.1.torn one)
@@ -102,7 +96,7 @@ one_break_behind octets h g f e (inr torn) (inr other) =
     let same = one_unfinished octets torn.1.records other.1.records h g torn.1.rest other.1.rest torn.1.splits torn.1.torn other.1.splits other.1.torn in
     (same.1, torn.0 ∙ sym other.0)
 
-behind_is_no_transcript : (octets : List ℕ) (h : List Item) (f : RecordFault) (records : List Record) (g : List Item) → BreaksBehind octets h f → ¬ (IsTranscript octets records g)
+behind_is_no_transcript : (octets : List ℕ) (h : List Item) (f : RecordFault) (records : List Record) (g : List Item) → IsMalformedAfter octets h f → ¬ (IsTranscript octets records g)
 behind_is_no_transcript octets h f records g (inl broken) whole = broken_is_no_transcript octets h f records g broken whole
 behind_is_no_transcript octets h f records g (inr torn) whole =
     unfinished_is_no_transcript octets torn.1.records records h g torn.1.rest torn.1.splits torn.1.some torn.1.torn whole
@@ -114,12 +108,12 @@ same_counts octets settings one other y z =
     let same = one_reading octets y.records z.records y.history z.history y.is_transcript z.is_transcript in
     ap Yes (y.counts_are ∙ ap counts_of same.1 ∙ sym z.counts_are)
 
-yes_no : (octets : List ℕ) (settings : Settings) (counts : Counts) (position : ℕ) (why : Reason) → IsAllRight octets settings counts → ¬ (StopsAt octets settings position why)
+yes_no : (octets : List ℕ) (settings : Settings) (counts : Counts) (position : ℕ) (why : Reason) → IsAllRight octets settings counts → ¬ (IsWrongAt octets settings position why)
 yes_no octets settings counts position why y n =
     let last = unfinished_last octets y.records n.records y.history (n.item ∷ n.history) [] n.rest y.is_transcript (nothing_unfinished y.history) n.splits in
     never_within settings y.history last.0 n.history n.item why y.all_right last.1 n.is_wrong
 
-break_no : (octets : List ℕ) (settings : Settings) (at position : ℕ) (f : RecordFault) (why : Reason) → BreaksAt octets settings at f → ¬ (StopsAt octets settings position why)
+break_no : (octets : List ℕ) (settings : Settings) (at position : ℕ) (f : RecordFault) (why : Reason) → IsMalformedAt octets settings at f → ¬ (IsWrongAt octets settings position why)
 break_no octets settings at position f why b n =
     let last = last_read octets b.history f n.records (n.item ∷ n.history) n.rest b.breaks n.splits in
     never_within settings b.history last.0 n.history n.item why b.all_right last.1 n.is_wrong
@@ -131,7 +125,7 @@ no_later settings [] h g item other why all wrong is = (cc, cc)
 no_later settings (i ∷ items) h g item other why all wrong is =
     absurd (let tail : g ≡ items ++ item ∷ h = cc in never_within settings g items h item why all tail wrong)
 
-stop_parts : (octets : List ℕ) (settings : Settings) (position at : ℕ) (why other : Reason) (n : StopsAt octets settings position why) (m : StopsAt octets settings at other)
+stop_parts : (octets : List ℕ) (settings : Settings) (position at : ℕ) (why other : Reason) (n : IsWrongAt octets settings position why) (m : IsWrongAt octets settings at other)
     → n.item ≡ m.item → n.history ≡ m.history → No position why ≡ No at other
 stop_parts octets settings position at why other n m same before =
     let here = subst (λ (i : Item). IsWrong settings n.history i why) same n.is_wrong in
@@ -139,7 +133,7 @@ stop_parts octets settings position at why other n m same before =
     ap (λ (p : ℕ). No p why) (n.position_is ∙ ap next_position before ∙ sym m.position_is)
     ∙ ap (No at) (wrong_once settings m.history m.item why other there m.is_wrong)
 
-no_no : (octets : List ℕ) (settings : Settings) (position at : ℕ) (why other : Reason) → StopsAt octets settings position why → StopsAt octets settings at other → No position why ≡ No at other
+no_no : (octets : List ℕ) (settings : Settings) (position at : ℕ) (why other : Reason) → IsWrongAt octets settings position why → IsWrongAt octets settings at other → No position why ≡ No at other
 no_no octets settings position at why other n m =
     elim (front octets n.records m.records (n.item ∷ n.history) (m.item ∷ m.history) n.rest m.rest n.splits m.splits) [
       | inl goes ↦
@@ -151,8 +145,8 @@ no_no octets settings position at why other n m =
     ]
 
 break_break : (octets : List ℕ) (settings : Settings) (position at : ℕ) (f e : RecordFault)
-    → (((position ≡ 0) × BreaksOpening octets f) ⊎ BreaksAt octets settings position f)
-    → (((at ≡ 0) × BreaksOpening octets e) ⊎ BreaksAt octets settings at e) → Malformed position f ≡ Malformed at e
+    → (((position ≡ 0) × BreaksOpening octets f) ⊎ IsMalformedAt octets settings position f)
+    → (((at ≡ 0) × BreaksOpening octets e) ⊎ IsMalformedAt octets settings at e) → Malformed position f ≡ Malformed at e
 break_break octets settings position at f e (inl one) (inl other) =
     ap (λ (p : ℕ). Malformed p f) (one.0 ∙ sym other.0) ∙ ap (Malformed at) (one_opening_fault octets f e one.1 other.1)
 break_break octets settings position at f e (inl one) (inr b) =
@@ -166,12 +160,12 @@ break_break octets settings position at f e (inr b) (inr c) =
     ap (λ (p : ℕ). Malformed p f) (b.position_is ∙ ap next_position same.0 ∙ sym c.position_is) ∙ ap (Malformed at) same.1
 
 yes_break : (octets : List ℕ) (settings : Settings) (counts : Counts) (position : ℕ) (f : RecordFault) → IsAllRight octets settings counts
-    → (((position ≡ 0) × BreaksOpening octets f) ⊎ BreaksAt octets settings position f) → ⊥
+    → (((position ≡ 0) × BreaksOpening octets f) ⊎ IsMalformedAt octets settings position f) → ⊥
 yes_break octets settings counts position f y (inl one) = opening_unread octets f y.records y.history [] one.1 y.is_transcript
 yes_break octets settings counts position f y (inr b) = behind_is_no_transcript octets b.history f y.records y.history b.breaks y.is_transcript
 
-no_break : (octets : List ℕ) (settings : Settings) (at position : ℕ) (why : Reason) (f : RecordFault) → StopsAt octets settings at why
-    → (((position ≡ 0) × BreaksOpening octets f) ⊎ BreaksAt octets settings position f) → ⊥
+no_break : (octets : List ℕ) (settings : Settings) (at position : ℕ) (why : Reason) (f : RecordFault) → IsWrongAt octets settings at why
+    → (((position ≡ 0) × BreaksOpening octets f) ⊎ IsMalformedAt octets settings position f) → ⊥
 no_break octets settings at position why f n (inl one) = opening_unread octets f n.records (n.item ∷ n.history) n.rest one.1 n.splits
 no_break octets settings at position why f n (inr b) = break_no octets settings position at f why b n
 
@@ -208,7 +202,7 @@ no_stays octets more settings position why n = record {
   position_is = n.position_is;
 }
 
-behind_stays : (octets more : List ℕ) (h : List Item) (f : RecordFault) → f ≢ fault.Torn → BreaksBehind octets h f → BreaksBehind (octets ++ more) h f
+behind_stays : (octets more : List ℕ) (h : List Item) (f : RecordFault) → f ≢ fault.Torn → IsMalformedAfter octets h f → IsMalformedAfter (octets ++ more) h f
 behind_stays octets more h f whole (inl broken) = inl (broken_more octets more h f broken)
 behind_stays octets more h f whole (inr torn) = absurd (whole torn.0)
 

@@ -3,14 +3,14 @@ use Rattle.std.proofs.Common.{◌≡◌, ℕ, ◌+◌, ◌≤◌, Bool, true, fa
 use Rattle.std.specs.List.{list_any}
 use Rattle.std.proofs.lemmas.Bool.{cases_Bool, cases_lt, lt-ltb, le-ltb}
 use Rattle.hc_head.specs.declared.head.ResponseHead.{ResponseHead}
+use Rattle.hc_head.specs.Targets.{same_target}
 use Rattle.hc_framing.specs.declared.message.Message.{Message}
-use Rattle.hc_transcript.specs.Items.{Item, ClientRequest, OriginRequest, OriginResponse, OriginFailure, ClientReply, Forward}
+use Rattle.hc_transcript.specs.Items.{Item, OriginResponse, Forward}
 use Rattle.hc_transcript.specs.History.{next_position, forward_of}
-use Rattle.hc_history.specs.States.{same_target}
 use Rattle.hc_history.specs.Windows.{some_since, latest}
 use Rattle.hc_history.specs.Claims.{Claim}
-use Rattle.hc_history.specs.Forwarded.{carries, carries_answer, is_carried, is_forwarded}
-use Rattle.hc_history.specs.Seen.{Answer, answer_to, answers_by, answers_since}
+use Rattle.hc_history.specs.Forwarded.{carries, carries_response, is_carried, is_forwarded}
+use Rattle.hc_history.specs.Seen.{WindowResponse, response_to, response_in, responses_since}
 
 and_false : (a : Bool) → (a && false) ≡ false
 and_false true = refl
@@ -37,10 +37,11 @@ some_since-latest test since (item ∷ h) =
 
 -- ---- what the reply carries
 
-abbrev carries_one : Claim → Answer → Bool
-carries_one claim answer = carries claim answer.method answer.status answer.body
+abbrev carries_one : Claim → WindowResponse → Bool
+carries_one claim one = carries claim one.method one.status one.body
 
-any_append : (claim : Claim) (xs ys : List Answer) → list_any (carries_one claim) (xs ++ ys) ≡ (list_any (carries_one claim) xs || list_any (carries_one claim) ys)
+any_append : (claim : Claim) (xs ys : List WindowResponse)
+    → list_any (carries_one claim) (xs ++ ys) ≡ (list_any (carries_one claim) xs || list_any (carries_one claim) ys)
 any_append claim [] ys = refl
 any_append claim (x ∷ xs) ys = go (carries_one claim x) (any_append claim xs ys)
   where
@@ -53,35 +54,37 @@ or_false : (a : Bool) → a ≡ (a || false)
 or_false true = refl
 or_false false = refl
 
-answer_carried : (claim : Claim) (forward : Option Forward) (response : Message ResponseHead) → carries_answer claim forward response ≡ list_any (carries_one claim) (answer_to claim.target forward response)
-answer_carried claim None response = refl
-answer_carried claim (Some forward) response = go (same_target forward.target claim.target)
+either_first : (a b : Bool) → (a || b) ≡ (b || a)
+either_first true true = refl
+either_first true false = refl
+either_first false b = or_false b
+
+response_carried : (claim : Claim) (forward : Option Forward) (response : Message ResponseHead)
+    → carries_response claim forward response ≡ list_any (carries_one claim) (response_to claim.target forward response)
+response_carried claim None response = refl
+response_carried claim (Some forward) response = go (same_target forward.target claim.target)
   where
-    go : (same : Bool) → (same && carries claim forward.request.head.method response.head.status response.body)
-        ≡ list_any (carries_one claim) (cond same (record { method = forward.request.head.method; status = response.head.status; body = response.body } ∷ []) [])
-    go true = or_false (carries claim forward.request.head.method response.head.status response.body)
+    go : (same : Bool) → (same && carries claim forward.request.method response.head.status response.body)
+        ≡ list_any (carries_one claim) (cond same (record { method = forward.request.method; status = response.head.status; body = response.body } ∷ []) [])
+    go true = or_false (carries claim forward.request.method response.head.status response.body)
     go false = refl
 
-item_carried : (claim : Claim) (h : List Item) (item : Item) → is_carried claim h item ≡ list_any (carries_one claim) (answers_by claim.target h item)
-item_carried claim h (ClientRequest number moment request target) = refl
-item_carried claim h (OriginRequest number moment request target) = refl
-item_carried claim h (OriginResponse number moment response) = answer_carried claim (forward_of number h) response
-item_carried claim h (OriginFailure number moment) = refl
-item_carried claim h (ClientReply number moment reply) = refl
+item_carried : (claim : Claim) (h : List Item) (item : Item) → is_carried claim h item ≡ list_any (carries_one claim) (response_in claim.target h item)
+item_carried claim h (OriginResponse number moment response) = response_carried claim (forward_of number h) response
+item_carried claim h item = refl
 
-carried_since : (claim : Claim) (since : ℕ) (h : List Item) → some_since (is_carried claim) since h ≡ list_any (carries_one claim) (answers_since claim.target since h)
+carried_since : (claim : Claim) (since : ℕ) (h : List Item) → some_since (is_carried claim) since h ≡ list_any (carries_one claim) (responses_since claim.target since h)
 carried_since claim since [] = refl
-carried_since claim since (item ∷ h) = go (ltb since (next_position h)) (item_carried claim h item) (carried_since claim since h)
+carried_since claim since (item ∷ h) =
+    here (ltb since (next_position h))
+    ∙ either_first (list_any (carries_one claim) (cond (ltb since (next_position h)) (response_in claim.target h item) [])) (some_since (is_carried claim) since h)
+    ∙ ap (λ (b : Bool). b || list_any (carries_one claim) (cond (ltb since (next_position h)) (response_in claim.target h item) [])) (carried_since claim since h)
+    ∙ sym (any_append claim (responses_since claim.target since h) (cond (ltb since (next_position h)) (response_in claim.target h item) []))
   where
-    go : (in_it : Bool) → is_carried claim h item ≡ list_any (carries_one claim) (answers_by claim.target h item)
-        → some_since (is_carried claim) since h ≡ list_any (carries_one claim) (answers_since claim.target since h)
-        → ((in_it && is_carried claim h item) || some_since (is_carried claim) since h)
-        ≡ list_any (carries_one claim) (cond in_it (answers_by claim.target h item) [] ++ answers_since claim.target since h)
-    go true here before =
-        ap (λ (b : Bool). b || some_since (is_carried claim) since h) here
-        ∙ ap (λ (b : Bool). list_any (carries_one claim) (answers_by claim.target h item) || b) before
-        ∙ sym (any_append claim (answers_by claim.target h item) (answers_since claim.target since h))
-    go false here before = before
+    here : (in_it : Bool) → ((in_it && is_carried claim h item) || some_since (is_carried claim) since h)
+        ≡ (list_any (carries_one claim) (cond in_it (response_in claim.target h item) []) || some_since (is_carried claim) since h)
+    here true = ap (λ (b : Bool). b || some_since (is_carried claim) since h) (item_carried claim h item)
+    here false = refl
 
-pub carried : (claim : Claim) (h : List Item) → is_forwarded claim h ≡ list_any (carries_one claim) (answers_since claim.target claim.since h)
+pub carried : (claim : Claim) (h : List Item) → is_forwarded claim h ≡ list_any (carries_one claim) (responses_since claim.target claim.since h)
 carried claim h = carried_since claim claim.since h

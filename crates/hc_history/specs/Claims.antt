@@ -1,18 +1,20 @@
 -- What a reply claims: what it says of itself, and what it is held against.
-use Rattle.std.specs.Prelude.{ℕ, Bool, ℤ, List, Option, None, codes, bytes_eq}
+use Rattle.std.specs.Prelude.{ℕ, Bool, ℤ, List, Option, None}
 use Rattle.hc_head.specs.declared.head.RequestHead.{RequestHead}
 use Rattle.hc_head.specs.declared.head.ResponseHead.{ResponseHead}
 use Rattle.hc_head.specs.declared.head.Target.{Target}
+use Rattle.hc_head.specs.Methods.{is_head}
 use Rattle.hc_framing.specs.declared.message.Message.{Message}
 use Rattle.hc_status.specs.declared.marks.Mark.{Mark}
-use Rattle.hc_status.specs.declared.marks.Mark.TheVariants.{Hit, Forwarded, Both, Unmarked}
+use Rattle.hc_status.specs.declared.marks.Mark.TheVariants.{Hit}
 use Rattle.hc_transcript.specs.Items.{Item, Exchange}
 use Rattle.hc_history.specs.declared.settings.Settings.{Settings}
 use Rattle.hc_history.specs.Marks.{reply_mark}
 use Rattle.hc_history.specs.Windows.{some_since, is_error, is_failure}
 
 pub record Claim : Type 0 where
-  -- the request, its target and its position, after which the window begins
+  -- the number of the exchange; the request, its target and its position, after which the window begins
+  pub exchange : ℕ
   pub request : RequestHead
   pub target : Target
   pub since : ℕ
@@ -28,14 +30,13 @@ pub record Claim : Type 0 where
 -- the seconds of a hit (RFC 9211 section 2.4)
 abbrev pub ttl_of : Mark → Option ℤ
 ttl_of (Hit ttl) = ttl
-ttl_of Forwarded = None
-ttl_of Both = None
-ttl_of Unmarked = None
+ttl_of mark = None
 
 -- what a reply to an open exchange claims after a history
 abbrev pub claim_of : Settings → Exchange → ℕ → Message ResponseHead → List Item → Claim
 claim_of settings exchange moment reply h = record {
-  request = exchange.request.head;
+  exchange = exchange.number;
+  request = exchange.request;
   target = exchange.target;
   since = exchange.position;
   reply = reply;
@@ -48,4 +49,4 @@ claim_of settings exchange moment reply h = record {
 
 -- whether the request is HEAD
 abbrev pub asks_head : Claim → Bool
-asks_head claim = bytes_eq claim.request.method (codes "HEAD")
+asks_head claim = is_head claim.request.method

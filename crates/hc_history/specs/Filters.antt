@@ -6,13 +6,15 @@ use Rattle.hc_fields.specs.declared.fields.Field.{Field}
 use Rattle.hc_fields.specs.Values.{values_of, only_value}
 use Rattle.hc_fields.specs.Connection.{left_out_of_store}
 use Rattle.hc_fields.specs.Numbers.{number_of}
+use Rattle.hc_head.specs.declared.head.Target.{Target}
+use Rattle.hc_head.specs.Methods.{is_get}
+use Rattle.hc_head.specs.Targets.{same_target}
 use Rattle.hc_fresh.specs.Lifetimes.{explicit}
 use Rattle.hc_rules.specs.Selecting.{selects}
 use Rattle.hc_rules.specs.Conditions.{client_condition}
 use Rattle.hc_update.specs.declared.stored.Stored.{Stored}
 use Rattle.hc_history.specs.Claims.{Claim, asks_head}
 use Rattle.hc_history.specs.declared.kept.Kept.{Kept}
-use Rattle.hc_history.specs.States.{same_target}
 use Rattle.hc_history.specs.Usable.{lifetime_of, age_of, is_usable}
 
 -- the difference of two numbers is at most the slack
@@ -20,8 +22,8 @@ abbrev pub within : ℕ → ℕ → ℕ → Bool
 within slack one other = nat_le one (other + slack) && nat_le other (one + slack)
 
 -- 1: the request is GET or HEAD, of the response's target
-abbrev pub is_asked_for : Claim → Kept → Bool
-is_asked_for claim kept = (bytes_eq claim.request.method (codes "GET") || asks_head claim) && same_target kept.target claim.target
+abbrev pub is_asked_for : Claim → Target → Bool
+is_asked_for claim target = (is_get claim.request.method || asks_head claim) && same_target target claim.target
 
 -- 2: its Vary selects the request (RFC 9111 section 4.1)
 abbrev pub is_selected : Claim → Stored → Bool
@@ -35,16 +37,20 @@ is_valid state = not state.invalid
 abbrev pub is_explicit : Claim → Stored → Bool
 is_explicit claim state = explicit state.fields || is_usable claim state
 
+-- the status that says that what the client has still holds (RFC 9110 section 15.4.5)
+abbrev pub not_modified : ℕ
+not_modified = 304
+
 -- 6: the reply has its status and its body, none where the request is HEAD; or the reply is a 304 that the client's condition earns (RFC 9111 section 4.3.2)
 abbrev pub has_body : Claim → List ℕ → Bool
 has_body claim body = if asks_head claim then length claim.reply.body == 0 else bytes_eq claim.reply.body body
 
-abbrev pub is_earned_304 : Claim → Stored → Bool
-is_earned_304 claim state =
-    claim.reply.head.status == 304 && length claim.reply.body == 0 && client_condition claim.request.fields state.status state.fields
+abbrev pub is_earned : Claim → Stored → Bool
+is_earned claim state =
+    claim.reply.head.status == not_modified && length claim.reply.body == 0 && client_condition claim.request.fields state.status state.fields
 
 abbrev pub has_its_body : Claim → Stored → Bool
-has_its_body claim state = (claim.reply.head.status == state.status && has_body claim state.body) || is_earned_304 claim state
+has_its_body claim state = (claim.reply.head.status == state.status && has_body claim state.body) || is_earned claim state
 
 -- 7: the reply has its fields
 
@@ -71,7 +77,7 @@ names_of fields = map (λ f. f.name) fields
 -- the names that are compared: those of the reply, and those of the state, but of a 304 those that it has to repeat
 abbrev pub compared_names : Claim → Stored → List (List ℕ)
 compared_names claim state =
-    names_of claim.reply.head.fields ++ (if claim.reply.head.status == 304 then repeated_names else names_of state.fields)
+    names_of claim.reply.head.fields ++ (if claim.reply.head.status == not_modified then repeated_names else names_of state.fields)
 
 -- the same list of values of a name
 abbrev pub same_values : List Field → List Field → List ℕ → Bool
@@ -100,7 +106,7 @@ has_its_ttl claim state = is_ttl claim (pos (lifetime_of state) -ℤ pos (age_of
 -- the filters, in their order; the fifth is that the state may be used
 abbrev pub filters : Claim → Kept → List Bool
 filters claim kept =
-    is_asked_for claim kept
+    is_asked_for claim kept.target
     ∷ is_selected claim kept.state
     ∷ is_valid kept.state
     ∷ is_explicit claim kept.state

@@ -1,35 +1,33 @@
 -- Whether a reply is what the origin answered in its window.
-use Rattle.std.specs.Prelude.{ℕ, Bool, false, ◌&&◌, ◌||◌, ◌==◌, List, Option, Some, None, codes, bytes_eq}
+use Rattle.std.specs.Prelude.{ℕ, Bool, false, ◌&&◌, ◌||◌, ◌==◌, List, Option, Some, None, bytes_eq}
 use Rattle.hc_head.specs.declared.head.ResponseHead.{ResponseHead}
+use Rattle.hc_head.specs.Methods.{is_get}
+use Rattle.hc_head.specs.Targets.{same_target}
 use Rattle.hc_framing.specs.declared.message.Message.{Message}
-use Rattle.hc_transcript.specs.Items.{Item, ClientRequest, OriginRequest, OriginResponse, OriginFailure, ClientReply, Forward}
+use Rattle.hc_transcript.specs.Items.{Item, OriginResponse, Forward}
 use Rattle.hc_transcript.specs.History.{forward_of}
 use Rattle.hc_history.specs.Claims.{Claim, asks_head}
-use Rattle.hc_history.specs.States.{same_target}
 use Rattle.hc_history.specs.Windows.{some_since}
 use Rattle.hc_history.specs.Filters.{has_body}
 
 -- whether a forward of that method asks what the request asks: by its method, or by GET for HEAD (RFC 9110 section 9.3.2)
 abbrev pub asks_the_same : Claim → List ℕ → Bool
-asks_the_same claim method = bytes_eq method claim.request.method || (asks_head claim && bytes_eq method (codes "GET"))
+asks_the_same claim method = bytes_eq method claim.request.method || (asks_head claim && is_get method)
 
 -- whether a response of that status and that body, to that method, is what the reply carries
 abbrev pub carries : Claim → List ℕ → ℕ → List ℕ → Bool
 carries claim method status body = asks_the_same claim method && claim.reply.head.status == status && has_body claim body
 
 -- whether a response to an open forward of the target is
-abbrev pub carries_answer : Claim → Option Forward → Message ResponseHead → Bool
-carries_answer claim None response = false
-carries_answer claim (Some forward) response =
-    same_target forward.target claim.target && carries claim forward.request.head.method response.head.status response.body
+abbrev pub carries_response : Claim → Option Forward → Message ResponseHead → Bool
+carries_response claim None response = false
+carries_response claim (Some forward) response =
+    same_target forward.target claim.target && carries claim forward.request.method response.head.status response.body
 
 -- whether the next item is a response that the reply carries
 abbrev pub is_carried : Claim → List Item → Item → Bool
-is_carried claim h (ClientRequest number moment request target) = false
-is_carried claim h (OriginRequest number moment request target) = false
-is_carried claim h (OriginResponse number moment response) = carries_answer claim (forward_of number h) response
-is_carried claim h (OriginFailure number moment) = false
-is_carried claim h (ClientReply number moment reply) = false
+is_carried claim h (OriginResponse number moment response) = carries_response claim (forward_of number h) response
+is_carried claim h item = false
 
 -- whether such a response stands in the window
 abbrev pub is_forwarded : Claim → List Item → Bool

@@ -1,5 +1,5 @@
 -- How many filters one earlier response passes, at most.
-use Rattle.std.specs.Prelude.{◌≡◌, ℕ, zero, suc, ◌+◌, ◌≤◌, Bool, true, false, max, List, [], ◌∷◌, length, Option, Some, None}
+use Rattle.std.specs.Prelude.{◌≡◌, ℕ, zero, suc, ◌+◌, ◌≤◌, Bool, true, false, max, nat_lt, if◌then◌else◌, List, [], ◌∷◌, length, Option, Some, None}
 use Rattle.hc_transcript.specs.Items.{Item}
 use Rattle.hc_history.specs.Claims.{Claim}
 use Rattle.hc_history.specs.declared.kept.Kept.{Kept}
@@ -21,19 +21,24 @@ abbrev pub passed_by : Claim → Option Kept → ℕ
 passed_by claim None = 0
 passed_by claim (Some kept) = passed (filters claim kept)
 
--- the most filters that one of the responses up to a position passes
-abbrev pub furthest_up_to : Claim → ℕ → List Item → ℕ
-furthest_up_to claim zero h = 0
-furthest_up_to claim (suc n) h = max (furthest_up_to claim n h) (passed_by claim (state_at (suc n) h))
+-- the same of what stands at a position, if that is later than another
+abbrev pub passed_later : ℕ → Claim → ℕ → Option Kept → ℕ
+passed_later since claim position kept = if nat_lt since position then passed_by claim kept else 0
 
--- the most filters that one earlier response passes
-abbrev pub furthest : Claim → List Item → ℕ
-furthest claim h = furthest_up_to claim (length h) h
+-- the most filters that one of the responses up to a position passes, of those that are later than another
+abbrev pub furthest_up_to : ℕ → Claim → ℕ → List Item → ℕ
+furthest_up_to since claim zero h = 0
+furthest_up_to since claim (suc n) h = max (furthest_up_to since claim n h) (passed_later since claim (suc n) (state_at (suc n) h))
 
--- the most filters that one of the live responses of the claim's target passes
-abbrev pub furthest_live : Claim → List Live → ℕ
-furthest_live claim [] = 0
-furthest_live claim (live ∷ lives) = max (passed (filters claim (record { target = claim.target; state = live.state }))) (furthest_live claim lives)
+-- the most filters that one earlier response passes, of those that are later than a position
+abbrev pub furthest : ℕ → Claim → List Item → ℕ
+furthest since claim h = furthest_up_to since claim (length h) h
+
+-- the most filters that one of the live responses of the claim's target passes, of those that are later than a position
+abbrev pub furthest_live : ℕ → Claim → List Live → ℕ
+furthest_live since claim [] = 0
+furthest_live since claim (live ∷ lives) =
+    max (passed_later since claim live.position (Some (record { target = claim.target; state = live.state }))) (furthest_live since claim lives)
 
 -- the reason of the filter behind so many
 abbrev pub IsReasonBehind : ℕ → Option Reason → Type 0

@@ -3,26 +3,24 @@ use Rattle.std.specs.Prelude.{ℕ, ◌==◌, Option, Some, None, if◌then◌els
 use Rattle.hc_head.specs.declared.head.ResponseHead.{ResponseHead}
 use Rattle.hc_framing.specs.declared.message.Message.{Message}
 use Rattle.hc_status.specs.declared.marks.Mark.{Mark}
-use Rattle.hc_status.specs.declared.marks.Mark.TheVariants.{Hit, Forwarded, Both, Unmarked}
+use Rattle.hc_status.specs.declared.marks.Mark.TheVariants.{Hit, Unmarked}
 use Rattle.hc_status.specs.Marks.{mark_of}
-use Rattle.hc_transcript.specs.Items.{Item, ClientRequest, OriginRequest, OriginResponse, OriginFailure, ClientReply}
+use Rattle.hc_transcript.specs.Items.{Item, ClientReply}
 
--- the mark of a reply of that status: reuse of a part of a body (206, RFC 9110 section 15.3.7) isn't judged, so a hit of that status counts as unmarked
--- (this project's own choice)
-abbrev pub mark_by : ℕ → Mark → Mark
-mark_by status (Hit ttl) = if status == 206 then Unmarked else Hit ttl
-mark_by status Forwarded = Forwarded
-mark_by status Both = Both
-mark_by status Unmarked = Unmarked
+-- the status of a response that is a part of what was asked for (RFC 9110 section 15.3.7)
+abbrev pub partial_content : ℕ
+partial_content = 206
+
+-- the mark by which a reply of that status is judged: reuse of a part isn't judged, so a hit of a part counts as unmarked (this project's own choice)
+abbrev pub judged_mark : ℕ → Mark → Mark
+judged_mark status (Hit ttl) = if status == partial_content then Unmarked else Hit ttl
+judged_mark status mark = mark
 
 -- the mark of a reply
 abbrev pub reply_mark : Message ResponseHead → Mark
-reply_mark reply = mark_by reply.head.status (mark_of reply.head.fields)
+reply_mark reply = judged_mark reply.head.status (mark_of reply.head.fields)
 
 -- the mark of an item, if it is a reply
 abbrev pub item_mark : Item → Option Mark
-item_mark (ClientRequest number moment request target) = None
-item_mark (OriginRequest number moment request target) = None
-item_mark (OriginResponse number moment response) = None
-item_mark (OriginFailure number moment) = None
 item_mark (ClientReply number moment reply) = Some (reply_mark reply)
+item_mark item = None

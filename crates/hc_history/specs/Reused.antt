@@ -7,12 +7,17 @@ use Rattle.hc_history.specs.declared.kept.Kept.{Kept}
 use Rattle.hc_history.specs.States.{state_at}
 use Rattle.hc_history.specs.Filters.{filters}
 
--- there is one earlier response of which the first n filters hold
-pub record Pass (n : ℕ) (claim : Claim) (h : List Item) : Type 0 where
+-- there is one earlier response, later than that position, of which the first n filters hold
+pub record Pass (n : ℕ) (since : ℕ) (claim : Claim) (h : List Item) : Type 0 where
   pub position : ℕ
   pub kept : Kept
+  pub is_later : since < position
   pub is_its_state : state_at position h ≡ Some kept
   pub holds : list_all (λ b. b) (take n (filters claim kept)) ≡ true
+
+-- each response is later than that: the first item has position 1
+abbrev pub anywhere : ℕ
+anywhere = 0
 
 -- the number of filters
 abbrev pub filter_count : ℕ
@@ -24,10 +29,10 @@ forwarded_count = 7
 
 -- the reply is one earlier response, reused: of one and the same response all filters hold
 abbrev pub IsReused : Claim → List Item → Type 0
-IsReused claim h = Pass filter_count claim h
+IsReused claim h = Pass filter_count anywhere claim h
 
 -- the first filter that leaves nobody
 pub record IsFirstFailed (n : ℕ) (claim : Claim) (h : List Item) : Type 0 where
   pub is_filter : (1 ≤ n) × (n ≤ filter_count)
-  pub leaves_nobody : Pass n claim h → ⊥
-  pub earlier : (k : ℕ) → 1 ≤ k → k < n → Pass k claim h
+  pub leaves_nobody : Pass n anywhere claim h → ⊥
+  pub earlier : (k : ℕ) → 1 ≤ k → k < n → Pass k anywhere claim h

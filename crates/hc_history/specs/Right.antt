@@ -4,7 +4,7 @@ use Rattle.hc_head.specs.declared.head.ResponseHead.{ResponseHead}
 use Rattle.hc_framing.specs.declared.message.Message.{Message}
 use Rattle.hc_status.specs.declared.marks.Mark.{Mark}
 use Rattle.hc_status.specs.declared.marks.Mark.TheVariants.{Hit, Forwarded, Both, Unmarked}
-use Rattle.hc_transcript.specs.Items.{Item, ClientRequest, OriginRequest, OriginResponse, OriginFailure, ClientReply, Exchange}
+use Rattle.hc_transcript.specs.Items.{Item, ClientReply, Exchange}
 use Rattle.hc_transcript.specs.History.{exchange_of}
 use Rattle.hc_history.specs.declared.reasons.Reason.{Reason}
 use Rattle.hc_history.specs.declared.reasons.Reason.TheVariants as reason
@@ -16,7 +16,7 @@ use Rattle.hc_history.specs.declared.verdicts.Finding.TheVariants as finding
 use Rattle.hc_history.specs.Names.{reason_number}
 use Rattle.hc_history.specs.Marks.{reply_mark}
 use Rattle.hc_history.specs.Claims.{Claim, claim_of}
-use Rattle.hc_history.specs.Reused.{Pass, IsReused, IsFirstFailed, forwarded_count}
+use Rattle.hc_history.specs.Reused.{Pass, IsReused, IsFirstFailed, anywhere, forwarded_count}
 use Rattle.hc_history.specs.Forwarded.{is_forwarded}
 
 -- whether a reply of that status may be unmarked
@@ -28,14 +28,14 @@ allows_unmarked ErrorsOnly status = nat_le 400 status
 -- one without a mark is right where the settings allow it; one with both marks is never right
 abbrev pub IsRightBy : Mark → Claim → List Item → Type 0
 IsRightBy (Hit ttl) claim h = IsReused claim h
-IsRightBy Forwarded claim h = (is_forwarded claim h ≡ true) ⊎ Pass forwarded_count claim h
+IsRightBy Forwarded claim h = (is_forwarded claim h ≡ true) ⊎ Pass forwarded_count anywhere claim h
 IsRightBy Both claim h = ⊥
 IsRightBy Unmarked claim h = allows_unmarked claim.settings.unmarked claim.reply.head.status ≡ true
 
 -- a reply with that mark is wrong by that reason: a hit by the first filter that leaves nobody
 abbrev pub IsWrongBy : Mark → Claim → List Item → Reason → Type 0
 IsWrongBy (Hit ttl) claim h why = IsFirstFailed (reason_number why) claim h
-IsWrongBy Forwarded claim h why = (why ≡ reason.NotForwarded) × ((is_forwarded claim h ≡ false) × ¬ (Pass forwarded_count claim h))
+IsWrongBy Forwarded claim h why = (why ≡ reason.NotForwarded) × ((is_forwarded claim h ≡ false) × ¬ (Pass forwarded_count anywhere claim h))
 IsWrongBy Both claim h why = why ≡ reason.BothMarks
 IsWrongBy Unmarked claim h why = (why ≡ reason.Unmarked) × (allows_unmarked claim.settings.unmarked claim.reply.head.status ≡ false)
 
@@ -55,24 +55,18 @@ IsWrongTo settings (Some exchange) moment reply h why = IsWrongBy (reply_mark re
 
 -- the next item, if it is a reply, is right
 abbrev pub IsRight : Settings → List Item → Item → Type 0
-IsRight settings h (ClientRequest number moment request target) = Unit {0}
-IsRight settings h (OriginRequest number moment request target) = Unit {0}
-IsRight settings h (OriginResponse number moment response) = Unit {0}
-IsRight settings h (OriginFailure number moment) = Unit {0}
 IsRight settings h (ClientReply number moment reply) = IsRightTo settings (exchange_of number h) moment reply h
+IsRight settings h item = Unit {0}
 
 -- the next item is a reply, and wrong by that reason
 abbrev pub IsWrong : Settings → List Item → Item → Reason → Type 0
-IsWrong settings h (ClientRequest number moment request target) why = ⊥
-IsWrong settings h (OriginRequest number moment request target) why = ⊥
-IsWrong settings h (OriginResponse number moment response) why = ⊥
-IsWrong settings h (OriginFailure number moment) why = ⊥
 IsWrong settings h (ClientReply number moment reply) why = IsWrongTo settings (exchange_of number h) moment reply h why
+IsWrong settings h item why = ⊥
 
--- what is found of a reply to an exchange
+-- what is found of a reply to the exchange that it answers; of one to what isn't open, which no transcript has, anything
 abbrev pub IsFinding : Settings → Option Exchange → ℕ → Message ResponseHead → List Item → Finding → Type 0
-IsFinding settings exchange moment reply h finding.Right = IsRightTo settings exchange moment reply h
-IsFinding settings exchange moment reply h (finding.Wrong why) = IsWrongTo settings exchange moment reply h why
+IsFinding settings None moment reply h found = Unit {0}
+IsFinding settings (Some exchange) moment reply h found = IsFoundBy (reply_mark reply) (claim_of settings exchange moment reply h) h found
 
 -- every reply of the history is right
 abbrev pub AllRight : Settings → List Item → Type 0

@@ -3,13 +3,14 @@ use Rattle.std.specs.Prelude.{◌≡◌, ℕ, zero, suc, Bool, true, ◌&&◌, n
 use Rattle.hc_fields.specs.declared.fields.Field.{Field}
 use Rattle.hc_head.specs.declared.head.ResponseHead.{ResponseHead}
 use Rattle.hc_head.specs.declared.head.Target.{Target}
+use Rattle.hc_head.specs.Targets.{same_target}
 use Rattle.hc_framing.specs.declared.message.Message.{Message}
 use Rattle.hc_rules.specs.Validators.{has_validator}
 use Rattle.hc_update.specs.declared.stored.Stored.{Stored}
-use Rattle.hc_transcript.specs.Items.{Item, ClientRequest, OriginRequest, OriginResponse, OriginFailure, ClientReply, Exchange, Forward}
+use Rattle.hc_transcript.specs.Items.{Item, OriginResponse, Exchange, Forward}
 use Rattle.hc_transcript.specs.History.{next_position, exchange_of, forward_of}
 use Rattle.hc_history.specs.declared.kept.Kept.{Kept}
-use Rattle.hc_history.specs.States.{same_target, state_at}
+use Rattle.hc_history.specs.States.{state_at}
 use Rattle.hc_history.specs.Windows.{latest, is_error, is_failure}
 
 -- ---- what may be forgotten of a stored response
@@ -63,37 +64,34 @@ live_of target h = live_up_to target (length h) h
 -- ---- what the windows hold
 
 -- a response to a forward: the forward's method, its status and its body
-pub record Answer : Type 0 where
+pub record WindowResponse : Type 0 where
   pub method : List ℕ
   pub status : ℕ
   pub body : List ℕ
 
--- the answer that a response is, where it is of that target
-abbrev pub answer_to : Target → Option Forward → Message ResponseHead → List Answer
-answer_to target None response = []
-answer_to target (Some forward) response =
+-- the response to a forward, where that is of the target
+abbrev pub response_to : Target → Option Forward → Message ResponseHead → List WindowResponse
+response_to target None response = []
+response_to target (Some forward) response =
     if same_target forward.target target
-    then record { method = forward.request.head.method; status = response.head.status; body = response.body } ∷ []
+    then record { method = forward.request.method; status = response.head.status; body = response.body } ∷ []
     else []
 
--- the answer that the next item is
-abbrev pub answers_by : Target → List Item → Item → List Answer
-answers_by target h (ClientRequest number moment request asked) = []
-answers_by target h (OriginRequest number moment request asked) = []
-answers_by target h (OriginResponse number moment response) = answer_to target (forward_of number h) response
-answers_by target h (OriginFailure number moment) = []
-answers_by target h (ClientReply number moment reply) = []
+-- the response that the next item is
+abbrev pub response_in : Target → List Item → Item → List WindowResponse
+response_in target h (OriginResponse number moment response) = response_to target (forward_of number h) response
+response_in target h item = []
 
--- the answers of a target behind a position, the newest first
-abbrev pub answers_since : Target → ℕ → List Item → List Answer
-answers_since target since [] = []
-answers_since target since (item ∷ h) =
-    (if nat_lt since (next_position h) then answers_by target h item else []) ++ answers_since target since h
+-- the responses of a target behind a position, by rising position
+abbrev pub responses_since : Target → ℕ → List Item → List WindowResponse
+responses_since target since [] = []
+responses_since target since (item ∷ h) =
+    responses_since target since h ++ (if nat_lt since (next_position h) then response_in target h item else [])
 
 -- those in the window of an open exchange, so far
-abbrev pub answers_to : Option Exchange → List Item → List Answer
-answers_to None h = []
-answers_to (Some exchange) h = answers_since exchange.target exchange.position h
+abbrev pub window_responses_of : Option Exchange → List Item → List WindowResponse
+window_responses_of None h = []
+window_responses_of (Some exchange) h = responses_since exchange.target exchange.position h
 
 -- ---- what is known
 
@@ -104,8 +102,8 @@ pub record Seen : Type 0 where
   -- what is open
   pub exchange : ℕ → Option Exchange
   pub forward : ℕ → Option Forward
-  -- what the window of an open exchange holds so far for its target
-  pub answers : ℕ → List Answer
+  -- what the window of an open exchange holds so far for its target, by rising position
+  pub window : ℕ → List WindowResponse
   -- the positions of the latest error and of the latest failure of a forward of a target; 0 where there was none
   pub error : Target → ℕ
   pub failure : Target → ℕ
@@ -115,6 +113,6 @@ pub record IsSeenAs (seen : Seen) (h : List Item) : Type 0 where
   pub live : (target : Target) → seen.live target ≡ live_of target h
   pub exchange : (e : ℕ) → seen.exchange e ≡ exchange_of e h
   pub forward : (f : ℕ) → seen.forward f ≡ forward_of f h
-  pub answers : (e : ℕ) → seen.answers e ≡ answers_to (exchange_of e h) h
+  pub window : (e : ℕ) → seen.window e ≡ window_responses_of (exchange_of e h) h
   pub error : (target : Target) → seen.error target ≡ latest (is_error target) h
   pub failure : (target : Target) → seen.failure target ≡ latest (is_failure target) h

@@ -1,29 +1,24 @@
 -- What one stored response is after the items behind it (RFC 9111 sections 3, 4.3.4 and 4.4).
-use Rattle.std.specs.Prelude.{ℕ, Bool, ◌&&◌, ◌==◌, List, [], ◌∷◌, Option, Some, None, if◌then◌else◌}
+use Rattle.std.specs.Prelude.{ℕ, ◌==◌, List, [], ◌∷◌, Option, Some, None, if◌then◌else◌}
 use Rattle.std.specs.Option.{option_map}
-use Rattle.std.specs.Str.{bytes_eq}
 use Rattle.hc_head.specs.declared.head.ResponseHead.{ResponseHead}
-use Rattle.hc_head.specs.declared.head.Target.{Target}
+use Rattle.hc_head.specs.Targets.{same_target}
 use Rattle.hc_framing.specs.declared.message.Message.{Message}
 use Rattle.hc_rules.specs.Storing.{may_store}
 use Rattle.hc_update.specs.declared.stored.Stored.{Stored}
 use Rattle.hc_update.specs.States.{initial_state, freshened, invalidated, invalidates}
 use Rattle.hc_update.specs.Identifying.{identifies}
-use Rattle.hc_transcript.specs.Items.{Item, ClientRequest, OriginRequest, OriginResponse, OriginFailure, ClientReply, Forward}
+use Rattle.hc_transcript.specs.Items.{Item, OriginResponse, Forward}
 use Rattle.hc_transcript.specs.History.{next_position, forward_of}
 use Rattle.hc_history.specs.declared.kept.Kept.{Kept}
-
--- both are the same host and the same path
-abbrev pub same_target : Target → Target → Bool
-same_target one other = bytes_eq one.host other.host && bytes_eq one.path other.path
 
 -- ---- how it begins
 
 -- what a response to that forward begins, if it may be stored
 abbrev pub begun_by : Forward → ℕ → Message ResponseHead → Option Kept
 begun_by forward moment response =
-    if may_store forward.request.head response.head
-    then Some (record { target = forward.target; state = initial_state forward.request.head forward.moment response moment })
+    if may_store forward.request response.head
+    then Some (record { target = forward.target; state = initial_state forward.request forward.moment response moment })
     else None
 
 -- what a response begins, if it answers an open forward
@@ -33,11 +28,8 @@ begun_to (Some forward) moment response = begun_by forward moment response
 
 -- what the next item begins, if it is a response that may be stored
 abbrev pub state_begun : List Item → Item → Option Kept
-state_begun h (ClientRequest number moment request target) = None
-state_begun h (OriginRequest number moment request target) = None
 state_begun h (OriginResponse number moment response) = begun_to (forward_of number h) moment response
-state_begun h (OriginFailure number moment) = None
-state_begun h (ClientReply number moment reply) = None
+state_begun h item = None
 
 -- ---- how it goes on
 
@@ -45,8 +37,8 @@ state_begun h (ClientReply number moment reply) = None
 -- no error to an unsafe method
 abbrev pub state_answered : Forward → ℕ → ℕ → Message ResponseHead → Stored → Stored
 state_answered forward position moment response state =
-    if identifies state forward.request.head response.head then freshened state response.head.fields forward.moment moment position
-    else if invalidates forward.request.head.method response.head.status then invalidated state
+    if identifies state forward.request response.head then freshened state response.head.fields forward.moment moment position
+    else if invalidates forward.request.method response.head.status then invalidated state
     else state
 
 -- the same of a response to a forward of any target
@@ -63,11 +55,8 @@ kept_answered_to (Some forward) position moment response kept = kept_answered fo
 
 -- what the next item makes of a stored response
 unfoldable pub state_after : List Item → Item → Kept → Kept
-state_after h (ClientRequest number moment request target) kept = kept
-state_after h (OriginRequest number moment request target) kept = kept
 state_after h (OriginResponse number moment response) kept = kept_answered_to (forward_of number h) (next_position h) moment response kept
-state_after h (OriginFailure number moment) kept = kept
-state_after h (ClientReply number moment reply) kept = kept
+state_after h item kept = kept
 
 -- the response at a position after a history, if it may be stored: what it began as, walked through each item behind it
 abbrev pub state_at : ℕ → List Item → Option Kept

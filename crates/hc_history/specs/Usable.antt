@@ -2,7 +2,7 @@
 use Rattle.std.specs.Prelude.{ℕ, Bool, true, false, ◌&&◌, ◌||◌, ◌+◌, not, nat_lt, nat_le, List, Option, Some, None, codes}
 use Rattle.hc_fields.specs.declared.fields.Field.{Field}
 use Rattle.hc_directives.specs.declared.cache_control.Seconds.{Seconds}
-use Rattle.hc_directives.specs.declared.cache_control.Seconds.TheVariants.{Absent, Bare, Value, Unreadable}
+use Rattle.hc_directives.specs.declared.cache_control.Seconds.TheVariants.{Bare, Value}
 use Rattle.hc_directives.specs.Directives.{cache_control, first_directive, seconds_of}
 use Rattle.hc_fresh.specs.Lifetimes.{freshness_lifetime, says, stale_forbidden}
 use Rattle.hc_fresh.specs.Ages.{current_age, staleness as staleness_by}
@@ -31,17 +31,13 @@ seconds_said name fields = seconds_of (first_directive name (cache_control field
 
 -- whether a directive of so many seconds permits the staleness; one that says no number permits none
 abbrev pub permits : Claim → ℕ → Seconds → Bool
-permits claim staleness Absent = false
-permits claim staleness Bare = false
 permits claim staleness (Value seconds) = nat_le staleness (seconds + claim.settings.slack)
-permits claim staleness Unreadable = false
+permits claim staleness seconds = false
 
 -- whether max-stale permits it; a bare one permits any (RFC 9111 section 5.2.1.2)
 abbrev pub max_stale_permits : Claim → ℕ → Seconds → Bool
-max_stale_permits claim staleness Absent = false
 max_stale_permits claim staleness Bare = true
-max_stale_permits claim staleness (Value seconds) = permits claim staleness (Value seconds)
-max_stale_permits claim staleness Unreadable = false
+max_stale_permits claim staleness seconds = permits claim staleness seconds
 
 -- the request's max-stale permits it
 abbrev pub by_request : Claim → Stored → Bool

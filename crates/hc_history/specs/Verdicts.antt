@@ -1,14 +1,11 @@
 -- The verdict on octets.
-use Rattle.std.specs.Prelude.{◌≡◌, ◌≢◌, ℕ, ◌⊎◌, List, [], ◌∷◌}
+use Rattle.std.specs.Prelude.{◌≡◌, ℕ, ◌⊎◌, List, ◌∷◌}
 use Rattle.hc_transcript.specs.declared.fault.RecordFault.{RecordFault}
-use Rattle.hc_transcript.specs.declared.fault.RecordFault.TheVariants as fault
 use Rattle.hc_transcript.specs.declared.record.Record.{Record}
 use Rattle.hc_transcript.specs.Items.{Item}
 use Rattle.hc_transcript.specs.History.{next_position}
-use Rattle.hc_transcript.specs.Checks.{line_fault}
-use Rattle.hc_transcript.specs.Frames.{IsUnfinished}
 use Rattle.hc_transcript.specs.Transcript.{Splits, IsTranscript}
-use Rattle.hc_transcript.specs.Reader.{HasNoOpening, IsUnfinishedOpening, BreaksAfter}
+use Rattle.hc_transcript.specs.Malformed.{BreaksOpening, IsMalformedAfter}
 use Rattle.hc_history.specs.declared.reasons.Reason.{Reason}
 use Rattle.hc_history.specs.declared.settings.Settings.{Settings}
 use Rattle.hc_history.specs.declared.verdicts.Counts.{Counts}
@@ -30,7 +27,7 @@ pub record IsAllRight (octets : List ℕ) (settings : Settings) (counts : Counts
 -- ---- no
 
 -- behind records of which every reply is right stands, at that position, a reply that is wrong by that reason, whatever follows
-pub record StopsAt (octets : List ℕ) (settings : Settings) (position : ℕ) (why : Reason) : Type 0 where
+pub record IsWrongAt (octets : List ℕ) (settings : Settings) (position : ℕ) (why : Reason) : Type 0 where
   pub records : List Record
   pub history : List Item
   pub item : Item
@@ -42,32 +39,16 @@ pub record StopsAt (octets : List ℕ) (settings : Settings) (position : ℕ) (w
 
 -- ---- malformed
 
--- behind these items the octets end inside a record
-pub record IsTornAfter (octets : List ℕ) (h : List Item) : Type 0 where
-  pub records : List Record
-  pub rest : List ℕ
-  pub splits : Splits octets records h rest
-  pub some : rest ≢ []
-  pub torn : IsUnfinished (line_fault h) rest
-
--- behind these items a record breaks the octets
-abbrev pub BreaksBehind : List ℕ → List Item → RecordFault → Type 0
-BreaksBehind octets h broken = BreaksAfter octets h broken ⊎ ((broken ≡ fault.Torn) × IsTornAfter octets h)
-
--- the opening breaks the octets
-abbrev pub BreaksOpening : List ℕ → RecordFault → Type 0
-BreaksOpening octets broken = (HasNoOpening octets × (broken ≡ fault.Opening)) ⊎ (IsUnfinishedOpening octets × (broken ≡ fault.Torn))
-
 -- behind records of which every reply is right, the record at that position breaks the octets
-pub record BreaksAt (octets : List ℕ) (settings : Settings) (position : ℕ) (broken : RecordFault) : Type 0 where
+pub record IsMalformedAt (octets : List ℕ) (settings : Settings) (position : ℕ) (broken : RecordFault) : Type 0 where
   pub history : List Item
   pub all_right : AllRight settings history
-  pub breaks : BreaksBehind octets history broken
+  pub breaks : IsMalformedAfter octets history broken
   pub position_is : position ≡ next_position history
 
 -- ---- the verdict: what comes first in the octets wins; the opening has position 0, the first record 1
 abbrev pub IsVerdict : List ℕ → Settings → Verdict → Type 0
 IsVerdict octets settings (Yes counts) = IsAllRight octets settings counts
-IsVerdict octets settings (No position why) = StopsAt octets settings position why
+IsVerdict octets settings (No position why) = IsWrongAt octets settings position why
 IsVerdict octets settings (Malformed position broken) =
-    ((position ≡ 0) × BreaksOpening octets broken) ⊎ BreaksAt octets settings position broken
+    ((position ≡ 0) × BreaksOpening octets broken) ⊎ IsMalformedAt octets settings position broken

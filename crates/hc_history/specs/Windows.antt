@@ -2,9 +2,9 @@
 use Rattle.std.specs.Prelude.{ℕ, Bool, false, ◌&&◌, ◌||◌, ◌==◌, nat_lt, List, [], ◌∷◌, Option, Some, None, if◌then◌else◌}
 use Rattle.std.specs.List.{list_any}
 use Rattle.hc_head.specs.declared.head.Target.{Target}
-use Rattle.hc_transcript.specs.Items.{Item, ClientRequest, OriginRequest, OriginResponse, OriginFailure, ClientReply, Forward}
+use Rattle.hc_transcript.specs.Items.{Item, OriginResponse, OriginFailure, Forward}
 use Rattle.hc_transcript.specs.History.{next_position, forward_of}
-use Rattle.hc_history.specs.States.{same_target}
+use Rattle.hc_head.specs.Targets.{same_target}
 
 -- whether some item after a position passes a test, which is told the history before the item
 abbrev pub some_since : (List Item → Item → Bool) → ℕ → List Item → Bool
@@ -29,19 +29,13 @@ is_forward_of target (Some forward) = same_target forward.target target
 
 -- whether an item is such a response to a forward of the target, of any method, by the open forward of each number
 abbrev pub is_error_by : Target → (ℕ → Option Forward) → Item → Bool
-is_error_by target forward (ClientRequest number moment request asked) = false
-is_error_by target forward (OriginRequest number moment request asked) = false
 is_error_by target forward (OriginResponse number moment response) = is_error_status response.head.status && is_forward_of target (forward number)
-is_error_by target forward (OriginFailure number moment) = false
-is_error_by target forward (ClientReply number moment reply) = false
+is_error_by target forward item = false
 
 -- whether an item is the failure of a forward of the target, of any method
 abbrev pub is_failure_by : Target → (ℕ → Option Forward) → Item → Bool
-is_failure_by target forward (ClientRequest number moment request asked) = false
-is_failure_by target forward (OriginRequest number moment request asked) = false
-is_failure_by target forward (OriginResponse number moment response) = false
 is_failure_by target forward (OriginFailure number moment) = is_forward_of target (forward number)
-is_failure_by target forward (ClientReply number moment reply) = false
+is_failure_by target forward item = false
 
 -- the same of the next item of a history
 abbrev pub is_error : Target → List Item → Item → Bool

@@ -5,13 +5,15 @@ ghost use Rattle.hc_history.specs.Claims.{asks_head, ttl_of};
 
 use crate::settings::Settings;
 use hc_framing::Message;
-use hc_head::{RequestHead, ResponseHead, Target};
+use hc_head::{RequestHead, ResponseHead, Target, is_head};
 use hc_status::Mark;
 use std::marker::Model;
 
 /// What a reply says of itself, and what it is held against. Contracts see it as a `Claim`.
 #[derive(Debug, Drop)]
 pub struct ReplyClaim<'a> {
+    /// The number of the exchange.
+    pub exchange: u64,
     /// The request that it answers.
     pub request: &'a RequestHead,
     /// The target of the request.
@@ -38,6 +40,7 @@ impl<'a> Model for ReplyClaim<'a> {
     ghost Value = { Claim };
 
     ghost view = { λ c. record {
+      exchange = c.exchange;
       request = c.request.now;
       target = c.target.now;
       since = c.since;
@@ -54,7 +57,7 @@ impl<'a> Model for ReplyClaim<'a> {
 pub(crate) fn asks_head(claim: &ReplyClaim<'_>) -> bool
     ensures { result ≡ asks_head claim.now }
 {
-    claim.request.method.as_slice() == b"HEAD".as_slice()
+    is_head(claim.request.method.as_slice())
 }
 
 /// The seconds of a hit.
@@ -63,8 +66,6 @@ pub fn ttl_of(mark: Mark) -> Option<i64>
 {
     match mark {
         Mark::Hit { ttl } => ttl,
-        Mark::Forwarded => None,
-        Mark::Both => None,
-        Mark::Unmarked => None,
+        Mark::Forwarded | Mark::Both | Mark::Unmarked => None,
     }
 }

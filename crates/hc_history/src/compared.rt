@@ -3,7 +3,7 @@
 ghost use Rattle.std.specs.Prelude.{◌≡◌, ◌||◌, ◌==◌};
 ghost use Rattle.std.specs.List.{list_all, list_any};
 ghost use Rattle.std.specs.Str.{bytes_eq};
-ghost use Rattle.hc_history.specs.Filters.{has_its_fields, is_exempt, rewritten_names, same_values};
+ghost use Rattle.hc_history.specs.Filters.{has_its_fields, is_exempt, not_modified, rewritten_names, same_values};
 
 use crate::claim::ReplyClaim;
 use hc_fields::{Fields, is_among};
@@ -25,9 +25,9 @@ const REPEATED: [&[u8]; 6] = [
 /// The status that says that what the client has still holds (RFC 9110 section 15.4.5).
 const NOT_MODIFIED: u16 = 304;
 
-/// Whether the reply is a 304.
-pub(crate) fn is_304(claim: &ReplyClaim<'_>) -> bool
-    ensures { result ≡ (claim.now.reply.head.status == 304) }
+/// Whether the reply says that what the client has still holds.
+pub(crate) fn is_not_modified(claim: &ReplyClaim<'_>) -> bool
+    ensures { result ≡ (claim.now.reply.head.status == not_modified) }
 {
     claim.reply.head.status == NOT_MODIFIED
 }
@@ -96,7 +96,7 @@ pub(crate) fn has_its_fields(claim: &ReplyClaim<'_>, state: &Stored) -> bool
     if !has_its_lines(claim, state, &claim.reply.head.fields) {
         return false;
     }
-    if is_304(claim) {
+    if is_not_modified(claim) {
         has_each(claim, state, &REPEATED)
     } else {
         has_its_lines(claim, state, &state.fields)

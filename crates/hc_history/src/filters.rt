@@ -3,15 +3,15 @@
 ghost use Rattle.std.specs.Prelude.{◌≡◌, IfOk, codes, option_and_then};
 ghost use Rattle.hc_fields.specs.Values.{only_value};
 ghost use Rattle.hc_fields.specs.Numbers.{number_of};
-ghost use Rattle.hc_history.specs.Filters.{filters, has_body, has_its_age, has_its_body, has_its_ttl, is_age, is_asked_for, is_earned_304, is_explicit, is_selected, is_ttl, is_valid, within};
+ghost use Rattle.hc_history.specs.Filters.{filters, has_body, has_its_age, has_its_body, has_its_ttl, is_age, is_asked_for, is_earned, is_explicit, is_selected, is_ttl, is_valid, within};
 ghost use Rattle.hc_history.specs.Furthest.{passed};
 
 use crate::claim::{ReplyClaim, asks_head};
-use crate::compared::{has_its_fields, is_304};
-use crate::kept::{Kept, same_target};
+use crate::compared::{has_its_fields, is_not_modified};
 use crate::usable::{age_of, is_usable, lifetime_of};
 use hc_fields::number;
 use hc_fresh::explicit;
+use hc_head::{Target, is_get, same_target};
 use hc_rules::{client_condition, selects};
 use hc_update::Stored;
 use std::alloc::{AllocError, Global};
@@ -23,12 +23,12 @@ fn within(slack: u32, one: u32, other: u32) -> bool
     one.abs_diff(other) <= slack
 }
 
-/// Whether the request is GET or HEAD, of the target of the stored response.
-fn is_asked_for(claim: &ReplyClaim<'_>, kept: &Kept) -> bool
-    ensures { result ≡ is_asked_for claim.now kept.now }
+/// Whether the request is GET or HEAD, of that target.
+fn is_asked_for(claim: &ReplyClaim<'_>, target: &Target) -> bool
+    ensures { result ≡ is_asked_for claim.now target.now }
 {
-    (claim.request.method.as_slice() == b"GET".as_slice() || asks_head(claim))
-        && same_target(&kept.target, claim.target)
+    (is_get(claim.request.method.as_slice()) || asks_head(claim))
+        && same_target(target, claim.target)
 }
 
 /// Whether its Vary selects the request (RFC 9111 section 4.1).
@@ -69,10 +69,10 @@ pub(crate) fn has_body(claim: &ReplyClaim<'_>, body: &[u8]) -> bool
 }
 
 /// Whether the reply is a 304 that the client's condition earns (RFC 9111 section 4.3.2).
-fn is_earned_304(claim: &ReplyClaim<'_>, state: &Stored) -> bool
-    ensures { result ≡ is_earned_304 claim.now state.now }
+fn is_earned(claim: &ReplyClaim<'_>, state: &Stored) -> bool
+    ensures { result ≡ is_earned claim.now state.now }
 {
-    is_304(claim)
+    is_not_modified(claim)
         && claim.reply.body.is_empty()
         && client_condition(&claim.request.fields, state.status, &state.fields)
 }
@@ -82,7 +82,7 @@ fn has_its_body(claim: &ReplyClaim<'_>, state: &Stored) -> bool
     ensures { result ≡ has_its_body claim.now state.now }
 {
     (claim.reply.head.status == state.status && has_body(claim, state.body.as_slice()))
-        || is_earned_304(claim, state)
+        || is_earned(claim, state)
 }
 
 /// Whether an Age tells that age, give or take the slack.
@@ -127,12 +127,17 @@ fn has_its_ttl(claim: &ReplyClaim<'_>, state: &Stored) -> bool
     is_ttl(claim, left, claim.ttl)
 }
 
-/// How many filters a stored response passes, one after another, from the first on.
-pub fn passed(alloc: Global, claim: &ReplyClaim<'_>, kept: &Kept) -> Result<u32, AllocError>
-    ensures { IfOk result (λ n. n ≡ passed (filters claim.now kept.now)) }
+/// How many filters a stored response of that target passes, one after another, from the first on. It
+/// fails only where memory is refused.
+pub fn passed(
+    alloc: Global,
+    claim: &ReplyClaim<'_>,
+    target: &Target,
+    state: &Stored,
+) -> Result<u32, AllocError>
+    ensures { IfOk result (λ n. n ≡ passed (filters claim.now (record { target = target.now; state = state.now }))) }
 {
-    let state = &kept.state;
-    if !is_asked_for(claim, kept) {
+    if !is_asked_for(claim, target) {
         return Ok(0);
     }
     if !is_selected(alloc, claim, state)? {

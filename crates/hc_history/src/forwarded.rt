@@ -5,13 +5,14 @@ ghost use Rattle.hc_history.specs.Forwarded.{asks_the_same, carries};
 
 use crate::claim::{ReplyClaim, asks_head};
 use crate::filters::has_body;
+use hc_head::is_get;
 
 /// Whether a forward of that method asks what the request asks: by its method, or by GET for HEAD
 /// (RFC 9110 section 9.3.2).
 fn asks_the_same(claim: &ReplyClaim<'_>, method: &[u8]) -> bool
     ensures { result ≡ asks_the_same claim.now method.now }
 {
-    method == claim.request.method.as_slice() || (asks_head(claim) && method == b"GET".as_slice())
+    method == claim.request.method.as_slice() || (asks_head(claim) && is_get(method))
 }
 
 /// Whether a response of that status and that body, to that method, is what the reply carries.

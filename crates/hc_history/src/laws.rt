@@ -5,6 +5,7 @@ ghost use Rattle.std.specs.List.{list_any};
 ghost use Rattle.hc_fields.specs.declared.fields.Field.{Field};
 ghost use Rattle.hc_head.specs.declared.head.ResponseHead.{ResponseHead};
 ghost use Rattle.hc_head.specs.declared.head.Target.{Target};
+ghost use Rattle.hc_head.specs.Targets.{same_target};
 ghost use Rattle.hc_framing.specs.declared.message.Message.{Message};
 ghost use Rattle.hc_update.specs.declared.stored.Stored.{Stored};
 ghost use Rattle.hc_update.specs.States.{freshened};
@@ -13,21 +14,22 @@ ghost use Rattle.hc_status.specs.declared.marks.Mark.{Mark};
 ghost use Rattle.hc_transcript.specs.declared.fault.RecordFault.{RecordFault};
 ghost use Rattle.hc_transcript.specs.declared.fault.RecordFault.TheVariants.{Torn};
 ghost use Rattle.hc_transcript.specs.Items.{Item, OriginResponse, Forward};
-ghost use Rattle.hc_transcript.specs.History.{next_position, forward_of};
+ghost use Rattle.hc_transcript.specs.History.{next_position, exchange_of, forward_of};
 ghost use Rattle.hc_history.specs.declared.reasons.Reason.{Reason};
 ghost use Rattle.hc_history.specs.declared.settings.Settings.{Settings};
+ghost use Rattle.hc_history.specs.declared.verdicts.Finding.{Finding};
 ghost use Rattle.hc_history.specs.declared.verdicts.Verdict.{Verdict};
 ghost use Rattle.hc_history.specs.declared.verdicts.Verdict.TheVariants.{No, Malformed};
 ghost use Rattle.hc_history.specs.declared.kept.Kept.{Kept};
-ghost use Rattle.hc_history.specs.States.{same_target, state_at, state_answered};
+ghost use Rattle.hc_history.specs.States.{state_at, state_answered};
 ghost use Rattle.hc_history.specs.Windows.{some_since, latest};
 ghost use Rattle.hc_history.specs.Claims.{Claim};
 ghost use Rattle.hc_history.specs.Filters.{filters};
-ghost use Rattle.hc_history.specs.Reused.{Pass, IsFirstFailed, filter_count};
+ghost use Rattle.hc_history.specs.Reused.{Pass, IsFirstFailed, anywhere, filter_count};
 ghost use Rattle.hc_history.specs.Forwarded.{carries, is_forwarded};
-ghost use Rattle.hc_history.specs.Right.{IsRightBy, IsWrongBy};
+ghost use Rattle.hc_history.specs.Right.{IsRightBy, IsWrongBy, IsFinding};
 ghost use Rattle.hc_history.specs.Verdicts.{IsVerdict};
-ghost use Rattle.hc_history.specs.Seen.{Seen, IsSeenAs, remaining, live_of, answers_since};
+ghost use Rattle.hc_history.specs.Seen.{Seen, IsSeenAs, remaining, live_of, responses_since};
 ghost use Rattle.hc_history.specs.Noting.{Notes};
 ghost use Rattle.hc_history.specs.Furthest.{passed, furthest, furthest_live};
 
@@ -38,7 +40,7 @@ pub fn later_update_clears_the_mark()
         → state_at position h ≡ Some kept
         → forward_of number h ≡ Some forward
         → same_target forward.target kept.target ≡ true
-        → identifies kept.state forward.request.head response.head ≡ true
+        → identifies kept.state forward.request response.head ≡ true
         → state_at position (OriginResponse number moment response ∷ h) ≡ Some (record {
           target = kept.target;
           state = freshened kept.state response.head.fields forward.moment moment (next_position h);
@@ -55,18 +57,21 @@ pub fn window_is_what_is_later_than_the_request()
         → some_since test since h ≡ nat_lt since (latest test h) }
     ensures validated { (position at : ℕ) (h : List Item) (kept : Kept) → state_at position h ≡ Some kept
         → kept.state.validated_at ≡ Some at → (position < at) × (at ≤ length h) }
-    // What the windows hold tells whether a reply carries an answer.
+    // What the windows hold tells whether a reply carries a response of its window.
     ensures carried { (claim : Claim) (h : List Item) → is_forwarded claim h
-        ≡ list_any (λ answer. carries claim answer.method answer.status answer.body) (answers_since claim.target claim.since h) }
+        ≡ list_any (λ one. carries claim one.method one.status one.body) (responses_since claim.target claim.since h) }
 {}
 
-/// The first filter that leaves nobody is the one behind the most filters that one response passes.
+/// The first filter that leaves nobody is the one behind the most filters that one response passes. Who
+/// passes how many is told by the furthest also among those that are later than a position.
 pub fn least_reason_by_the_furthest()
-    ensures all { (claim : Claim) (h : List Item) → furthest claim h ≡ filter_count → Pass filter_count claim h }
-    ensures first { (claim : Claim) (h : List Item) → furthest claim h < filter_count
-        → IsFirstFailed (furthest claim h + 1) claim h }
-    ensures some { (n : ℕ) (claim : Claim) (h : List Item) → 1 ≤ n → n ≤ furthest claim h → Pass n claim h }
-    ensures only { (n : ℕ) (claim : Claim) (h : List Item) → n ≤ filter_count → Pass n claim h → n ≤ furthest claim h }
+    ensures all { (since : ℕ) (claim : Claim) (h : List Item) → furthest since claim h ≡ filter_count
+        → Pass filter_count since claim h }
+    ensures first { (claim : Claim) (h : List Item) → furthest anywhere claim h < filter_count
+        → IsFirstFailed (furthest anywhere claim h + 1) claim h }
+    ensures some { (n since : ℕ) (claim : Claim) (h : List Item) → 1 ≤ n → n ≤ furthest since claim h → Pass n since claim h }
+    ensures only { (n since : ℕ) (claim : Claim) (h : List Item) → n ≤ filter_count → Pass n since claim h
+        → n ≤ furthest since claim h }
 {}
 
 /// No reply is both right and wrong, and a wrong one has one reason.
@@ -83,8 +88,8 @@ pub fn forgotten_changes_no_reason()
     ensures one { (claim : Claim) (target : Target) (state : Stored)
         → passed (filters claim (record { target = target; state = remaining state }))
         ≡ passed (filters claim (record { target = target; state = state })) }
-    ensures live { (claim : Claim) (h : List Item)
-        → furthest_live claim (live_of claim.target h) ≡ furthest claim h }
+    ensures live { (since : ℕ) (claim : Claim) (h : List Item)
+        → furthest_live since claim (live_of claim.target h) ≡ furthest since claim h }
 {}
 
 /// It may be forgotten before an item as well as after it.
@@ -98,6 +103,14 @@ pub fn forgetting_and_noting_commute()
 pub fn noting_goes_on()
     ensures { (old new : Seen) (h : List Item) (item : Item)
         → IsSeenAs old h → Notes old (next_position h) item new → IsSeenAs new (item ∷ h) }
+{}
+
+/// What is seen of a history is enough to judge by: after two histories that are seen as the same, the
+/// same reply has the same findings.
+pub fn seen_is_enough()
+    ensures { (seen : Seen) (h g : List Item) (settings : Settings) (e moment : ℕ) (reply : Message ResponseHead) (found : Finding)
+        → IsSeenAs seen h → IsSeenAs seen g
+        → IsFinding settings (exchange_of e h) moment reply h found → IsFinding settings (exchange_of e g) moment reply g found }
 {}
 
 /// Octets have one verdict at most.

@@ -5,6 +5,7 @@
 mod claim;
 mod compared;
 mod filters;
+mod finding;
 mod forwarded;
 mod kept;
 mod laws;
@@ -14,23 +15,26 @@ mod right;
 mod settings;
 mod usable;
 mod verdicts;
+mod windows;
 
 pub use claim::{ReplyClaim, ttl_of};
 pub use filters::passed;
+pub use finding::{found_of_forwarded, found_of_hit, found_of_unmarked, reason_behind};
 pub use forwarded::carries;
-pub use hc_status::{Mark, MarkFault};
-pub use kept::{Kept, same_target};
+pub use hc_status::Mark;
+pub use kept::Kept;
 pub use laws::{
     forgetting_and_noting_commute, forgotten_changes_no_reason, later_update_clears_the_mark,
-    least_reason_by_the_furthest, noting_goes_on, one_verdict, standing_verdict_stays,
-    window_is_what_is_later_than_the_request, wrong_by_one_reason,
+    least_reason_by_the_furthest, noting_goes_on, one_verdict, seen_is_enough,
+    standing_verdict_stays, window_is_what_is_later_than_the_request, wrong_by_one_reason,
 };
-pub use marks::{mark_of, reply_mark};
-pub use reasons::{Reason, reason_behind};
+pub use marks::reply_mark;
+pub use reasons::Reason;
 pub use right::allows_unmarked;
 pub use settings::{FieldNames, Settings, UnmarkedReplies};
 pub use usable::age_of;
 pub use verdicts::{Counts, Finding, Verdict};
+pub use windows::is_error_status;
 
 #[cfg(test)]
 mod tests;

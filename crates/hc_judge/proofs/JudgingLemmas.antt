@@ -12,33 +12,62 @@ use Rattle.hc_transcript.specs.declared.line.Kind.TheVariants as kind
 use Rattle.hc_transcript.specs.declared.line.Line.{Line}
 use Rattle.hc_transcript.specs.declared.record.Record.{Record}
 use Rattle.hc_transcript.specs.Records.{line_of, message_of, record_text, records_text, opening}
-use Rattle.hc_transcript.specs.Items.{Item, ClientRequest, OriginRequest, OriginResponse, OriginFailure, ClientReply, item_of}
+use Rattle.hc_transcript.specs.Items.{Item, ClientRequest, OriginRequest, OriginResponse, OriginFailure, ClientReply, Exchange, item_of}
 use Rattle.hc_transcript.specs.History.{next_position, exchange_of, forward_of, last_moment, last_exchange, last_forward}
 use Rattle.hc_transcript.specs.Checks.{answers_open, line_fault}
-use Rattle.hc_transcript.specs.Transcript.{IsItemOf, answers_head, Follows, AreReadAs, Splits}
+use Rattle.hc_transcript.specs.Transcript.{IsItemOf, is_to_head, Follows, AreReadAs, Splits}
 use Rattle.hc_transcript.proofs.CheckLemmas.{in_order}
+use Rattle.hc_history.specs.declared.kept.Kept.{Kept}
 use Rattle.hc_history.specs.declared.reasons.Reason.{Reason}
 use Rattle.hc_judge.specs.declared.past.PastItem.{PastItem}
 use Rattle.hc_history.specs.declared.settings.Settings.{Settings}
+use Rattle.hc_history.specs.declared.verdicts.Finding.TheVariants.{Right, Wrong}
 use Rattle.hc_history.specs.Claims.{Claim}
 use Rattle.hc_history.specs.States.{state_at}
-use Rattle.hc_history.specs.Verdicts.{StopsAt}
-use Rattle.hc_history.specs.Furthest.{passed_by, furthest_up_to}
+use Rattle.hc_history.specs.Verdicts.{IsWrongAt}
+use Rattle.hc_history.specs.Furthest.{passed_by, passed_later, furthest_up_to}
+use Rattle.hc_history.specs.Reused.{anywhere}
+use Rattle.hc_history.specs.Right.{IsRightTo, IsWrongTo, IsRight, IsWrong, IsFinding}
+use Rattle.std.proofs.lemmas.Bool.{lt-ltb}
 use Rattle.hc_judge.specs.Past.{history_of}
 use Rattle.hc_judge.specs.Reading.{AreFirstOf}
-use Rattle.hc_judge.specs.Judging.{AnswersOpen, AllAnswerOpen, IsWrongAt}
+use Rattle.hc_judge.specs.Judging.{IsFound, AnswersOpen, AllAnswerOpen, HasWrongAt}
 use Rattle.hc_judge.proofs.PastLemmas.{position_behind}
 use Rattle.hc_judge.proofs.ReadingLemmas.{history_more}
 
 next : (n : ℕ) → suc n ≡ n + 1
 next n = omega arith
 
+passed_anywhere : (claim : Claim) (n : ℕ) (o : Option Kept) → passed_by claim o ≡ passed_later anywhere claim (suc n) o
+passed_anywhere claim n o = rw (lt-ltb anywhere (suc n) (omega arith)) refl
+
 -- one position more
-pub furthest_more : (claim : Claim) (h : List Item) (n most passed : ℕ) → most ≡ furthest_up_to claim n h → passed ≡ passed_by claim (state_at (n + 1) h)
-    → max most passed ≡ furthest_up_to claim (n + 1) h
+pub furthest_more : (claim : Claim) (h : List Item) (n most passed : ℕ) → most ≡ furthest_up_to anywhere claim n h → passed ≡ passed_by claim (state_at (n + 1) h)
+    → max most passed ≡ furthest_up_to anywhere claim (n + 1) h
 furthest_more claim h n most passed most-is passed-is =
-    subst (λ (k : ℕ). passed ≡ passed_by claim (state_at k h) → max most passed ≡ furthest_up_to claim k h) (next n)
-    (λ is. ap (λ (m : ℕ). max m passed) most-is ∙ ap (max (furthest_up_to claim n h)) is) passed-is
+    subst (λ (k : ℕ). passed ≡ passed_by claim (state_at k h) → max most passed ≡ furthest_up_to anywhere claim k h) (next n)
+    (λ is. ap (λ (m : ℕ). max m passed) most-is
+    ∙ ap (max (furthest_up_to anywhere claim n h)) (is ∙ passed_anywhere claim n (state_at (suc n) h))) passed-is
+
+-- ---- what is found of a reply to what is open
+
+right_to : (settings : Settings) (o : Option Exchange) (moment : ℕ) (reply : Message ResponseHead) (h : List Item) → IsSome o
+    → IsFinding settings o moment reply h Right → IsRightTo settings o moment reply h
+right_to settings None moment reply h some is = absurd some
+right_to settings (Some exchange) moment reply h some is = is
+
+wrong_to : (settings : Settings) (o : Option Exchange) (moment : ℕ) (reply : Message ResponseHead) (h : List Item) (why : Reason) → IsSome o
+    → IsFinding settings o moment reply h (Wrong why) → IsWrongTo settings o moment reply h why
+wrong_to settings None moment reply h why some is = absurd some
+wrong_to settings (Some exchange) moment reply h why some is = is
+
+pub found_right : (settings : Settings) (h : List Item) (item : Item) → AnswersOpen h item → IsFound settings h item Right → IsRight settings h item
+found_right settings h (ClientReply number moment reply) opens is = right_to settings (exchange_of number h) moment reply h opens is
+found_right settings h item opens is = tt
+
+pub found_wrong : (settings : Settings) (h : List Item) (item : Item) (why : Reason) → AnswersOpen h item → IsFound settings h item (Wrong why) → IsWrong settings h item why
+found_wrong settings h (ClientReply number moment reply) why opens is = wrong_to settings (exchange_of number h) moment reply h why opens is
+found_wrong settings h item why opens is = cc
 
 -- ---- where an item stands
 
@@ -104,20 +133,17 @@ reply_read kind.ClientReply a b to_head octets n m reply is = (refl, same_number
 
 -- a reply of a transcript answers what is open
 reply_open : (h : List Item) (l : Line) (octets : List ℕ) (n m : ℕ) (reply : Message ResponseHead) → line_fault h l ≡ None
-    → IsItemOf l.kind l.number l.moment (answers_head l.kind l.number h) octets (ClientReply n m reply) → IsSome (exchange_of n h)
+    → IsItemOf l.kind l.number l.moment (is_to_head l.kind l.number h) octets (ClientReply n m reply) → IsSome (exchange_of n h)
 reply_open h l octets n m reply keeps reads =
-    let is = reply_read l.kind l.number l.moment (answers_head l.kind l.number h) octets n m reply reads in
+    let is = reply_read l.kind l.number l.moment (is_to_head l.kind l.number h) octets n m reply reads in
     let order = in_order l (last_moment h) (last_exchange h) (last_forward h) (is_some (exchange_of l.number h)) (is_some (forward_of l.number h)) keeps in
     subst (λ (k : ℕ). IsSome (exchange_of k h)) (sym is.1)
     (is_there (exchange_of l.number h)
     (subst (λ (k : Kind). answers_open k (is_some (exchange_of l.number h)) (is_some (forward_of l.number h)) ≡ true) is.0 order.is_open))
 
 follows_open : (h : List Item) (r : Record) (item : Item) → Follows h r item → AnswersOpen h item
-follows_open h r (ClientRequest number moment request target) follows = tt
-follows_open h r (OriginRequest number moment request target) follows = tt
-follows_open h r (OriginResponse number moment response) follows = tt
-follows_open h r (OriginFailure number moment) follows = tt
 follows_open h r (ClientReply number moment reply) follows = reply_open h (line_of r) (message_of r) number moment reply follows.keeps follows.reads
+follows_open h r item follows = tt
 
 all_open : (records : List Record) (h : List Item) → AreReadAs records h → AllAnswerOpen h
 all_open [] [] read = tt
@@ -146,9 +172,9 @@ not_empty : (later : List Item) (item : Item) (h : List Item) → [] ≡ later +
 not_empty [] item h e = cc
 not_empty (i ∷ later) item h e = cc
 
-pub stops_at : (octets : List ℕ) (settings : Settings) (h : List Item) (position : ℕ) (why : Reason) → AreFirstOf octets h → IsWrongAt settings h position why
-    → StopsAt octets settings position why
-stops_at octets settings h position why first wrong = elim first [
+pub wrong_at : (octets : List ℕ) (settings : Settings) (h : List Item) (position : ℕ) (why : Reason) → AreFirstOf octets h → HasWrongAt settings h position why
+    → IsWrongAt octets settings position why
+wrong_at octets settings h position why first wrong = elim first [
   | inl empty ↦ absurd (not_empty wrong.later wrong.item wrong.earlier (sym empty ∙ wrong.history_is))
   | inr read ↦
       let s = fewer octets wrong.later wrong.item wrong.earlier read.0 read.1 (subst (λ (g : List Item). Splits octets read.0 g read.1) wrong.history_is read.2) in

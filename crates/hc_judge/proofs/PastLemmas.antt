@@ -14,7 +14,7 @@ use Rattle.hc_judge.specs.Past.{history_of}
 pub position_behind : (items : List PastItem) → next_position (history_of items) ≡ length items + 1
 position_behind items = ap (λ n. n + 1) (length-reverse (map (λ r. item_of r.item) items) ∙ length-map items (λ r. item_of r.item))
 
--- what an answer of the origin makes of a stored response
+-- what a response of the origin makes of a stored response
 pub answered_after : (h : List Item) (item : Item) (number moment position : ℕ) (response : Message ResponseHead) (forward : Forward) (kept : Kept)
     → item ≡ OriginResponse number moment response → forward_of number h ≡ Some forward → position ≡ next_position h
     → kept_answered forward position moment response kept ≡ state_after h item kept

@@ -10,7 +10,7 @@ use Rattle.hc_transcript.specs.declared.item.OwnedItem.{OwnedItem}
 use Rattle.hc_transcript.specs.declared.reader.RecordReader.{RecordReader}
 use Rattle.hc_transcript.specs.declared.record.Record.{Record}
 use Rattle.hc_transcript.specs.Items.{Item, item_of}
-use Rattle.hc_transcript.specs.Reader.{Agrees, ReadsTo, Stops, reader_position}
+use Rattle.hc_transcript.specs.Reader.{Agrees, ReadsTo, MeetsFault, reader_position}
 use Rattle.hc_judge.specs.declared.reading.Ending.{Ending}
 use Rattle.hc_judge.specs.declared.reading.Ending.TheVariants.{Broken}
 use Rattle.hc_judge.specs.declared.past.PastItem.{PastItem}
@@ -40,8 +40,8 @@ first_of r octets records h agrees = go r.is_open agrees.reads
     go false reads = inl reads.1.0
     go true reads = inr (records, r.held, reads)
 
-stopped : (r : RecordReader) (octets : List ℕ) (h : List Item) (f : RecordFault) → Stops r octets h f → EndsBy octets h (Broken (reader_position r) f)
-stopped r octets h f stops = elim stops [
+met_at : (r : RecordReader) (octets : List ℕ) (h : List Item) (f : RecordFault) → MeetsFault r octets h f → EndsBy octets h (Broken (reader_position r) f)
+met_at r octets h f met = elim met [
   | inl begins ↦ inl (begins.1.1, inl (begins.0, begins.1.0))
   | inr behind ↦ inr (behind.1, inl behind.0)
 ]
@@ -53,23 +53,16 @@ refused : (r : Result Ending AllocError) (ending : Ending) → r ≡ Err alloc_e
 refused r ending e d = cc
 
 -- a fault that isn't memory is told with its position
-pub stops_end : (r : RecordReader) (octets : List ℕ) (h : List Item) (f : RecordFault) (position : ℕ) (ending : Ending) → position ≡ reader_position r
-    → (f ≢ fault.Memory → Stops r octets h f) → broken_at position f ≡ Ok ending → EndsBy octets h ending
-stops_end r octets h f position ending position-is stops e = go f stops e
+pub fault_ends : (r : RecordReader) (octets : List ℕ) (h : List Item) (f : RecordFault) (position : ℕ) (ending : Ending) → position ≡ reader_position r
+    → (f ≢ fault.Memory → MeetsFault r octets h f) → broken_at position f ≡ Ok ending → EndsBy octets h ending
+fault_ends r octets h f position ending position-is meets e = go f meets e
   where
-    told : (g : RecordFault) → g ≢ fault.Memory → (g ≢ fault.Memory → Stops r octets h g) → broken_at position g ≡ Ok (Broken position g)
+    told : (g : RecordFault) → g ≢ fault.Memory → (g ≢ fault.Memory → MeetsFault r octets h g) → broken_at position g ≡ Ok (Broken position g)
         → broken_at position g ≡ Ok ending → EndsBy octets h ending
-    told g other stops is e =
+    told g other meets is e =
         subst (λ (n : Ending). EndsBy octets h n) (ap (λ (p : ℕ). Broken p g) (sym position-is) ∙ same (broken_at position g) (Broken position g) ending is e)
-        (stopped r octets h g (stops other))
+        (met_at r octets h g (meets other))
 
-    go : (g : RecordFault) → (g ≢ fault.Memory → Stops r octets h g) → broken_at position g ≡ Ok ending → EndsBy octets h ending
-    go fault.Opening stops e = told fault.Opening (λ e. cc) stops refl e
-    go fault.Line stops e = told fault.Line (λ e. cc) stops refl e
-    go fault.Torn stops e = told fault.Torn (λ e. cc) stops refl e
-    go fault.MomentBack stops e = told fault.MomentBack (λ e. cc) stops refl e
-    go fault.Number stops e = told fault.Number (λ e. cc) stops refl e
-    go fault.NothingOpen stops e = told fault.NothingOpen (λ e. cc) stops refl e
-    go fault.Message stops e = told fault.Message (λ e. cc) stops refl e
-    go fault.TooLong stops e = told fault.TooLong (λ e. cc) stops refl e
-    go fault.Memory stops e = absurd (refused (broken_at position fault.Memory) ending refl e)
+    go : (g : RecordFault) → (g ≢ fault.Memory → MeetsFault r octets h g) → broken_at position g ≡ Ok ending → EndsBy octets h ending
+    go fault.Memory meets e = absurd (refused (broken_at position fault.Memory) ending refl e)
+    go g meets e = told g (λ e. cc) meets refl e

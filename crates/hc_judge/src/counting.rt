@@ -8,19 +8,18 @@ ghost use Rattle.hc_history.specs.Counting.{one_more, marked_by, marked, counts_
 ghost use Rattle.hc_judge.specs.Judging.{AreAtMost};
 
 use crate::past::PastItem;
-use hc_history::{Counts, mark_of};
-use hc_status::Mark;
-use hc_transcript::OwnedItem;
+use hc_history::{Counts, Mark, reply_mark};
+use hc_transcript::{Meaning, OwnedItem};
 use std::alloc::{AllocError, Global};
 
 /// The mark of an item, if it is a reply.
 fn item_mark(alloc: Global, item: &OwnedItem) -> Result<Option<Mark>, AllocError>
     ensures { IfOk result (λ mark. mark ≡ item_mark (item_of item.now)) }
 {
-    let OwnedItem::ClientReply { reply, .. } = item else {
+    let Meaning::ClientReply(reply) = &item.of else {
         return Ok(None);
     };
-    let mark = mark_of(alloc, reply)?;
+    let mark = reply_mark(alloc, reply)?;
     Ok(Some(mark))
 }
 

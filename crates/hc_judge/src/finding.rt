@@ -1,12 +1,11 @@
-//! What is found of one reply.
+//! What is found of one reply, behind items that are held.
 
-ghost use Rattle.std.specs.Prelude.{◌≡◌, ℤ, List, Option, IfOk};
-ghost use Rattle.hc_transcript.specs.Items.{Item, item_of};
-ghost use Rattle.hc_judge.specs.Past.{history_of};
+ghost use Rattle.std.specs.Prelude.{◌≡◌, ℤ, Option, IfOk};
+ghost use Rattle.hc_transcript.specs.History.{exchange_of};
 ghost use Rattle.hc_history.specs.Claims.{claim_of};
 ghost use Rattle.hc_history.specs.Marks.{reply_mark};
-ghost use Rattle.hc_history.specs.Right.{IsFoundBy};
-ghost use Rattle.hc_judge.specs.Judging.{AnswersOpen, IsFound};
+ghost use Rattle.hc_history.specs.Right.{IsFinding, IsFoundBy};
+ghost use Rattle.hc_judge.specs.Past.{history_of};
 
 use crate::forwarded::is_forwarded;
 use crate::furthest::furthest;
@@ -16,14 +15,10 @@ use crate::windows::{has_error, has_failure};
 use hc_framing::Message;
 use hc_head::ResponseHead;
 use hc_history::{
-    Finding, Reason, ReplyClaim, Settings, allows_unmarked, mark_of, reason_behind, ttl_of,
+    Finding, Mark, Reason, ReplyClaim, Settings, found_of_forwarded, found_of_hit,
+    found_of_unmarked, reply_mark, ttl_of,
 };
-use hc_status::Mark;
-use hc_transcript::OwnedItem;
 use std::alloc::{AllocError, Global};
-
-/// How many filters a reply passes that went forward and carries a stored response.
-const FORWARDED_COUNT: u32 = 7;
 
 /// What a reply with that mark claims, behind those items.
 fn claim_of<'a>(
@@ -38,7 +33,8 @@ fn claim_of<'a>(
         → result ≡ claim_of settings.now exchange.now moment reply.now (history_of items.now) }
 {
     ReplyClaim {
-        request: &exchange.request.head,
+        exchange: exchange.number,
+        request: exchange.request,
         target: exchange.target,
         since: exchange.position,
         reply,
@@ -51,7 +47,7 @@ fn claim_of<'a>(
 }
 
 /// What is found of a hit.
-fn found_of_hit(
+fn found_of_hit_behind(
     alloc: Global,
     claim: &ReplyClaim<'_>,
     items: &[PastItem],
@@ -59,14 +55,11 @@ fn found_of_hit(
     ensures { (ttl : Option ℤ) → IfOk result (IsFoundBy (Mark.Hit ttl) claim.now (history_of items.now)) }
 {
     let passed = furthest(alloc, claim, items)?;
-    Ok(match reason_behind(passed) {
-        Some(why) => Finding::Wrong(why),
-        None => Finding::Right,
-    })
+    Ok(found_of_hit(passed))
 }
 
 /// What is found of a reply that went forward.
-fn found_of_forwarded(
+fn found_of_forwarded_behind(
     alloc: Global,
     claim: &ReplyClaim<'_>,
     items: &[PastItem],
@@ -77,21 +70,7 @@ fn found_of_forwarded(
         return Ok(Finding::Right);
     }
     let passed = furthest(alloc, claim, items)?;
-    if FORWARDED_COUNT <= passed {
-        return Ok(Finding::Right);
-    }
-    Ok(Finding::Wrong(Reason::NotForwarded))
-}
-
-/// What is found of a reply without a mark.
-fn found_of_unmarked(claim: &ReplyClaim<'_>) -> Finding
-    ensures { (h : List Item) → IsFoundBy Mark.Unmarked claim.now h result }
-{
-    if allows_unmarked(claim.settings.unmarked, claim.reply.head.status) {
-        Finding::Right
-    } else {
-        Finding::Wrong(Reason::Unmarked)
-    }
+    Ok(found_of_forwarded(passed))
 }
 
 /// What is found of a reply with that mark, behind those items.
@@ -104,36 +83,28 @@ fn found_by(
     ensures { IfOk result (IsFoundBy mark claim.now (history_of items.now)) }
 {
     match mark {
-        Mark::Hit { .. } => found_of_hit(alloc, claim, items),
-        Mark::Forwarded => found_of_forwarded(alloc, claim, items),
+        Mark::Hit { .. } => found_of_hit_behind(alloc, claim, items),
+        Mark::Forwarded => found_of_forwarded_behind(alloc, claim, items),
         Mark::Both => Ok(Finding::Wrong(Reason::BothMarks)),
         Mark::Unmarked => Ok(found_of_unmarked(claim)),
     }
 }
 
-/// What is found of the item behind those, if it is a reply. Nothing is said of one to what isn't open,
-/// which no transcript has.
+/// What is found of the reply to the exchange of that number, behind those items.
 pub(crate) fn found(
     alloc: Global,
     settings: &Settings,
     items: &[PastItem],
-    item: &OwnedItem,
+    number: u64,
+    moment: u64,
+    reply: &Message<ResponseHead>,
 ) -> Result<Finding, AllocError>
-    ensures { AnswersOpen (history_of items.now) (item_of item.now)
-        → IfOk result (IsFound settings.now (history_of items.now) (item_of item.now)) }
+    ensures { IfOk result (IsFinding settings.now (exchange_of number (history_of items.now)) moment reply.now (history_of items.now)) }
 {
-    let OwnedItem::ClientReply {
-        exchange: number,
-        moment,
-        reply,
-    } = item
-    else {
+    let Some(exchange) = open_exchange(items, number) else {
         return Ok(Finding::Right);
     };
-    let Some(exchange) = open_exchange(items, *number) else {
-        return Ok(Finding::Right);
-    };
-    let mark = mark_of(alloc, reply)?;
-    let claim = claim_of(settings, &exchange, *moment, reply, mark, items);
+    let mark = reply_mark(alloc, reply)?;
+    let claim = claim_of(settings, &exchange, moment, reply, mark, items);
     found_by(alloc, mark, &claim, items)
 }

@@ -7,25 +7,22 @@ ghost use Rattle.hc_judge.specs.Past.{history_of};
 
 use crate::open::open_forward;
 use crate::past::PastItem;
-use hc_history::{ReplyClaim, carries, same_target};
-use hc_transcript::OwnedItem;
+use hc_head::same_target;
+use hc_history::{ReplyClaim, carries};
+use hc_transcript::Meaning;
 
 /// Whether the item behind those is a response that the reply carries.
 fn is_carried(claim: &ReplyClaim<'_>, earlier: &[PastItem], past: &PastItem) -> bool
     ensures { result ≡ is_carried claim.now (history_of earlier.now) (item_of past.now.item) }
 {
-    let OwnedItem::OriginResponse {
-        forward: number,
-        response,
-        ..
-    } = past.item()
-    else {
+    let item = past.item();
+    let Meaning::OriginResponse(response) = &item.of else {
         return false;
     };
-    let Some(forward) = open_forward(earlier, *number) else {
+    let Some(forward) = open_forward(earlier, item.number) else {
         return false;
     };
-    let method = forward.request.head.method.as_slice();
+    let method = forward.request.method.as_slice();
     let body = response.body.as_slice();
     same_target(forward.target, claim.target) && carries(claim, method, response.head.status, body)
 }

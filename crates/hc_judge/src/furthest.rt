@@ -4,6 +4,7 @@ ghost use Rattle.std.specs.Prelude.{◌≡◌, IfOk};
 ghost use Rattle.hc_judge.specs.Past.{history_of};
 ghost use Rattle.hc_history.specs.States.{state_at};
 ghost use Rattle.hc_history.specs.Furthest.{passed_by, furthest};
+ghost use Rattle.hc_history.specs.Reused.{anywhere};
 
 use crate::past::PastItem;
 use crate::states::state_at;
@@ -20,7 +21,7 @@ fn passed_at(
     ensures { IfOk result (λ n. n ≡ passed_by claim.now (state_at position (history_of items.now))) }
 {
     match state_at(alloc, position, items)? {
-        Some(kept) => passed(alloc, claim, &kept),
+        Some(kept) => passed(alloc, claim, &kept.target, &kept.state),
         None => Ok(0),
     }
 }
@@ -31,7 +32,7 @@ pub(crate) fn furthest(
     claim: &ReplyClaim<'_>,
     items: &[PastItem],
 ) -> Result<u32, AllocError>
-    ensures { IfOk result (λ n. n ≡ furthest claim.now (history_of items.now)) }
+    ensures { IfOk result (λ n. n ≡ furthest anywhere claim.now (history_of items.now)) }
 {
     let mut most = 0;
     let mut position = 0;

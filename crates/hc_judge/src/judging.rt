@@ -1,9 +1,10 @@
 //! The plain judge of octets.
 
 ghost use Rattle.std.specs.Prelude.{◌≡◌, ℕ, List, IfOk};
+ghost use Rattle.hc_transcript.specs.Items.{item_of};
 ghost use Rattle.hc_judge.specs.Past.{history_of};
 ghost use Rattle.hc_judge.specs.Reading.{EndsBy};
-ghost use Rattle.hc_judge.specs.Judging.{AllAnswerOpen, IsFirstWrong};
+ghost use Rattle.hc_judge.specs.Judging.{AllAnswerOpen, IsFirstWrong, IsFound};
 ghost use Rattle.hc_history.specs.Right.{AllRight};
 ghost use Rattle.hc_history.specs.Verdicts.{IsVerdict};
 ghost use Rattle.hc_history.specs.declared.settings.Settings.{Settings};
@@ -13,7 +14,25 @@ use crate::finding::found;
 use crate::past::PastItem;
 use crate::reading::{Ending, read};
 use hc_history::{Finding, Reason, Settings, Verdict};
+use hc_transcript::{Meaning, OwnedItem};
 use std::alloc::{AllocError, Global};
+
+/// What is found of the item behind those: that it is right, where it is no reply.
+fn found_of(
+    alloc: Global,
+    settings: &Settings,
+    items: &[PastItem],
+    item: &OwnedItem,
+) -> Result<Finding, AllocError>
+    ensures { IfOk result (IsFound settings.now (history_of items.now) (item_of item.now)) }
+{
+    match &item.of {
+        Meaning::ClientReply(reply) => {
+            found(alloc, settings, items, item.number, item.moment, reply)
+        }
+        _ => Ok(Finding::Right),
+    }
+}
 
 /// The position and the reason of the first reply that is wrong, if one is.
 fn first_wrong(
@@ -26,7 +45,7 @@ fn first_wrong(
 {
     for (index, past) in items.iter().enumerate() {
         let (earlier, _) = items.split_at(index);
-        match found(alloc, settings, earlier, past.item())? {
+        match found_of(alloc, settings, earlier, past.item())? {
             Finding::Right => {}
             Finding::Wrong(why) => return Ok(Some((index as u64 + 1, why))),
         }

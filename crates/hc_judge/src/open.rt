@@ -6,17 +6,17 @@ ghost use Rattle.hc_transcript.specs.History.{forward_after, forward_of, exchang
 ghost use Rattle.hc_judge.specs.Past.{history_of};
 
 use crate::past::PastItem;
-use hc_framing::Message;
 use hc_head::{RequestHead, Target};
-use hc_transcript::OwnedItem;
+use hc_transcript::{Meaning, OwnedItem};
 use std::marker::Model;
 
 /// An open exchange.
 #[derive(Debug, Drop)]
 pub(crate) struct OpenExchange<'a> {
+    pub(crate) number: u64,
     /// The position of its request.
     pub(crate) position: u64,
-    pub(crate) request: &'a Message<RequestHead>,
+    pub(crate) request: &'a RequestHead,
     pub(crate) target: &'a Target,
 }
 
@@ -25,14 +25,14 @@ impl<'a> Model for OpenExchange<'a> {
 
     ghost Value = { Exchange };
 
-    ghost view = { λ e. record { position = e.position; request = e.request.now; target = e.target.now } };
+    ghost view = { λ e. record { number = e.number; position = e.position; request = e.request.now; target = e.target.now } };
 }
 
 /// An open forward.
 #[derive(Debug, Drop)]
 pub(crate) struct OpenForward<'a> {
     pub(crate) moment: u64,
-    pub(crate) request: &'a Message<RequestHead>,
+    pub(crate) request: &'a RequestHead,
     pub(crate) target: &'a Target,
 }
 
@@ -52,30 +52,25 @@ fn forward_after<'a>(
 ) -> Option<OpenForward<'a>>
     ensures { result ≡ forward_after number (item_of item.now) before.entry }
 {
-    match item {
-        OwnedItem::OriginRequest {
-            forward,
-            moment,
-            request,
-            target,
-        } => {
-            if *forward != number {
+    match &item.of {
+        Meaning::OriginRequest { request, target } => {
+            if item.number != number {
                 return before;
             }
             Some(OpenForward {
-                moment: *moment,
-                request,
+                moment: item.moment,
+                request: &request.head,
                 target,
             })
         }
-        OwnedItem::OriginResponse { forward, .. } => {
-            if *forward == number { None } else { before }
+        Meaning::OriginResponse(_) => {
+            if item.number == number { None } else { before }
         }
-        OwnedItem::OriginFailure { forward, .. } => {
-            if *forward == number { None } else { before }
+        Meaning::OriginFailure => {
+            if item.number == number { None } else { before }
         }
-        OwnedItem::ClientRequest { .. } => before,
-        OwnedItem::ClientReply { .. } => before,
+        Meaning::ClientRequest { .. } => before,
+        Meaning::ClientReply(_) => before,
     }
 }
 
@@ -99,28 +94,24 @@ fn exchange_after<'a>(
 ) -> Option<OpenExchange<'a>>
     ensures { result ≡ exchange_after number position (item_of item.now) before.entry }
 {
-    match item {
-        OwnedItem::ClientRequest {
-            exchange,
-            request,
-            target,
-            ..
-        } => {
-            if *exchange != number {
+    match &item.of {
+        Meaning::ClientRequest { request, target } => {
+            if item.number != number {
                 return before;
             }
             Some(OpenExchange {
+                number,
                 position,
-                request,
+                request: &request.head,
                 target,
             })
         }
-        OwnedItem::ClientReply { exchange, .. } => {
-            if *exchange == number { None } else { before }
+        Meaning::ClientReply(_) => {
+            if item.number == number { None } else { before }
         }
-        OwnedItem::OriginRequest { .. } => before,
-        OwnedItem::OriginResponse { .. } => before,
-        OwnedItem::OriginFailure { .. } => before,
+        Meaning::OriginRequest { .. } => before,
+        Meaning::OriginResponse(_) => before,
+        Meaning::OriginFailure => before,
     }
 }
 

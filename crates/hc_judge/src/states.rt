@@ -9,10 +9,10 @@ use crate::copies::{copy_of_request_head, copy_of_response};
 use crate::open::{OpenForward, open_forward};
 use crate::past::PastItem;
 use hc_framing::Message;
-use hc_head::ResponseHead;
-use hc_history::{Kept, same_target};
+use hc_head::{ResponseHead, same_target};
+use hc_history::Kept;
 use hc_rules::may_store;
-use hc_transcript::OwnedItem;
+use hc_transcript::Meaning;
 use hc_update::{Stored, identifies, initial, invalidates};
 use std::alloc::{AllocError, Global};
 
@@ -26,10 +26,10 @@ fn begun_by(
     requires { moment < 253402300800 }
     ensures { IfOk result (λ kept. kept ≡ begun_by forward.now moment response.now) }
 {
-    if !may_store(&forward.request.head, &response.head) {
+    if !may_store(forward.request, &response.head) {
         return Ok(None);
     }
-    let head = copy_of_request_head(alloc, &forward.request.head)?;
+    let head = copy_of_request_head(alloc, forward.request)?;
     let copy = copy_of_response(alloc, response)?;
     Ok(Some(Kept {
         target: forward.target.copy(alloc)?,
@@ -45,16 +45,12 @@ fn state_begun(
 ) -> Result<Option<Kept>, AllocError>
     ensures { IfOk result (λ kept. kept ≡ state_begun (history_of earlier.now) (item_of past.now.item)) }
 {
-    let OwnedItem::OriginResponse {
-        forward: number,
-        moment,
-        response,
-    } = past.item()
-    else {
+    let item = past.item();
+    let Meaning::OriginResponse(response) = &item.of else {
         return Ok(None);
     };
-    match open_forward(earlier, *number) {
-        Some(forward) => begun_by(alloc, &forward, *moment, response),
+    match open_forward(earlier, item.number) {
+        Some(forward) => begun_by(alloc, &forward, item.moment, response),
         None => Ok(None),
     }
 }
@@ -72,9 +68,9 @@ fn state_answered(
     ensures { IfOk result (λ s. s ≡ state_answered forward.now position moment response.now state) }
 {
     let mut state = state;
-    if identifies(alloc, &state, &forward.request.head, &response.head)? {
+    if identifies(alloc, &state, forward.request, &response.head)? {
         state.freshen(&response.head, forward.moment, moment, position)?;
-    } else if invalidates(forward.request.head.method.as_slice(), response.head.status) {
+    } else if invalidates(forward.request.method.as_slice(), response.head.status) {
         state.invalidate();
     }
     Ok(state)
@@ -111,17 +107,13 @@ fn state_after(
 ) -> Result<Kept, AllocError>
     ensures { IfOk result (λ k. k ≡ state_after (history_of earlier.now) (item_of past.now.item) kept) }
 {
-    let OwnedItem::OriginResponse {
-        forward: number,
-        moment,
-        response,
-    } = past.item()
-    else {
+    let item = past.item();
+    let Meaning::OriginResponse(response) = &item.of else {
         return Ok(kept);
     };
     let position = earlier.len() as u64 + 1;
-    match open_forward(earlier, *number) {
-        Some(forward) => kept_answered(alloc, &forward, position, *moment, response, kept),
+    match open_forward(earlier, item.number) {
+        Some(forward) => kept_answered(alloc, &forward, position, item.moment, response, kept),
         None => Ok(kept),
     }
 }

@@ -3,22 +3,13 @@
 ghost use Rattle.std.specs.Prelude.{◌≡◌};
 ghost use Rattle.hc_transcript.specs.Items.{item_of};
 ghost use Rattle.hc_judge.specs.Past.{history_of};
-ghost use Rattle.hc_history.specs.Windows.{is_error_status, is_forward_of, is_error, is_failure, some_since};
+ghost use Rattle.hc_history.specs.Windows.{is_forward_of, is_error, is_failure, some_since};
 
 use crate::open::{OpenForward, open_forward};
 use crate::past::PastItem;
-use hc_head::Target;
-use hc_history::same_target;
-use hc_transcript::OwnedItem;
-
-/// The statuses that say that the origin can't answer now (RFC 5861 section 4).
-const ERRORS: [u16; 4] = [500, 502, 503, 504];
-
-fn is_error_status(status: u16) -> bool
-    ensures { result ≡ is_error_status status }
-{
-    ERRORS.contains(&status)
-}
+use hc_head::{Target, same_target};
+use hc_history::is_error_status;
+use hc_transcript::Meaning;
 
 fn is_forward_of(target: &Target, forward: Option<OpenForward<'_>>) -> bool
     ensures { result ≡ is_forward_of target.now forward.entry }
@@ -33,25 +24,23 @@ fn is_forward_of(target: &Target, forward: Option<OpenForward<'_>>) -> bool
 fn is_error(target: &Target, earlier: &[PastItem], past: &PastItem) -> bool
     ensures { result ≡ is_error target.now (history_of earlier.now) (item_of past.now.item) }
 {
-    let OwnedItem::OriginResponse {
-        forward,
-        response,
-        ..
-    } = past.item()
-    else {
+    let item = past.item();
+    let Meaning::OriginResponse(response) = &item.of else {
         return false;
     };
-    is_error_status(response.head.status) && is_forward_of(target, open_forward(earlier, *forward))
+    is_error_status(response.head.status)
+        && is_forward_of(target, open_forward(earlier, item.number))
 }
 
 /// Whether the item behind those is the failure of a forward of the target.
 fn is_failure(target: &Target, earlier: &[PastItem], past: &PastItem) -> bool
     ensures { result ≡ is_failure target.now (history_of earlier.now) (item_of past.now.item) }
 {
-    let OwnedItem::OriginFailure { forward, .. } = past.item() else {
+    let item = past.item();
+    let Meaning::OriginFailure = &item.of else {
         return false;
     };
-    is_forward_of(target, open_forward(earlier, *forward))
+    is_forward_of(target, open_forward(earlier, item.number))
 }
 
 /// Whether an error of a forward of the target stands after that position.

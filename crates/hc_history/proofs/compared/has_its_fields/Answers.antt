@@ -9,18 +9,18 @@ returns-then-not-has_its_lines c =
     (ap (λ (v : Claim). has_lines c.args.claim.now c.args.state.now v.reply.head.fields) (sym c.claim.view_is)
     ∙ sym c.has_its_lines.ensures ∙ c.if-not-has_its_lines.true)
 
-pub returns-then-is_304 : goal.returns-then-is_304
-returns-then-is_304 c =
+pub returns-then-is_not_modified : goal.returns-then-is_not_modified
+returns-then-is_not_modified c =
     c.has_each.ensures
     ∙ fields_of_304 c.args.claim.now c.args.state.now
     (ap (λ (v : Claim). has_lines c.args.claim.now c.args.state.now v.reply.head.fields) (sym c.claim.view_is)
     ∙ sym c.has_its_lines.ensures ∙ c.if-not-has_its_lines.false)
-    (sym c.is_304.ensures ∙ c.if-is_304.true)
+    (sym c.is_not_modified.ensures ∙ c.if-is_not_modified.true)
 
-pub returns-else-is_304 : goal.returns-else-is_304
-returns-else-is_304 c =
-    c.has_its_lines-else-is_304.ensures
+pub returns-else-is_not_modified : goal.returns-else-is_not_modified
+returns-else-is_not_modified c =
+    c.has_its_lines-else-is_not_modified.ensures
     ∙ fields_of_other c.args.claim.now c.args.state.now
     (ap (λ (v : Claim). has_lines c.args.claim.now c.args.state.now v.reply.head.fields) (sym c.claim.view_is)
     ∙ sym c.has_its_lines.ensures ∙ c.if-not-has_its_lines.false)
-    (sym c.is_304.ensures ∙ c.if-is_304.false)
+    (sym c.is_not_modified.ensures ∙ c.if-is_not_modified.false)

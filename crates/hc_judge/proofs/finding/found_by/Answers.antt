@@ -6,8 +6,8 @@ use Rattle.hc_judge.proofs.finding.found_by.Goals as goal
 
 pub returns-in-Hit : goal.returns-in-Hit
 returns-in-Hit c =
-    subst (λ (mark : Mark). IfOk c.found_of_hit.result (IsFoundBy mark c.args.claim.now (history_of c.args.items.now))) (sym c.in-Hit.is)
-    (c.found_of_hit.ensures c.in-Hit.ttl)
+    subst (λ (mark : Mark). IfOk c.found_of_hit_behind.result (IsFoundBy mark c.args.claim.now (history_of c.args.items.now))) (sym c.in-Hit.is)
+    (c.found_of_hit_behind.ensures c.in-Hit.ttl)
 
 pub returns-in-Unmarked : goal.returns-in-Unmarked
 returns-in-Unmarked c =

@@ -7,6 +7,6 @@ pub returns-in-Ok-true-clause-gives : goal.returns-in-Ok-true-clause-gives
 returns-in-Ok-true-clause-gives c = λ octets records h agrees.
     let a = rw c.in-Ok-true.field-0-test at (c.in-Ok-true.ensures.gives octets records h agrees) in (
       a.one,
-      subst (λ (i : Item). Agrees c.take_item.new.self octets (a.one ∷ records) (i ∷ h)) (sym (c.take_item.ensures.item a.one a.item a.lends))
+      subst (λ (i : Item). Agrees c.take_item.new.self octets (a.one ∷ records) (i ∷ h)) (sym (c.take_item.ensures.item a.item a.lends))
           (c.take_item.ensures.agrees octets (a.one ∷ records) (a.item ∷ h) a.agrees),
     )

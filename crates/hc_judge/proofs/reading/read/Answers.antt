@@ -1,5 +1,5 @@
 use Rattle.std.proofs.Common.{sym, ◌∙◌}
-use Rattle.hc_judge.proofs.ReadingLemmas.{first_of, read_more, stops_end}
+use Rattle.hc_judge.proofs.ReadingLemmas.{first_of, read_more, fault_ends}
 use Rattle.hc_judge.proofs.reading.read.Goals as goal
 
 pub records-preserved : goal.records-preserved
@@ -14,6 +14,6 @@ returns-in-Err c =
     let read = c.records.invariant in
     record {
       are_first = first_of c.records.reader c.args.octets.now read.0 _ read.1;
-      ends = stops_end c.next_item.new.reader c.args.octets.now _ c.in-Err.fault c.position.result c.in_ok-ending-in-Err.ending c.position.ensures
+      ends = fault_ends c.next_item.new.reader c.args.octets.now _ c.in-Err.fault c.position.result c.in_ok-ending-in-Err.ending c.position.ensures
           (c.in-Err.ensures.gives c.args.octets.now read.0 _ read.1) (sym c.broken.ensures ∙ c.in_ok-ending-in-Err.was);
     }

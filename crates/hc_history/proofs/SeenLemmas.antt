@@ -1,0 +1,138 @@
+-- What is seen of a history is enough to judge its replies.
+use Rattle.std.proofs.Common.{◌≡◌, ℕ, ◌≤◌, ◌<◌, Bool, List, Option, Some, None, refl, sym, ap, subst, ◌∙◌, arith, ltb, ◌⊎◌, inl, inr}
+use Rattle.std.specs.List.{list_any}
+use Rattle.hc_head.specs.declared.head.ResponseHead.{ResponseHead}
+use Rattle.hc_head.specs.declared.head.Target.{Target}
+use Rattle.hc_framing.specs.declared.message.Message.{Message}
+use Rattle.hc_status.specs.declared.marks.Mark.{Mark}
+use Rattle.hc_status.specs.declared.marks.Mark.TheVariants.{Hit, Forwarded, Both, Unmarked}
+use Rattle.hc_transcript.specs.Items.{Item, Exchange}
+use Rattle.hc_transcript.specs.History.{exchange_of}
+use Rattle.hc_history.specs.declared.settings.Settings.{Settings}
+use Rattle.hc_history.specs.declared.verdicts.Finding.{Finding}
+use Rattle.hc_history.specs.declared.verdicts.Finding.TheVariants.{Right, Wrong}
+use Rattle.hc_history.specs.Marks.{reply_mark}
+use Rattle.hc_history.specs.Windows.{some_since, is_error, is_failure}
+use Rattle.hc_history.specs.Claims.{Claim, ttl_of, claim_of}
+use Rattle.hc_history.specs.Reused.{Pass, IsFirstFailed, anywhere, filter_count, forwarded_count}
+use Rattle.hc_history.specs.Forwarded.{carries, is_forwarded}
+use Rattle.hc_history.specs.Right.{IsFoundBy, IsFinding}
+use Rattle.hc_history.specs.Seen.{WindowResponse, responses_since, window_responses_of, Seen, IsSeenAs}
+use Rattle.hc_history.specs.Furthest.{furthest, furthest_live}
+use Rattle.hc_history.proofs.WindowLemmas.{some_since-latest, carried}
+use Rattle.hc_history.proofs.FurthestLemmas.{Pass-found, Pass-only}
+use Rattle.hc_history.proofs.LiveLemmas.{furthest_is_live}
+
+-- what a reply to an exchange claims, by what stands in its window
+claim_with : Settings → Exchange → ℕ → Message ResponseHead → Bool → Bool → Claim
+claim_with settings exchange moment reply error failure = record {
+  exchange = exchange.number;
+  request = exchange.request;
+  target = exchange.target;
+  since = exchange.position;
+  reply = reply;
+  moment = moment;
+  ttl = ttl_of (reply_mark reply);
+  has_error = error;
+  has_failure = failure;
+  settings = settings;
+}
+
+same_error : (seen : Seen) (h g : List Item) (target : Target) (since : ℕ) → IsSeenAs seen h → IsSeenAs seen g
+    → some_since (is_error target) since h ≡ some_since (is_error target) since g
+same_error seen h g target since one other =
+    some_since-latest (is_error target) since h
+    ∙ ap (ltb since) (sym (one.error target) ∙ other.error target)
+    ∙ sym (some_since-latest (is_error target) since g)
+
+same_failure : (seen : Seen) (h g : List Item) (target : Target) (since : ℕ) → IsSeenAs seen h → IsSeenAs seen g
+    → some_since (is_failure target) since h ≡ some_since (is_failure target) since g
+same_failure seen h g target since one other =
+    some_since-latest (is_failure target) since h
+    ∙ ap (ltb since) (sym (one.failure target) ∙ other.failure target)
+    ∙ sym (some_since-latest (is_failure target) since g)
+
+same_claim : (seen : Seen) (h g : List Item) (settings : Settings) (exchange : Exchange) (moment : ℕ) (reply : Message ResponseHead) → IsSeenAs seen h → IsSeenAs seen g
+    → claim_of settings exchange moment reply h ≡ claim_of settings exchange moment reply g
+unfolding claim_with
+same_claim seen h g settings exchange moment reply one other =
+    ap (λ (b : Bool). claim_with settings exchange moment reply b (some_since (is_failure exchange.target) exchange.position h))
+    (same_error seen h g exchange.target exchange.position one other)
+    ∙ ap (claim_with settings exchange moment reply (some_since (is_error exchange.target) exchange.position g))
+    (same_failure seen h g exchange.target exchange.position one other)
+
+same_furthest : (seen : Seen) (h g : List Item) (since : ℕ) (claim : Claim) → IsSeenAs seen h → IsSeenAs seen g → furthest since claim h ≡ furthest since claim g
+same_furthest seen h g since claim one other =
+    sym (furthest_is_live since claim h)
+    ∙ ap (furthest_live since claim) (sym (one.live claim.target) ∙ other.live claim.target)
+    ∙ furthest_is_live since claim g
+
+-- whom one history has to pass so many filters, the other has too
+pass_alike : (seen : Seen) (h g : List Item) (n since : ℕ) (claim : Claim) → IsSeenAs seen h → IsSeenAs seen g → 1 ≤ n → n ≤ filter_count
+    → Pass n since claim h → Pass n since claim g
+pass_alike seen h g n since claim one other some few pass =
+    Pass-found n since claim g some (omega (arith, same_furthest seen h g since claim one other, Pass-only n since claim h few pass))
+
+first_alike : (seen : Seen) (h g : List Item) (n : ℕ) (claim : Claim) → IsSeenAs seen h → IsSeenAs seen g → IsFirstFailed n claim h → IsFirstFailed n claim g
+first_alike seen h g n claim one other first = record {
+  is_filter = first.is_filter;
+  leaves_nobody = λ pass. first.leaves_nobody (pass_alike seen g h n anywhere claim other one first.is_filter.0 first.is_filter.1 pass);
+  earlier = λ k some below. pass_alike seen h g k anywhere claim one other some (omega (arith, first.is_filter.1)) (first.earlier k some below);
+}
+
+-- what the window of the exchange holds of its target
+same_window : (seen : Seen) (h g : List Item) (e : ℕ) (exchange : Exchange) → IsSeenAs seen h → IsSeenAs seen g → exchange_of e h ≡ Some exchange
+    → exchange_of e g ≡ Some exchange → responses_since exchange.target exchange.position h ≡ responses_since exchange.target exchange.position g
+same_window seen h g e exchange one other open_there open_here =
+    sym (ap (λ (o : Option Exchange). window_responses_of o h) open_there)
+    ∙ sym (one.window e)
+    ∙ other.window e
+    ∙ ap (λ (o : Option Exchange). window_responses_of o g) open_here
+
+same_forwarded : (claim : Claim) (h g : List Item) → responses_since claim.target claim.since h ≡ responses_since claim.target claim.since g
+    → is_forwarded claim h ≡ is_forwarded claim g
+same_forwarded claim h g same =
+    carried claim h
+    ∙ ap (list_any (λ one. carries claim one.method one.status one.body)) same
+    ∙ sym (carried claim g)
+
+found_alike : (seen : Seen) (h g : List Item) (mark : Mark) (claim : Claim) (found : Finding) → IsSeenAs seen h → IsSeenAs seen g
+    → is_forwarded claim h ≡ is_forwarded claim g → IsFoundBy mark claim h found → IsFoundBy mark claim g found
+found_alike seen h g (Hit ttl) claim Right one other window is = pass_alike seen h g filter_count anywhere claim one other (omega arith) (omega arith) is
+found_alike seen h g (Hit ttl) claim (Wrong why) one other window is = first_alike seen h g _ claim one other is
+found_alike seen h g Forwarded claim Right one other window is = elim is [
+  | inl carries_it ↦ inl (sym window ∙ carries_it)
+  | inr pass ↦ inr (pass_alike seen h g forwarded_count anywhere claim one other (omega arith) (omega arith) pass)
+]
+found_alike seen h g Forwarded claim (Wrong why) one other window is = (
+  is.0,
+  (sym window ∙ is.1.0, λ pass. is.1.1 (pass_alike seen g h forwarded_count anywhere claim other one (omega arith) (omega arith) pass)),
+)
+found_alike seen h g Both claim found one other window is = both claim found is
+  where
+    both : (claim : Claim) (found : Finding) → IsFoundBy Both claim h found → IsFoundBy Both claim g found
+    both claim Right is = is
+    both claim (Wrong why) is = is
+found_alike seen h g Unmarked claim found one other window is = unmarked claim found is
+  where
+    unmarked : (claim : Claim) (found : Finding) → IsFoundBy Unmarked claim h found → IsFoundBy Unmarked claim g found
+    unmarked claim Right is = is
+    unmarked claim (Wrong why) is = is
+
+finding_alike : (seen : Seen) (h g : List Item) (settings : Settings) (e moment : ℕ) (reply : Message ResponseHead) (found : Finding) (o : Option Exchange)
+    → IsSeenAs seen h → IsSeenAs seen g → exchange_of e h ≡ o → exchange_of e g ≡ o
+    → IsFinding settings o moment reply h found → IsFinding settings o moment reply g found
+finding_alike seen h g settings e moment reply found None one other there here is = tt
+finding_alike seen h g settings e moment reply found (Some exchange) one other there here is =
+    let claim = claim_of settings exchange moment reply in
+    let forwarded = same_forwarded (claim h) h g (same_window seen h g e exchange one other there here) in
+    subst (λ (c : Claim). IsFoundBy (reply_mark reply) c g found) (same_claim seen h g settings exchange moment reply one other)
+    (found_alike seen h g (reply_mark reply) (claim h) found one other forwarded is)
+
+pub seen_is_enough : (seen : Seen) (h g : List Item) (settings : Settings) (e moment : ℕ) (reply : Message ResponseHead) (found : Finding)
+    → IsSeenAs seen h → IsSeenAs seen g
+    → IsFinding settings (exchange_of e h) moment reply h found → IsFinding settings (exchange_of e g) moment reply g found
+seen_is_enough seen h g settings e moment reply found one other is =
+    let same : exchange_of e h ≡ exchange_of e g = sym (one.exchange e) ∙ other.exchange e in
+    subst (λ (o : Option Exchange). IsFinding settings o moment reply g found) same
+    (finding_alike seen h g settings e moment reply found (exchange_of e h) one other refl (sym same) is)
