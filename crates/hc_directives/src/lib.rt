@@ -8,6 +8,3 @@ mod spelling;
 
 pub use cache_control::{Directives, Seconds};
 pub use laws::{written_directive_read_back, written_token_read_back};
-
-#[cfg(test)]
-mod tests;

@@ -16,6 +16,3 @@ pub use members::{Members, joined_lines_have_the_members};
 pub use numbers::{decimal, number};
 pub use octets::Octets;
 pub use tokens::is_token;
-
-#[cfg(test)]
-mod tests;

@@ -124,11 +124,13 @@ fn text_whole<H: ShownHead>(
     octets: &[u8],
     kind: Kind,
 ) -> Result<String, AllocError> {
-    let whole = H::whole(alloc, octets, kind).map(|message| Found {
-        message,
-        octets: octets.len(),
-    });
-    text_of(alloc, whole)
+    match H::whole(alloc, octets, kind) {
+        Ok(message) => {
+            let octets = octets.len();
+            text_of(alloc, Ok(Found { message, octets }))
+        }
+        Err(fault) => text_of::<H>(alloc, Err(fault)),
+    }
 }
 
 fn text_of<H: ShownHead>(

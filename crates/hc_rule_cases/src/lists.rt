@@ -20,7 +20,7 @@ pub fn answer(
     };
     match question {
         OfLists::List => list(text, out),
-        OfLists::Number => numeral(number(text).map(u64::from), out),
+        OfLists::Number => numeral(number(text).map(|seconds| u64::from(seconds)), out),
         OfLists::Decimal => numeral(decimal(text), out),
         OfLists::Token => Ok(yes_or_no(is_token(text), out)?),
         OfLists::Among => among(alloc, text, others, out),
