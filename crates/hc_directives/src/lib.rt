@@ -10,6 +10,3 @@ mod spelling;
 pub use cache_control::{Directives, Seconds};
 pub use known::KnownDirectives;
 pub use laws::{written_directive_read_back, written_token_read_back};
-
-#[cfg(test)]
-mod tests;

@@ -18,6 +18,3 @@ pub use numbers::{decimal, number};
 pub use octets::Octets;
 pub use shared::SharedOctets;
 pub use tokens::is_token;
-
-#[cfg(test)]
-mod tests;

@@ -155,6 +155,3 @@ impl ChunkLineReader {
         Ok(None)
     }
 }
-
-#[cfg(test)]
-mod tests;

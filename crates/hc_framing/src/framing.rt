@@ -152,6 +152,3 @@ pub(crate) fn response_framing(
     }
     framing_by(Framing::UntilClose, version, fields)
 }
-
-#[cfg(test)]
-mod tests;

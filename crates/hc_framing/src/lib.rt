@@ -23,8 +23,3 @@ pub use progress::Progress;
 pub use reader::MessageReader;
 pub use whole::{one_request, one_response, one_whole_response, whole_request, whole_response};
 pub use writing::{write_message, written_request_read_back, written_response_read_back};
-
-#[cfg(test)]
-mod tests;
-#[cfg(test)]
-mod writing_tests;

@@ -15,6 +15,3 @@ pub use laws::{
     stale_response_stays_stale, written_date_read_back,
 };
 pub use lifetimes::{explicit, lifetime, stale_forbidden};
-
-#[cfg(test)]
-mod tests;

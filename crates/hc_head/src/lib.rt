@@ -27,10 +27,3 @@ pub use writable::{
     request_text_read_back, response_text_read_back, writable_request, writable_response,
 };
 pub use writing::{write_request, write_response};
-
-#[cfg(test)]
-mod target_tests;
-#[cfg(test)]
-mod tests;
-#[cfg(test)]
-mod writing_tests;

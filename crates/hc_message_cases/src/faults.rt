@@ -44,17 +44,17 @@ pub fn all(about: &[Vec<u8>], out: &mut String) -> Result<(), Unanswered> {
 }
 
 fn of_heads(out: &mut String) -> Result<(), AllocError> {
-    for fault in head_faults() {
-        head_fault(fault, out)?;
-        out.push_str("; ")?;
+    for (index, fault) in head_faults().iter().enumerate() {
+        out.push_str(if index == 0 { "" } else { "; " })?;
+        head_fault(*fault, out)?;
     }
     Ok(())
 }
 
 fn of_messages(out: &mut String) -> Result<(), AllocError> {
-    for fault in frame_faults() {
-        frame_fault(fault, out)?;
-        out.push_str("; ")?;
+    for (index, fault) in frame_faults().iter().enumerate() {
+        out.push_str(if index == 0 { "" } else { "; " })?;
+        frame_fault(*fault, out)?;
     }
     Ok(())
 }

@@ -124,11 +124,13 @@ fn text_whole<H: ShownHead>(
     octets: &[u8],
     kind: Kind,
 ) -> Result<String, AllocError> {
-    let whole = H::whole(alloc, octets, kind).map(|message| Found {
-        message,
-        octets: octets.len(),
-    });
-    text_of(alloc, whole)
+    match H::whole(alloc, octets, kind) {
+        Ok(message) => {
+            let octets = octets.len();
+            text_of(alloc, Ok(Found { message, octets }))
+        }
+        Err(fault) => text_of::<H>(alloc, Err(fault)),
+    }
 }
 
 fn text_of<H: ShownHead>(
@@ -276,28 +278,30 @@ pub fn after_a_fault(alloc: Global, about: &[Vec<u8>], out: &mut String) -> Resu
         return Err(Unanswered::Unknown);
     };
     let mut reader = MessageReader::<RequestHead>::new(alloc, Kind::Request, Room::RECEIVED);
-    out.push_str(if reader.head().is_some() {
-        "head; "
-    } else {
-        "no head; "
-    })?;
+    out.push_str(has_head(&reader))?;
     answered(reader.feed(first.as_slice()), out)?;
-    out.push_str(if reader.head().is_some() {
-        "head; "
-    } else {
-        "no head; "
-    })?;
+    out.push_str(has_head(&reader))?;
     answered(reader.feed(second.as_slice()), out)?;
-    Ok(answered(reader.end(), out)?)
+    out.push_str("end: ")?;
+    answered(reader.end(), out)?;
+    Ok(out.push_str("no more")?)
+}
+
+fn has_head(reader: &MessageReader<RequestHead>) -> &'static str {
+    if reader.head().is_some() {
+        "with a head: "
+    } else {
+        "without a head: "
+    }
 }
 
 fn answered(answer: Result<Progress, FrameFault>, out: &mut String) -> Result<(), AllocError> {
     match answer {
-        Ok(Progress::More) => out.push_str("more; "),
-        Ok(Progress::Whole(_)) => out.push_str("whole; "),
+        Ok(Progress::More) => out.push_str("more, "),
+        Ok(Progress::Whole(_)) => out.push_str("whole, "),
         Err(fault) => {
             frame_fault(fault, out)?;
-            out.push_str("; ")
+            out.push_str(", ")
         }
     }
 }

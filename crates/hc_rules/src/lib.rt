@@ -20,10 +20,3 @@ pub use selecting::selects;
 pub use storing::{asks_for_storable, may_store};
 pub use tags::{last_modified, tag, validator};
 pub use validators::Validator;
-
-#[cfg(test)]
-mod selecting_tests;
-#[cfg(test)]
-mod tests;
-#[cfg(test)]
-mod validating_tests;

@@ -22,6 +22,3 @@ pub use laws::{member_read_back, one_list};
 pub use marking::{mark, read_list};
 pub use marks::Mark;
 pub use writing::write_member;
-
-#[cfg(test)]
-mod tests;

@@ -13,10 +13,3 @@ pub use laws::{
     without_validator_never_identified,
 };
 pub use stored::{Stored, initial, invalidates};
-
-#[cfg(test)]
-mod fixtures;
-#[cfg(test)]
-mod identifying_tests;
-#[cfg(test)]
-mod tests;

@@ -1,0 +1,98 @@
+//! Dates, ages and lifetimes.
+
+use crate::describing::{lines, yes_or_no};
+use crate::parts::{moment, number, seconds};
+use crate::questions::OfFreshness;
+use hc_cases::{Unanswered, fields_of_block, show};
+use hc_fresh::{
+    Times, age_value, current_age, date_stated, date_text, dated, explicit, fresh, lifetime,
+    read_date, stale_forbidden, staleness,
+};
+use std::alloc::{AllocError, Global};
+use std::fmt::Write;
+
+/// Answers a question of dates, ages or lifetimes.
+pub fn answer(
+    alloc: Global,
+    question: OfFreshness,
+    about: &[Vec<u8>],
+    out: &mut String,
+) -> Result<(), Unanswered> {
+    match (question, about) {
+        (OfFreshness::Date, [text]) => Ok(date(text, out)?),
+        (OfFreshness::Lifetime, [date, block]) => lasting(alloc, date, block, out),
+        (OfFreshness::AgeValue, [block]) => aged(alloc, block, out),
+        (OfFreshness::Age, [date, age, request, response, now]) => {
+            let times = times(date, age, request, response)?;
+            let age = current_age(times, number(now)?);
+            Ok(write!(out, "{age}")?)
+        }
+        (OfFreshness::Fresh, [lifetime, age]) => {
+            Ok(compared(seconds(lifetime)?, seconds(age)?, out)?)
+        }
+        (OfFreshness::Dated, [now, block]) => with_date(alloc, now, block, out),
+        _ => Err(Unanswered::Unknown),
+    }
+}
+
+// Writes the moment that a text is, and the date of that moment.
+fn date(text: &[u8], out: &mut String) -> Result<(), AllocError> {
+    let Some(found) = read_date(text) else {
+        return out.push_str("none");
+    };
+    write!(out, "{found}")?;
+    if found >= 253_402_300_800 {
+        return Ok(());
+    }
+    out.push_str(", ")?;
+    show(&date_text(found), out)
+}
+
+fn lasting(alloc: Global, date: &[u8], block: &[u8], out: &mut String) -> Result<(), Unanswered> {
+    let fields = fields_of_block(alloc, block)?;
+    let count = lifetime(&fields, number(date)?);
+    write!(out, "{count}; stated: ")?;
+    yes_or_no(explicit(&fields), out)?;
+    out.push_str("; never stale: ")?;
+    Ok(yes_or_no(stale_forbidden(&fields), out)?)
+}
+
+fn aged(alloc: Global, block: &[u8], out: &mut String) -> Result<(), Unanswered> {
+    let fields = fields_of_block(alloc, block)?;
+    let count = age_value(&fields);
+    Ok(write!(out, "{count}")?)
+}
+
+fn times(date: &[u8], age: &[u8], request: &[u8], response: &[u8]) -> Result<Times, Unanswered> {
+    Ok(Times {
+        date: number(date)?,
+        age_value: seconds(age)?,
+        request_time: number(request)?,
+        response_time: number(response)?,
+    })
+}
+
+fn compared(lifetime: u32, age: u32, out: &mut String) -> Result<(), AllocError> {
+    yes_or_no(fresh(lifetime, age), out)?;
+    let count = staleness(lifetime, age);
+    write!(out, ", stale by {count}")
+}
+
+// Writes the date that the fields state, and the fields with exactly one date.
+fn with_date(alloc: Global, now: &[u8], block: &[u8], out: &mut String) -> Result<(), Unanswered> {
+    let now = moment(now)?;
+    let fields = fields_of_block(alloc, block)?;
+    stated(date_stated(&fields), out)?;
+    let fields = dated(fields, now)?;
+    out.push_str("; ")?;
+    stated(date_stated(&fields), out)?;
+    out.push_str("; ")?;
+    Ok(lines(&fields, out)?)
+}
+
+fn stated(date: Option<u64>, out: &mut String) -> Result<(), AllocError> {
+    match date {
+        Some(date) => write!(out, "{date}"),
+        None => out.push_str("none"),
+    }
+}

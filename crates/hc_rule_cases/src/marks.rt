@@ -1,0 +1,199 @@
+//! Cache-Status, as a list of structured items and as a mark.
+
+use crate::describing::optional;
+use crate::questions::OfMarks;
+use hc_cases::{Unanswered, show_short};
+use hc_fields::{Field, Fields, Octets, decimal};
+use hc_status::{
+    Bare, CacheStatus, Handling, Mark, MarkFault, Member, Parameters, SfFault, mark, read_list,
+    write_member,
+};
+use std::alloc::{AllocError, Global};
+use std::fmt::Write;
+
+/// Answers a question of Cache-Status.
+pub fn answer(
+    alloc: Global,
+    question: OfMarks,
+    about: &[Vec<u8>],
+    out: &mut String,
+) -> Result<(), Unanswered> {
+    match question {
+        OfMarks::Faults => Ok(faults(out)?),
+        OfMarks::Structured => structured(alloc, about, out),
+        OfMarks::Parameter => parameter(alloc, about, out),
+        OfMarks::Mark => marked(alloc, &among_others(alloc, about)?, out),
+        OfMarks::Hit => hit(alloc, about, out),
+        OfMarks::Forward => forward(alloc, about, out),
+    }
+}
+
+// Lines of Cache-Status, with another field before them and one behind them.
+fn among_others(alloc: Global, values: &[Vec<u8>]) -> Result<Fields, AllocError> {
+    let mut fields = Fields::new(alloc);
+    fields.push(field(alloc, b"age", b"0")?)?;
+    for value in values {
+        fields.push(field(alloc, b"cache-status", value)?)?;
+    }
+    fields.push(field(alloc, b"vary", b"(")?)?;
+    Ok(fields)
+}
+
+fn field(alloc: Global, name: &[u8], value: &[u8]) -> Result<Field, AllocError> {
+    Ok(Field {
+        name: Octets::from_slice(alloc, name)?,
+        value: Octets::from_slice(alloc, value)?,
+    })
+}
+
+// Writes all faults by their numbers and names.
+fn faults(out: &mut String) -> Result<(), AllocError> {
+    for fault in [
+        SfFault::Syntax,
+        SfFault::InnerList,
+        SfFault::from(AllocError),
+    ] {
+        list_fault(fault, out)?;
+        out.push_str("; ")?;
+    }
+    let fault = MarkFault::from(AllocError);
+    let number = fault.number();
+    let name = fault.name();
+    write!(out, "mark {number} {name}; {}; {fault}", SfFault::InnerList)
+}
+
+fn list_fault(fault: SfFault, out: &mut String) -> Result<(), AllocError> {
+    let number = fault.number();
+    let name = fault.name();
+    write!(out, "fault {number} {name}")
+}
+
+// Writes the members that the lines are, each with a stroke behind it.
+fn structured(alloc: Global, about: &[Vec<u8>], out: &mut String) -> Result<(), Unanswered> {
+    let fields = among_others(alloc, about)?;
+    match read_list(alloc, &fields) {
+        Ok(members) => Ok(shown(members.as_slice(), out)?),
+        Err(fault) => Ok(list_fault(fault, out)?),
+    }
+}
+
+fn shown(members: &[Member], out: &mut String) -> Result<(), AllocError> {
+    for member in members {
+        shown_item(&member.item, out)?;
+        shown_parameters(&member.params, out)?;
+        out.push_str("/")?;
+    }
+    Ok(())
+}
+
+fn shown_parameters(parameters: &Parameters, out: &mut String) -> Result<(), AllocError> {
+    for parameter in parameters.as_slice() {
+        out.push_str(";")?;
+        show_short(parameter.key.as_slice(), out)?;
+        out.push_str("=")?;
+        shown_item(&parameter.value, out)?;
+    }
+    Ok(())
+}
+
+// Writes an item behind a letter that tells its type, unless that is a number or a Boolean.
+fn shown_item(item: &Bare, out: &mut String) -> Result<(), AllocError> {
+    let (letter, octets) = match item {
+        Bare::Integer(number) => return write!(out, "{number}"),
+        Bare::Bool(false) => return out.push_str("?0"),
+        Bare::Bool(true) => return out.push_str("?1"),
+        Bare::Decimal(octets) => ("d", octets),
+        Bare::Str(octets) => ("s", octets),
+        Bare::Token(octets) => ("t", octets),
+        Bare::Bytes(octets) => ("b", octets),
+    };
+    out.push_str(letter)?;
+    show_short(octets.as_slice(), out)
+}
+
+// Writes the parameter of a key, and how many the first member has.
+fn parameter(alloc: Global, about: &[Vec<u8>], out: &mut String) -> Result<(), Unanswered> {
+    let Some((key, values)) = about.split_first() else {
+        return Err(Unanswered::Unknown);
+    };
+    let Ok(members) = read_list(alloc, &among_others(alloc, values)?) else {
+        return Err(Unanswered::Unknown);
+    };
+    let Some(member) = members.as_slice().first() else {
+        return Err(Unanswered::Unknown);
+    };
+    match member.params.get(key) {
+        Some(value) => shown_item(value, out)?,
+        None => out.push_str("none")?,
+    }
+    let count = member.params.as_slice().len();
+    Ok(write!(out, " of {count}")?)
+}
+
+// Writes the mark of fields.
+fn marked(alloc: Global, fields: &Fields, out: &mut String) -> Result<(), Unanswered> {
+    match mark(alloc, fields) {
+        Ok(Mark::Hit { ttl: Some(ttl) }) => Ok(write!(out, "hit with ttl {ttl}")?),
+        Ok(Mark::Hit { ttl: None }) => Ok(out.push_str("hit")?),
+        Ok(Mark::Forwarded) => Ok(out.push_str("forwarded")?),
+        Ok(Mark::Both) => Ok(out.push_str("both")?),
+        Ok(Mark::Unmarked) => Ok(out.push_str("unmarked")?),
+        Err(_) => Err(Unanswered::Memory),
+    }
+}
+
+// Writes the member of a hit: NAME, the SIGN of the seconds that are left, and their number.
+fn hit(alloc: Global, about: &[Vec<u8>], out: &mut String) -> Result<(), Unanswered> {
+    let (name, ttl) = match about {
+        [name] => (name, None),
+        [name, sign, count] => (name, Some(signed(sign, count)?)),
+        _ => return Err(Unanswered::Unknown),
+    };
+    member(alloc, name, Handling::Hit { ttl }, out)
+}
+
+fn signed(sign: &[u8], count: &[u8]) -> Result<i64, Unanswered> {
+    match decimal(count) {
+        Some(count) if count < 1_000_000 => {
+            let count = count as i64;
+            Ok(if sign == b"-".as_slice() {
+                -count
+            } else {
+                count
+            })
+        }
+        _ => Err(Unanswered::Unknown),
+    }
+}
+
+// Writes the member of a reply that was forwarded: NAME, WORD, a STATUS or `none`, and `stored` where
+// the response was.
+fn forward(alloc: Global, about: &[Vec<u8>], out: &mut String) -> Result<(), Unanswered> {
+    let [name, word, status, others @ ..] = about else {
+        return Err(Unanswered::Unknown);
+    };
+    let handling = Handling::Fwd {
+        word: Octets::from_slice(alloc, word)?,
+        fwd_status: decimal(status).and_then(|status| u16::try_from(status).ok()),
+        stored: !others.is_empty(),
+    };
+    member(alloc, name, handling, out)
+}
+
+// Writes the text of a member, and its mark where its line is the only one.
+fn member(
+    alloc: Global,
+    name: &[u8],
+    handling: Handling,
+    out: &mut String,
+) -> Result<(), Unanswered> {
+    let status = CacheStatus {
+        name: Octets::from_slice(alloc, name)?,
+        handling,
+    };
+    let text = write_member(alloc, &status)?;
+    optional(Some(text.as_slice()), out)?;
+    out.push_str(" ")?;
+    let value = text.as_slice().to_vec(alloc)?;
+    marked(alloc, &among_others(alloc, &[value])?, out)
+}

@@ -1,0 +1,104 @@
+//! Stored responses, made of texts. Each line of fields ends in CR LF.
+ghost use Rattle.std.specs.Prelude.{◌<◌};
+
+use crate::describing::lines;
+use hc_cases::{Unanswered, show};
+use hc_fields::Octets;
+use hc_framing::{FrameFault, whole_request, whole_response};
+use hc_fresh::Times;
+use hc_head::{RequestHead, ResponseHead};
+use hc_update::{Stored, initial};
+use std::alloc::{AllocError, Global};
+use std::fmt::Write;
+
+// The texts one behind the other.
+fn joined(alloc: Global, texts: &[&[u8]]) -> Result<Octets, AllocError> {
+    let mut joined = Octets::new(alloc);
+    for text in texts {
+        joined.extend_from_slice(text)?;
+    }
+    Ok(joined)
+}
+
+fn unread(fault: FrameFault) -> Unanswered {
+    match fault {
+        FrameFault::Memory => Unanswered::Memory,
+        _ => Unanswered::Unknown,
+    }
+}
+
+/// The head of a request for `/a` with those lines.
+pub fn request(alloc: Global, method: &[u8], lines: &[u8]) -> Result<RequestHead, Unanswered> {
+    let start = b" /a HTTP/1.1\r\nhost: h\r\n".as_slice();
+    let octets = joined(alloc, &[method, start, lines, b"\r\n"])?;
+    match whole_request(alloc, octets.as_slice()) {
+        Ok(message) => Ok(message.head),
+        Err(fault) => Err(unread(fault)),
+    }
+}
+
+/// The head of a response with that status and those lines.
+pub fn response(alloc: Global, status: &[u8], lines: &[u8]) -> Result<ResponseHead, Unanswered> {
+    let octets = joined(alloc, &[b"HTTP/1.1 ", status, b" \r\n", lines, b"\r\n"])?;
+    match whole_response(alloc, octets.as_slice(), false) {
+        Ok(message) => Ok(message.head),
+        Err(fault) => Err(unread(fault)),
+    }
+}
+
+/// What is stored of a response, which came at that moment, to a GET with those lines, which was sent
+/// at that moment.
+pub fn stored_of(
+    alloc: Global,
+    asked: &[u8],
+    request_time: u64,
+    octets: &[u8],
+    response_time: u64,
+) -> Result<Stored, Unanswered>
+    requires { response_time < 253_402_300_800 }
+{
+    let forward = request(alloc, b"GET", asked)?;
+    match whole_response(alloc, octets, false) {
+        Ok(response) => Ok(initial(alloc, forward, request_time, response, response_time)?),
+        Err(fault) => Err(unread(fault)),
+    }
+}
+
+/// The same of a response of status 200 with those lines and the body `hello`, both at the moment 1000.
+pub fn hello(alloc: Global, asked: &[u8], lines: &[u8]) -> Result<Stored, Unanswered> {
+    let end = b"content-length: 5\r\n\r\nhello".as_slice();
+    let octets = joined(alloc, &[b"HTTP/1.1 200 OK\r\n", lines, end])?;
+    stored_of(alloc, asked, 1000, octets.as_slice(), 1000)
+}
+
+/// Writes a stored response.
+pub fn described(state: &Stored, out: &mut String) -> Result<(), AllocError> {
+    show(state.request.method.as_slice(), out)?;
+    out.push_str(" ")?;
+    show(state.request.target.as_slice(), out)?;
+    out.push_str(" ")?;
+    lines(&state.request.fields, out)?;
+    let status = state.status;
+    write!(out, "; {status} ")?;
+    lines(&state.fields, out)?;
+    out.push_str("; body ")?;
+    show(state.body.as_slice(), out)?;
+    times(&state.times, out)?;
+    out.push_str(if state.invalid {
+        "; invalid"
+    } else {
+        "; valid"
+    })?;
+    match state.validated_at {
+        Some(position) => write!(out, "; validated at {position}"),
+        None => Ok(()),
+    }
+}
+
+fn times(times: &Times, out: &mut String) -> Result<(), AllocError> {
+    let date = times.date;
+    let age = times.age_value;
+    let request = times.request_time;
+    let response = times.response_time;
+    write!(out, "; date {date}, age {age}, times {request} {response}")
+}
