@@ -1,8 +1,10 @@
 -- How far a reply gets tells the first filter that leaves nobody.
-use Rattle.std.proofs.Common.{◌≡◌, ℕ, zero, suc, ◌+◌, ◌≤◌, ◌<◌, Bool, true, false, List, [], ◌∷◌, length, take, Option, Some, None, refl, ap, subst, arith, max, ◌⊎◌, inl, inr}
+use Rattle.std.proofs.Common.{◌≡◌, ℕ, zero, suc, ◌+◌, ◌≤◌, ◌<◌, Bool, true, false, List, [], ◌∷◌, length, take, Option, Some, None, refl, sym, ap, subst, ◌∙◌, arith, max, ◌⊎◌, inl, inr}
 use Rattle.std.specs.List.{list_all}
 use Rattle.std.proofs.lemmas.Bool.{cases_lt}
 use Rattle.hc_transcript.specs.Items.{Item}
+use Rattle.hc_history.specs.declared.reasons.Reason.{Reason}
+use Rattle.hc_history.specs.Names.{reason_number}
 use Rattle.hc_history.specs.Claims.{Claim}
 use Rattle.hc_history.specs.declared.kept.Kept.{Kept}
 use Rattle.hc_history.specs.States.{state_at}
@@ -90,3 +92,13 @@ take_all (false ∷ tests) (suc n) (suc m) le all = all
 pub Pass-fewer : (n m : ℕ) (claim : Claim) (h : List Item) → n ≤ m → Pass m claim h → Pass n claim h
 Pass-fewer n m claim h le p =
     record { position = p.position; kept = p.kept; is_its_state = p.is_its_state; holds = take_all (filters claim p.kept) n m le p.holds }
+
+-- the reason of the filter behind as many as the furthest response passes
+pub failed_for : (claim : Claim) (h : List Item) (n : ℕ) (why : Reason) → n ≡ furthest claim h → reason_number why ≡ n + 1 → n + 1 ≤ filter_count
+    → IsFirstFailed (reason_number why) claim h
+failed_for claim h n why n-is why-is few =
+    subst (λ (k : ℕ). IsFirstFailed k claim h) (ap (λ (m : ℕ). m + 1) (sym n-is) ∙ sym why-is) (first_failed claim h (omega (arith, n-is, few)))
+
+-- so many filters are passed by one response
+pub passes : (claim : Claim) (h : List Item) (n k : ℕ) → n ≡ furthest claim h → 1 ≤ k → k ≤ n → Pass k claim h
+passes claim h n k n-is one few = Pass-found k claim h one (omega (arith, n-is, few))

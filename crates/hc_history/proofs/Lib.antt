@@ -8,8 +8,4 @@ pub mod ForgetLemmas
 pub mod LiveLemmas
 pub mod NoteLemmas
 pub mod VerdictLemmas
-pub mod PastLemmas
-pub mod ReadingLemmas
-pub mod CountLemmas
-pub mod JudgingLemmas
 pub mod ComparedLemmas

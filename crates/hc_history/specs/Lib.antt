@@ -13,6 +13,3 @@ pub mod Verdicts
 pub mod Seen
 pub mod Noting
 pub mod Furthest
-pub mod Past
-pub mod Reading
-pub mod Judging

@@ -39,6 +39,11 @@ IsWrongBy Forwarded claim h why = (why ≡ reason.NotForwarded) × ((is_forwarde
 IsWrongBy Both claim h why = why ≡ reason.BothMarks
 IsWrongBy Unmarked claim h why = (why ≡ reason.Unmarked) × (allows_unmarked claim.settings.unmarked claim.reply.head.status ≡ false)
 
+-- what is found of a reply with that mark
+abbrev pub IsFoundBy : Mark → Claim → List Item → Finding → Type 0
+IsFoundBy mark claim h finding.Right = IsRightBy mark claim h
+IsFoundBy mark claim h (finding.Wrong why) = IsWrongBy mark claim h why
+
 -- the same of a reply to the exchange that it answers
 abbrev pub IsRightTo : Settings → Option Exchange → ℕ → Message ResponseHead → List Item → Type 0
 IsRightTo settings None moment reply h = ⊥

@@ -1,26 +1,35 @@
 //! What a reply claims, in borrows.
 
 ghost use Rattle.std.specs.Prelude.{◌≡◌};
-ghost use Rattle.hc_history.specs.Claims.{asks_head};
+ghost use Rattle.hc_history.specs.Claims.{asks_head, ttl_of};
 
 use crate::settings::Settings;
 use hc_framing::Message;
 use hc_head::{RequestHead, ResponseHead, Target};
+use hc_status::Mark;
 use std::marker::Model;
 
 /// What a reply says of itself, and what it is held against. Contracts see it as a `Claim`.
 #[derive(Debug, Drop)]
-pub(crate) struct ReplyClaim<'a> {
-    pub(crate) request: &'a RequestHead,
-    pub(crate) target: &'a Target,
-    /// The position of the request.
-    pub(crate) since: u64,
-    pub(crate) reply: &'a Message<ResponseHead>,
-    pub(crate) moment: u64,
-    pub(crate) ttl: Option<i64>,
-    pub(crate) has_error: bool,
-    pub(crate) has_failure: bool,
-    pub(crate) settings: &'a Settings,
+pub struct ReplyClaim<'a> {
+    /// The request that it answers.
+    pub request: &'a RequestHead,
+    /// The target of the request.
+    pub target: &'a Target,
+    /// The position of the request, after which the window begins.
+    pub since: u64,
+    /// The reply.
+    pub reply: &'a Message<ResponseHead>,
+    /// The moment of the reply.
+    pub moment: u64,
+    /// The seconds for which it says that it is fresh still, negative where it is stale.
+    pub ttl: Option<i64>,
+    /// Whether an error of a forward of the target stands in the window.
+    pub has_error: bool,
+    /// Whether a failure of one does.
+    pub has_failure: bool,
+    /// What the audit is asked to let pass.
+    pub settings: &'a Settings,
 }
 
 impl<'a> Model for ReplyClaim<'a> {
@@ -46,4 +55,16 @@ pub(crate) fn asks_head(claim: &ReplyClaim<'_>) -> bool
     ensures { result ≡ asks_head claim.now }
 {
     claim.request.method.as_slice() == b"HEAD".as_slice()
+}
+
+/// The seconds of a hit.
+pub fn ttl_of(mark: Mark) -> Option<i64>
+    ensures { result ≡ ttl_of mark }
+{
+    match mark {
+        Mark::Hit { ttl } => ttl,
+        Mark::Forwarded => None,
+        Mark::Both => None,
+        Mark::Unmarked => None,
+    }
 }

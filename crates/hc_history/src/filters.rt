@@ -128,7 +128,7 @@ fn has_its_ttl(claim: &ReplyClaim<'_>, state: &Stored) -> bool
 }
 
 /// How many filters a stored response passes, one after another, from the first on.
-pub(crate) fn passed(alloc: Global, claim: &ReplyClaim<'_>, kept: &Kept) -> Result<u32, AllocError>
+pub fn passed(alloc: Global, claim: &ReplyClaim<'_>, kept: &Kept) -> Result<u32, AllocError>
     ensures { IfOk result (λ n. n ≡ passed (filters claim.now kept.now)) }
 {
     let state = &kept.state;

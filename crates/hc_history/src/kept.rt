@@ -16,7 +16,7 @@ pub struct Kept {
 }
 
 /// Whether both are the same host and the same path.
-pub(crate) fn same_target(one: &Target, other: &Target) -> bool
+pub fn same_target(one: &Target, other: &Target) -> bool
     ensures { result ≡ same_target one.now other.now }
 {
     one.host.as_slice() == other.host.as_slice() && one.path.as_slice() == other.path.as_slice()

@@ -39,7 +39,7 @@ pub fn reply_mark(alloc: Global, reply: &Message<ResponseHead>) -> Result<Mark, 
 }
 
 /// The mark of a reply, where the one fault of reading it is that of memory.
-pub(crate) fn mark_of(alloc: Global, reply: &Message<ResponseHead>) -> Result<Mark, AllocError>
+pub fn mark_of(alloc: Global, reply: &Message<ResponseHead>) -> Result<Mark, AllocError>
     ensures { IfOk result (λ mark. mark ≡ reply_mark reply.now) }
 {
     match reply_mark(alloc, reply) {

@@ -1,5 +1,7 @@
 //! Why a reply is wrong.
 
+ghost use Rattle.hc_history.specs.Furthest.{IsReasonBehind};
+
 /// Why a reply is wrong. The first nine are those of the filters that an earlier response has to pass,
 /// of which the first that leaves nobody is told.
 #[derive(Clone, Copy, Debug, PartialEq, Eq)]
@@ -72,5 +74,23 @@ impl Reason {
             Reason::Unmarked => "Unmarked",
             Reason::BothMarks => "BothMarks",
         }
+    }
+}
+
+/// The reason of the filter behind so many.
+pub fn reason_behind(passed: u32) -> Option<Reason>
+    ensures { IsReasonBehind passed result }
+{
+    match passed {
+        0 => Some(Reason::NoResponse),
+        1 => Some(Reason::Vary),
+        2 => Some(Reason::Invalidated),
+        3 => Some(Reason::NoExplicitFreshness),
+        4 => Some(Reason::NotAllowed),
+        5 => Some(Reason::Body),
+        6 => Some(Reason::Fields),
+        7 => Some(Reason::Age),
+        8 => Some(Reason::Ttl),
+        _ => None,
     }
 }

@@ -6,7 +6,7 @@ ghost use Rattle.hc_history.specs.Right.{allows_unmarked};
 use crate::settings::UnmarkedReplies;
 
 /// Whether a reply of that status may be unmarked.
-pub(crate) fn allows_unmarked(unmarked: UnmarkedReplies, status: u16) -> bool
+pub fn allows_unmarked(unmarked: UnmarkedReplies, status: u16) -> bool
     ensures { result ≡ allows_unmarked unmarked status }
 {
     match unmarked {

@@ -18,7 +18,7 @@ pub(crate) fn lifetime_of(state: &Stored) -> u32
 }
 
 /// Its age at the moment of the reply (RFC 9111 section 4.2.3).
-pub(crate) fn age_of(claim: &ReplyClaim<'_>, state: &Stored) -> u32
+pub fn age_of(claim: &ReplyClaim<'_>, state: &Stored) -> u32
     ensures { result ≡ age_of claim.now state.now }
 {
     current_age(state.times, claim.moment)

@@ -1,9 +1,0 @@
-use Rattle.std.proofs.Common.{take}
-use Rattle.hc_history.specs.Past.{history_of}
-use Rattle.hc_history.specs.Right.{AllRight}
-use Rattle.hc_history.specs.Judging.{AllAnswerOpen}
-use Rattle.hc_history.proofs.judging.first_wrong.Given as goal
-
--- the replies so far are right
-abbrev pub invariant-loop-index : goal.invariant-loop-index
-invariant-loop-index l = AllAnswerOpen (history_of l.items) → AllRight l.settings (history_of (take l.index l.items))

@@ -1,0 +1,4 @@
+pub mod PastLemmas
+pub mod ReadingLemmas
+pub mod CountLemmas
+pub mod JudgingLemmas

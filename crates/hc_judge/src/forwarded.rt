@@ -1,0 +1,45 @@
+//! Whether a reply is what the origin answered.
+
+ghost use Rattle.std.specs.Prelude.{◌≡◌};
+ghost use Rattle.hc_transcript.specs.Items.{item_of};
+ghost use Rattle.hc_history.specs.Forwarded.{is_carried, is_forwarded};
+ghost use Rattle.hc_judge.specs.Past.{history_of};
+
+use crate::open::open_forward;
+use crate::past::PastItem;
+use hc_history::{ReplyClaim, carries, same_target};
+use hc_transcript::OwnedItem;
+
+/// Whether the item behind those is a response that the reply carries.
+fn is_carried(claim: &ReplyClaim<'_>, earlier: &[PastItem], past: &PastItem) -> bool
+    ensures { result ≡ is_carried claim.now (history_of earlier.now) (item_of past.now.item) }
+{
+    let OwnedItem::OriginResponse {
+        forward: number,
+        response,
+        ..
+    } = past.item()
+    else {
+        return false;
+    };
+    let Some(forward) = open_forward(earlier, *number) else {
+        return false;
+    };
+    let method = forward.request.head.method.as_slice();
+    let body = response.body.as_slice();
+    same_target(forward.target, claim.target) && carries(claim, method, response.head.status, body)
+}
+
+/// Whether a response that the reply carries stands after its request.
+pub(crate) fn is_forwarded(claim: &ReplyClaim<'_>, items: &[PastItem]) -> bool
+    ensures { result ≡ is_forwarded claim.now (history_of items.now) }
+{
+    let mut items = items;
+    while let Some((last, earlier)) = items.split_last() {
+        if claim.since < items.len() as u64 && is_carried(claim, earlier, last) {
+            return true;
+        }
+        items = earlier;
+    }
+    false
+}

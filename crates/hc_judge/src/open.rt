@@ -1,0 +1,136 @@
+//! What is open behind the items of a transcript.
+
+ghost use Rattle.std.specs.Prelude.{◌≡◌};
+ghost use Rattle.hc_transcript.specs.Items.{item_of};
+ghost use Rattle.hc_transcript.specs.History.{forward_after, forward_of, exchange_after, exchange_of};
+ghost use Rattle.hc_judge.specs.Past.{history_of};
+
+use crate::past::PastItem;
+use hc_framing::Message;
+use hc_head::{RequestHead, Target};
+use hc_transcript::OwnedItem;
+use std::marker::Model;
+
+/// An open exchange.
+#[derive(Debug, Drop)]
+pub(crate) struct OpenExchange<'a> {
+    /// The position of its request.
+    pub(crate) position: u64,
+    pub(crate) request: &'a Message<RequestHead>,
+    pub(crate) target: &'a Target,
+}
+
+impl<'a> Model for OpenExchange<'a> {
+    ghost use Rattle.hc_transcript.specs.Items.{Exchange};
+
+    ghost Value = { Exchange };
+
+    ghost view = { λ e. record { position = e.position; request = e.request.now; target = e.target.now } };
+}
+
+/// An open forward.
+#[derive(Debug, Drop)]
+pub(crate) struct OpenForward<'a> {
+    pub(crate) moment: u64,
+    pub(crate) request: &'a Message<RequestHead>,
+    pub(crate) target: &'a Target,
+}
+
+impl<'a> Model for OpenForward<'a> {
+    ghost use Rattle.hc_transcript.specs.Items.{Forward};
+
+    ghost Value = { Forward };
+
+    ghost view = { λ f. record { moment = f.moment; request = f.request.now; target = f.target.now } };
+}
+
+/// What an item makes of the open forward of a number.
+fn forward_after<'a>(
+    number: u64,
+    item: &'a OwnedItem,
+    before: Option<OpenForward<'a>>,
+) -> Option<OpenForward<'a>>
+    ensures { result ≡ forward_after number (item_of item.now) before.entry }
+{
+    match item {
+        OwnedItem::OriginRequest {
+            forward,
+            moment,
+            request,
+            target,
+        } => {
+            if *forward != number {
+                return before;
+            }
+            Some(OpenForward {
+                moment: *moment,
+                request,
+                target,
+            })
+        }
+        OwnedItem::OriginResponse { forward, .. } => {
+            if *forward == number { None } else { before }
+        }
+        OwnedItem::OriginFailure { forward, .. } => {
+            if *forward == number { None } else { before }
+        }
+        OwnedItem::ClientRequest { .. } => before,
+        OwnedItem::ClientReply { .. } => before,
+    }
+}
+
+/// The open forward of a number.
+pub(crate) fn open_forward<'a>(items: &'a [PastItem], number: u64) -> Option<OpenForward<'a>>
+    ensures { result ≡ forward_of number (history_of items.now) }
+{
+    let mut open = None;
+    for past in items {
+        open = forward_after(number, past.item(), open);
+    }
+    open
+}
+
+/// What the item at a position makes of the open exchange of a number.
+fn exchange_after<'a>(
+    number: u64,
+    position: u64,
+    item: &'a OwnedItem,
+    before: Option<OpenExchange<'a>>,
+) -> Option<OpenExchange<'a>>
+    ensures { result ≡ exchange_after number position (item_of item.now) before.entry }
+{
+    match item {
+        OwnedItem::ClientRequest {
+            exchange,
+            request,
+            target,
+            ..
+        } => {
+            if *exchange != number {
+                return before;
+            }
+            Some(OpenExchange {
+                position,
+                request,
+                target,
+            })
+        }
+        OwnedItem::ClientReply { exchange, .. } => {
+            if *exchange == number { None } else { before }
+        }
+        OwnedItem::OriginRequest { .. } => before,
+        OwnedItem::OriginResponse { .. } => before,
+        OwnedItem::OriginFailure { .. } => before,
+    }
+}
+
+/// The open exchange of a number.
+pub(crate) fn open_exchange<'a>(items: &'a [PastItem], number: u64) -> Option<OpenExchange<'a>>
+    ensures { result ≡ exchange_of number (history_of items.now) }
+{
+    let mut open = None;
+    for (index, past) in items.iter().enumerate() {
+        open = exchange_after(number, index as u64 + 1, past.item(), open);
+    }
+    open
+}

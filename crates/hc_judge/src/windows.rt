@@ -1,0 +1,83 @@
+//! What stands in the window of a reply: among the items after its request.
+
+ghost use Rattle.std.specs.Prelude.{◌≡◌};
+ghost use Rattle.hc_transcript.specs.Items.{item_of};
+ghost use Rattle.hc_judge.specs.Past.{history_of};
+ghost use Rattle.hc_history.specs.Windows.{is_error_status, is_forward_of, is_error, is_failure, some_since};
+
+use crate::open::{OpenForward, open_forward};
+use crate::past::PastItem;
+use hc_head::Target;
+use hc_history::same_target;
+use hc_transcript::OwnedItem;
+
+/// The statuses that say that the origin can't answer now (RFC 5861 section 4).
+const ERRORS: [u16; 4] = [500, 502, 503, 504];
+
+fn is_error_status(status: u16) -> bool
+    ensures { result ≡ is_error_status status }
+{
+    ERRORS.contains(&status)
+}
+
+fn is_forward_of(target: &Target, forward: Option<OpenForward<'_>>) -> bool
+    ensures { result ≡ is_forward_of target.now forward.entry }
+{
+    match forward {
+        Some(forward) => same_target(forward.target, target),
+        None => false,
+    }
+}
+
+/// Whether the item behind those says that the origin can't answer for the target now.
+fn is_error(target: &Target, earlier: &[PastItem], past: &PastItem) -> bool
+    ensures { result ≡ is_error target.now (history_of earlier.now) (item_of past.now.item) }
+{
+    let OwnedItem::OriginResponse {
+        forward,
+        response,
+        ..
+    } = past.item()
+    else {
+        return false;
+    };
+    is_error_status(response.head.status) && is_forward_of(target, open_forward(earlier, *forward))
+}
+
+/// Whether the item behind those is the failure of a forward of the target.
+fn is_failure(target: &Target, earlier: &[PastItem], past: &PastItem) -> bool
+    ensures { result ≡ is_failure target.now (history_of earlier.now) (item_of past.now.item) }
+{
+    let OwnedItem::OriginFailure { forward, .. } = past.item() else {
+        return false;
+    };
+    is_forward_of(target, open_forward(earlier, *forward))
+}
+
+/// Whether an error of a forward of the target stands after that position.
+pub(crate) fn has_error(target: &Target, since: u64, items: &[PastItem]) -> bool
+    ensures { result ≡ some_since (is_error target.now) since (history_of items.now) }
+{
+    let mut items = items;
+    while let Some((last, earlier)) = items.split_last() {
+        if since < items.len() as u64 && is_error(target, earlier, last) {
+            return true;
+        }
+        items = earlier;
+    }
+    false
+}
+
+/// Whether a failure of a forward of the target stands after that position.
+pub(crate) fn has_failure(target: &Target, since: u64, items: &[PastItem]) -> bool
+    ensures { result ≡ some_since (is_failure target.now) since (history_of items.now) }
+{
+    let mut items = items;
+    while let Some((last, earlier)) = items.split_last() {
+        if since < items.len() as u64 && is_failure(target, earlier, last) {
+            return true;
+        }
+        items = earlier;
+    }
+    false
+}
