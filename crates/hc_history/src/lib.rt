@@ -31,6 +31,3 @@ pub use right::allows_unmarked;
 pub use settings::{FieldNames, Settings, UnmarkedReplies};
 pub use usable::age_of;
 pub use verdicts::{Counts, Finding, Verdict};
-
-#[cfg(test)]
-mod tests;

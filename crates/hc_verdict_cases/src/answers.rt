@@ -7,8 +7,6 @@ use crate::settings::{plain, say_ignored, settings_of};
 use crate::tellers::Teller;
 use crate::writing::say_written;
 use hc_cases::{Ask, Unanswered};
-use hc_fields::number;
-use hc_history::Settings;
 use std::alloc::Global;
 
 /// What is asked of transcripts.
@@ -42,29 +40,21 @@ fn answer_of(
     let (octets, parts) = about.split_first().ok_or(Unanswered::Unknown)?;
     match question {
         "mark" => say_mark(alloc, octets.as_slice(), out),
-        "ignored" => say_ignored(alloc, octets.as_slice(), part(parts, 0)?, out),
+        "ignored" => say_ignored(alloc, octets.as_slice(), parts, out),
         "judge" => {
             let settings = settings_of(alloc, parts)?;
             Teller::Judge(&settings).tell(alloc, &[octets.as_slice()], out)
         }
         _ => {
-            let settings = plain(alloc);
             let (who, how) = question.split_once(' ').unwrap_or((question, "whole"));
-            let teller = teller_of(who, &settings).ok_or(Unanswered::Unknown)?;
+            let settings = plain(alloc);
+            let teller = Teller::named(who, &settings).ok_or(Unanswered::Unknown)?;
             tell(alloc, &teller, how, octets.as_slice(), parts, out)
         }
     }
 }
 
-fn teller_of<'a>(who: &str, settings: &'a Settings) -> Option<Teller<'a>> {
-    match who {
-        "judge" => Some(Teller::Judge(settings)),
-        "audit" => Some(Teller::Auditor),
-        "records" => Some(Teller::Reader),
-        _ => None,
-    }
-}
-
+// Writes what is told of the octets, or of parts and changes of them.
 fn tell(
     alloc: Global,
     teller: &Teller<'_>,
@@ -76,40 +66,10 @@ fn tell(
     match how {
         "whole" => teller.tell(alloc, &[octets], out),
         "cuts" => say_cuts(alloc, teller, octets, out),
-        "each" => say_each(alloc, teller, octets, part(parts, 0)?, out),
-        "replaced" => say_replaced(alloc, teller, octets, part(parts, 0)?, part(parts, 1)?, out),
-        "fronts" => say_fronts(
-            alloc,
-            teller,
-            octets,
-            place(parts, 0)?,
-            place(parts, 1)?,
-            out,
-        ),
-        "changed" => {
-            let other = *part(parts, 0)?.first().ok_or(Unanswered::Unknown)?;
-            say_changed(
-                alloc,
-                teller,
-                octets,
-                other,
-                place(parts, 1)?,
-                part(parts, 2)?,
-                out,
-            )
-        }
+        "each" => say_each(alloc, teller, octets, parts, out),
+        "replaced" => say_replaced(alloc, teller, octets, parts, out),
+        "fronts" => say_fronts(alloc, teller, octets, parts, out),
+        "changed" => say_changed(alloc, teller, octets, parts, out),
         _ => Err(Unanswered::Unknown),
     }
-}
-
-// The octets of a part.
-fn part(parts: &[Vec<u8>], index: usize) -> Result<&[u8], Unanswered> {
-    let part = parts.get(index).ok_or(Unanswered::Unknown)?;
-    Ok(part.as_slice())
-}
-
-// The number that a part is.
-fn place(parts: &[Vec<u8>], index: usize) -> Result<usize, Unanswered> {
-    let number = number(part(parts, index)?).ok_or(Unanswered::Unknown)?;
-    Ok(number as usize)
 }

@@ -3,20 +3,24 @@
 use crate::runs::Runs;
 use crate::tellers::Teller;
 use hc_cases::Unanswered;
+use hc_fields::number;
 use std::alloc::{AllocError, Global};
 use std::fmt::Write;
 
-/// Writes what is told of the octets where the first that are the old ones are the new ones.
+/// Writes what is told of the octets where the first that are the old ones are the new ones: the parts
+/// are the old and the new.
 pub fn say_replaced(
     alloc: Global,
     teller: &Teller<'_>,
     octets: &[u8],
-    old: &[u8],
-    new: &[u8],
+    parts: &[Vec<u8>],
     out: &mut String,
 ) -> Result<(), Unanswered> {
-    let (front, behind) = around(octets, old).ok_or(Unanswered::Unknown)?;
-    teller.tell(alloc, &[front, new, behind], out)
+    let [old, new] = parts else {
+        return Err(Unanswered::Unknown);
+    };
+    let (front, behind) = around(octets, old.as_slice()).ok_or(Unanswered::Unknown)?;
+    teller.tell(alloc, &[front, new.as_slice(), behind], out)
 }
 
 // What stands before the first octets that are the old ones, and what stands behind them.
@@ -30,8 +34,23 @@ fn around<'a>(octets: &'a [u8], old: &[u8]) -> Option<(&'a [u8], &'a [u8])> {
     None
 }
 
-/// Writes what is told of the first so many octets, for each number from one to another.
+/// Writes what is told of the first so many octets: the parts are the least and the greatest number.
 pub fn say_fronts(
+    alloc: Global,
+    teller: &Teller<'_>,
+    octets: &[u8],
+    parts: &[Vec<u8>],
+    out: &mut String,
+) -> Result<(), Unanswered> {
+    let [first, last] = parts else {
+        return Err(Unanswered::Unknown);
+    };
+    let first = number_of(first.as_slice())?;
+    let last = number_of(last.as_slice())?;
+    say_fronts_from(alloc, teller, octets, first, last, out)
+}
+
+fn say_fronts_from(
     alloc: Global,
     teller: &Teller<'_>,
     octets: &[u8],
@@ -49,8 +68,24 @@ pub fn say_fronts(
     Ok(())
 }
 
-/// Writes what is told of the octets where each octet of a piece of them is another.
+/// Writes what is told of the octets where each octet of a piece of them is another: the parts are that
+/// octet, the place of the piece, and the piece.
 pub fn say_changed(
+    alloc: Global,
+    teller: &Teller<'_>,
+    octets: &[u8],
+    parts: &[Vec<u8>],
+    out: &mut String,
+) -> Result<(), Unanswered> {
+    let [other, at, piece] = parts else {
+        return Err(Unanswered::Unknown);
+    };
+    let other = other.first().copied().ok_or(Unanswered::Unknown)?;
+    let at = number_of(at.as_slice())?;
+    say_piece_changed(alloc, teller, octets, other, at, piece.as_slice(), out)
+}
+
+fn say_piece_changed(
     alloc: Global,
     teller: &Teller<'_>,
     octets: &[u8],
@@ -85,16 +120,19 @@ fn with_octet(
     Ok(changed)
 }
 
-/// Writes how often something is told of the octets where one of them is one of the others.
+/// Writes how often something is told of the octets where one of them is one of those of the part.
 pub fn say_each(
     alloc: Global,
     teller: &Teller<'_>,
     octets: &[u8],
-    others: &[u8],
+    parts: &[Vec<u8>],
     out: &mut String,
 ) -> Result<(), Unanswered> {
+    let [others] = parts else {
+        return Err(Unanswered::Unknown);
+    };
     let mut count = 0u64;
-    for other in others {
+    for other in others.as_slice() {
         count = count.saturating_add(count_told(alloc, teller, octets, *other)?);
     }
     write!(out, "{count} told")?;
@@ -138,4 +176,10 @@ fn told(alloc: Global, teller: &Teller<'_>, pieces: &[&[u8]]) -> Result<String, 
     let mut answer = String::new(alloc);
     teller.tell(alloc, pieces, &mut answer)?;
     Ok(answer)
+}
+
+// The number that a part is.
+fn number_of(part: &[u8]) -> Result<usize, Unanswered> {
+    let number = number(part).ok_or(Unanswered::Unknown)?;
+    Ok(number as usize)
 }

@@ -52,15 +52,22 @@ pub fn ignored_names(alloc: Global, part: &[u8]) -> Result<FieldNames, Unanswere
     Ok(names)
 }
 
-/// Writes whether a name is among those that are ignored.
+/// Writes whether a name, the part, is among those that are ignored.
 pub fn say_ignored(
     alloc: Global,
-    part: &[u8],
-    name: &[u8],
+    ignored: &[u8],
+    parts: &[Vec<u8>],
     out: &mut String,
 ) -> Result<(), Unanswered> {
-    let names = ignored_names(alloc, part)?;
-    let answer = if names.contains(name) { "yes" } else { "no" };
+    let [name] = parts else {
+        return Err(Unanswered::Unknown);
+    };
+    let names = ignored_names(alloc, ignored)?;
+    let answer = if names.contains(name.as_slice()) {
+        "yes"
+    } else {
+        "no"
+    };
     out.push_str(answer)?;
     Ok(())
 }

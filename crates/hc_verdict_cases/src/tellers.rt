@@ -4,7 +4,8 @@ use crate::records::say_records;
 use crate::verdict_line::say_verdict;
 use hc_audit::{AuditFault, Auditor};
 use hc_cases::Unanswered;
-use hc_history::{Settings, Verdict, judge};
+use hc_history::{Settings, Verdict};
+use hc_judge::judge;
 use std::alloc::{AllocError, Global};
 use std::fmt::Write;
 
@@ -19,7 +20,17 @@ pub enum Teller<'a> {
     Reader,
 }
 
-impl Teller<'_> {
+impl<'a> Teller<'a> {
+    /// The one of that name. The judge lets nothing pass but by the settings.
+    pub fn named(name: &str, settings: &'a Settings) -> Option<Self> {
+        match name {
+            "judge" => Some(Teller::Judge(settings)),
+            "audit" => Some(Teller::Auditor),
+            "records" => Some(Teller::Reader),
+            _ => None,
+        }
+    }
+
     /// Writes what is told of the octets that the pieces make.
     pub fn tell(
         &self,
@@ -58,10 +69,17 @@ fn joined(alloc: Global, pieces: &[&[u8]]) -> Result<Vec<u8>, AllocError> {
 
 fn audit(alloc: Global, pieces: &[&[u8]]) -> Result<Verdict, AuditFault> {
     let mut auditor = Auditor::new(alloc);
+    match feed_all(&mut auditor, pieces) {
+        Ok(()) => auditor.finish(),
+        Err(fault) => Err(fault),
+    }
+}
+
+fn feed_all(auditor: &mut Auditor, pieces: &[&[u8]]) -> Result<(), AuditFault> {
     for piece in pieces {
         auditor.feed(piece)?;
     }
-    auditor.finish()
+    Ok(())
 }
 
 fn say_audited(audited: Result<Verdict, AuditFault>, out: &mut String) -> Result<(), Unanswered> {
