@@ -13,6 +13,3 @@ pub use auditor::Auditor;
 pub use fault::AuditFault;
 pub use hc_history::{Counts, Verdict};
 pub use hc_transcript::RecordFault;
-
-#[cfg(test)]
-mod tests;

@@ -35,6 +35,3 @@ pub use settings::{FieldNames, Settings, UnmarkedReplies};
 pub use usable::age_of;
 pub use verdicts::{Counts, Finding, Verdict};
 pub use windows::is_error_status;
-
-#[cfg(test)]
-mod tests;

@@ -16,20 +16,3 @@ mod windows;
 
 pub use hc_history::{Counts, FieldNames, Reason, Settings, UnmarkedReplies, Verdict};
 pub use judging::judge;
-
-#[cfg(test)]
-mod change_tests;
-#[cfg(test)]
-mod front_tests;
-#[cfg(test)]
-mod judge_tests;
-#[cfg(test)]
-mod reason_tests;
-#[cfg(test)]
-mod reason_transcripts;
-#[cfg(test)]
-mod request_tests;
-#[cfg(test)]
-mod request_transcripts;
-#[cfg(test)]
-mod transcripts;

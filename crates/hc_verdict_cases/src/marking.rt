@@ -1,0 +1,36 @@
+//! Marks of replies.
+
+use hc_cases::Unanswered;
+use hc_framing::{FrameFault, whole_response};
+use hc_history::{Mark, MarkFault, reply_mark};
+use std::alloc::{AllocError, Global};
+use std::fmt::Write;
+
+/// Writes the mark of a response.
+pub fn say_mark(alloc: Global, octets: &[u8], out: &mut String) -> Result<(), Unanswered> {
+    let mark = mark_of(alloc, octets)?;
+    write_mark(mark, out)?;
+    Ok(())
+}
+
+fn mark_of(alloc: Global, octets: &[u8]) -> Result<Mark, Unanswered> {
+    let reply = match whole_response(alloc, octets, false) {
+        Ok(reply) => reply,
+        Err(FrameFault::Memory) => return Err(Unanswered::Memory),
+        Err(_) => return Err(Unanswered::Unknown),
+    };
+    match reply_mark(alloc, &reply) {
+        Ok(mark) => Ok(mark),
+        Err(MarkFault::Memory) => Err(Unanswered::Memory),
+    }
+}
+
+fn write_mark(mark: Mark, out: &mut String) -> Result<(), AllocError> {
+    match mark {
+        Mark::Hit { ttl: None } => out.push_str("hit"),
+        Mark::Hit { ttl: Some(seconds) } => write!(out, "hit ttl={seconds}"),
+        Mark::Forwarded => out.push_str("forwarded"),
+        Mark::Both => out.push_str("both"),
+        Mark::Unmarked => out.push_str("unmarked"),
+    }
+}

@@ -1,0 +1,67 @@
+//! The numbers and names of reasons and faults.
+
+use hc_audit::AuditFault;
+use hc_history::Reason;
+use hc_transcript::RecordFault;
+use std::alloc::AllocError;
+use std::fmt::Write;
+
+/// Writes the reasons why a reply is wrong.
+pub fn say_reasons(out: &mut String) -> Result<(), AllocError> {
+    for reason in [
+        Reason::NoResponse,
+        Reason::Vary,
+        Reason::Invalidated,
+        Reason::NoExplicitFreshness,
+        Reason::NotAllowed,
+        Reason::Body,
+        Reason::Fields,
+        Reason::Age,
+        Reason::Ttl,
+        Reason::NotForwarded,
+        Reason::Unmarked,
+        Reason::BothMarks,
+    ] {
+        say(reason.number(), reason.name(), out)?;
+    }
+    Ok(())
+}
+
+/// Writes the faults of transcripts.
+pub fn say_faults(out: &mut String) -> Result<(), AllocError> {
+    for fault in [
+        RecordFault::Opening,
+        RecordFault::Line,
+        RecordFault::Torn,
+        RecordFault::MomentBack,
+        RecordFault::Number,
+        RecordFault::NothingOpen,
+        RecordFault::Message,
+        RecordFault::TooLong,
+        RecordFault::Memory,
+    ] {
+        say(fault.number(), fault.name(), out)?;
+    }
+    Ok(())
+}
+
+/// Writes why the auditor gives no verdict.
+pub fn say_audit_faults(out: &mut String) -> Result<(), AllocError> {
+    for fault in [
+        AuditFault::Memory,
+        AuditFault::Failed,
+        AuditFault::Unsupported(6),
+    ] {
+        say(fault.number(), fault.name(), out)?;
+        write!(out, ": {fault}")?;
+    }
+    Ok(())
+}
+
+// Writes a number and a name behind those that stand there.
+fn say(number: u32, name: &str, out: &mut String) -> Result<(), AllocError> {
+    if !out.is_empty() {
+        out.push_str(", ")?;
+    }
+    write!(out, "{number} {name}")
+}

@@ -1,0 +1,111 @@
+//! The records of a transcript.
+
+use crate::verdict_line::say_fault;
+use hc_cases::{Unanswered, show_short};
+use hc_framing::Message;
+use hc_head::{ResponseHead, Target};
+use hc_transcript::{OwnedItem, RecordFault, RecordReader};
+use std::alloc::{AllocError, Global};
+use std::fmt::Write;
+
+/// Writes what the records mean that the pieces make, and how they end.
+pub fn say_records(alloc: Global, pieces: &[&[u8]], out: &mut String) -> Result<(), Unanswered> {
+    let mut reader = RecordReader::new(alloc);
+    for piece in pieces {
+        say_piece(&mut reader, piece, out)?;
+    }
+    let ended = reader.finish();
+    say_end(reader.position(), ended, out)
+}
+
+// Writes the records that end in the next piece; no more do than it has octets. A fault is met again at the end.
+fn say_piece(reader: &mut RecordReader, piece: &[u8], out: &mut String) -> Result<(), AllocError> {
+    if reader.feed(piece).is_err() {
+        return Ok(());
+    }
+    for _ in piece {
+        if !say_next(reader, out)? {
+            return Ok(());
+        }
+    }
+    Ok(())
+}
+
+// Writes the next record, and answers whether there was one.
+fn say_next(reader: &mut RecordReader, out: &mut String) -> Result<bool, AllocError> {
+    match reader.advance() {
+        Ok(true) => {
+            say_item(reader.item(), out)?;
+            out.push_str(", ")?;
+            Ok(true)
+        }
+        Ok(false) | Err(_) => Ok(false),
+    }
+}
+
+fn say_end(
+    position: u64,
+    ended: Result<(), RecordFault>,
+    out: &mut String,
+) -> Result<(), Unanswered> {
+    match ended {
+        Ok(()) => write!(out, "end {position}")?,
+        Err(RecordFault::Memory) => return Err(Unanswered::Memory),
+        Err(fault) => say_fault(position, fault, out)?,
+    }
+    Ok(())
+}
+
+fn say_item(item: &OwnedItem, out: &mut String) -> Result<(), AllocError> {
+    match item {
+        OwnedItem::ClientRequest {
+            exchange,
+            moment,
+            target,
+            ..
+        } => say_request('q', *exchange, *moment, target, out),
+        OwnedItem::OriginRequest {
+            forward,
+            moment,
+            target,
+            ..
+        } => say_request('f', *forward, *moment, target, out),
+        OwnedItem::OriginResponse {
+            forward,
+            moment,
+            response,
+        } => say_response('r', *forward, *moment, response, out),
+        OwnedItem::OriginFailure { forward, moment } => write!(out, "x {forward} {moment}"),
+        OwnedItem::ClientReply {
+            exchange,
+            moment,
+            reply,
+        } => say_response('a', *exchange, *moment, reply, out),
+    }
+}
+
+fn say_request(
+    letter: char,
+    number: u64,
+    moment: u64,
+    target: &Target,
+    out: &mut String,
+) -> Result<(), AllocError> {
+    write!(out, "{letter} {number} {moment} ")?;
+    show_short(target.host.as_slice(), out)?;
+    out.push(' ')?;
+    show_short(target.path.as_slice(), out)
+}
+
+fn say_response(
+    letter: char,
+    number: u64,
+    moment: u64,
+    response: &Message<ResponseHead>,
+    out: &mut String,
+) -> Result<(), AllocError> {
+    let status = response.head.status;
+    write!(out, "{letter} {number} {moment} {status} \"")?;
+    show_short(response.body.as_slice(), out)?;
+    out.push('"')
+}
