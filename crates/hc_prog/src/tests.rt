@@ -84,7 +84,7 @@ fn wants<R: Read>(
 ) {
     let mut said = Vec::new(rt.alloc());
     let mut wrong = Vec::new(rt.alloc());
-    assert_eq!(rt; audit(rt.alloc(), input, &mut said, &mut wrong), status);
+    assert_eq!(rt; audit(rt.alloc(), "a.hct", input, &mut said, &mut wrong), status);
     assert_eq!(rt; said.as_slice(), output);
     assert_eq!(rt; wrong.as_slice(), faults);
 }
@@ -123,7 +123,7 @@ fn pieces_change_nothing(rt: HostRuntime) {
 fn a_failed_read_gives_no_verdict(rt: HostRuntime) {
     for bad in [0, 1, 4, 31, 45, 46] {
         let mut reader = in_pieces(ASKED, 1, Some(bad), ErrorKind::Other);
-        wants(&rt, &mut reader, 3, b"", b"error: device\n");
+        wants(&rt, &mut reader, 3, b"", b"error: device\na.hct: other error\n");
         let mut reader = in_pieces(ASKED, 1, Some(bad), ErrorKind::Interrupted);
         wants(&rt, &mut reader, 0, ASKED_LINE, b"");
     }
@@ -135,13 +135,13 @@ fn a_failed_write_is_a_fault(rt: HostRuntime) {
         let mut output = Full { takes_writes };
         let mut faults = Vec::new(rt.alloc());
         let mut input = ASKED;
-        assert_eq!(rt; audit(rt.alloc(), &mut input, &mut output, &mut faults), 3);
-        assert_eq!(rt; faults.as_slice(), b"error: device\n".as_slice());
+        assert_eq!(rt; audit(rt.alloc(), "a.hct", &mut input, &mut output, &mut faults), 3);
+        assert_eq!(rt; faults.as_slice(), b"error: device\nstandard output: no storage space\n".as_slice());
 
         // Where that can't be written either, the status says it alone.
         let mut faults = Full { takes_writes };
         let mut input = ASKED;
-        assert_eq!(rt; audit(rt.alloc(), &mut input, &mut output, &mut faults), 3);
+        assert_eq!(rt; audit(rt.alloc(), "a.hct", &mut input, &mut output, &mut faults), 3);
     }
 }
 
@@ -165,12 +165,12 @@ fn answers(
 }
 
 const HELP: &str = "\
-Audits the transcripts of a cache
+Audits the transcripts of a cache. Its yes is that of a plain test so far
 
 Usage: hcache <COMMAND>
 
 Commands:
-  audit  Says whether each reply in a transcript is right
+  audit  Says whether each hit in a transcript is shown right, by a plain test of reuse
   help   Print this message or the help of the given subcommand(s)
 
 Options:
@@ -179,7 +179,7 @@ Options:
 ";
 
 const AUDIT_HELP: &str = "\
-Says whether each reply in a transcript is right
+Says whether each hit in a transcript is shown right, by a plain test of reuse
 
 Usage: hcache audit <FILE>
 
@@ -265,8 +265,13 @@ fn a_mistake_ends_with_its_own_status(rt: HostRuntime) {
     }
 }
 
+const NO_SUCH_FILE: &str = "\
+error: device
+no/such/file: No such file or directory (os error 2)
+";
+
 #[test]
 fn a_file_that_is_not_there(rt: HostRuntime) {
     let words = ["hcache", "audit", "no/such/file"];
-    answers(&rt, words.as_slice(), 3, "", "error: device\n");
+    answers(&rt, words.as_slice(), 3, "", NO_SUCH_FILE);
 }
