@@ -84,7 +84,7 @@ written_length n short =
 one_length : (member : List ℕ) (n : ℕ) → n ≤ longest_body → member_length member ≡ Some n → common_length (member ∷ []) ≡ Ok n
 one_length member n short is =
     let same : (n == n) ≡ true = grind (arith, nat_tests) in
-    let fits : nat_lt 16777216 n ≡ false = grind (arith, nat_tests) in
+    let fits : nat_lt longest_body n ≡ false = grind (arith, nat_tests) in
     rw is (rw same (rw fits refl))
 
 -- ---- fields without framing, and a length behind them
