@@ -271,35 +271,59 @@ fn first_answer(alloc: Global, octets: &[u8]) -> (Option<FrameFault>, usize) {
     (None, octets.len())
 }
 
+/// What a reader of a request answers to octets with a fault, to others behind them and to the end.
+struct AfterFault {
+    had_head: bool,
+    has_head: bool,
+    first: Option<FrameFault>,
+    second: Option<FrameFault>,
+    end: Option<FrameFault>,
+}
+
 /// Writes what a reader of a request answers to octets with a fault, to others behind them and to
-/// the end, and whether it has the head.
+/// the end, and whether it has the head before and behind the fault.
 pub fn after_a_fault(alloc: Global, about: &[Vec<u8>], out: &mut String) -> Result<(), Unanswered> {
     let [first, second] = about else {
         return Err(Unanswered::Unknown);
     };
-    let mut reader = MessageReader::<RequestHead>::new(alloc, Kind::Request, Room::RECEIVED);
-    out.push_str(has_head(&reader))?;
-    answered(reader.feed(first.as_slice()), out)?;
-    out.push_str(has_head(&reader))?;
-    answered(reader.feed(second.as_slice()), out)?;
-    out.push_str("end: ")?;
-    answered(reader.end(), out)?;
-    Ok(out.push_str("no more")?)
-}
-
-fn has_head(reader: &MessageReader<RequestHead>) -> &'static str {
-    if reader.head().is_some() {
+    let found = answers_after(alloc, first.as_slice(), second.as_slice());
+    out.push_str(if found.had_head {
         "with a head: "
     } else {
         "without a head: "
+    })?;
+    answered(found.first, out)?;
+    out.push_str(if found.has_head {
+        "with a head: "
+    } else {
+        "without a head: "
+    })?;
+    answered(found.second, out)?;
+    out.push_str("end: ")?;
+    answered(found.end, out)?;
+    Ok(out.push_str("no more")?)
+}
+
+fn answers_after(alloc: Global, first: &[u8], second: &[u8]) -> AfterFault {
+    let mut reader = MessageReader::<RequestHead>::new(alloc, Kind::Request, Room::RECEIVED);
+    let had_head = reader.head().is_some();
+    let first = reader.feed(first).err();
+    let has_head = reader.head().is_some();
+    let second = reader.feed(second).err();
+    let end = reader.end().err();
+    AfterFault {
+        had_head,
+        has_head,
+        first,
+        second,
+        end,
     }
 }
 
-fn answered(answer: Result<Progress, FrameFault>, out: &mut String) -> Result<(), AllocError> {
-    match answer {
-        Ok(Progress::More) => out.push_str("more, "),
-        Ok(Progress::Whole(_)) => out.push_str("whole, "),
-        Err(fault) => {
+fn answered(fault: Option<FrameFault>, out: &mut String) -> Result<(), AllocError> {
+    match fault {
+        None => out.push_str("no fault, "),
+        Some(fault) => {
             frame_fault(fault, out)?;
             out.push_str(", ")
         }

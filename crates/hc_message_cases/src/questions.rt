@@ -3,7 +3,7 @@
 use hc_cases::Unanswered;
 
 /// What a case asks.
-#[derive(Clone, Copy, Debug, PartialEq, Eq)]
+#[derive(Clone, Copy)]
 pub enum Question {
     /// The faults of a crate, with their numbers and names.
     Faults,

@@ -12,29 +12,17 @@ pub fn answer(
     about: &[Vec<u8>],
     out: &mut String,
 ) -> Result<(), Unanswered> {
-    match about {
-        [block] => copied(alloc, block, out),
-        [older, newer] if question == OfFields::Updated => updated(alloc, older, newer, out),
-        [name, block] => by_name(alloc, question, name, block, out),
-        _ => Err(Unanswered::Unknown),
-    }
-}
-
-// Answers a question of a name.
-fn by_name(
-    alloc: Global,
-    question: OfFields,
-    name: &[u8],
-    block: &[u8],
-    out: &mut String,
-) -> Result<(), Unanswered> {
+    let [name, block] = about else {
+        return Err(Unanswered::Unknown);
+    };
     match question {
         OfFields::Values => values(alloc, name, block, out),
         OfFields::Joined => joined(alloc, name, block, out),
         OfFields::Only => only(alloc, name, block, out),
         OfFields::Without => without(alloc, name, block, out),
         OfFields::LeftOut => left_out(alloc, name, block, out),
-        OfFields::Updated | OfFields::Copied => Err(Unanswered::Unknown),
+        OfFields::Updated => updated(alloc, name, block, out),
+        OfFields::Copied => copied(alloc, name, block, out),
     }
 }
 
@@ -85,14 +73,14 @@ fn updated(alloc: Global, older: &[u8], newer: &[u8], out: &mut String) -> Resul
     Ok(lines(&fields, out)?)
 }
 
-// Copies the first line, takes it out, and writes the copy.
-fn copied(alloc: Global, block: &[u8], out: &mut String) -> Result<(), Unanswered> {
+// Copies the first line, takes the lines of the name out, and writes the copy.
+fn copied(alloc: Global, name: &[u8], block: &[u8], out: &mut String) -> Result<(), Unanswered> {
     let mut fields = fields_of_block(alloc, block)?;
     let copy = match fields.lines().first() {
         Some(line) => line.copy(alloc)?,
         None => return Err(Unanswered::Unknown),
     };
-    fields.remove(copy.name.as_slice());
+    fields.remove(name);
     bracketed(copy.name.as_slice(), out)?;
     Ok(bracketed(copy.value.as_slice(), out)?)
 }

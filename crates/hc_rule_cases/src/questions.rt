@@ -3,7 +3,7 @@
 use hc_cases::Unanswered;
 
 /// What a case asks, by its subject.
-#[derive(Clone, Copy, Debug, PartialEq, Eq)]
+#[derive(Clone, Copy)]
 pub enum Question {
     Fields(OfFields),
     Lists(OfLists),
@@ -14,7 +14,7 @@ pub enum Question {
 }
 
 /// What is asked of fields.
-#[derive(Clone, Copy, Debug, PartialEq, Eq)]
+#[derive(Clone, Copy)]
 pub enum OfFields {
     /// NAME and BLOCK: the values of the name.
     Values,
@@ -28,12 +28,12 @@ pub enum OfFields {
     LeftOut,
     /// BLOCK and BLOCK: the first, updated by the second.
     Updated,
-    /// BLOCK: a copy of its first line.
+    /// NAME and BLOCK: a copy of its first line, once those of the name are gone.
     Copied,
 }
 
 /// What is asked of lists, numbers and tokens.
-#[derive(Clone, Copy, Debug, PartialEq, Eq)]
+#[derive(Clone, Copy)]
 pub enum OfLists {
     /// VALUE: its members.
     List,
@@ -52,7 +52,7 @@ pub enum OfLists {
 }
 
 /// What is asked of Cache-Status.
-#[derive(Clone, Copy, Debug, PartialEq, Eq)]
+#[derive(Clone, Copy)]
 pub enum OfMarks {
     /// The faults, with their numbers and names.
     Faults,
@@ -69,7 +69,7 @@ pub enum OfMarks {
 }
 
 /// What is asked of dates, ages and lifetimes.
-#[derive(Clone, Copy, Debug, PartialEq, Eq)]
+#[derive(Clone, Copy)]
 pub enum OfFreshness {
     /// TEXT: the moment that it is, and the date of the moment.
     Date,
@@ -86,7 +86,7 @@ pub enum OfFreshness {
 }
 
 /// What is asked of storing, selecting and validating.
-#[derive(Clone, Copy, Debug, PartialEq, Eq)]
+#[derive(Clone, Copy)]
 pub enum OfRules {
     /// METHOD, BLOCK, STATUS and BLOCK: whether the response may be stored.
     Storable,
@@ -99,7 +99,7 @@ pub enum OfRules {
 }
 
 /// What is asked of stored responses.
-#[derive(Clone, Copy, Debug, PartialEq, Eq)]
+#[derive(Clone, Copy)]
 pub enum OfUpdates {
     /// LINES, MOMENT, RESPONSE and MOMENT: what is stored.
     Stored,
