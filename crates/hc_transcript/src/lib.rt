@@ -25,6 +25,3 @@ pub use line::{Kind, Line};
 pub use reader::RecordReader;
 pub use record::Record;
 pub use writing::{OPENING, write_record};
-
-#[cfg(test)]
-mod tests;
