@@ -27,6 +27,3 @@ pub use line::{Kind, Line};
 pub use reader::RecordReader;
 pub use record::{Passed, Record};
 pub use writing::{OPENING, write_record};
-
-#[cfg(test)]
-mod tests;

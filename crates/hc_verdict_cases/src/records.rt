@@ -15,14 +15,13 @@ pub fn say_records(alloc: Global, pieces: &[&[u8]], out: &mut String) -> Result<
         say_piece(&mut reader, piece, out)?;
     }
     let ended = reader.finish();
-    say_end(reader.position(), ended, out)
+    say_end(&reader, ended, out)
 }
 
-// Writes the records that end in the next piece; no more do than it has octets. A fault is met again at the end.
+// Writes the records that end in the next piece; no more do than it has octets. A fault is met again
+// behind it, and at the end.
 fn say_piece(reader: &mut RecordReader, piece: &[u8], out: &mut String) -> Result<(), AllocError> {
-    if reader.feed(piece).is_err() {
-        return Ok(());
-    }
+    let _ = reader.feed(piece);
     for _ in piece {
         if !say_next(reader, out)? {
             return Ok(());
@@ -44,12 +43,14 @@ fn say_next(reader: &mut RecordReader, out: &mut String) -> Result<bool, AllocEr
 }
 
 fn say_end(
-    position: u64,
+    reader: &RecordReader,
     ended: Result<(), RecordFault>,
     out: &mut String,
 ) -> Result<(), Unanswered> {
+    let records = reader.records();
+    let position = reader.position();
     match ended {
-        Ok(()) => write!(out, "end {position}")?,
+        Ok(()) => write!(out, "records={records} position={position}")?,
         Err(RecordFault::Memory) => return Err(Unanswered::Memory),
         Err(fault) => say_fault(position, fault, out)?,
     }

