@@ -2,7 +2,7 @@
 
 use hc_cases::Unanswered;
 use hc_framing::{FrameFault, whole_response};
-use hc_history::{Mark, MarkFault, reply_mark};
+use hc_history::{Mark, reply_mark};
 use std::alloc::{AllocError, Global};
 use std::fmt::Write;
 
@@ -19,10 +19,7 @@ fn mark_of(alloc: Global, octets: &[u8]) -> Result<Mark, Unanswered> {
         Err(FrameFault::Memory) => return Err(Unanswered::Memory),
         Err(_) => return Err(Unanswered::Unknown),
     };
-    match reply_mark(alloc, &reply) {
-        Ok(mark) => Ok(mark),
-        Err(MarkFault::Memory) => Err(Unanswered::Memory),
-    }
+    Ok(reply_mark(alloc, &reply)?)
 }
 
 fn write_mark(mark: Mark, out: &mut String) -> Result<(), AllocError> {

@@ -4,7 +4,7 @@ use crate::verdict_line::say_fault;
 use hc_cases::{Unanswered, show_short};
 use hc_framing::Message;
 use hc_head::{ResponseHead, Target};
-use hc_transcript::{OwnedItem, RecordFault, RecordReader};
+use hc_transcript::{Meaning, OwnedItem, RecordFault, RecordReader};
 use std::alloc::{AllocError, Global};
 use std::fmt::Write;
 
@@ -58,30 +58,14 @@ fn say_end(
 }
 
 fn say_item(item: &OwnedItem, out: &mut String) -> Result<(), AllocError> {
-    match item {
-        OwnedItem::ClientRequest {
-            exchange,
-            moment,
-            target,
-            ..
-        } => say_request('q', *exchange, *moment, target, out),
-        OwnedItem::OriginRequest {
-            forward,
-            moment,
-            target,
-            ..
-        } => say_request('f', *forward, *moment, target, out),
-        OwnedItem::OriginResponse {
-            forward,
-            moment,
-            response,
-        } => say_response('r', *forward, *moment, response, out),
-        OwnedItem::OriginFailure { forward, moment } => write!(out, "x {forward} {moment}"),
-        OwnedItem::ClientReply {
-            exchange,
-            moment,
-            reply,
-        } => say_response('a', *exchange, *moment, reply, out),
+    let number = item.number;
+    let moment = item.moment;
+    match &item.of {
+        Meaning::ClientRequest { target, .. } => say_request('q', number, moment, target, out),
+        Meaning::OriginRequest { target, .. } => say_request('f', number, moment, target, out),
+        Meaning::OriginResponse(response) => say_response('r', number, moment, response, out),
+        Meaning::OriginFailure => write!(out, "x {number} {moment}"),
+        Meaning::ClientReply(reply) => say_response('a', number, moment, reply, out),
     }
 }
 

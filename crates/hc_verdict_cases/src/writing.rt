@@ -2,7 +2,7 @@
 
 use hc_cases::{Unanswered, show_short};
 use hc_fields::{Octets, decimal};
-use hc_transcript::{Record, write_record};
+use hc_transcript::{Passed, Record, write_record};
 use std::alloc::Global;
 
 /// Writes the octets of a record: its kind by the letter, its number, its moment, and its message.
@@ -13,43 +13,20 @@ pub fn say_written(alloc: Global, parts: &[Vec<u8>], out: &mut String) -> Result
     let number = decimal(number.as_slice()).ok_or(Unanswered::Unknown)?;
     let moment = decimal(moment.as_slice()).ok_or(Unanswered::Unknown)?;
     let message = Octets::from_slice(alloc, message.as_slice())?;
-    let record = record_of(letter.as_slice(), number, moment, message)?;
+    let of = passed(letter.as_slice(), message)?;
+    let record = Record { number, moment, of };
     let text = write_record(alloc, &record)?;
     show_short(text.as_slice(), out)?;
     Ok(())
 }
 
-fn record_of(
-    letter: &[u8],
-    number: u64,
-    moment: u64,
-    message: Octets,
-) -> Result<Record, Unanswered> {
+fn passed(letter: &[u8], message: Octets) -> Result<Passed, Unanswered> {
     match letter {
-        b"q" => Ok(Record::ClientRequest {
-            exchange: number,
-            moment,
-            message,
-        }),
-        b"f" => Ok(Record::OriginRequest {
-            forward: number,
-            moment,
-            message,
-        }),
-        b"r" => Ok(Record::OriginResponse {
-            forward: number,
-            moment,
-            message,
-        }),
-        b"x" => Ok(Record::OriginFailure {
-            forward: number,
-            moment,
-        }),
-        b"a" => Ok(Record::ClientReply {
-            exchange: number,
-            moment,
-            message,
-        }),
+        b"q" => Ok(Passed::ClientRequest(message)),
+        b"f" => Ok(Passed::OriginRequest(message)),
+        b"r" => Ok(Passed::OriginResponse(message)),
+        b"x" => Ok(Passed::OriginFailure),
+        b"a" => Ok(Passed::ClientReply(message)),
         _ => Err(Unanswered::Unknown),
     }
 }
