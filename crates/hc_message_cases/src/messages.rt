@@ -272,6 +272,7 @@ fn first_answer(alloc: Global, octets: &[u8]) -> (Option<FrameFault>, usize) {
 }
 
 /// What a reader of a request answers to octets with a fault, to others behind them and to the end.
+#[derive(Clone, Copy)]
 struct AfterFault {
     had_head: bool,
     has_head: bool,
