@@ -1,4 +1,4 @@
--- What a head brings to the reading of messages, and the laws of it.
+-- How the heads of one kind of message are read, and the laws of that.
 use Rattle.std.specs.Prelude.{◌≡◌, ◌≢◌, ℕ, ◌<◌, ◌≤◌, List, ◌++◌, length, take, Result, Err}
 use Rattle.hc_head.specs.declared.empty_line.Search.TheVariants.{Blank, Found}
 use Rattle.hc_head.specs.EmptyLine.{searched}
@@ -7,6 +7,7 @@ use Rattle.hc_framing.specs.declared.framing.Framing.{Framing}
 use Rattle.hc_framing.specs.declared.kind.Kind.{Kind}
 use Rattle.hc_framing.specs.Framing.{IsFramingFault}
 
+-- how heads of that type are read, and how they frame a body
 pub record Form (H : Type 0) : Type 1 where
   -- the octets begin with the head, which takes so many of them
   pub begins : List ℕ → H → ℕ → Type 0
@@ -19,6 +20,7 @@ pub record Form (H : Type 0) : Type 1 where
   -- the head without the fields that frame the body
   pub without_framing : H → H
 
+-- octets begin with one head at most, which ends with its first empty line, whatever follows
 pub record FormLaws {H : Type 0} (form : Form H) : Type 0 where
   -- octets begin with one head at most, and what follows doesn't change it
   pub one_head : (octets more : List ℕ) (head other : H) (m n : ℕ) → form.begins octets head m → form.begins (octets ++ more) other n → (head ≡ other) × (m ≡ n)

@@ -89,6 +89,7 @@ framing_of_request kind head = request_framing head.version head.fields
 abbrev pub framing_of_response : Kind → ResponseHead → Result Framing FrameFault
 framing_of_response kind head = response_framing (answers_head kind) head.status head.version head.fields
 
+-- how the heads of requests are read
 abbrev pub request_form : Form RequestHead
 request_form = record {
   begins = BeginsRequestHead;
@@ -98,6 +99,7 @@ request_form = record {
   without_framing = request_without_framing;
 }
 
+-- how the heads of responses are read
 abbrev pub response_form : Form ResponseHead
 response_form = record {
   begins = BeginsResponseHead;
