@@ -14,10 +14,12 @@ pub use connection::is_among;
 pub use fields::{Field, Fields, Values};
 pub use lists::{ListMembers, list_members, trimmed};
 pub use members::{Members, joined_lines_have_the_members};
-pub use numbers::{decimal, number};
+pub use numbers::{END_OF_MOMENTS, LARGEST_NUMBER, decimal, number};
 pub use octets::Octets;
 pub use shared::SharedOctets;
 pub use tokens::is_token;
 
+#[cfg(test)]
+mod shared_tests;
 #[cfg(test)]
 mod tests;

@@ -1,8 +1,13 @@
 ghost use Rattle.std.specs.Prelude.{◌≡◌, ◌<◌, ◌*◌, ◌^◌, ◌+◌};
 ghost use Rattle.hc_fields.specs.Numbers.{capped_number, number_of, decimal_of};
 
-/// Greater numbers of a field are read as this one.
-const GREATEST: u32 = 2_147_483_648;
+/// The largest number of a field, and of seconds: greater ones are read as this one (RFC 9111
+/// section 1.2.2).
+pub const LARGEST_NUMBER: u32 = 2_147_483_648;
+
+/// The moment at which the year 10000 begins, in seconds since 1970. No date is so late (RFC 9110
+/// section 5.6.7).
+pub const END_OF_MOMENTS: u64 = 253_402_300_800;
 
 /// Greater decimals are read as this one.
 const GREATEST_DECIMAL: u64 = 1_000_000_000_000_000_000;
@@ -26,12 +31,11 @@ fn capped(text: &[u8], limit: u64) -> Option<u64>
     Some(value)
 }
 
-/// The number that one or more digits write; a value over 2147483648 is that number (RFC 9111
-/// section 1.2.2).
+/// The number that one or more digits write; a value over `LARGEST_NUMBER` is that number.
 pub fn number(text: &[u8]) -> Option<u32>
     ensures { result ≡ number_of text.now }
 {
-    let value = capped(text, u64::from(GREATEST))?;
+    let value = capped(text, u64::from(LARGEST_NUMBER))?;
     Some(value as u32)
 }
 

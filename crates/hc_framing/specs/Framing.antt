@@ -1,7 +1,6 @@
 -- How the body behind a head is framed (RFC 9112 section 6.3).
 use Rattle.std.specs.Prelude.{ℕ, Bool, ◌&&◌, ◌||◌, not, List, [], ◌∷◌, length, Option, Some, None, Result, Ok, Err, if◌then◌else◌, ◌==◌, nat_lt, nat_le, true, false, codes}
 use Rattle.std.specs.Bool.{⊤}
-use Rattle.std.specs.Int.{is_in_range}
 use Rattle.std.specs.List.{list_all, flat_map, slice_split}
 use Rattle.std.specs.Option.{ok_or}
 use Rattle.std.specs.Str.{str_eq_ignore_ascii_case}
@@ -12,6 +11,7 @@ use Rattle.hc_fields.specs.Lists.{trimmed}
 use Rattle.hc_fields.specs.Numbers.{is_number}
 use Rattle.hc_head.specs.declared.head.Version.{Version}
 use Rattle.hc_head.specs.declared.head.Version.TheVariants.{Http10, Http11}
+use Rattle.hc_head.specs.Statuses.{is_interim, no_content, not_modified}
 use Rattle.hc_head.specs.Writable.{longest_body}
 use Rattle.hc_framing.specs.declared.fault.FrameFault.{FrameFault}
 use Rattle.hc_framing.specs.declared.fault.FrameFault.TheVariants.{BothLengths, BadLength, BadCoding, BodyTooLong}
@@ -111,7 +111,7 @@ request_framing version fields = framing_by Nothing version fields
 
 -- a response that ends with its head, whatever its fields say: to HEAD, or of status 1xx, 204 or 304
 abbrev pub ends_with_head : Bool → ℕ → Bool
-ends_with_head to_head status = to_head || (is_in_range 100 199 status || (status == 204 || status == 304))
+ends_with_head to_head status = to_head || (is_interim status || (status == no_content || status == not_modified))
 
 -- how the body of a response is framed, to a HEAD request or another
 abbrev pub response_framing : Bool → ℕ → Version → List Field → Result Framing FrameFault

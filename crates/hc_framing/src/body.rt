@@ -9,11 +9,9 @@ use crate::framing::Framing;
 use crate::progress::Progress;
 use crate::trailer::TrailerReader;
 use hc_fields::{Octets, SharedOctets};
+use hc_head::LONGEST_BODY;
 use std::alloc::{AllocError, Global};
 use std::mem;
-
-/// The most octets of a body.
-const LONGEST_BODY: usize = 16_777_216;
 
 /// What comes next in a body.
 #[derive(Clone, Copy, Debug, PartialEq, Eq)]

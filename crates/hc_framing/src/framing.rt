@@ -8,10 +8,7 @@ ghost use Rattle.hc_framing.specs.Framing.{is_comma, members_of, member_length, 
 
 use crate::fault::FrameFault;
 use hc_fields::{Fields, decimal, trimmed};
-use hc_head::Version;
-
-/// No body is longer, in octets.
-const LONGEST_BODY: u64 = 16_777_216;
+use hc_head::{LONGEST_BODY, NO_CONTENT, NOT_MODIFIED, Version, is_interim};
 
 /// No length has more digits.
 const MOST_DIGITS: usize = 18;
@@ -100,7 +97,7 @@ fn sized(default: Framing, fields: &Fields) -> Result<Framing, FrameFault>
     if !all_write(length, fields) {
         return Err(FrameFault::BadLength);
     }
-    if length > LONGEST_BODY {
+    if length > LONGEST_BODY as u64 {
         return Err(FrameFault::BodyTooLong);
     }
     Ok(Framing::Sized(length))
@@ -135,7 +132,7 @@ pub(crate) fn request_framing(version: Version, fields: &Fields) -> Result<Frami
 pub(crate) fn ends_with_head(to_head: bool, status: u16) -> bool
     ensures { result ≡ ends_with_head to_head status }
 {
-    to_head || matches!(status, 100..=199 | 204 | 304)
+    to_head || is_interim(status) || status == NO_CONTENT || status == NOT_MODIFIED
 }
 
 /// How the body of a response is framed; `to_head` tells whether it answers HEAD.

@@ -80,8 +80,8 @@ impl<H: MessageHead> MessageReader<H> {
 
     /// A reader of a message of that kind, whose head has to keep to the room.
     pub fn new(alloc: Global, kind: Kind, room: Room) -> Self
-        ensures agrees { Agrees H.begins H.field_count H.framing_of H.without_framing kind room result [] }
-        ensures can { CanFeed H.begins H.field_count H.framing_of H.without_framing result }
+        ensures agrees { Agrees H.form kind room result [] }
+        ensures can { CanFeed H.form result }
     {
         MessageReader {
             alloc,
@@ -118,33 +118,33 @@ impl<H: MessageHead> MessageReader<H> {
 
     /// Takes the next piece. Octets of it that follow the message are not taken.
     pub fn feed(&mut self, piece: &[u8]) -> Result<Progress, FrameFault>
-        requires { CanFeed H.begins H.field_count H.framing_of H.without_framing self.old }
+        requires { CanFeed H.form self.old }
         // Each answer stands only where it says so, whatever the pieces before were.
         ensures gives { (kind : Kind) (room : Room) (octets : List ℕ)
-            → Agrees H.begins H.field_count H.framing_of H.without_framing kind room self.old octets
-            → FeedGives H.begins H.field_count H.framing_of H.without_framing result kind room self.new octets piece.now }
+            → Agrees H.form kind room self.old octets
+            → FeedGives H.form result kind room self.new octets piece.now }
         // More is wanted only where no front of the octets is a message.
         ensures unfinished { result ≡ Ok Progress.More → (kind : Kind) (room : Room) (octets : List ℕ)
-            → Agrees H.begins H.field_count H.framing_of H.without_framing kind room self.old octets
-            → HasNoMessage H.begins H.field_count H.framing_of H.without_framing kind (octets ++ piece.now) }
+            → Agrees H.form kind room self.old octets
+            → HasNoMessage H.form kind (octets ++ piece.now) }
         // A message that is there is found, unless memory runs out.
         ensures found { (kind : Kind) (room : Room) (octets : List ℕ) (message : Message H) (len : ℕ)
-            → Agrees H.begins H.field_count H.framing_of H.without_framing kind room self.old octets
-            → BeginsIn H.begins H.field_count H.framing_of H.without_framing kind (octets ++ piece.now) room message len
+            → Agrees H.form kind room self.old octets
+            → BeginsIn H.form kind (octets ++ piece.now) room message len
             → FeedFinds result self.new octets message len }
         // A fault of the framing comes with the head, and one of the body with the line or the octet that breaks it.
         ensures in_time { result ≡ Ok Progress.More → (kind : Kind) (room : Room) (octets : List ℕ)
-            → Agrees H.begins H.field_count H.framing_of H.without_framing kind room self.old octets
-            → IsInTime H.begins H.field_count H.framing_of H.without_framing kind room (octets ++ piece.now) }
+            → Agrees H.form kind room self.old octets
+            → IsInTime H.form kind room (octets ++ piece.now) }
         // The head is shown once it has come and frames the body.
         ensures head { (kind : Kind) (room : Room) (octets : List ℕ)
-            → Agrees H.begins H.field_count H.framing_of H.without_framing kind room self.old octets
-            → ShowsHeadAfter H.begins H.field_count H.framing_of H.without_framing result kind room (octets ++ piece.now) self.new.head }
+            → Agrees H.form kind room self.old octets
+            → ShowsHeadAfter H.form result kind room (octets ++ piece.now) self.new.head }
         // A head that is there stays, whatever the answer.
         ensures keeps { IsSome self.old.head → self.new.head ≡ self.old.head }
         // It takes pieces until it has answered `Whole`.
         ensures can { result ≡ Ok Progress.More
-            → CanFeed H.begins H.field_count H.framing_of H.without_framing self.new }
+            → CanFeed H.form self.new }
         ensures has { OnWhole result (HasMessage self.new) }
         // After a fault the reader answers `Failed` for ever.
         ensures fails { OnErr result (HasFailed self.new) }
@@ -161,13 +161,13 @@ impl<H: MessageHead> MessageReader<H> {
     }
 
     fn advance(&mut self, piece: &[u8]) -> Result<Progress, FrameFault>
-        requires { CanFeed H.begins H.field_count H.framing_of H.without_framing self.old }
+        requires { CanFeed H.form self.old }
         ensures gives { (kind : Kind) (room : Room) (octets : List ℕ)
-            → Agrees H.begins H.field_count H.framing_of H.without_framing kind room self.old octets
-            → FeedGives H.begins H.field_count H.framing_of H.without_framing result kind room self.new octets piece.now }
+            → Agrees H.form kind room self.old octets
+            → FeedGives H.form result kind room self.new octets piece.now }
         ensures head { IfErr result (λ fault. (kind : Kind) (room : Room) (octets : List ℕ)
-            → Agrees H.begins H.field_count H.framing_of H.without_framing kind room self.old octets
-            → ShowsHeadAfter H.begins H.field_count H.framing_of H.without_framing result kind room (octets ++ piece.now) self.new.head) }
+            → Agrees H.form kind room self.old octets
+            → ShowsHeadAfter H.form result kind room (octets ++ piece.now) self.new.head) }
         ensures keeps { IsSome self.old.head → self.new.head ≡ self.old.head }
         ensures failed { HasFailed self.old → result ≡ Err FrameFault.Failed }
         ensures stays { HasFailed self.old → self.new.head ≡ self.old.head }
@@ -183,13 +183,13 @@ impl<H: MessageHead> MessageReader<H> {
     /// Takes what the piece has of the head, and then of the body.
     fn feed_head(&mut self, piece: &[u8]) -> Result<Progress, FrameFault>
         requires stage { self.old.stage ≡ Stage.Head }
-        requires agrees { IsAgreeing H.begins H.field_count H.framing_of H.without_framing self.old }
+        requires agrees { IsAgreeing H.form self.old }
         ensures gives { (kind : Kind) (room : Room) (octets : List ℕ)
-            → Agrees H.begins H.field_count H.framing_of H.without_framing kind room self.old octets
-            → FeedGives H.begins H.field_count H.framing_of H.without_framing result kind room self.new octets piece.now }
+            → Agrees H.form kind room self.old octets
+            → FeedGives H.form result kind room self.new octets piece.now }
         ensures head { IfErr result (λ fault. (kind : Kind) (room : Room) (octets : List ℕ)
-            → Agrees H.begins H.field_count H.framing_of H.without_framing kind room self.old octets
-            → ShowsHeadAfter H.begins H.field_count H.framing_of H.without_framing result kind room (octets ++ piece.now) self.new.head) }
+            → Agrees H.form kind room self.old octets
+            → ShowsHeadAfter H.form result kind room (octets ++ piece.now) self.new.head) }
         ensures keeps { IsSome self.old.head → self.new.head ≡ self.old.head }
     {
         let near = front_of(piece, self.room.octets.saturating_sub(self.start.len()));
@@ -223,7 +223,7 @@ impl<H: MessageHead> MessageReader<H> {
 
     /// Reads the head, if it is whole, and tells how the body behind it is framed.
     fn read_head(&mut self) -> Result<Option<Framing>, FrameFault>
-        ensures { ReadsHead H.begins H.field_count H.framing_of H.without_framing result self.old self.new }
+        ensures { ReadsHead H.form result self.old self.new }
     {
         self.tried = self.start.len();
         match H::read(self.alloc, self.start.as_slice(), self.room) {
@@ -271,11 +271,11 @@ impl<H: MessageHead> MessageReader<H> {
 
     /// Says that no more octets come. A message that lasts until the close is whole then.
     pub fn end(&mut self) -> Result<Progress, FrameFault>
-        requires { CanFeed H.begins H.field_count H.framing_of H.without_framing self.old }
+        requires { CanFeed H.form self.old }
         // Each answer stands only where it says so.
         ensures gives { (kind : Kind) (room : Room) (octets : List ℕ)
-            → Agrees H.begins H.field_count H.framing_of H.without_framing kind room self.old octets
-            → EndGives H.begins H.field_count H.framing_of H.without_framing result kind room self.new octets }
+            → Agrees H.form kind room self.old octets
+            → EndGives H.form result kind room self.new octets }
         ensures has { OnOk result (HasMessage self.new) }
         ensures fails { OnErr result (HasFailed self.new) }
         ensures failed { HasFailed self.old → result ≡ Err FrameFault.Failed }
@@ -295,11 +295,11 @@ impl<H: MessageHead> MessageReader<H> {
 
     /// Makes the message whole, if it lasts until the close.
     fn close(&mut self) -> Result<(), FrameFault>
-        requires { CanFeed H.begins H.field_count H.framing_of H.without_framing self.old }
+        requires { CanFeed H.form self.old }
         ensures ok { OnOk result (IsClosed self.old × IsFrozen self.old self.new) }
         ensures err { IfErr result (λ fault. (kind : Kind) (room : Room) (octets : List ℕ)
-            → Agrees H.begins H.field_count H.framing_of H.without_framing kind room self.old octets
-            → StandsAtEnd H.begins H.field_count (H.framing_of kind) H.without_framing fault octets room) }
+            → Agrees H.form kind room self.old octets
+            → StandsAtEnd H.form kind fault octets room) }
         ensures failed { HasFailed self.old → result ≡ Err FrameFault.Failed }
         ensures stays { self.new.head ≡ self.old.head }
     {
@@ -314,11 +314,11 @@ impl<H: MessageHead> MessageReader<H> {
 
     /// Whether the message is whole where no more octets come.
     fn closed(&self) -> Result<(), FrameFault>
-        requires { CanFeed H.begins H.field_count H.framing_of H.without_framing self.now }
+        requires { CanFeed H.form self.now }
         ensures ok { OnOk result (IsClosed self.now) }
         ensures err { IfErr result (λ fault. (kind : Kind) (room : Room) (octets : List ℕ)
-            → Agrees H.begins H.field_count H.framing_of H.without_framing kind room self.now octets
-            → StandsAtEnd H.begins H.field_count (H.framing_of kind) H.without_framing fault octets room) }
+            → Agrees H.form kind room self.now octets
+            → StandsAtEnd H.form kind fault octets room) }
         ensures failed { HasFailed self.now → result ≡ Err FrameFault.Failed }
     {
         match self.stage {

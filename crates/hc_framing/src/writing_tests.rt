@@ -1,5 +1,5 @@
 use super::*;
-use hc_fields::{Field, Fields, Octets};
+use hc_fields::{Field, Fields, Octets, SharedOctets};
 use hc_head::{RequestHead, ResponseHead, Version};
 use std::alloc::{AllocError, Global};
 use std::test::*;
@@ -17,7 +17,7 @@ fn request(alloc: Global, method: &[u8], body: &[u8]) -> Result<Message<RequestH
             version: Version::Http11,
             fields,
         },
-        body: Octets::from_slice(alloc, body)?,
+        body: SharedOctets::from_vec(Vec::from_slice(alloc, body)?)?,
     })
 }
 
@@ -28,7 +28,7 @@ fn response(alloc: Global, status: u16, body: &[u8]) -> Result<Message<ResponseH
             version: Version::Http11,
             fields: Fields::new(alloc),
         },
-        body: Octets::from_slice(alloc, body)?,
+        body: SharedOctets::from_vec(Vec::from_slice(alloc, body)?)?,
     })
 }
 

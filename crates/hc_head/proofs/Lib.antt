@@ -7,4 +7,3 @@ pub mod UnfinishedLemmas
 pub mod WrittenLemmas
 pub mod HostLemmas
 pub mod TargetLemmas
-pub mod TargetOrderLemmas

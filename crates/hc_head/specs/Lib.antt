@@ -12,3 +12,4 @@ pub mod Texts
 pub mod Writable
 pub mod Plain
 pub mod Methods
+pub mod Statuses

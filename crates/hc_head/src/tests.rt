@@ -198,22 +198,22 @@ fn empty_lines(rt: HostRuntime) -> Result<(), Fail> {
     Ok(())
 }
 
-/// How many octets the head takes that begins the octets, if it is whole.
-fn head_length<H: Head>(alloc: Global, octets: &[u8]) -> Result<Option<usize>, HeadFault> {
-    match H::read(alloc, octets, Room::RECEIVED)? {
-        Step::More => Ok(None),
-        Step::Whole(_, len) => Ok(Some(len)),
+/// How many octets a head takes, if it is whole.
+fn head_length<H: Drop>(step: Step<H>) -> Option<usize> {
+    match step {
+        Step::More => None,
+        Step::Whole(_, len) => Some(len),
     }
 }
 
 #[test]
 fn heads_of_each_kind(rt: HostRuntime) -> Result<(), Fail> {
-    let request = head_length::<RequestHead>(rt.alloc(), b"GET / HTTP/1.1\n\nbody")?;
-    assert_eq!(rt; request, Some(16));
-    let response = head_length::<ResponseHead>(rt.alloc(), b"HTTP/1.1 200\r\n\r\nbody")?;
-    assert_eq!(rt; response, Some(16));
-    let front = head_length::<ResponseHead>(rt.alloc(), b"HTTP/1.1 200\r\n\r")?;
-    assert_eq!(rt; front, None);
+    let request = read_request(rt.alloc(), b"GET / HTTP/1.1\n\nbody", Room::RECEIVED)?;
+    assert_eq!(rt; head_length(request), Some(16));
+    let response = read_response(rt.alloc(), b"HTTP/1.1 200\r\n\r\nbody", Room::RECEIVED)?;
+    assert_eq!(rt; head_length(response), Some(16));
+    let front = read_response(rt.alloc(), b"HTTP/1.1 200\r\n\r", Room::RECEIVED)?;
+    assert_eq!(rt; head_length(front), None);
     Ok(())
 }
 

@@ -16,6 +16,9 @@ use crate::head::{RequestHead, ResponseHead, Room};
 use hc_fields::{Field, Fields};
 use httparse::{is_header_value, is_space_or_tab, is_token, is_uri_token};
 
+/// The length of the longest body, in octets.
+pub const LONGEST_BODY: usize = 16_777_216;
+
 /// What a request's text has beside its method, its target and its fields.
 const REQUEST_FRAME: &[u8] = b"  HTTP/1.1\r\ncontent-length: 16777216\r\n\r\n";
 

@@ -3,6 +3,7 @@ use Rattle.std.proofs.Common.{◌≡◌, ℕ, ◌<◌, Bool, true, false, cond, 
 use Rattle.std.specs.Prelude.{option_and_then, codes}
 use Rattle.std.specs.Option.{is_some}
 use Rattle.hc_fields.specs.declared.fields.Field.{Field}
+use Rattle.hc_fields.specs.Numbers.{end_of_moments}
 use Rattle.hc_fields.specs.Values.{has_name, only, only_value}
 use Rattle.hc_fields.proofs.UpdateLemmas.{values_absent, values_updated}
 use Rattle.hc_head.specs.declared.head.RequestHead.{RequestHead}
@@ -19,7 +20,7 @@ use Rattle.hc_update.specs.Identifying.{are_same, only_member_asked, validators_
 
 -- ---- dates
 
-pub stored_states : (received : List Field) (request_time response_time : ℕ) → response_time < 253402300800
+pub stored_states : (received : List Field) (request_time response_time : ℕ) → response_time < end_of_moments
     → date_stated (stored_fields received response_time) ≡ Some (times_of received request_time response_time).date
 stored_states received request_time response_time small = dated_states (kept_lines received) response_time small
 
@@ -31,7 +32,7 @@ has_date fields date states = go (has_name (codes "date") fields) refl
     go true e = refl
     go false e = absurd (let none = ap (λ (vs : List (List ℕ)). option_and_then date_of (only vs)) (values_absent (codes "date") fields e) in cc)
 
-pub freshened_states : (state : Stored) (received : List Field) (request_time response_time position : ℕ) → response_time < 253402300800
+pub freshened_states : (state : Stored) (received : List Field) (request_time response_time position : ℕ) → response_time < end_of_moments
     → date_stated (freshened state received request_time response_time position).fields
     ≡ Some (freshened state received request_time response_time position).times.date
 freshened_states state received request_time response_time position small =

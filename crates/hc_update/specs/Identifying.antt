@@ -7,6 +7,7 @@ use Rattle.hc_fields.specs.Values.{only, only_value, has_name}
 use Rattle.hc_fields.specs.Lists.{list_members}
 use Rattle.hc_head.specs.declared.head.RequestHead.{RequestHead}
 use Rattle.hc_head.specs.declared.head.ResponseHead.{ResponseHead}
+use Rattle.hc_head.specs.Statuses.{not_modified}
 use Rattle.hc_fresh.specs.Lifetimes.{says}
 use Rattle.hc_rules.specs.Storing.{asks_for_storable}
 use Rattle.hc_rules.specs.Selecting.{selects}
@@ -32,7 +33,7 @@ validators_agree stored forwarded received =
 
 -- a 304 that may freshen: neither private nor no-store, with must-understand or without (this project's own choice)
 abbrev pub may_freshen : ResponseHead → Bool
-may_freshen response = response.status == 304 && not (says (codes "private") response.fields) && not (says (codes "no-store") response.fields)
+may_freshen response = response.status == not_modified && not (says (codes "private") response.fields) && not (says (codes "no-store") response.fields)
 
 -- whether the response to a forward, for the state's own target, freshens the state: a 304 that may, to a GET without no-store which the state
 -- selects, and the validators agree

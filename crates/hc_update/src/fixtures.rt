@@ -1,6 +1,7 @@
 //! Messages for the tests, of text. Each line of fields ends in CR LF.
 
 ghost use Rattle.std.specs.Prelude.{◌<◌};
+ghost use Rattle.hc_fields.specs.Numbers.{end_of_moments};
 
 use crate::*;
 use hc_fields::{Fields, Octets};
@@ -63,7 +64,7 @@ pub(crate) fn freshen(
     request_time: u64,
     response_time: u64,
 ) -> Result<(), FrameFault>
-    requires { response_time < 253_402_300_800 }
+    requires { response_time < end_of_moments }
 {
     let not_modified = response(alloc, b"304", lines)?;
     state.freshen(&not_modified, request_time, response_time, 6)?;

@@ -8,12 +8,9 @@ ghost use Rattle.hc_update.specs.Identifying.{are_same, identifies, may_freshen,
 use crate::stored::Stored;
 use hc_directives::Directives;
 use hc_fields::{Fields, list_members};
-use hc_head::{RequestHead, ResponseHead};
+use hc_head::{NOT_MODIFIED, RequestHead, ResponseHead};
 use hc_rules::{asks_for_storable, last_modified, selects, tag};
 use std::alloc::{AllocError, Global};
-
-/// The status that says that a stored response still holds (RFC 9110 section 15.4.5).
-const NOT_MODIFIED: u16 = 304;
 
 /// Whether both are there, and the same.
 fn are_same(one: Option<&[u8]>, other: Option<&[u8]>) -> bool

@@ -1,6 +1,7 @@
 //! What is kept of a response (RFC 9111 section 3.1).
 
 ghost use Rattle.std.specs.Prelude.{◌≡◌, ◌<◌, ◌||◌, not, codes, IfOk};
+ghost use Rattle.hc_fields.specs.Numbers.{end_of_moments};
 ghost use Rattle.std.specs.Str.{bytes_eq};
 ghost use Rattle.hc_fields.specs.Connection.{left_out_of_store};
 ghost use Rattle.hc_update.specs.States.{kept_lines, stored_fields, times_of};
@@ -36,7 +37,7 @@ pub(crate) fn kept(
     request_time: u64,
     response_time: u64,
 ) -> Result<(Fields, Times), AllocError>
-    requires { response_time < 253_402_300_800 }
+    requires { response_time < end_of_moments }
     ensures fields { IfOk result (λ p. p.0 ≡ stored_fields received.now response_time) }
     ensures times { IfOk result (λ p. p.1 ≡ times_of received.now request_time response_time) }
 {

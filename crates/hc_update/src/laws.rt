@@ -1,6 +1,7 @@
 //! What holds of every stored response.
 
 ghost use Rattle.std.specs.Prelude.{◌≡◌, ◌<◌, ℕ, false, List, Some};
+ghost use Rattle.hc_fields.specs.Numbers.{end_of_moments};
 ghost use Rattle.hc_fields.specs.declared.fields.Field.{Field};
 ghost use Rattle.hc_head.specs.declared.head.RequestHead.{RequestHead};
 ghost use Rattle.hc_head.specs.declared.head.ResponseHead.{ResponseHead};
@@ -15,7 +16,7 @@ ghost use Rattle.hc_update.specs.Identifying.{identifies};
 /// that its age is counted from.
 pub fn initial_fields_state_their_date()
     ensures { (forward : RequestHead) (request_time : ℕ) (response : Message ResponseHead) (response_time : ℕ)
-        → response_time < 253_402_300_800
+        → response_time < end_of_moments
         → date_stated (initial_state forward request_time response response_time).fields
         ≡ Some (initial_state forward request_time response response_time).times.date }
 {}
@@ -23,7 +24,7 @@ pub fn initial_fields_state_their_date()
 /// So have they once it was freshened.
 pub fn freshened_fields_state_their_date()
     ensures { (state : Stored) (received : List Field) (request_time response_time position : ℕ)
-        → response_time < 253_402_300_800
+        → response_time < end_of_moments
         → date_stated (freshened state received request_time response_time position).fields
         ≡ Some (freshened state received request_time response_time position).times.date }
 {}

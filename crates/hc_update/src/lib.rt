@@ -17,6 +17,8 @@ pub use stored::{Stored, initial, invalidates};
 #[cfg(test)]
 mod fixtures;
 #[cfg(test)]
+mod forget_tests;
+#[cfg(test)]
 mod identifying_tests;
 #[cfg(test)]
 mod tests;

@@ -1,6 +1,7 @@
 //! A stored response and its changes.
 
 ghost use Rattle.std.specs.Prelude.{◌≡◌, ◌<◌, IfOk};
+ghost use Rattle.hc_fields.specs.Numbers.{end_of_moments};
 ghost use Rattle.hc_update.specs.States.{initial_state, invalidates};
 
 use crate::keeping::kept;
@@ -38,7 +39,7 @@ pub fn initial(
     response: Message<ResponseHead>,
     response_time: u64,
 ) -> Result<Stored, AllocError>
-    requires { response_time < 253_402_300_800 }
+    requires { response_time < end_of_moments }
     ensures { IfOk result (λ state. state ≡ initial_state forward request_time response response_time) }
 {
     let (fields, times) = kept(alloc, &response.head.fields, request_time, response_time)?;
@@ -67,7 +68,7 @@ impl Stored {
         response_time: u64,
         position: u64,
     ) -> Result<(), AllocError>
-        requires { response_time < 253_402_300_800 }
+        requires { response_time < end_of_moments }
         ensures ok { OnOk result
             (self.new ≡ freshened self.old not_modified.now.fields request_time response_time position) }
         ensures err { OnErr result (self.new ≡ self.old) }
