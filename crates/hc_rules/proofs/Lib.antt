@@ -1,1 +1,2 @@
 mod SelectLemmas
+mod ConditionLemmas

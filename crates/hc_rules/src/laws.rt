@@ -1,6 +1,6 @@
 //! What holds of every response and request.
 
-ghost use Rattle.std.specs.Prelude.{◌≡◌, true, false, ℕ, List, All, Contains, IsTrue, codes};
+ghost use Rattle.std.specs.Prelude.{◌≡◌, true, false, ℕ, List, Some, All, Contains, IsTrue, codes};
 ghost use Rattle.std.specs.Str.{str_to_ascii_lowercase};
 ghost use Rattle.hc_fields.specs.declared.fields.Field.{Field};
 ghost use Rattle.hc_fields.specs.Values.{has_name};
@@ -8,8 +8,10 @@ ghost use Rattle.hc_fields.specs.Lists.{members_of};
 ghost use Rattle.hc_head.specs.declared.head.RequestHead.{RequestHead};
 ghost use Rattle.hc_head.specs.declared.head.ResponseHead.{ResponseHead};
 ghost use Rattle.hc_fresh.specs.Lifetimes.{says};
-ghost use Rattle.hc_rules.specs.Storing.{has_authorization, may_store};
+ghost use Rattle.hc_rules.specs.Storing.{may_store};
 ghost use Rattle.hc_rules.specs.Selecting.{selects};
+ghost use Rattle.hc_rules.specs.Validators.{tag_of};
+ghost use Rattle.hc_rules.specs.Conditions.{client_condition};
 ghost use Rattle.hc_rules.specs.Laws.{NamesSameLines, IsPlainRequest, IsPlainResponse};
 
 /// A response that says `private` is never stored (RFC 9111 section 5.2.2.7).
@@ -93,4 +95,13 @@ pub fn same_lines_are_selected()
     ensures { (fields forwarded presented : List Field)
         → All (NamesSameLines forwarded presented) (members_of (codes "vary") fields)
         → selects fields forwarded presented ≡ true }
+{}
+
+/// A client that lists the tag of the stored 200 is told that it still holds (RFC 9110 section
+/// 13.1.2).
+pub fn listed_tag_still_holds()
+    ensures { (presented fields : List Field) (tag : List ℕ)
+        → Contains (members_of (codes "if-none-match") presented) tag
+        → tag_of fields ≡ Some tag
+        → client_condition presented 200 fields ≡ true }
 {}

@@ -12,9 +12,9 @@ mod validators;
 pub use conditions::client_condition;
 pub use laws::{
     asterisk_selects_nobody, authorized_needs_permission, field_of_one_request_selects_nobody,
-    no_store_is_never_stored, no_store_of_a_request_holds, not_modified_is_never_stored,
-    only_get_is_stored, partial_is_never_stored, plain_response_is_stored, private_is_never_stored,
-    same_lines_are_selected,
+    listed_tag_still_holds, no_store_is_never_stored, no_store_of_a_request_holds,
+    not_modified_is_never_stored, only_get_is_stored, partial_is_never_stored,
+    plain_response_is_stored, private_is_never_stored, same_lines_are_selected,
 };
 pub use selecting::selects;
 pub use storing::{asks_for_storable, may_store};
