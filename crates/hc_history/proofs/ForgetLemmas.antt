@@ -15,7 +15,8 @@ use Rattle.hc_update.specs.Identifying.{identifies}
 use Rattle.hc_update.proofs.UpdateLemmas.{never_identified}
 use Rattle.hc_transcript.specs.Items.{Forward}
 use Rattle.hc_history.specs.States.{state_answered}
-use Rattle.hc_history.specs.Seen.{is_lost, vary_lines, remnant, remaining}
+use Rattle.hc_update.specs.Remnants.{is_lost, vary_lines, remnant}
+use Rattle.hc_history.specs.Seen.{remaining}
 
 -- lines that were kept by their name have no values of another
 other_values : (name kept : List ℕ) (fields : List Field) → bytes_eq kept name ≡ false → values_of name (filter (λ f. bytes_eq f.name kept) fields) ≡ []

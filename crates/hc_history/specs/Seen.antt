@@ -1,45 +1,22 @@
 -- What has to be known of a history to judge its replies, without keeping it.
-use Rattle.std.specs.Prelude.{◌≡◌, ℕ, zero, suc, Bool, true, ◌&&◌, nat_lt, not, List, [], ◌∷◌, ◌++◌, length, filter, Option, Some, None, codes, bytes_eq, if◌then◌else◌}
-use Rattle.hc_fields.specs.declared.fields.Field.{Field}
+use Rattle.std.specs.Prelude.{◌≡◌, ℕ, zero, suc, nat_lt, List, [], ◌∷◌, ◌++◌, length, Option, Some, None, if◌then◌else◌}
 use Rattle.hc_head.specs.declared.head.ResponseHead.{ResponseHead}
 use Rattle.hc_head.specs.declared.head.Target.{Target}
 use Rattle.hc_head.specs.Targets.{same_target}
 use Rattle.hc_framing.specs.declared.message.Message.{Message}
-use Rattle.hc_rules.specs.Validators.{has_validator}
 use Rattle.hc_update.specs.declared.stored.Stored.{Stored}
+use Rattle.hc_update.specs.Remnants.{is_lost, remnant}
 use Rattle.hc_transcript.specs.Items.{Item, OriginResponse, Exchange, Forward}
 use Rattle.hc_transcript.specs.History.{next_position, exchange_of, forward_of}
 use Rattle.hc_history.specs.declared.kept.Kept.{Kept}
 use Rattle.hc_history.specs.States.{state_at}
 use Rattle.hc_history.specs.Windows.{latest, is_error, is_failure}
 
--- ---- what may be forgotten of a stored response
+-- ---- the live responses of a target
 
--- whether nothing freshens it any more: it is invalid, and has no validator, so that no 304 is about it
-abbrev pub is_lost : Stored → Bool
-is_lost state = state.invalid && not (has_validator state.fields)
-
--- the lines that select
-abbrev pub vary_lines : List Field → List Field
-vary_lines fields = filter (λ f. bytes_eq f.name (codes "vary")) fields
-
--- of one that is lost, only what the first three filters look at: its request and its Vary lines, and that it is invalid
-abbrev pub remnant : Stored → Stored
-remnant state = record {
-  request = state.request;
-  status = 0;
-  fields = vary_lines state.fields;
-  body = [];
-  times = record { date = 0; age_value = 0; request_time = 0; response_time = 0 };
-  invalid = true;
-  validated_at = None;
-}
-
--- what has to be kept of a stored response: all of it, or the remnant
+-- what has to be kept of a stored response: all of it, or its remnant where nothing freshens it any more
 unfoldable pub remaining : Stored → Stored
 remaining state = if is_lost state then remnant state else state
-
--- ---- the live responses of a target
 
 -- a response that may be stored: its position, and what remains of its state
 pub record Live : Type 0 where

@@ -53,12 +53,12 @@ furthest_more claim h n most passed most-is passed-is =
 
 right_to : (settings : Settings) (o : Option Exchange) (moment : ℕ) (reply : Message ResponseHead) (h : List Item) → IsSome o
     → IsFinding settings o moment reply h Right → IsRightTo settings o moment reply h
-right_to settings None moment reply h some is = absurd some
+right_to settings None moment reply h some is = cc
 right_to settings (Some exchange) moment reply h some is = is
 
 wrong_to : (settings : Settings) (o : Option Exchange) (moment : ℕ) (reply : Message ResponseHead) (h : List Item) (why : Reason) → IsSome o
     → IsFinding settings o moment reply h (Wrong why) → IsWrongTo settings o moment reply h why
-wrong_to settings None moment reply h why some is = absurd some
+wrong_to settings None moment reply h why some is = cc
 wrong_to settings (Some exchange) moment reply h why some is = is
 
 pub found_right : (settings : Settings) (h : List Item) (item : Item) → AnswersOpen h item → IsFound settings h item Right → IsRight settings h item

@@ -63,12 +63,8 @@ fn forward_after<'a>(
                 target,
             })
         }
-        Meaning::OriginResponse(_) => {
-            if item.number == number { None } else { before }
-        }
-        Meaning::OriginFailure => {
-            if item.number == number { None } else { before }
-        }
+        Meaning::OriginResponse(_) => { if item.number == number { None } else { before } }
+        Meaning::OriginFailure => { if item.number == number { None } else { before } }
         Meaning::ClientRequest { .. } => before,
         Meaning::ClientReply(_) => before,
     }
@@ -106,9 +102,7 @@ fn exchange_after<'a>(
                 target,
             })
         }
-        Meaning::ClientReply(_) => {
-            if item.number == number { None } else { before }
-        }
+        Meaning::ClientReply(_) => { if item.number == number { None } else { before } }
         Meaning::OriginRequest { .. } => before,
         Meaning::OriginResponse(_) => before,
         Meaning::OriginFailure => before,
