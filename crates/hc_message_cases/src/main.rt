@@ -35,6 +35,7 @@ impl Ask for MessageCases {
             Question::ResponseHead => heads::response(alloc, about, out),
             Question::EmptyLine => heads::empty_line(about, out),
             Question::Target => targets::target(alloc, about, out),
+            Question::Targets => targets::in_order(alloc, about, out),
             Question::Unsafe => targets::is_unsafe(about, out),
             Question::Message => messages::message(alloc, about, out),
             Question::Fronts => messages::fronts(alloc, about, out),

@@ -16,6 +16,8 @@ pub enum Question {
     EmptyLine,
     /// What a request is about.
     Target,
+    /// In which order targets are, each once, with the last of the numbers that it had.
+    Targets,
     /// Whether a method is unsafe.
     Unsafe,
     /// What octets are read as, however they are cut.
@@ -36,13 +38,14 @@ pub enum Question {
 }
 
 /// The words that ask.
-const WORDS: [(&str, Question); 16] = [
+const WORDS: [(&str, Question); 17] = [
     ("faults", Question::Faults),
     ("text", Question::Text),
     ("request-head", Question::RequestHead),
     ("response-head", Question::ResponseHead),
     ("empty-line", Question::EmptyLine),
     ("target", Question::Target),
+    ("targets", Question::Targets),
     ("unsafe", Question::Unsafe),
     ("message", Question::Message),
     ("fronts", Question::Fronts),

@@ -4,7 +4,7 @@ use crate::describing::{bracketed, yes_or_no};
 use crate::questions::OfLists;
 use hc_cases::{Unanswered, fields_of_block};
 use hc_directives::{Directives, Seconds};
-use hc_fields::{decimal, is_among, is_token, list_members, number};
+use hc_fields::{SharedOctets, decimal, is_among, is_token, list_members, number};
 use std::alloc::{AllocError, Global};
 use std::fmt::Write;
 
@@ -26,7 +26,18 @@ pub fn answer(
         OfLists::Among => among(alloc, text, others, out),
         OfLists::Members => members(alloc, text, others, out),
         OfLists::Directive => directive(alloc, text, others, out),
+        OfLists::Shared => shared(alloc, text, out),
     }
+}
+
+fn shared(alloc: Global, text: &[u8], out: &mut String) -> Result<(), Unanswered> {
+    let one = SharedOctets::from_vec(Vec::from_slice(alloc, text)?)?;
+    let other = one.share()?;
+    drop(one);
+    let count = other.len();
+    write!(out, "{count} octets ")?;
+    bracketed(other.as_slice(), out)?;
+    Ok(out.push_str(if other.is_empty() { ", none" } else { "" })?)
 }
 
 fn numeral(number: Option<u64>, out: &mut String) -> Result<(), Unanswered> {

@@ -49,6 +49,8 @@ pub enum OfLists {
     Among,
     /// NAME and BLOCK: what Cache-Control says by the name.
     Directive,
+    /// TEXT: its octets, once the first of their two owners is gone.
+    Shared,
 }
 
 /// What is asked of Cache-Status.
@@ -107,6 +109,8 @@ pub enum OfUpdates {
     Freshened,
     /// LINES: what is stored once it is invalidated, and once it is freshened after that.
     Invalidated,
+    /// LINES and LINES: what remains of what is stored, once it is forgotten.
+    Forgotten,
     /// LINES, LINES, METHOD, LINES, STATUS and LINES: whether the last is about what is stored.
     Identifies,
     /// LINES, LINES, LINES and LINES: the same, before and after it was freshened.
@@ -118,7 +122,7 @@ pub enum OfUpdates {
 }
 
 /// The words that ask.
-const WORDS: [(&str, Question); 37] = [
+const WORDS: [(&str, Question); 39] = [
     ("values", Question::Fields(OfFields::Values)),
     ("joined", Question::Fields(OfFields::Joined)),
     ("only", Question::Fields(OfFields::Only)),
@@ -133,6 +137,7 @@ const WORDS: [(&str, Question); 37] = [
     ("token", Question::Lists(OfLists::Token)),
     ("among", Question::Lists(OfLists::Among)),
     ("directive", Question::Lists(OfLists::Directive)),
+    ("shared", Question::Lists(OfLists::Shared)),
     ("faults", Question::Marks(OfMarks::Faults)),
     ("structured", Question::Marks(OfMarks::Structured)),
     ("parameter", Question::Marks(OfMarks::Parameter)),
@@ -152,6 +157,7 @@ const WORDS: [(&str, Question); 37] = [
     ("stored", Question::Updates(OfUpdates::Stored)),
     ("freshened", Question::Updates(OfUpdates::Freshened)),
     ("invalidated", Question::Updates(OfUpdates::Invalidated)),
+    ("forgotten", Question::Updates(OfUpdates::Forgotten)),
     ("identifies", Question::Updates(OfUpdates::Identifies)),
     (
         "identifies-after",

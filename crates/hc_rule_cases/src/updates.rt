@@ -21,6 +21,7 @@ pub fn answer(
         OfUpdates::Stored => stored(alloc, about, out),
         OfUpdates::Freshened => freshened(alloc, about, out),
         OfUpdates::Invalidated => invalidated(alloc, about, out),
+        OfUpdates::Forgotten => forgotten(alloc, about, out),
         OfUpdates::Identifies => identified(alloc, about, out),
         OfUpdates::IdentifiesAfter => identified_after(alloc, about, out),
         OfUpdates::At => at(alloc, about, out),
@@ -64,6 +65,15 @@ fn invalidated(alloc: Global, about: &[Vec<u8>], out: &mut String) -> Result<(),
     yes_or_no(identifies(alloc, &state, &forward, &not_modified)?, out)?;
     out.push_str("; then ")?;
     state.freshen(&not_modified, 1020, 1020, 6)?;
+    Ok(described(&state, out)?)
+}
+
+fn forgotten(alloc: Global, about: &[Vec<u8>], out: &mut String) -> Result<(), Unanswered> {
+    let [asked, lines] = about else {
+        return Err(Unanswered::Unknown);
+    };
+    let mut state = hello(alloc, asked, lines)?;
+    state.forget();
     Ok(described(&state, out)?)
 }
 
