@@ -5,12 +5,12 @@ ghost use Rattle.hc_transcript.specs.Items.{item_of};
 ghost use Rattle.hc_history.specs.Marks.{item_mark};
 ghost use Rattle.hc_history.specs.Counting.{marked};
 
-use hc_history::{Counts, Mark, MarkFault, reply_mark};
+use hc_history::{Counts, Mark, reply_mark};
 use hc_transcript::{Meaning, OwnedItem};
-use std::alloc::Global;
+use std::alloc::{AllocError, Global};
 
 /// The mark of a record, if it is a reply.
-pub(crate) fn item_mark(alloc: Global, item: &OwnedItem) -> Result<Option<Mark>, MarkFault>
+pub(crate) fn item_mark(alloc: Global, item: &OwnedItem) -> Result<Option<Mark>, AllocError>
     ensures { IfOk result (λ mark. mark ≡ item_mark (item_of item.now)) }
 {
     let Meaning::ClientReply(reply) = &item.of else {

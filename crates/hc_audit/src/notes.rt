@@ -10,7 +10,7 @@ ghost use Rattle.hc_audit.specs.ThinVerdicts.{IsRight};
 ghost use Rattle.hc_audit.specs.Notes.{kept_from, kept_serves};
 
 use crate::max_age::plain_max_age;
-use hc_fields::Octets;
+use hc_fields::SharedOctets;
 use hc_framing::Message;
 use hc_head::{RequestHead, ResponseHead, Target};
 use hc_history::Mark;
@@ -31,7 +31,7 @@ pub(crate) struct OpenForward {
 pub(crate) struct Kept {
     target: Target,
     status: u16,
-    body: Octets,
+    body: SharedOctets,
     /// In seconds.
     lifetime: u32,
     /// The moment of the forward.
@@ -86,7 +86,7 @@ fn kept_from(
     Ok(Some(Kept {
         target: forward.target,
         status: response.head.status,
-        body: response.body.copy(alloc)?,
+        body: response.body.share()?,
         lifetime,
         asked: forward.moment,
     }))

@@ -14,6 +14,7 @@ use Rattle.hc_framing.specs.declared.message.Message.{Message}
 use Rattle.hc_framing.specs.declared.progress.Progress.{Progress}
 use Rattle.hc_framing.specs.declared.progress.Progress.TheVariants.{More, Whole}
 use Rattle.hc_framing.specs.declared.reader.MessageReader.{MessageReader}
+use Rattle.hc_framing.specs.Forms.{Form}
 use Rattle.hc_framing.specs.Messages.{BeginsMessage}
 use Rattle.hc_framing.specs.Faults.{StandsIn}
 use Rattle.hc_framing.specs.Reader.{Agrees, BeginsIn, CanFeed, EndsAfter, FeedGives, HasNoMessage, Holds}
@@ -50,53 +51,53 @@ next_front octets size before used piece next within =
     ap (take used) next.is ∙ sym (take-append-le used (take most rest) (drop most rest) enough) ∙ ap (take used) (take-append-drop most rest) in
     ap (λ (xs : List ℕ). take before octets ++ xs) same ∙ sym (take-add before used octets)
 
-module _ {H : Type 0} (Begins : List ℕ → H → ℕ → Type 0) (field_count : H → ℕ) (framing : Kind → H → Result Framing FrameFault) (bare : H → H) where
+module _ {H : Type 0} (form : Form H) where
   -- no message has ended in so many of the octets, which the reader was given in so many pieces
   pub record IsFeeding (kind : Kind) (room : Room) (octets : List ℕ) (size before calls : ℕ) (reader : MessageReader H) : Type 0 where
     pub within : before ≤ length octets
     pub few : calls ≤ before
     pub enough : before ≤ calls * size
     pub full : before < length octets → calls * size ≡ before
-    pub agrees : Agrees Begins field_count framing bare kind room reader (take before octets)
-    pub none : HasNoMessage Begins field_count framing bare kind (take before octets)
-    pub can : CanFeed Begins field_count framing bare reader
+    pub agrees : Agrees form kind room reader (take before octets)
+    pub none : HasNoMessage form kind (take before octets)
+    pub can : CanFeed form reader
 
   module _ (kind : Kind) (room : Room) (octets : List ℕ) (size before calls : ℕ) (old new : MessageReader H) (piece : List ℕ) (result : Result Progress FrameFault)
       (feeding : IsFeeding kind room octets size before calls old) (next : IsNext octets size before piece) (some : 0 < size)
-      (gives : FeedGives Begins field_count framing bare result kind room new (take before octets) piece) where
+      (gives : FeedGives form result kind room new (take before octets) piece) where
     -- after a piece behind which more are wanted
-    pub feeding_more : result ≡ Ok More → HasNoMessage Begins field_count framing bare kind (take before octets ++ piece) → CanFeed Begins field_count framing bare new
+    pub feeding_more : result ≡ Ok More → HasNoMessage form kind (take before octets ++ piece) → CanFeed form new
         → IsFeeding kind room octets size (before + length piece) (calls + 1) new
     feeding_more more none can =
         let len = next_len octets size before piece next in
         let whole : take before octets ++ piece ≡ take (before + length piece) octets =
         ap (λ (xs : List ℕ). take before octets ++ xs) (sym (take_all (length piece) piece (omega arith)))
         ∙ next_front octets size before (length piece) piece next (omega arith) in
-        let now = subst (λ (r : Result Progress FrameFault). FeedGives Begins field_count framing bare r kind room new (take before octets) piece) more gives in
+        let now = subst (λ (r : Result Progress FrameFault). FeedGives form r kind room new (take before octets) piece) more gives in
         let filled = feeding.full next.inside in
         record {
           within = omega (arith, len);
           few = omega (arith, len);
           enough = omega (arith, len, filled, add-mul calls 1 size);
           full = λ inside. omega (arith, len, filled, add-mul calls 1 size);
-          agrees = subst (λ (o : List ℕ). Agrees Begins field_count framing bare kind room new o) whole now;
-          none = subst (λ (o : List ℕ). HasNoMessage Begins field_count framing bare kind o) whole none;
+          agrees = subst (λ (o : List ℕ). Agrees form kind room new o) whole now;
+          none = subst (λ (o : List ℕ). HasNoMessage form kind o) whole none;
           can = can;
         }
 
     -- with no octet of the piece no message ends
-    some_used : (used : ℕ) → EndsAfter Begins field_count framing bare kind room new (take before octets) piece used → 0 < used
+    some_used : (used : ℕ) → EndsAfter form kind room new (take before octets) piece used → 0 < used
     some_used zero ends =
         absurd (feeding.none ends.message (length (take before octets) + 0)
-        (subst (λ (o : List ℕ). BeginsMessage Begins (framing kind) bare o ends.message (length (take before octets) + 0)) (append-nil (take before octets)) ends.begins.begins))
+        (subst (λ (o : List ℕ). BeginsMessage form kind o ends.message (length (take before octets) + 0)) (append-nil (take before octets)) ends.begins.begins))
     some_used (suc used) ends = omega arith
 
     -- after the piece with which the message ends
     pub feeding_whole : (used : ℕ) → result ≡ Ok (Whole used) → (fed : Fed H) → ((message : Message H) → Holds new message → fed.message ≡ message)
         → fed.octets ≡ before + used → fed.calls ≡ calls + 1
-        → IsFed Begins field_count framing bare kind room octets size fed
+        → IsFed form kind room octets size fed
     feeding_whole used whole fed takes octets_is calls_is =
-        let ends = subst (λ (r : Result Progress FrameFault). FeedGives Begins field_count framing bare r kind room new (take before octets) piece) whole gives in
+        let ends = subst (λ (r : Result Progress FrameFault). FeedGives form r kind room new (take before octets) piece) whole gives in
         let len = next_len octets size before piece next in
         let used_some = some_used used ends in
         let filled = feeding.full next.inside in
@@ -107,9 +108,9 @@ module _ {H : Type 0} (Begins : List ℕ → H → ℕ → Type 0) (field_count 
         let all : length (take before octets) + used ≡ fed.octets =
         ap (λ (n : ℕ). n + used) (length-take-le before octets feeding.within) ∙ sym octets_is in
         record {
-          read = subst (λ (m : Message H). IsRead Begins field_count framing bare kind room octets m fed.octets) (sym (takes ends.message ends.holds))
-              (subst (λ (n : ℕ). BeginsIn Begins field_count framing bare kind (take fed.octets octets) room ends.message n) all
-              (subst (λ (o : List ℕ). BeginsIn Begins field_count framing bare kind o room ends.message (length (take before octets) + used)) front ends.begins));
+          read = subst (λ (m : Message H). IsRead form kind room octets m fed.octets) (sym (takes ends.message ends.holds))
+              (subst (λ (n : ℕ). BeginsIn form kind (take fed.octets octets) room ends.message n) all
+              (subst (λ (o : List ℕ). BeginsIn form kind o room ends.message (length (take before octets) + used)) front ends.begins));
           some = omega arith;
           within = omega (arith, len, ends.within);
           enough = omega (arith, ends.within);
@@ -118,18 +119,18 @@ module _ {H : Type 0} (Begins : List ℕ → H → ℕ → Type 0) (field_count 
 
     -- after the piece that shows a fault
     pub feeding_fault : (fault : FrameFault) → result ≡ Err fault → (answer : Result (Fed H) Trouble) → IsErrAnd answer (λ trouble. trouble ≡ trouble_of fault)
-        → FeedsTo Begins field_count framing bare answer kind room octets size
+        → FeedsTo form answer kind room octets size
     feeding_fault fault failed answer told_so =
         let whole : take before octets ++ piece ≡ take (before + length piece) octets =
         ap (λ (xs : List ℕ). take before octets ++ xs) (sym (take_all (length piece) piece (omega arith)))
         ∙ next_front octets size before (length piece) piece next (omega arith) in
-        let stands = subst (λ (r : Result Progress FrameFault). FeedGives Begins field_count framing bare r kind room new (take before octets) piece) failed gives in
+        let stands = subst (λ (r : Result Progress FrameFault). FeedGives form r kind room new (take before octets) piece) failed gives in
         let is = err_from_is_err_and answer told_so in
-        subst (λ (r : Result (Fed H) Trouble). FeedsTo Begins field_count framing bare r kind room octets size) (sym (is.1 ∙ ap Err is.2))
-        (told fault (subst (λ (o : List ℕ). StandsIn Begins field_count (framing kind) bare fault o room) whole stands))
+        subst (λ (r : Result (Fed H) Trouble). FeedsTo form r kind room octets size) (sym (is.1 ∙ ap Err is.2))
+        (told fault (subst (λ (o : List ℕ). StandsIn form kind fault o room) whole stands))
       where
-        told : (fault : FrameFault) → StandsIn Begins field_count (framing kind) bare fault (take (before + length piece) octets) room
-            → FeedsTo Begins field_count framing bare (Err (trouble_of fault)) kind room octets size
+        told : (fault : FrameFault) → StandsIn form kind fault (take (before + length piece) octets) room
+            → FeedsTo form (Err (trouble_of fault)) kind room octets size
         told faults.Memory stands = tt
         told (faults.Head fault) stands = (before + length piece, stands)
         told faults.BothLengths stands = (before + length piece, stands)
@@ -142,15 +143,15 @@ module _ {H : Type 0} (Begins : List ℕ → H → ℕ → Type 0) (field_count 
 
   -- at the end of the octets
   pub feeding_end : (kind : Kind) (room : Room) (octets : List ℕ) (size before calls : ℕ) (reader : MessageReader H)
-      → IsFeeding kind room octets size before calls reader → length octets ≤ before → HasNoMessage Begins field_count framing bare kind octets
+      → IsFeeding kind room octets size before calls reader → length octets ≤ before → HasNoMessage form kind octets
   feeding_end kind room octets size before calls reader feeding over =
-      subst (λ (o : List ℕ). HasNoMessage Begins field_count framing bare kind o) (take_all before octets over) feeding.none
+      subst (λ (o : List ℕ). HasNoMessage form kind o) (take_all before octets over) feeding.none
 
   -- one message more
   pub read_more : (kind : Kind) (room : Room) (messages : List (Message H)) (message : Message H) (octets rest behind : List ℕ) (len : ℕ)
-      → AreReadThen Begins field_count framing bare kind room messages octets rest → IsRead Begins field_count framing bare kind room rest message len
-      → behind ≡ drop len rest → AreReadThen Begins field_count framing bare kind room (messages ++ message ∷ []) octets behind
+      → AreReadThen form kind room messages octets rest → IsRead form kind room rest message len
+      → behind ≡ drop len rest → AreReadThen form kind room (messages ++ message ∷ []) octets behind
   read_more kind room [] message octets rest behind len are read is =
-      (len, (subst (λ (o : List ℕ). IsRead Begins field_count framing bare kind room o message len) (sym are) read, ap (drop len) are ∙ sym is))
+      (len, (subst (λ (o : List ℕ). IsRead form kind room o message len) (sym are) read, ap (drop len) are ∙ sym is))
   read_more kind room (first ∷ messages) message octets rest behind len are read is =
       (are.0, (are.1.0, read_more kind room messages message (drop are.0 octets) rest behind len are.1.1 read is))

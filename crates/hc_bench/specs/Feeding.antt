@@ -6,6 +6,7 @@ use Rattle.hc_framing.specs.declared.fault.FrameFault.TheVariants as faults
 use Rattle.hc_framing.specs.declared.framing.Framing.{Framing}
 use Rattle.hc_framing.specs.declared.kind.Kind.{Kind}
 use Rattle.hc_framing.specs.declared.message.Message.{Message}
+use Rattle.hc_framing.specs.Forms.{Form}
 use Rattle.hc_framing.specs.Faults.{StandsIn}
 use Rattle.hc_framing.specs.Reader.{BeginsIn, HasNoMessage}
 use Rattle.hc_bench.specs.declared.feeding.Fed.{Fed}
@@ -18,11 +19,10 @@ abbrev pub trouble_of : FrameFault → Trouble
 trouble_of faults.Memory = Memory
 trouble_of fault = Fault fault
 
--- by what octets begin with a head, how its body is framed, and the head without the fields that frame it
-module _ {H : Type 0} (Begins : List ℕ → H → ℕ → Type 0) (field_count : H → ℕ) (framing : Kind → H → Result Framing FrameFault) (bare : H → H) where
+module _ {H : Type 0} (form : Form H) where
   -- so many of the octets are the message, and its head keeps to the room
   abbrev pub IsRead : Kind → Room → List ℕ → Message H → ℕ → Type 0
-  IsRead kind room octets message len = BeginsIn Begins field_count framing bare kind (take len octets) room message len
+  IsRead kind room octets message len = BeginsIn form kind (take len octets) room message len
 
   -- the octets begin with the message, which takes so many pieces of that size
   pub record IsFed (kind : Kind) (room : Room) (octets : List ℕ) (size : ℕ) (fed : Fed H) : Type 0 where
@@ -38,8 +38,8 @@ module _ {H : Type 0} (Begins : List ℕ → H → ℕ → Type 0) (field_count 
   FeedsTo (Err Memory) kind room octets size = Unit {0}
   FeedsTo (Err Device) kind room octets size = ⊥
   FeedsTo (Err (Fault fault)) kind room octets size =
-      (len : ℕ) × StandsIn Begins field_count (framing kind) bare fault (take len octets) room
-  FeedsTo (Err Unended) kind room octets size = HasNoMessage Begins field_count framing bare kind octets
+      (len : ℕ) × StandsIn form kind fault (take len octets) room
+  FeedsTo (Err Unended) kind room octets size = HasNoMessage form kind octets
 
   -- the octets are these messages, one behind another, and then rest
   abbrev pub AreReadThen : Kind → Room → List (Message H) → List ℕ → List ℕ → Type 0

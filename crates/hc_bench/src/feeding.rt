@@ -26,7 +26,7 @@ pub fn feed<H: MessageHead>(
     size: usize,
 ) -> Result<Fed<H>, Trouble>
     requires { 0 < size }
-    ensures { FeedsTo H.begins H.field_count H.framing_of H.without_framing result kind room octets.now size }
+    ensures { FeedsTo H.form result kind room octets.now size }
 {
     let mut reader = MessageReader::<H>::new(alloc, kind, room);
     let mut before = 0;
@@ -59,7 +59,7 @@ pub fn feed_all<H: MessageHead>(
     size: usize,
 ) -> Result<Vec<Message<H>>, Trouble>
     requires { 0 < size }
-    ensures { IfOk result (λ messages. AreReadThen H.begins H.field_count H.framing_of H.without_framing
+    ensures { IfOk result (λ messages. AreReadThen H.form
         kind room messages.items octets.now []) }
 {
     let mut messages = Vec::new(alloc);

@@ -105,7 +105,7 @@ fn timed<H: MessageHead, C: Clock>(
     size: usize,
 ) -> Result<Rate, Trouble>
     requires { 0 < size }
-    ensures { IfOk result (IsRateOf H.begins H.field_count H.framing_of H.without_framing
+    ensures { IfOk result (IsRateOf H.form
         kind Room.RECORDED octets.now) }
 {
     let start = Instant::now(clock)?;

@@ -13,6 +13,10 @@ values_of name (f ∷ fs) = if bytes_eq f.name name then f.value ∷ values_of n
 abbrev pub has_name : List ℕ → List Field → Bool
 has_name name fields = list_any (λ f. bytes_eq f.name name) fields
 
+-- the lines of that name, in order
+abbrev pub lines_of : List ℕ → List Field → List Field
+lines_of name fields = filter (λ f. bytes_eq f.name name) fields
+
 -- the lines of other names, in order
 abbrev pub without : List ℕ → List Field → List Field
 without name fields = filter (λ f. not (bytes_eq f.name name)) fields

@@ -1,7 +1,7 @@
 ghost use Rattle.std.specs.Prelude.{◌≡◌, ◌==◌, ◌++◌, ◌≤◌, not, List, [], ◌∷◌, length, filter, IfOk, OnOk, OnErr};
 ghost use Rattle.std.specs.Vec.{vec_len, vec_capacity};
 ghost use Rattle.std.specs.Iterator.{YieldsFirstRef, item_count};
-ghost use Rattle.hc_fields.specs.Values.{has_name, without};
+ghost use Rattle.hc_fields.specs.Values.{has_name, lines_of, without};
 
 use crate::octets::Octets;
 use std::alloc::{AllocError, Global};
@@ -48,6 +48,12 @@ fn remove_from(lines: &mut Vec<Field>, name: &[u8])
     ensures { lines.new.items ≡ without name.now lines.old.items }
 {
     lines.retain(|line| line.name.as_slice() != name)
+}
+
+fn keep_in(lines: &mut Vec<Field>, name: &[u8])
+    ensures { lines.new.items ≡ lines_of name.now lines.old.items }
+{
+    lines.retain(|line| line.name.as_slice() == name)
 }
 
 /// Removes the lines of the names that the others have.
@@ -112,6 +118,13 @@ impl Fields {
         ensures { self.new ≡ without name.now self.old }
     {
         remove_from(&mut self.lines, name)
+    }
+
+    /// Removes all lines but those of that name.
+    pub fn keep(&mut self, name: &[u8])
+        ensures { self.new ≡ lines_of name.now self.old }
+    {
+        keep_in(&mut self.lines, name)
     }
 
     /// Whether there is a line of that name.

@@ -7,6 +7,7 @@ mod lists;
 mod members;
 mod numbers;
 mod octets;
+mod shared;
 mod tokens;
 
 pub use connection::is_among;
@@ -15,6 +16,7 @@ pub use lists::{ListMembers, list_members, trimmed};
 pub use members::{Members, joined_lines_have_the_members};
 pub use numbers::{decimal, number};
 pub use octets::Octets;
+pub use shared::SharedOctets;
 pub use tokens::is_token;
 
 #[cfg(test)]

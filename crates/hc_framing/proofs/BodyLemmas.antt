@@ -294,13 +294,13 @@ pub on_part : (framing : Framing) (r : BodyReader) (octets piece rest : List ℕ
 on_part framing r octets piece rest used taken rest-is within gives =
     (gives.0, omega (arith, gives.1, ap length rest-is, length-drop used piece, within), subst (AgreesBody framing r) (joined octets piece rest used taken rest-is) gives.2)
 
-pub end_part : (framing : Framing) (r : BodyReader) (octets piece rest : List ℕ) (used taken : ℕ) → rest ≡ drop used piece → used ≤ length piece
+pub end_part : (framing : Framing) (r : BodyReader) (octets piece rest whole : List ℕ) (used taken : ℕ) → rest ≡ drop used piece → used ≤ length piece → whole ≡ r.octets
     → GivesPart (Ok (End taken)) framing r (octets ++ take used piece) rest
-    → (used + taken ≤ length piece) × BeginsBody framing (octets ++ take (used + taken) piece) r.octets (length octets + (used + taken))
-end_part framing r octets piece rest used taken rest-is within gives =
+    → (used + taken ≤ length piece) × BeginsBody framing (octets ++ take (used + taken) piece) whole (length octets + (used + taken))
+end_part framing r octets piece rest whole used taken rest-is within whole-is gives =
     let long : length (octets ++ take used piece) + taken ≡ length octets + (used + taken) = omega (arith, length-append octets (take used piece), length-take used piece, within) in (
       omega (arith, gives.0, ap length rest-is, length-drop used piece, within),
-      subst (λ (p : List ℕ × ℕ). BeginsBody framing p.0 r.octets p.1) (λ i. (joined octets piece rest used taken rest-is i, long i)) gives.1,
+      subst (λ (p : List ℕ × List ℕ × ℕ). BeginsBody framing p.0 p.1 p.2) (λ i. (joined octets piece rest used taken rest-is i, sym whole-is i, long i)) gives.1,
     )
 
 -- ---- what an agreeing reader says of the octets

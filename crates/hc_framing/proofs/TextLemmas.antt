@@ -38,11 +38,13 @@ use Rattle.hc_framing.specs.declared.framing.Framing.TheVariants.{Nothing, Sized
 use Rattle.hc_head.specs.Writable.{longest_body}
 use Rattle.hc_fields.specs.Lists.{is_blank, without_leading_blanks, without_trailing_blanks, trimmed}
 use Rattle.hc_framing.specs.Framing.{is_comma, members_of, member_length, common_length, sized_by, sized, framing_by, ends_with_head, response_framing}
-use Rattle.hc_framing.specs.Messages.{BeginsBody, fields_without_framing, request_without_framing, response_without_framing, framing_of_request, framing_of_response, BeginsRequest, BeginsResponse}
+use Rattle.hc_framing.specs.Forms.{Form}
+use Rattle.hc_framing.specs.Messages.{BeginsBody, fields_without_framing, request_without_framing, response_without_framing, request_form, response_form, BeginsRequest, BeginsResponse}
 use Rattle.hc_framing.specs.Reader.{BeginsIn}
 use Rattle.hc_framing.specs.Texts.{told, request_length_told, request_text, response_text}
 use Rattle.hc_framing.specs.Written.{IsReadableRequest, IsReadableResponse, BeginsRequestIn, BeginsResponseIn}
-use Rattle.hc_framing.proofs.ReaderLemmas.{request_laws, response_laws, message_unique}
+use Rattle.hc_framing.specs.FramingLaws.{request_laws, response_laws}
+use Rattle.hc_framing.proofs.ReaderLemmas.{message_unique}
 
 -- ---- a length that is written in digits
 
@@ -153,12 +155,12 @@ sized_body body more = record { enough = omega (arith, length-append body more);
 no_body : (body more : List ℕ) → body ≡ [] → BeginsBody Nothing (body ++ more) body (length body)
 no_body body more none = (none, ap length none)
 
-module _ {H : Type 0} (Begins : List ℕ → H → ℕ → Type 0) (field_count : H → ℕ) (framing : Kind → H → Result Framing FrameFault) (bare : H → H) where
+module _ {H : Type 0} (form : Form H) where
   -- a head that is read as it was written, and a body that is framed as the head says, are a message
   written : (kind : Kind) (room : Room) (text : List ℕ) (head : H) (frame : Framing) (message : Message H) (more : List ℕ)
-      → IsWholeHead Begins field_count (text ++ (message.body ++ more)) room head (length text) → framing kind head ≡ Ok frame
-      → BeginsBody frame (message.body ++ more) message.body (length message.body) → message.head ≡ bare head
-      → BeginsIn Begins field_count framing bare kind ((text ++ message.body) ++ more) room message (length (text ++ message.body))
+      → IsWholeHead form.begins form.field_count (text ++ (message.body ++ more)) room head (length text) → form.framing_of kind head ≡ Ok frame
+      → BeginsBody frame (message.body ++ more) message.body (length message.body) → message.head ≡ form.without_framing head
+      → BeginsIn form kind ((text ++ message.body) ++ more) room message (length (text ++ message.body))
   written kind room text head frame message more whole framed body head-is =
       let joined : text ++ (message.body ++ more) ≡ (text ++ message.body) ++ more = sym (append_assoc text message.body more) in
       let behind : drop (length text) ((text ++ message.body) ++ more) ≡ message.body ++ more =
@@ -167,7 +169,7 @@ module _ {H : Type 0} (Begins : List ℕ → H → ℕ → Type 0) (field_count 
         begins = record {
           head = head;
           head_len = length text;
-          begins = subst (λ (o : List ℕ). Begins o head (length text)) joined whole.begins;
+          begins = subst (λ (o : List ℕ). form.begins o head (length text)) joined whole.begins;
           frame = frame;
           framed = framed;
           body_len = length message.body;
@@ -196,11 +198,11 @@ request_begins message room readable more = go (request_length_told message) ref
         → BeginsRequestIn ((request_head_text message.head (told test message.body) ++ message.body) ++ more) room message (length (request_head_text message.head (told test message.body) ++ message.body))
     go true e =
         let size = Some (length message.body) in
-        written BeginsRequestHead request_field_count framing_of_request request_without_framing Request room (request_head_text message.head size) (request_with_length message.head size) (Sized (length message.body)) message more
+        written request_form Request room (request_head_text message.head size) (request_with_length message.head size) (Sized (length message.body)) message more
         (heads.request_read_back message.head room readable.head size readable.short (message.body ++ more))
         (framed_by_length Nothing message.head.version message.head.fields (length message.body) readable.short readable.head.no_framing) (sized_body message.body more) (there size)
     go false e =
-        written BeginsRequestHead request_field_count framing_of_request request_without_framing Request room (request_head_text message.head None) (request_with_length message.head None) Nothing message more
+        written request_form Request room (request_head_text message.head None) (request_with_length message.head None) Nothing message more
         (heads.request_read_back message.head room readable.head None tt (message.body ++ more))
         (framed_by_none Nothing message.head.version message.head.fields readable.head.no_framing)
         (no_body message.body more (empty (length message.body) message.body (is_unsafe message.head.method) refl e)) (there None)
@@ -209,7 +211,7 @@ pub request_alone : (message : Message RequestHead) (room : Room) → IsReadable
     → BeginsRequest (request_text message ++ more) other n → (message ≡ other) × (length (request_text message) ≡ n)
 request_alone message room readable more other n begins =
     let octets = request_text message ++ more in
-    message_unique BeginsRequestHead request_field_count framing_of_request request_without_framing request_laws Request octets [] message other (length (request_text message)) n
+    message_unique request_form request_laws Request octets [] message other (length (request_text message)) n
     (request_begins message room readable more).begins (subst (λ (o : List ℕ). BeginsRequest o other n) (sym (append-nil octets)) begins)
 
 -- ---- responses
@@ -229,13 +231,13 @@ response_begins to_head message room readable more = go (ends_with_head to_head 
     go : (test : Bool) → ends_with_head to_head message.head.status ≡ test
         → BeginsResponseIn to_head ((response_head_text message.head (told (not test) message.body) ++ message.body) ++ more) room message (length (response_head_text message.head (told (not test) message.body) ++ message.body))
     go true e =
-        written BeginsResponseHead response_field_count framing_of_response response_without_framing (Response to_head) room (response_head_text message.head None) (response_with_length message.head None) Nothing message more
+        written response_form (Response to_head) room (response_head_text message.head None) (response_with_length message.head None) Nothing message more
         (heads.response_read_back message.head room readable.head None tt (message.body ++ more))
         (ap (λ (test : Bool). cond test (Ok Nothing) (framing_by UntilClose message.head.version message.head.fields)) e)
         (no_body message.body more (readable.bare e)) (there None)
     go false e =
         let size = Some (length message.body) in
-        written BeginsResponseHead response_field_count framing_of_response response_without_framing (Response to_head) room (response_head_text message.head size) (response_with_length message.head size) (Sized (length message.body)) message more
+        written response_form (Response to_head) room (response_head_text message.head size) (response_with_length message.head size) (Sized (length message.body)) message more
         (heads.response_read_back message.head room readable.head size readable.short (message.body ++ more))
         (framed_response to_head message.head.status message.head.version message.head.fields (length message.body) readable.short readable.head.no_framing e)
         (sized_body message.body more) (there size)
@@ -244,5 +246,5 @@ pub response_alone : (to_head : Bool) (message : Message ResponseHead) (room : R
     → BeginsResponse to_head (response_text (Response to_head) message ++ more) other n → (message ≡ other) × (length (response_text (Response to_head) message) ≡ n)
 response_alone to_head message room readable more other n begins =
     let octets = response_text (Response to_head) message ++ more in
-    message_unique BeginsResponseHead response_field_count framing_of_response response_without_framing response_laws (Response to_head) octets [] message other (length (response_text (Response to_head) message)) n
+    message_unique response_form response_laws (Response to_head) octets [] message other (length (response_text (Response to_head) message)) n
     (response_begins to_head message room readable more).begins (subst (λ (o : List ℕ). BeginsResponse to_head o other n) (sym (append-nil octets)) begins)

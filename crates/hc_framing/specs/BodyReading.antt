@@ -102,5 +102,5 @@ GivesPart (Err fault) framing r octets piece = FaultsBody fault framing (octets 
 
 abbrev pub GivesBody : Result Progress FrameFault → Framing → BodyReader → List ℕ → List ℕ → Type 0
 GivesBody (Ok More) framing r octets piece = AgreesBody framing r (octets ++ piece)
-GivesBody (Ok (Whole used)) framing r octets piece = (used ≤ length piece) × BeginsBody framing (octets ++ take used piece) r.octets (length octets + used)
+GivesBody (Ok (Whole used)) framing r octets piece = (used ≤ length piece) × BeginsBody framing (octets ++ take used piece) r.whole (length octets + used)
 GivesBody (Err fault) framing r octets piece = FaultsBody fault framing (octets ++ piece)

@@ -3,7 +3,7 @@ use Rattle.std.specs.Prelude.{◌≡◌, ◌≢◌, ℕ, ◌<◌, ◌≤◌, ◌
 use Rattle.hc_head.specs.declared.head.Room.{Room}
 use Rattle.hc_head.specs.declared.head.RequestHead.{RequestHead}
 use Rattle.hc_head.specs.declared.head.ResponseHead.{ResponseHead}
-use Rattle.hc_head.specs.Heads.{BeginsRequestHead, request_field_count, BeginsResponseHead, response_field_count}
+use Rattle.hc_framing.specs.declared.kind.Kind.{Kind}
 use Rattle.hc_framing.specs.declared.kind.Kind.TheVariants.{Request, Response}
 use Rattle.hc_head.specs.declared.fault.HeadFault.{HeadFault}
 use Rattle.hc_head.specs.declared.fault.HeadFault.TheVariants as heads
@@ -13,7 +13,8 @@ use Rattle.hc_framing.specs.declared.fault.FrameFault.{FrameFault}
 use Rattle.hc_framing.specs.declared.fault.FrameFault.TheVariants.{Head, BothLengths, BadLength, BadCoding, BadChunk, BodyTooLong, Truncated, Memory, Failed}
 use Rattle.hc_framing.specs.declared.framing.Framing.{Framing}
 use Rattle.hc_framing.specs.declared.framing.Framing.TheVariants.{UntilClose}
-use Rattle.hc_framing.specs.Messages.{BeginsMessage, IsWholeMessage, framing_of_request, request_without_framing, framing_of_response, response_without_framing}
+use Rattle.hc_framing.specs.Forms.{Form}
+use Rattle.hc_framing.specs.Messages.{BeginsMessage, IsWholeMessage, request_form, response_form}
 use Rattle.hc_framing.specs.Bodies.{IsOpenBody, BreaksBody}
 
 -- a fault of a head as one of a message
@@ -25,26 +26,26 @@ head_fault heads.Host = Head heads.Host
 head_fault heads.Target = Head heads.Target
 head_fault heads.Memory = Memory
 
-module _ {H : Type 0} (Begins : List ℕ → H → ℕ → Type 0) (field_count : H → ℕ) (framing : H → Result Framing FrameFault) (bare : H → H) where
+module _ {H : Type 0} (form : Form H) (kind : Kind) where
   -- a whole head begins the octets, whose fields show the fault
   pub record ShowsFault (fault : FrameFault) (octets : List ℕ) (room : Room) : Type 0 where
     pub head : H
     pub len : ℕ
-    pub begins : IsWholeHead Begins field_count octets room head len
-    pub framed : framing head ≡ Err fault
+    pub begins : IsWholeHead form.begins form.field_count octets room head len
+    pub framed : form.framing_of kind head ≡ Err fault
 
   -- a whole head begins the octets, and the body behind it breaks by the fault
   pub record BreaksBehind (fault : FrameFault) (octets : List ℕ) (room : Room) : Type 0 where
     pub head : H
     pub len : ℕ
-    pub begins : IsWholeHead Begins field_count octets room head len
+    pub begins : IsWholeHead form.begins form.field_count octets room head len
     pub frame : Framing
-    pub framed : framing head ≡ Ok frame
+    pub framed : form.framing_of kind head ≡ Ok frame
     pub breaks : BreaksBody fault frame (drop len octets)
 
   -- where a fault stands, whatever follows the octets
   abbrev pub StandsIn : FrameFault → List ℕ → Room → Type 0
-  StandsIn (Head fault) octets room = (fault ≢ heads.Memory) × GivesHead Begins field_count (Err fault) octets room
+  StandsIn (Head fault) octets room = (fault ≢ heads.Memory) × GivesHead form.begins form.field_count (Err fault) octets room
   StandsIn BothLengths octets room = ShowsFault BothLengths octets room
   StandsIn BadLength octets room = ShowsFault BadLength octets room
   StandsIn BadCoding octets room = ShowsFault BadCoding octets room
@@ -56,17 +57,17 @@ module _ {H : Type 0} (Begins : List ℕ → H → ℕ → Type 0) (field_count 
 
   -- no head has ended, and more octets can make the octets one
   pub record AwaitsHead (octets : List ℕ) (room : Room) : Type 0 where
-    pub none : HasNoHead Begins field_count octets room
+    pub none : HasNoHead form.begins form.field_count octets room
     pub short : length octets < room.octets
-    pub can : CanBecomeHead Begins octets
+    pub can : CanBecomeHead form.begins octets
 
   -- a whole head begins the octets, and the body behind it hasn't ended
   pub record AwaitsBody (octets : List ℕ) (room : Room) : Type 0 where
     pub head : H
     pub len : ℕ
-    pub begins : IsWholeHead Begins field_count octets room head len
+    pub begins : IsWholeHead form.begins form.field_count octets room head len
     pub frame : Framing
-    pub framed : framing head ≡ Ok frame
+    pub framed : form.framing_of kind head ≡ Ok frame
     pub is_open : IsOpenBody frame (drop len octets)
 
   -- where a fault stands at the end of the octets, when no more come
@@ -80,9 +81,9 @@ module _ {H : Type 0} (Begins : List ℕ → H → ℕ → Type 0) (field_count 
   pub record GoesOnBehind (octets : List ℕ) (room : Room) : Type 0 where
     pub message : Message H
     pub len : ℕ
-    pub begins : BeginsMessage Begins framing bare octets message len
+    pub begins : BeginsMessage form kind octets message len
     pub octets_fit : begins.head_len ≤ room.octets
-    pub fields_fit : field_count begins.head ≤ room.fields
+    pub fields_fit : form.field_count begins.head ≤ room.fields
     pub more : len < length octets
 
   -- where a fault of octets stands that are to be one message and no more
@@ -93,9 +94,9 @@ module _ {H : Type 0} (Begins : List ℕ → H → ℕ → Type 0) (field_count 
 
   -- the message keeps to the room
   pub record IsWholeIn (octets : List ℕ) (room : Room) (message : Message H) : Type 0 where
-    pub is : IsWholeMessage Begins framing bare octets message
+    pub is : IsWholeMessage form kind octets message
     pub octets_fit : is.head_len ≤ room.octets
-    pub fields_fit : field_count is.head ≤ room.fields
+    pub fields_fit : form.field_count is.head ≤ room.fields
 
   -- each answer on octets that are to be one message stands only where this says so
   abbrev pub GivesMessage : Result (Message H) FrameFault → List ℕ → Room → Type 0
@@ -111,14 +112,14 @@ FindsMessage (Err fault) message = fault ≡ Memory
 
 -- all of the octets are the request, and its head keeps to the room
 abbrev pub IsWholeRequest : List ℕ → Room → Message RequestHead → Type 0
-IsWholeRequest = IsWholeIn BeginsRequestHead request_field_count (framing_of_request Request) request_without_framing
+IsWholeRequest = IsWholeIn request_form Request
 
 -- all of the octets are the response, to a HEAD request or another, and its head keeps to the room
 abbrev pub IsWholeResponse : Bool → List ℕ → Room → Message ResponseHead → Type 0
-IsWholeResponse to_head = IsWholeIn BeginsResponseHead response_field_count (framing_of_response (Response to_head)) response_without_framing
+IsWholeResponse to_head = IsWholeIn response_form (Response to_head)
 
 abbrev pub GivesRequest : Result (Message RequestHead) FrameFault → List ℕ → Room → Type 0
-GivesRequest = GivesMessage BeginsRequestHead request_field_count (framing_of_request Request) request_without_framing
+GivesRequest = GivesMessage request_form Request
 
 abbrev pub GivesResponse : Bool → Result (Message ResponseHead) FrameFault → List ℕ → Room → Type 0
-GivesResponse to_head = GivesMessage BeginsResponseHead response_field_count (framing_of_response (Response to_head)) response_without_framing
+GivesResponse to_head = GivesMessage response_form (Response to_head)

@@ -1,4 +1,4 @@
--- The fields of a head show no other faults than those of framing.
+-- The laws of heads: those of hc_head, and that the fields show no other faults than those of framing.
 use Rattle.std.specs.Prelude.{◌≡◌, ℕ, Bool, true, false, ◌&&◌, not, List, [], ◌∷◌, Option, Some, None, Result, Ok, Err, if◌then◌else◌, nat_lt, codes}
 use Rattle.std.specs.Bool.{⊤}
 use Rattle.std.proofs.Common.{subst}
@@ -18,7 +18,9 @@ use Rattle.hc_framing.specs.declared.framing.Framing.{Framing}
 use Rattle.hc_framing.specs.declared.framing.Framing.TheVariants.{Nothing, Sized, Chunked, UntilClose}
 use Rattle.hc_fields.specs.Lists.{trimmed}
 use Rattle.hc_framing.specs.Framing.{IsFramingFault, ◌>>=◌, refuse, members_of, first_length, each_writes, common_length, sized_by, sized, coded_by, coded, is_http10, framing_by, request_framing, ends_with_head, response_framing}
-use Rattle.hc_framing.specs.Messages.{answers_head, framing_of_request, framing_of_response}
+use Rattle.hc_head.specs.Laws.{request_unique, request_goes_on, request_within, request_some, request_front, request_ends_with_empty_line, request_at_its_first, response_unique, response_goes_on, response_within, response_some, response_front, response_ends_with_empty_line, response_at_its_first}
+use Rattle.hc_framing.specs.Forms.{FormLaws}
+use Rattle.hc_framing.specs.Messages.{answers_head, framing_of_request, request_form, framing_of_response, response_form}
 
 -- if the result is a fault, it is one of these
 abbrev pub OnlyFramingFaults : {A : Type 0} → Result A FrameFault → Type 0
@@ -69,10 +71,34 @@ framing_faults default version fields =
 shown : {A : Type 0} (result : Result A FrameFault) (fault : FrameFault) → OnlyFramingFaults result → result ≡ Err fault → IsFramingFault fault
 shown result fault only is = subst OnlyFramingFaults is only
 
-pub request_shows : (kind : Kind) (head : RequestHead) (fault : FrameFault) → framing_of_request kind head ≡ Err fault → IsFramingFault fault
+request_shows : (kind : Kind) (head : RequestHead) (fault : FrameFault) → framing_of_request kind head ≡ Err fault → IsFramingFault fault
 request_shows kind head fault = shown (request_framing head.version head.fields) fault (framing_faults Nothing head.version head.fields)
 
-pub response_shows : (kind : Kind) (head : ResponseHead) (fault : FrameFault) → framing_of_response kind head ≡ Err fault → IsFramingFault fault
+response_shows : (kind : Kind) (head : ResponseHead) (fault : FrameFault) → framing_of_response kind head ≡ Err fault → IsFramingFault fault
 response_shows kind head fault =
     shown (response_framing (answers_head kind) head.status head.version head.fields) fault
     (chosen (ends_with_head (answers_head kind) head.status) (Ok Nothing) (framing_by UntilClose head.version head.fields) tt (framing_faults UntilClose head.version head.fields))
+
+pub request_laws : FormLaws request_form
+request_laws = record {
+  one_head = request_unique;
+  goes_on = request_goes_on;
+  within = request_within;
+  some = request_some;
+  front = request_front;
+  ends_with_empty_line = request_ends_with_empty_line;
+  at_its_first = request_at_its_first;
+  shows = request_shows;
+}
+
+pub response_laws : FormLaws response_form
+response_laws = record {
+  one_head = response_unique;
+  goes_on = response_goes_on;
+  within = response_within;
+  some = response_some;
+  front = response_front;
+  ends_with_empty_line = response_ends_with_empty_line;
+  at_its_first = response_at_its_first;
+  shows = response_shows;
+}

@@ -5,6 +5,7 @@ pub mod Trailers
 pub mod TrailerReading
 pub mod Chunks
 pub mod Framing
+pub mod Forms
 pub mod Messages
 pub mod Texts
 pub mod FramingLaws

@@ -4,13 +4,15 @@ use Rattle.hc_fields.specs.declared.fields.Field.{Field}
 use Rattle.hc_fields.specs.Values.{without}
 use Rattle.hc_head.specs.declared.head.RequestHead.{RequestHead}
 use Rattle.hc_head.specs.declared.head.ResponseHead.{ResponseHead}
-use Rattle.hc_head.specs.Heads.{BeginsRequestHead, BeginsResponseHead}
+use Rattle.httparse.specs.Spans.{RequestExceeds, ResponseExceeds}
+use Rattle.hc_head.specs.Heads.{BeginsRequestHead, request_field_count, BeginsResponseHead, response_field_count}
 use Rattle.hc_framing.specs.declared.message.Message.{Message}
 use Rattle.hc_framing.specs.declared.fault.FrameFault.{FrameFault}
 use Rattle.hc_framing.specs.declared.framing.Framing.{Framing}
 use Rattle.hc_framing.specs.declared.framing.Framing.TheVariants.{Nothing, Sized, Chunked, UntilClose}
 use Rattle.hc_framing.specs.declared.kind.Kind.{Kind}
 use Rattle.hc_framing.specs.declared.kind.Kind.TheVariants.{Request, Response}
+use Rattle.hc_framing.specs.Forms.{Form}
 use Rattle.hc_framing.specs.Framing.{request_framing, response_framing}
 use Rattle.hc_head.specs.Writable.{longest_body}
 use Rattle.hc_framing.specs.Chunks.{IsChunkedThen}
@@ -41,29 +43,28 @@ IsWholeBody (Sized size) octets body = BeginsBody (Sized size) octets body (leng
 IsWholeBody Chunked octets body = BeginsBody Chunked octets body (length octets)
 IsWholeBody UntilClose octets body = (body ≡ octets) × (length octets ≤ longest_body)
 
--- by what octets begin with a head, how its body is framed, and the head without the fields that frame it
-module _ {H : Type 0} (Begins : List ℕ → H → ℕ → Type 0) (framing : H → Result Framing FrameFault) (bare : H → H) where
+module _ {H : Type 0} (form : Form H) (kind : Kind) where
   -- the octets begin with the message, which takes len of them
   pub record BeginsMessage (octets : List ℕ) (message : Message H) (len : ℕ) : Type 0 where
     pub head : H
     pub head_len : ℕ
-    pub begins : Begins octets head head_len
+    pub begins : form.begins octets head head_len
     pub frame : Framing
-    pub framed : framing head ≡ Ok frame
+    pub framed : form.framing_of kind head ≡ Ok frame
     pub body_len : ℕ
     pub body : BeginsBody frame (drop head_len octets) message.body body_len
-    pub head_is : message.head ≡ bare head
+    pub head_is : message.head ≡ form.without_framing head
     pub len_is : len ≡ head_len + body_len
 
   -- all of the octets are the message, and there are no more
   pub record IsWholeMessage (octets : List ℕ) (message : Message H) : Type 0 where
     pub head : H
     pub head_len : ℕ
-    pub begins : Begins octets head head_len
+    pub begins : form.begins octets head head_len
     pub frame : Framing
-    pub framed : framing head ≡ Ok frame
+    pub framed : form.framing_of kind head ≡ Ok frame
     pub body : IsWholeBody frame (drop head_len octets) message.body
-    pub head_is : message.head ≡ bare head
+    pub head_is : message.head ≡ form.without_framing head
 
 -- ---- requests and responses
 
@@ -88,10 +89,28 @@ framing_of_request kind head = request_framing head.version head.fields
 abbrev pub framing_of_response : Kind → ResponseHead → Result Framing FrameFault
 framing_of_response kind head = response_framing (answers_head kind) head.status head.version head.fields
 
+abbrev pub request_form : Form RequestHead
+request_form = record {
+  begins = BeginsRequestHead;
+  field_count = request_field_count;
+  exceeds = RequestExceeds;
+  framing_of = framing_of_request;
+  without_framing = request_without_framing;
+}
+
+abbrev pub response_form : Form ResponseHead
+response_form = record {
+  begins = BeginsResponseHead;
+  field_count = response_field_count;
+  exceeds = ResponseExceeds;
+  framing_of = framing_of_response;
+  without_framing = response_without_framing;
+}
+
 -- the octets begin with the request, which takes len of them
 abbrev pub BeginsRequest : List ℕ → Message RequestHead → ℕ → Type 0
-BeginsRequest = BeginsMessage BeginsRequestHead (framing_of_request Request) request_without_framing
+BeginsRequest = BeginsMessage request_form Request
 
 -- the octets begin with the response, to a HEAD request or another, which takes len of them
 abbrev pub BeginsResponse : Bool → List ℕ → Message ResponseHead → ℕ → Type 0
-BeginsResponse to_head = BeginsMessage BeginsResponseHead (framing_of_response (Response to_head)) response_without_framing
+BeginsResponse to_head = BeginsMessage response_form (Response to_head)

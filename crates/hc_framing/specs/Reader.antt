@@ -1,5 +1,5 @@
 -- A reader of messages in pieces, and the octets that it was given, of which it keeps those of the head or of the body.
-use Rattle.std.specs.Prelude.{◌≡◌, ◌≢◌, ℕ, ◌+◌, ◌<◌, ◌≤◌, ◌⊎◌, List, [], ◌++◌, length, take, drop, Option, Some, None, Result, Ok, Err}
+use Rattle.std.specs.Prelude.{◌≡◌, ◌≢◌, ℕ, ◌+◌, ◌<◌, ◌≤◌, ◌⊎◌, List, [], ◌++◌, length, take, drop, Option, Some, None, IfSome, Result, Ok, Err}
 use Rattle.hc_head.specs.declared.head.Room.{Room}
 use Rattle.hc_head.specs.declared.empty_line.Search.TheVariants.{Blank, Found}
 use Rattle.hc_head.specs.EmptyLine.{searched}
@@ -14,6 +14,7 @@ use Rattle.hc_framing.specs.declared.reader.Stage.{Stage}
 use Rattle.hc_framing.specs.declared.reader.Stage.TheVariants.{Head, Body, End, Failed}
 use Rattle.hc_framing.specs.declared.progress.Progress.{Progress}
 use Rattle.hc_framing.specs.declared.progress.Progress.TheVariants.{More, Whole}
+use Rattle.hc_framing.specs.Forms.{Form}
 use Rattle.hc_framing.specs.Messages.{BeginsMessage}
 use Rattle.hc_framing.specs.Faults.{StandsIn, StandsAtEnd, AwaitsBody, IsWholeIn}
 use Rattle.hc_framing.specs.BodyReading.{AgreesBody}
@@ -26,7 +27,7 @@ HasFailed r = r.stage ≡ Failed
 pub record Holds {H : Type 0} (r : MessageReader H) (message : Message H) : Type 0 where
   pub stage_is : r.stage ≡ End
   pub head_is : r.head ≡ Some message.head
-  pub body_is : r.body.octets ≡ message.body
+  pub body_is : r.body.whole ≡ message.body
 
 -- it has found some message
 abbrev pub HasMessage : {H : Type 0} → MessageReader H → Type 0
@@ -36,7 +37,7 @@ HasMessage {H} r = (message : Message H) × Holds r message
 abbrev pub HasRoomLeft : List ℕ → Room → Type 0
 HasRoomLeft octets room = (octets ≡ []) ⊎ (length octets < room.octets)
 
-module _ {H : Type 0} (Begins : List ℕ → H → ℕ → Type 0) (field_count : H → ℕ) (framing : Kind → H → Result Framing FrameFault) (bare : H → H) where
+module _ {H : Type 0} (form : Form H) where
   -- no empty line has come, there is room for more, and the reader keeps the octets
   pub record KeepsHead (room : Room) (r : MessageReader H) (octets : List ℕ) : Type 0 where
     pub start_is : r.start ≡ octets
@@ -49,10 +50,10 @@ module _ {H : Type 0} (Begins : List ℕ → H → ℕ → Type 0) (field_count 
   pub record KeepsBody (kind : Kind) (room : Room) (r : MessageReader H) (octets : List ℕ) : Type 0 where
     pub head : H
     pub len : ℕ
-    pub begins : IsWholeHead Begins field_count octets room head len
+    pub begins : IsWholeHead form.begins form.field_count octets room head len
     pub frame : Framing
-    pub framed : framing kind head ≡ Ok frame
-    pub head_is : r.head ≡ Some (bare head)
+    pub framed : form.framing_of kind head ≡ Ok frame
+    pub head_is : r.head ≡ Some (form.without_framing head)
     pub body : AgreesBody frame r.body (drop len octets)
 
   abbrev pub AgreesAt : Stage → Kind → Room → MessageReader H → List ℕ → Type 0
@@ -78,13 +79,13 @@ module _ {H : Type 0} (Begins : List ℕ → H → ℕ → Type 0) (field_count 
 
   -- no front of the octets is a message
   abbrev pub HasNoMessage : Kind → List ℕ → Type 0
-  HasNoMessage kind octets = (message : Message H) (len : ℕ) → ¬ (BeginsMessage Begins (framing kind) bare octets message len)
+  HasNoMessage kind octets = (message : Message H) (len : ℕ) → ¬ (BeginsMessage form kind octets message len)
 
   -- a message begins the octets, and its head keeps to the room
   pub record BeginsIn (kind : Kind) (octets : List ℕ) (room : Room) (message : Message H) (len : ℕ) : Type 0 where
-    pub begins : BeginsMessage Begins (framing kind) bare octets message len
+    pub begins : BeginsMessage form kind octets message len
     pub octets_fit : begins.head_len ≤ room.octets
-    pub fields_fit : field_count begins.head ≤ room.fields
+    pub fields_fit : form.field_count begins.head ≤ room.fields
 
   -- with so many octets of the piece the octets are a message, and the reader holds it
   pub record EndsAfter (kind : Kind) (room : Room) (r : MessageReader H) (octets piece : List ℕ) (used : ℕ) : Type 0 where
@@ -97,48 +98,49 @@ module _ {H : Type 0} (Begins : List ℕ → H → ℕ → Type 0) (field_count 
   abbrev pub FeedGives : Result Progress FrameFault → Kind → Room → MessageReader H → List ℕ → List ℕ → Type 0
   FeedGives (Ok More) kind room r octets piece = Agrees kind room r (octets ++ piece)
   FeedGives (Ok (Whole used)) kind room r octets piece = EndsAfter kind room r octets piece used
-  FeedGives (Err fault) kind room r octets piece = StandsIn Begins field_count (framing kind) bare fault (octets ++ piece) room
+  FeedGives (Err fault) kind room r octets piece = StandsIn form kind fault (octets ++ piece) room
 
   -- what is shown of the head of the octets: the whole head that begins them, where its fields frame the body, without the fields that do
   pub record IsHeadOf (kind : Kind) (room : Room) (octets : List ℕ) (shown : H) : Type 0 where
     pub head : H
     pub len : ℕ
-    pub begins : IsWholeHead Begins field_count octets room head len
+    pub begins : IsWholeHead form.begins form.field_count octets room head len
     pub frame : Framing
-    pub framed : framing kind head ≡ Ok frame
-    pub shown_is : shown ≡ bare head
+    pub framed : form.framing_of kind head ≡ Ok frame
+    pub shown_is : shown ≡ form.without_framing head
 
+  -- the head of the octets is shown, where it is there
   abbrev pub ShowsHead : Kind → Room → List ℕ → Option H → Type 0
   ShowsHead kind room octets None = (shown : H) → ¬ (IsHeadOf kind room octets shown)
   ShowsHead kind room octets (Some shown) = IsHeadOf kind room octets shown
 
+  -- the same after an answer to a piece: where memory ran out, nothing else is shown
+  abbrev pub ShowsHeadAfter : Result Progress FrameFault → Kind → Room → List ℕ → Option H → Type 0
+  ShowsHeadAfter (Ok progress) kind room octets shown = ShowsHead kind room octets shown
+  ShowsHeadAfter (Err faults.Memory) kind room octets shown = IfSome shown (IsHeadOf kind room octets)
+  ShowsHeadAfter (Err fault) kind room octets shown = ShowsHead kind room octets shown
+
   -- a head hasn't come and has room left, or the body behind it is so far within the syntax, line by line
   abbrev pub IsInTime : Kind → Room → List ℕ → Type 0
-  IsInTime kind room octets = (HasNoHead Begins field_count octets room × HasRoomLeft octets room) ⊎ AwaitsBody Begins field_count (framing kind) bare octets room
+  IsInTime kind room octets = (HasNoHead form.begins form.field_count octets room × HasRoomLeft octets room) ⊎ AwaitsBody form kind octets room
 
   -- the octets that have ended are that message, and the reader holds it
   pub record EndsHere (kind : Kind) (room : Room) (r : MessageReader H) (octets : List ℕ) : Type 0 where
     pub message : Message H
-    pub is : IsWholeIn Begins field_count (framing kind) bare octets room message
+    pub is : IsWholeIn form kind octets room message
     pub holds : Holds r message
 
   -- each answer to the end of the octets stands only where this says so
   abbrev pub EndGives : Result Progress FrameFault → Kind → Room → MessageReader H → List ℕ → Type 0
   EndGives (Ok More) kind room r octets = ⊥
   EndGives (Ok (Whole used)) kind room r octets = (used ≡ 0) × EndsHere kind room r octets
-  EndGives (Err fault) kind room r octets = StandsAtEnd Begins field_count (framing kind) bare fault octets room
+  EndGives (Err fault) kind room r octets = StandsAtEnd form kind fault octets room
 
 -- the answer to a piece is the message that begins the octets and the piece, unless memory ran out
 abbrev pub FeedFinds : {H : Type 0} → Result Progress FrameFault → MessageReader H → List ℕ → Message H → ℕ → Type 0
 FeedFinds (Ok More) r octets message len = ⊥
 FeedFinds (Ok (Whole used)) r octets message len = (length octets + used ≡ len) × Holds r message
 FeedFinds (Err fault) r octets message len = fault ≡ faults.Memory
-
--- the claim stands unless memory ran out
-abbrev pub UnlessMemory : {A : Type 0} → Result A FrameFault → Type 0 → Type 0
-UnlessMemory (Ok a) claim = claim
-UnlessMemory (Err faults.Memory) claim = Unit {0}
-UnlessMemory (Err fault) claim = claim
 
 -- the claim stands where the message is whole
 abbrev pub OnWhole : Result Progress FrameFault → Type 0 → Type 0

@@ -13,6 +13,7 @@ use Rattle.hc_framing.specs.declared.reader.MessageReader.{MessageReader}
 use Rattle.hc_framing.specs.declared.reader.Stage.TheVariants.{Body, End}
 use Rattle.hc_framing.specs.declared.progress.Progress.{Progress}
 use Rattle.hc_framing.specs.declared.progress.Progress.TheVariants.{More, Whole}
+use Rattle.hc_framing.specs.Forms.{Form}
 use Rattle.hc_framing.specs.Faults.{AwaitsHead}
 use Rattle.hc_framing.specs.Framing.{IsFramingFault}
 use Rattle.hc_framing.specs.BodyReading.{AgreesBody, FaultsBody, GivesBody}
@@ -40,23 +41,23 @@ pub record SameHead {H : Type 0} (r s : MessageReader H) : Type 0 where
 abbrev pub SameShown : {H : Type 0} → MessageReader H → MessageReader H → Type 0
 SameShown r s = s.head ≡ r.head
 
-module _ {H : Type 0} (Begins : List ℕ → H → ℕ → Type 0) (field_count : H → ℕ) (framing : Kind → H → Result Framing FrameFault) (bare : H → H) where
+module _ {H : Type 0} (form : Form H) where
   -- a whole head, and what its fields say of the body
   pub record HasRead (r : MessageReader H) (frame : Result Framing FrameFault) : Type 0 where
     pub head : H
     pub len : ℕ
-    pub begins : IsWholeHead Begins field_count r.start r.room head len
-    pub framed : framing r.kind head ≡ frame
+    pub begins : IsWholeHead form.begins form.field_count r.start r.room head len
+    pub framed : form.framing_of r.kind head ≡ frame
 
   -- where a fault of reading the head stands
   abbrev pub FaultsHead : FrameFault → MessageReader H → Type 0
-  FaultsHead (faults.Head fault) r = (fault ≢ heads.Memory) × GivesHead Begins field_count (Err fault) r.start r.room
+  FaultsHead (faults.Head fault) r = (fault ≢ heads.Memory) × GivesHead form.begins form.field_count (Err fault) r.start r.room
   FaultsHead faults.Memory r = Unit {0}
   FaultsHead fault r = HasRead r (Err fault) × IsFramingFault fault
 
   abbrev pub ReadsHead : Result (Option Framing) FrameFault → MessageReader H → MessageReader H → Type 0
-  ReadsHead (Ok None) r s = SameHead r s × SameShown r s × AwaitsHead Begins field_count (framing r.kind) bare r.start r.room
-  ReadsHead (Ok (Some frame)) r s = SameHead r s × ((read : HasRead r (Ok frame)) × (s.head ≡ Some (bare read.head)))
+  ReadsHead (Ok None) r s = SameHead r s × SameShown r s × AwaitsHead form r.kind r.start r.room
+  ReadsHead (Ok (Some frame)) r s = SameHead r s × ((read : HasRead r (Ok frame)) × (s.head ≡ Some (form.without_framing read.head)))
   ReadsHead (Err fault) r s = SameShown r s × FaultsHead fault r
 
 -- what stays the same while the body is read
@@ -81,3 +82,8 @@ BeginsBodyGives frame (Err fault) r s piece = SameShown r s × FaultsBody fault 
 pub record IsClosed {H : Type 0} (r : MessageReader H) : Type 0 where
   pub stage_is : r.stage ≡ Body
   pub until : (frame : Framing) (octets : List ℕ) → AgreesBody frame r.body octets → frame ≡ UntilClose
+
+-- the body that has come is whole, and the head is the same
+pub record IsFrozen {H : Type 0} (r s : MessageReader H) : Type 0 where
+  pub head_is : s.head ≡ r.head
+  pub body_is : s.body.whole ≡ r.body.octets

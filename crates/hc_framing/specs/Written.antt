@@ -3,13 +3,12 @@ use Rattle.std.specs.Prelude.{◌≡◌, ℕ, ◌≤◌, Bool, IsTrue, List, [],
 use Rattle.hc_head.specs.declared.head.RequestHead.{RequestHead}
 use Rattle.hc_head.specs.declared.head.ResponseHead.{ResponseHead}
 use Rattle.hc_head.specs.declared.head.Room.{Room}
-use Rattle.hc_head.specs.Heads.{BeginsRequestHead, request_field_count, BeginsResponseHead, response_field_count}
 use Rattle.hc_head.specs.Writable.{IsWritableRequest, IsWritableResponse}
 use Rattle.hc_framing.specs.declared.message.Message.{Message}
 use Rattle.hc_framing.specs.declared.kind.Kind.TheVariants.{Request, Response}
 use Rattle.hc_head.specs.Writable.{longest_body}
 use Rattle.hc_framing.specs.Framing.{ends_with_head}
-use Rattle.hc_framing.specs.Messages.{framing_of_request, request_without_framing, framing_of_response, response_without_framing}
+use Rattle.hc_framing.specs.Messages.{request_form, response_form}
 use Rattle.hc_framing.specs.Reader.{BeginsIn}
 
 -- the head is writable in the room, and the body is no longer than a body may be
@@ -25,8 +24,8 @@ pub record IsReadableResponse (to_head : Bool) (message : Message ResponseHead) 
 
 -- the octets begin with the request, which takes len of them, and its head keeps to the room
 abbrev pub BeginsRequestIn : List ℕ → Room → Message RequestHead → ℕ → Type 0
-BeginsRequestIn = BeginsIn BeginsRequestHead request_field_count framing_of_request request_without_framing Request
+BeginsRequestIn = BeginsIn request_form Request
 
 -- the octets begin with the response, to a HEAD request or another, and its head keeps to the room
 abbrev pub BeginsResponseIn : Bool → List ℕ → Room → Message ResponseHead → ℕ → Type 0
-BeginsResponseIn to_head = BeginsIn BeginsResponseHead response_field_count framing_of_response response_without_framing (Response to_head)
+BeginsResponseIn to_head = BeginsIn response_form (Response to_head)

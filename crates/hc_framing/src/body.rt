@@ -8,8 +8,9 @@ use crate::fault::FrameFault;
 use crate::framing::Framing;
 use crate::progress::Progress;
 use crate::trailer::TrailerReader;
-use hc_fields::Octets;
+use hc_fields::{Octets, SharedOctets};
 use std::alloc::{AllocError, Global};
+use std::mem;
 
 /// The most octets of a body.
 const LONGEST_BODY: usize = 16_777_216;
@@ -57,7 +58,10 @@ pub(crate) fn has_octets(framing: Framing) -> bool
 #[derive(Debug, Drop)]
 pub(crate) struct BodyReader {
     alloc: Global,
+    /// The octets of the body so far, while it isn't whole.
     octets: Octets,
+    /// The octets of the body, once it is whole.
+    whole: SharedOctets,
     stage: Stage,
     /// How many octets are to come, of the body or of the chunk's data.
     left: usize,
@@ -73,7 +77,7 @@ impl BodyReader {
     /// A reader of a body that is framed so.
     pub(crate) fn new(alloc: Global, framing: Framing) -> Self
         ensures agrees { has_octets framing ≡ true → AgreesBody framing result [] }
-        ensures none { result.octets ≡ [] }
+        ensures none { result.whole ≡ [] }
     {
         let (stage, left) = match framing {
             Framing::Nothing => (Stage::Sized, 0),
@@ -84,6 +88,7 @@ impl BodyReader {
         BodyReader {
             alloc,
             octets: Octets::new(alloc),
+            whole: SharedOctets::new(),
             stage,
             left,
             line: ChunkLineReader::new(),
@@ -101,11 +106,20 @@ impl BodyReader {
         self.stage == Stage::UntilClose
     }
 
-    /// The octets of the body so far.
-    pub(crate) fn octets(self) -> Octets
-        ensures { result ≡ self.octets }
+    /// Says that the body is whole: its octets stay where they are, to be shared.
+    pub(crate) fn freeze(&mut self) -> Result<(), AllocError>
+        ensures { IfOk result (λ done. self.new.whole ≡ self.old.octets) }
     {
-        self.octets
+        let octets = mem::replace(&mut self.octets, Octets::new(self.alloc));
+        self.whole = SharedOctets::from_vec(octets.into_vec())?;
+        Ok(())
+    }
+
+    /// The octets of the body, once it is whole.
+    pub(crate) fn into_whole(self) -> SharedOctets
+        ensures { result ≡ self.whole }
+    {
+        self.whole
     }
 
     /// Takes the next piece.
@@ -119,7 +133,10 @@ impl BodyReader {
             let (_, rest) = piece.split_at(used);
             match self.step(rest)? {
                 Part::On(taken) => used += taken,
-                Part::End(taken) => return Ok(Progress::Whole(used + taken)),
+                Part::End(taken) => {
+                    self.freeze()?;
+                    return Ok(Progress::Whole(used + taken));
+                }
             }
         }
         Ok(Progress::More)

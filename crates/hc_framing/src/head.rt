@@ -8,23 +8,23 @@ use crate::framing::{Framing, ends_with_head, request_framing, response_framing}
 use crate::kind::Kind;
 use crate::message::Message;
 use hc_fields::{Fields, Octets};
-use hc_head::{Head, RequestHead, ResponseHead, is_unsafe, write_request, write_response};
+use hc_head::{
+    HeadFault, RequestHead, ResponseHead, Room, Step, is_unsafe, read_request, read_response,
+    write_request, write_response,
+};
 use std::alloc::{AllocError, Global};
 
-/// The head of a message, which tells how its body is framed.
-pub trait MessageHead: Head {
-    ghost use Rattle.std.specs.Prelude.{◌≡◌, ℕ, Bool, List, Option, Result, Err, IfOk};
-    ghost use Rattle.hc_framing.specs.Framing.{IsFramingFault};
-    ghost use Rattle.hc_framing.specs.declared.fault.FrameFault.{FrameFault};
-    ghost use Rattle.hc_framing.specs.declared.framing.Framing.{Framing};
+/// The head of a message, which can be read from octets and tells how its body is framed.
+pub trait MessageHead: Drop {
+    ghost use Rattle.std.specs.Prelude.{◌≡◌, ℕ, Bool, List, Option, take, IfOk};
+    ghost use Rattle.hc_head.specs.Reading.{IsWholeHead, GivesHead, FindsHead, CanBecomeHead, OnUnfinished, OnTooManyFields};
     ghost use Rattle.hc_framing.specs.declared.kind.Kind.{Kind};
     ghost use Rattle.hc_framing.specs.declared.message.Message.{Message};
+    ghost use Rattle.hc_framing.specs.Forms.{Form, FormLaws};
 
-    /// How the body behind the head is framed.
-    ghost framing_of: { Kind → Self → Result Framing FrameFault };
-
-    /// The head without the fields that frame the body.
-    ghost without_framing: { Self → Self };
+    /// What octets begin with the head, how many fields it has, how they frame the body, and the head
+    /// without those that do.
+    ghost form: { Form Self };
 
     /// The text of the head, with a last line for the length of the body where that is given.
     ghost head_text: { Self → Option ℕ → List ℕ };
@@ -32,13 +32,25 @@ pub trait MessageHead: Head {
     /// Whether the length of the body is told where the message is written.
     ghost length_told: { Kind → Message Self → Bool };
 
+    /// Reads the head that begins the octets, of which no more than the room are looked at.
+    fn read(alloc: Global, bytes: &[u8], room: Room) -> Result<Step<Self>, HeadFault>
+        // Each answer stands only where it says so.
+        ensures gives { GivesHead form.begins form.field_count result bytes.now room }
+        // A whole head is found, unless memory runs out.
+        ensures found { (head : Self) (len : ℕ)
+            → IsWholeHead form.begins form.field_count bytes.now room head len → FindsHead result head len }
+        // More octets are wanted only where they can make a head.
+        ensures unfinished { OnUnfinished result (CanBecomeHead form.begins (take room.octets bytes.now)) }
+        // Too many fields are told only behind a start line and more fields than the room, each of them valid.
+        ensures too_many { OnTooManyFields result (form.exceeds room.fields (take room.octets bytes.now)) };
+
     /// How the body behind the head is framed.
     fn framing(&self, kind: Kind) -> Result<Framing, FrameFault>
-        ensures { result ≡ framing_of kind self.now };
+        ensures { result ≡ form.framing_of kind self.now };
 
     /// The head without the fields that frame the body.
     fn into_bare(self) -> Self
-        ensures { result ≡ without_framing self };
+        ensures { result ≡ form.without_framing self };
 
     /// The text of the head, with a last line for the length of the body where that is given.
     fn write(&self, alloc: Global, length: Option<u64>) -> Result<Octets, AllocError>
@@ -48,8 +60,8 @@ pub trait MessageHead: Head {
     fn tells_length(message: &Message<Self>, kind: Kind) -> bool
         ensures { result ≡ length_told kind message.now };
 
-    /// The fields show faults of framing alone.
-    ghost shows: { (kind : Kind) (head : Self) (fault : FrameFault) → framing_of kind head ≡ Err fault → IsFramingFault fault };
+    /// Octets begin with one head at most, which ends with its first empty line, whatever follows.
+    ghost laws: { FormLaws form };
 }
 
 /// Whether what is read answers HEAD.
@@ -71,18 +83,20 @@ fn remove_framing(fields: &mut Fields)
 }
 
 impl MessageHead for RequestHead {
-    ghost use Rattle.hc_framing.specs.Messages.{framing_of_request, request_without_framing};
-    ghost use Rattle.hc_framing.specs.FramingLaws.{request_shows};
+    ghost use Rattle.hc_framing.specs.Messages.{request_form};
+    ghost use Rattle.hc_framing.specs.FramingLaws.{request_laws};
     ghost use Rattle.hc_framing.specs.Texts.{request_length_told};
     ghost use Rattle.hc_head.specs.Texts.{request_head_text};
 
-    ghost framing_of = { framing_of_request };
-
-    ghost without_framing = { request_without_framing };
+    ghost form = { request_form };
 
     ghost head_text = { request_head_text };
 
     ghost length_told = { λ _ message. request_length_told message };
+
+    fn read(alloc: Global, bytes: &[u8], room: Room) -> Result<Step<RequestHead>, HeadFault> {
+        read_request(alloc, bytes, room)
+    }
 
     fn framing(&self, _kind: Kind) -> Result<Framing, FrameFault> {
         request_framing(self.version, &self.fields)
@@ -101,22 +115,24 @@ impl MessageHead for RequestHead {
         !message.body.is_empty() || is_unsafe(message.head.method.as_slice())
     }
 
-    ghost shows = { request_shows };
+    ghost laws = { request_laws };
 }
 
 impl MessageHead for ResponseHead {
-    ghost use Rattle.hc_framing.specs.Messages.{framing_of_response, response_without_framing};
-    ghost use Rattle.hc_framing.specs.FramingLaws.{response_shows};
+    ghost use Rattle.hc_framing.specs.Messages.{response_form};
+    ghost use Rattle.hc_framing.specs.FramingLaws.{response_laws};
     ghost use Rattle.hc_framing.specs.Texts.{response_length_told};
     ghost use Rattle.hc_head.specs.Texts.{response_head_text};
 
-    ghost framing_of = { framing_of_response };
-
-    ghost without_framing = { response_without_framing };
+    ghost form = { response_form };
 
     ghost head_text = { response_head_text };
 
     ghost length_told = { response_length_told };
+
+    fn read(alloc: Global, bytes: &[u8], room: Room) -> Result<Step<ResponseHead>, HeadFault> {
+        read_response(alloc, bytes, room)
+    }
 
     fn framing(&self, kind: Kind) -> Result<Framing, FrameFault> {
         response_framing(answers_head(kind), self.status, self.version, &self.fields)
@@ -135,5 +151,5 @@ impl MessageHead for ResponseHead {
         !ends_with_head(answers_head(kind), message.head.status)
     }
 
-    ghost shows = { response_shows };
+    ghost laws = { response_laws };
 }

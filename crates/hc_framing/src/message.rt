@@ -1,4 +1,4 @@
-use hc_fields::Octets;
+use hc_fields::SharedOctets;
 
 /// A message: its head, without the fields that frame the body, and its body.
 #[derive(Debug, Drop)]
@@ -6,5 +6,5 @@ pub struct Message<H> {
     /// Without the fields that frame the body.
     pub head: H,
     /// As it is once its framing is taken off.
-    pub body: Octets,
+    pub body: SharedOctets,
 }

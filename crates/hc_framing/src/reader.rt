@@ -27,7 +27,8 @@ enum Stage {
     Failed,
 }
 
-/// Reads a message that comes in pieces. Each octet of its body is kept once, where it stays.
+/// Reads a message that comes in pieces. Each octet of its body is kept once, and stays where it is
+/// when the message is whole.
 #[derive(Debug, Drop)]
 pub struct MessageReader<H> {
     alloc: Global,
@@ -68,19 +69,19 @@ fn head_fault(fault: HeadFault) -> FrameFault
 
 impl<H: MessageHead> MessageReader<H> {
     ghost use Rattle.std.specs.Prelude.{◌≡◌, ◌≢◌, ℕ, ◌<◌, ◌≤◌, List, [], ◌++◌, length, take, OnOk, OnErr, IfOk, IfErr};
-    ghost use Rattle.std.specs.Option.{option_copied};
+    ghost use Rattle.std.specs.Option.{IsSome, option_copied};
     ghost use Rattle.hc_head.specs.declared.head.Room.{Room};
     ghost use Rattle.hc_framing.specs.declared.kind.Kind.{Kind};
     ghost use Rattle.hc_framing.specs.declared.message.Message.{Message};
     ghost use Rattle.hc_framing.specs.BodyReading.{IsReading};
-    ghost use Rattle.hc_framing.specs.Reader.{HasFailed, Holds, HasMessage, Agrees, IsAgreeing, CanFeed, HasNoMessage, BeginsIn, FeedGives, FeedFinds, IsInTime, EndGives, OnWhole, ShowsHead, UnlessMemory};
-    ghost use Rattle.hc_framing.specs.ReaderParts.{is_due, ReadsHead, BeginsBodyGives, FeedsBody, IsClosed};
+    ghost use Rattle.hc_framing.specs.Reader.{HasFailed, Holds, HasMessage, Agrees, IsAgreeing, CanFeed, HasNoMessage, BeginsIn, FeedGives, FeedFinds, IsInTime, EndGives, OnWhole, ShowsHeadAfter};
+    ghost use Rattle.hc_framing.specs.ReaderParts.{is_due, ReadsHead, BeginsBodyGives, FeedsBody, IsClosed, IsFrozen};
     ghost use Rattle.hc_framing.specs.Faults.{StandsAtEnd};
 
     /// A reader of a message of that kind, whose head has to keep to the room.
     pub fn new(alloc: Global, kind: Kind, room: Room) -> Self
-        ensures agrees { Agrees H.begins H.field_count H.framing_of H.without_framing kind room result [] }
-        ensures can { CanFeed H.begins H.field_count H.framing_of H.without_framing result }
+        ensures agrees { Agrees H.form kind room result [] }
+        ensures can { CanFeed H.form result }
     {
         MessageReader {
             alloc,
@@ -111,37 +112,39 @@ impl<H: MessageHead> MessageReader<H> {
         let MessageReader { head, body, .. } = self;
         Message {
             head: head.unwrap(),
-            body: body.octets(),
+            body: body.into_whole(),
         }
     }
 
     /// Takes the next piece. Octets of it that follow the message are not taken.
     pub fn feed(&mut self, piece: &[u8]) -> Result<Progress, FrameFault>
-        requires { CanFeed H.begins H.field_count H.framing_of H.without_framing self.old }
+        requires { CanFeed H.form self.old }
         // Each answer stands only where it says so, whatever the pieces before were.
         ensures gives { (kind : Kind) (room : Room) (octets : List ℕ)
-            → Agrees H.begins H.field_count H.framing_of H.without_framing kind room self.old octets
-            → FeedGives H.begins H.field_count H.framing_of H.without_framing result kind room self.new octets piece.now }
+            → Agrees H.form kind room self.old octets
+            → FeedGives H.form result kind room self.new octets piece.now }
         // More is wanted only where no front of the octets is a message.
         ensures unfinished { result ≡ Ok Progress.More → (kind : Kind) (room : Room) (octets : List ℕ)
-            → Agrees H.begins H.field_count H.framing_of H.without_framing kind room self.old octets
-            → HasNoMessage H.begins H.field_count H.framing_of H.without_framing kind (octets ++ piece.now) }
+            → Agrees H.form kind room self.old octets
+            → HasNoMessage H.form kind (octets ++ piece.now) }
         // A message that is there is found, unless memory runs out.
         ensures found { (kind : Kind) (room : Room) (octets : List ℕ) (message : Message H) (len : ℕ)
-            → Agrees H.begins H.field_count H.framing_of H.without_framing kind room self.old octets
-            → BeginsIn H.begins H.field_count H.framing_of H.without_framing kind (octets ++ piece.now) room message len
+            → Agrees H.form kind room self.old octets
+            → BeginsIn H.form kind (octets ++ piece.now) room message len
             → FeedFinds result self.new octets message len }
         // A fault of the framing comes with the head, and one of the body with the line or the octet that breaks it.
         ensures in_time { result ≡ Ok Progress.More → (kind : Kind) (room : Room) (octets : List ℕ)
-            → Agrees H.begins H.field_count H.framing_of H.without_framing kind room self.old octets
-            → IsInTime H.begins H.field_count H.framing_of H.without_framing kind room (octets ++ piece.now) }
-        // The head is shown once it has come and frames the body, and stays whatever comes.
+            → Agrees H.form kind room self.old octets
+            → IsInTime H.form kind room (octets ++ piece.now) }
+        // The head is shown once it has come and frames the body.
         ensures head { (kind : Kind) (room : Room) (octets : List ℕ)
-            → Agrees H.begins H.field_count H.framing_of H.without_framing kind room self.old octets
-            → UnlessMemory result (ShowsHead H.begins H.field_count H.framing_of H.without_framing kind room (octets ++ piece.now) self.new.head) }
+            → Agrees H.form kind room self.old octets
+            → ShowsHeadAfter H.form result kind room (octets ++ piece.now) self.new.head }
+        // A head that is there stays, whatever the answer.
+        ensures keeps { IsSome self.old.head → self.new.head ≡ self.old.head }
         // It takes pieces until it has answered `Whole`.
         ensures can { result ≡ Ok Progress.More
-            → CanFeed H.begins H.field_count H.framing_of H.without_framing self.new }
+            → CanFeed H.form self.new }
         ensures has { OnWhole result (HasMessage self.new) }
         // After a fault the reader answers `Failed` for ever.
         ensures fails { OnErr result (HasFailed self.new) }
@@ -158,13 +161,14 @@ impl<H: MessageHead> MessageReader<H> {
     }
 
     fn advance(&mut self, piece: &[u8]) -> Result<Progress, FrameFault>
-        requires { CanFeed H.begins H.field_count H.framing_of H.without_framing self.old }
+        requires { CanFeed H.form self.old }
         ensures gives { (kind : Kind) (room : Room) (octets : List ℕ)
-            → Agrees H.begins H.field_count H.framing_of H.without_framing kind room self.old octets
-            → FeedGives H.begins H.field_count H.framing_of H.without_framing result kind room self.new octets piece.now }
+            → Agrees H.form kind room self.old octets
+            → FeedGives H.form result kind room self.new octets piece.now }
         ensures head { IfErr result (λ fault. (kind : Kind) (room : Room) (octets : List ℕ)
-            → Agrees H.begins H.field_count H.framing_of H.without_framing kind room self.old octets
-            → UnlessMemory result (ShowsHead H.begins H.field_count H.framing_of H.without_framing kind room (octets ++ piece.now) self.new.head)) }
+            → Agrees H.form kind room self.old octets
+            → ShowsHeadAfter H.form result kind room (octets ++ piece.now) self.new.head) }
+        ensures keeps { IsSome self.old.head → self.new.head ≡ self.old.head }
         ensures failed { HasFailed self.old → result ≡ Err FrameFault.Failed }
         ensures stays { HasFailed self.old → self.new.head ≡ self.old.head }
     {
@@ -179,13 +183,14 @@ impl<H: MessageHead> MessageReader<H> {
     /// Takes what the piece has of the head, and then of the body.
     fn feed_head(&mut self, piece: &[u8]) -> Result<Progress, FrameFault>
         requires stage { self.old.stage ≡ Stage.Head }
-        requires agrees { IsAgreeing H.begins H.field_count H.framing_of H.without_framing self.old }
+        requires agrees { IsAgreeing H.form self.old }
         ensures gives { (kind : Kind) (room : Room) (octets : List ℕ)
-            → Agrees H.begins H.field_count H.framing_of H.without_framing kind room self.old octets
-            → FeedGives H.begins H.field_count H.framing_of H.without_framing result kind room self.new octets piece.now }
+            → Agrees H.form kind room self.old octets
+            → FeedGives H.form result kind room self.new octets piece.now }
         ensures head { IfErr result (λ fault. (kind : Kind) (room : Room) (octets : List ℕ)
-            → Agrees H.begins H.field_count H.framing_of H.without_framing kind room self.old octets
-            → UnlessMemory result (ShowsHead H.begins H.field_count H.framing_of H.without_framing kind room (octets ++ piece.now) self.new.head)) }
+            → Agrees H.form kind room self.old octets
+            → ShowsHeadAfter H.form result kind room (octets ++ piece.now) self.new.head) }
+        ensures keeps { IsSome self.old.head → self.new.head ≡ self.old.head }
     {
         let near = front_of(piece, self.room.octets.saturating_sub(self.start.len()));
         let (search, used) = find_empty_line(self.search, near);
@@ -218,7 +223,7 @@ impl<H: MessageHead> MessageReader<H> {
 
     /// Reads the head, if it is whole, and tells how the body behind it is framed.
     fn read_head(&mut self) -> Result<Option<Framing>, FrameFault>
-        ensures { ReadsHead H.begins H.field_count H.framing_of H.without_framing result self.old self.new }
+        ensures { ReadsHead H.form result self.old self.new }
     {
         self.tried = self.start.len();
         match H::read(self.alloc, self.start.as_slice(), self.room) {
@@ -266,17 +271,17 @@ impl<H: MessageHead> MessageReader<H> {
 
     /// Says that no more octets come. A message that lasts until the close is whole then.
     pub fn end(&mut self) -> Result<Progress, FrameFault>
-        requires { CanFeed H.begins H.field_count H.framing_of H.without_framing self.old }
+        requires { CanFeed H.form self.old }
         // Each answer stands only where it says so.
         ensures gives { (kind : Kind) (room : Room) (octets : List ℕ)
-            → Agrees H.begins H.field_count H.framing_of H.without_framing kind room self.old octets
-            → EndGives H.begins H.field_count H.framing_of H.without_framing result kind room self.new octets }
+            → Agrees H.form kind room self.old octets
+            → EndGives H.form result kind room self.new octets }
         ensures has { OnOk result (HasMessage self.new) }
         ensures fails { OnErr result (HasFailed self.new) }
         ensures failed { HasFailed self.old → result ≡ Err FrameFault.Failed }
         ensures stays { self.new.head ≡ self.old.head }
     {
-        match self.closed() {
+        match self.close() {
             Ok(()) => {
                 self.stage = Stage::End;
                 Ok(Progress::Whole(0))
@@ -288,13 +293,32 @@ impl<H: MessageHead> MessageReader<H> {
         }
     }
 
+    /// Makes the message whole, if it lasts until the close.
+    fn close(&mut self) -> Result<(), FrameFault>
+        requires { CanFeed H.form self.old }
+        ensures ok { OnOk result (IsClosed self.old × IsFrozen self.old self.new) }
+        ensures err { IfErr result (λ fault. (kind : Kind) (room : Room) (octets : List ℕ)
+            → Agrees H.form kind room self.old octets
+            → StandsAtEnd H.form kind fault octets room) }
+        ensures failed { HasFailed self.old → result ≡ Err FrameFault.Failed }
+        ensures stays { self.new.head ≡ self.old.head }
+    {
+        match self.closed() {
+            Ok(()) => {
+                self.body.freeze()?;
+                Ok(())
+            }
+            Err(fault) => Err(fault),
+        }
+    }
+
     /// Whether the message is whole where no more octets come.
     fn closed(&self) -> Result<(), FrameFault>
-        requires { CanFeed H.begins H.field_count H.framing_of H.without_framing self.now }
+        requires { CanFeed H.form self.now }
         ensures ok { OnOk result (IsClosed self.now) }
         ensures err { IfErr result (λ fault. (kind : Kind) (room : Room) (octets : List ℕ)
-            → Agrees H.begins H.field_count H.framing_of H.without_framing kind room self.now octets
-            → StandsAtEnd H.begins H.field_count (H.framing_of kind) H.without_framing fault octets room) }
+            → Agrees H.form kind room self.now octets
+            → StandsAtEnd H.form kind fault octets room) }
         ensures failed { HasFailed self.now → result ≡ Err FrameFault.Failed }
     {
         match self.stage {

@@ -24,7 +24,7 @@ fn whole<H: MessageHead>(
     kind: Kind,
     room: Room,
 ) -> Result<Message<H>, FrameFault>
-    ensures { GivesMessage H.begins H.field_count (H.framing_of kind) H.without_framing result bytes.now room }
+    ensures { GivesMessage H.form kind result bytes.now room }
 {
     let mut reader = MessageReader::<H>::new(alloc, kind, room);
     match reader.feed(bytes) {

@@ -7,3 +7,4 @@ pub mod UnfinishedLemmas
 pub mod WrittenLemmas
 pub mod HostLemmas
 pub mod TargetLemmas
+pub mod TargetOrderLemmas

@@ -1,5 +1,5 @@
 -- The target of a request (RFC 9112 sections 3.2 and 3.3).
-use Rattle.std.specs.Prelude.{◌≡◌, ℕ, ◌<◌, ◌≤◌, ◌⊎◌, Bool, true, false, ◌||◌, List, [], ◌∷◌, ◌++◌, length, slice_index, codes, ◌==◌, if◌then◌else◌, Result, Ok, Err}
+use Rattle.std.specs.Prelude.{◌≡◌, ℕ, ◌<◌, ◌≤◌, ◌⊎◌, Bool, true, false, ◌&&◌, ◌||◌, List, [], ◌∷◌, ◌++◌, length, slice_index, codes, ◌==◌, if◌then◌else◌, Result, Ok, Err}
 use Rattle.std.specs.List.{list_any}
 use Rattle.std.specs.Str.{bytes_eq, str_to_ascii_lowercase}
 use Rattle.http_uri.specs.Grammar.{IsAuthority, IsPathInput}
@@ -103,3 +103,7 @@ GivesTarget (Err fault.Memory) head = Unit {0}
 abbrev pub FindsTarget : Result Target HeadFault → Target → Type 0
 FindsTarget (Ok found) target = found ≡ target
 FindsTarget (Err f) target = f ≡ fault.Memory
+
+-- both are the same host and the same path
+abbrev pub same_target : Target → Target → Bool
+same_target one other = bytes_eq one.host other.host && bytes_eq one.path other.path

@@ -39,7 +39,8 @@ pub struct ResponseHead {
 }
 
 /// What a request is about: a host with its port, and a path with its query (RFC 9112 section 3.3).
-#[derive(Debug, Drop)]
+/// Targets are compared by the host and then by the path, octet by octet.
+#[derive(PartialEq, Eq, PartialOrd, Ord, Hash, Debug, Drop)]
 pub struct Target {
     /// The host in lower case, and its port unless that is 80.
     pub host: Octets,

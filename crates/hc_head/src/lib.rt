@@ -19,10 +19,10 @@ pub use empty_line::{Search, find_empty_line};
 pub use fault::HeadFault;
 pub use head::{RequestHead, ResponseHead, Room, Step, Target, Version};
 pub use kind::Head;
-pub use methods::is_unsafe;
+pub use methods::{is_get, is_head, is_unsafe};
 pub use requests::{one_request_head, read_request};
 pub use responses::{one_response_head, read_response};
-pub use targets::{one_target, target};
+pub use targets::{one_target, same_target, target, targets_compare_by_host_and_path};
 pub use writable::{
     request_text_read_back, response_text_read_back, writable_request, writable_response,
 };

@@ -1,13 +1,27 @@
 //! The methods of requests.
 
 ghost use Rattle.std.specs.Prelude.{◌≡◌};
-ghost use Rattle.hc_head.specs.Methods.{is_safe, is_unsafe};
+ghost use Rattle.hc_head.specs.Methods.{is_get, is_head, is_safe, is_unsafe};
+
+/// Whether the method is GET (RFC 9110 section 9.3.1). The case of a method matters.
+pub fn is_get(method: &[u8]) -> bool
+    ensures { result ≡ is_get method.now }
+{
+    method == b"GET".as_slice()
+}
+
+/// Whether the method is HEAD (RFC 9110 section 9.3.2). The case of a method matters.
+pub fn is_head(method: &[u8]) -> bool
+    ensures { result ≡ is_head method.now }
+{
+    method == b"HEAD".as_slice()
+}
 
 fn is_safe(method: &[u8]) -> bool
     ensures { result ≡ is_safe method.now }
 {
-    method == b"GET".as_slice()
-        || method == b"HEAD".as_slice()
+    is_get(method)
+        || is_head(method)
         || method == b"OPTIONS".as_slice()
         || method == b"TRACE".as_slice()
 }

@@ -1,14 +1,16 @@
 //! The target of a request.
 
-ghost use Rattle.std.specs.Prelude.{◌≡◌, ◌≤◌, ◌⊎◌, ◌↔◌, ℕ, not, List, [], length, IfOk, IfErr, IfSome, IfNone, IsTrue};
+ghost use Rattle.std.specs.Prelude.{◌≡◌, ◌≤◌, ◌⊎◌, ◌↔◌, ℕ, true, not, List, [], length, IfOk, IfErr, IfSome, IfNone, IsTrue};
 ghost use Rattle.std.specs.List.{prefix_len};
+ghost use Rattle.std.specs.Ordering.{nat_cmp, ordering_then};
+ghost use Rattle.std.specs.Cmp.Lexicographic.{slice_cmp};
 ghost use Rattle.http_uri.specs.Grammar.{IsAuthority, IsPathInput};
 ghost use Rattle.hc_head.specs.declared.head.RequestHead.{RequestHead};
 ghost use Rattle.hc_head.specs.declared.head.Target.{Target};
 ghost use Rattle.hc_head.specs.declared.fault.HeadFault.TheVariants.{Memory};
 ghost use Rattle.hc_head.specs.HostScan.{authority_of};
 ghost use Rattle.hc_head.specs.Hosts.{Authority, HasAuthority};
-ghost use Rattle.hc_head.specs.Targets.{Asterisk, FindsTarget, FollowsScheme, GivesTarget, HasForm, HasHost, HasTarget, IsAbsoluteForm, IsOriginForm, MayName, absolute_path, is_path_start};
+ghost use Rattle.hc_head.specs.Targets.{Asterisk, FindsTarget, FollowsScheme, GivesTarget, HasForm, HasHost, HasTarget, IsAbsoluteForm, IsOriginForm, MayName, absolute_path, is_path_start, same_target};
 
 use crate::fault::HeadFault;
 use crate::head::{RequestHead, Target};
@@ -200,6 +202,13 @@ pub fn target(alloc: Global, head: &RequestHead) -> Result<Target, HeadFault>
     read_target(alloc, head)
 }
 
+/// Whether both are the same host and the same path.
+pub fn same_target(one: &Target, other: &Target) -> bool
+    ensures { result ≡ same_target one.now other.now }
+{
+    one == other
+}
+
 /// A request has one target at most.
 pub fn one_target()
     ensures target { (head : RequestHead) (one other : Target)
@@ -207,4 +216,13 @@ pub fn one_target()
     // A text is a host and a port in one way.
     ensures authority { (text : List ℕ) (one other : Authority)
         → HasAuthority text one → HasAuthority text other → one ≡ other }
+{}
+
+/// Targets are equal where they are the same host and the same path, and their order goes by the
+/// host and then by the path, octet by octet.
+pub fn targets_compare_by_host_and_path()
+    ensures equal { (one other : Target) → ⟦<Target as PartialEq>⟧.eq one other ≡ same_target one other }
+    ensures same { (one other : Target) → same_target one other ≡ true ↔ one ≡ other }
+    ensures order { (one other : Target) → ⟦<Target as Ord>⟧.cmp one other
+        ≡ ordering_then (slice_cmp nat_cmp one.host other.host) (slice_cmp nat_cmp one.path other.path) }
 {}

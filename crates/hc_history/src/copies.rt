@@ -46,6 +46,6 @@ pub(crate) fn copy_of_response(
     };
     Ok(Message {
         head,
-        body: response.body.copy(alloc)?,
+        body: response.body.share()?,
     })
 }

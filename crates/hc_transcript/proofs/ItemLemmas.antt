@@ -4,14 +4,14 @@ use Rattle.hc_head.specs.declared.head.RequestHead.{RequestHead}
 use Rattle.hc_head.specs.declared.head.ResponseHead.{ResponseHead}
 use Rattle.hc_head.specs.declared.head.Target.{Target}
 use Rattle.hc_head.specs.declared.head.TheConstants.Room.{RECORDED}
-use Rattle.hc_head.specs.Heads.{BeginsRequestHead, request_field_count, BeginsResponseHead, response_field_count}
 use Rattle.hc_head.specs.Targets.{HasTarget}
 use Rattle.hc_head.proofs.TargetLemmas.{one_target}
 use Rattle.hc_framing.specs.declared.kind.Kind.TheVariants.{Request, Response}
 use Rattle.hc_framing.specs.declared.message.Message.{Message}
-use Rattle.hc_framing.specs.Messages.{framing_of_request, request_without_framing, framing_of_response, response_without_framing}
+use Rattle.hc_framing.specs.Messages.{request_form, response_form}
 use Rattle.hc_framing.specs.Faults.{IsWholeRequest, IsWholeResponse}
-use Rattle.hc_framing.proofs.ReaderLemmas.{request_laws, response_laws, finds_whole}
+use Rattle.hc_framing.specs.FramingLaws.{request_laws, response_laws}
+use Rattle.hc_framing.proofs.ReaderLemmas.{finds_whole}
 use Rattle.hc_transcript.specs.declared.line.Kind.{Kind}
 use Rattle.hc_transcript.specs.declared.line.Kind.TheVariants as kind
 use Rattle.hc_transcript.specs.Items.{Item, ClientRequest, OriginRequest, OriginResponse, ClientReply}
@@ -20,12 +20,12 @@ use Rattle.hc_transcript.specs.Malformed.{IsNoRequest, LacksTarget, IsNoResponse
 
 -- octets are one request at most
 one_request : (octets : List ℕ) (m n : Message RequestHead) → IsWholeRequest octets RECORDED m → IsWholeRequest octets RECORDED n → m ≡ n
-one_request octets m n = finds_whole BeginsRequestHead request_field_count framing_of_request request_without_framing request_laws Request octets RECORDED (Ok m) n
+one_request octets m n = finds_whole request_form request_laws Request octets RECORDED (Ok m) n
 
 -- octets are one response at most
 one_response : (to_head : Bool) (octets : List ℕ) (m n : Message ResponseHead) → IsWholeResponse to_head octets RECORDED m → IsWholeResponse to_head octets RECORDED n → m ≡ n
 one_response to_head octets m n =
-    finds_whole BeginsResponseHead response_field_count framing_of_response response_without_framing response_laws (Response to_head) octets RECORDED (Ok m) n
+    finds_whole response_form response_laws (Response to_head) octets RECORDED (Ok m) n
 
 one_request_read : (octets : List ℕ) (m n : Message RequestHead) (s t : Target) → ReadsRequest octets m s → ReadsRequest octets n t → (m ≡ n) × (s ≡ t)
 one_request_read octets m n s t p q =

@@ -106,7 +106,9 @@ fn answered(alloc: Global, method: &str, response: &[u8]) -> Result<Vec<u8>, All
 /// The body of an answer of the origin.
 fn item_body(alloc: Global, item: &OwnedItem) -> Result<Octets, RecordFault> {
     match &item.of {
-        Meaning::OriginResponse(response) => Ok(response.body.copy(alloc)?),
+        Meaning::OriginResponse(response) => {
+            Ok(Octets::from_slice(alloc, response.body.as_slice())?)
+        }
         _ => Err(RecordFault::Torn),
     }
 }

@@ -1,2 +1,3 @@
 pub mod States
 pub mod Identifying
+pub mod Remnants

@@ -4,7 +4,7 @@ ghost use Rattle.std.specs.Prelude.{◌≡◌, ◌<◌, IfOk};
 ghost use Rattle.hc_update.specs.States.{initial_state, invalidates};
 
 use crate::keeping::kept;
-use hc_fields::{Fields, Octets};
+use hc_fields::{Fields, SharedOctets};
 use hc_framing::Message;
 use hc_fresh::Times;
 use hc_head::{RequestHead, ResponseHead, is_unsafe};
@@ -20,7 +20,7 @@ pub struct Stored {
     /// Its fields, with exactly one Date, and without Age and what is for a connection or a proxy.
     pub fields: Fields,
     /// Its body.
-    pub body: Octets,
+    pub body: SharedOctets,
     /// What its age is counted from.
     pub times: Times,
     /// Whether a response to an unsafe request has invalidated it (RFC 9111 section 4.4).
@@ -56,6 +56,7 @@ pub fn initial(
 impl Stored {
     ghost use Rattle.std.specs.Prelude.{OnOk, OnErr};
     ghost use Rattle.hc_update.specs.States.{freshened, invalidated};
+    ghost use Rattle.hc_update.specs.Remnants.{remnant};
 
     /// Freshens the response by a 304 that identifies it (RFC 9111 section 4.3.4), which stands at
     /// that position. Where memory was refused, nothing has changed.
@@ -89,6 +90,24 @@ impl Stored {
         ensures { self.new ≡ invalidated self.old }
     {
         self.invalid = true;
+    }
+
+    /// Forgets all of the response but its request, its Vary lines and that it is invalid: what can
+    /// still be asked of one that nothing freshens any more. The body is freed with its last owner.
+    pub fn forget(&mut self)
+        ensures { self.new ≡ remnant self.old }
+    {
+        self.status = 0;
+        self.fields.keep(b"vary");
+        self.body = SharedOctets::new();
+        self.times = Times {
+            date: 0,
+            age_value: 0,
+            request_time: 0,
+            response_time: 0,
+        };
+        self.invalid = true;
+        self.validated_at = None;
     }
 }
 

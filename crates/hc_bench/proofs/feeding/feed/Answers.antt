@@ -6,7 +6,7 @@ pub returns-in_err-feed : goal.returns-in_err-feed
 returns-in_err-feed g c =
     let next : IsNext c.args.octets.now c.args.size c.pieces.before c.split_at-in-pieces.result.0.now =
     next_piece _ _ _ _ _ _ c.pieces-test.true c.split_at.ensures.back c.min.ensures c.split_at-in-pieces.ensures.front in
-    feeding_fault g.H.Head.begins g.H.Head.field_count g.H.MessageHead.framing_of g.H.MessageHead.without_framing
+    feeding_fault g.H.MessageHead.form
     c.args.kind c.args.room c.args.octets.now c.args.size c.pieces.before c.pieces.calls c.pieces.reader c.feed.new.self
     c.split_at-in-pieces.result.0.now c.feed.result c.pieces.invariant next c.requires
     (c.feed.ensures.gives _ _ _ c.pieces.invariant.agrees)
@@ -17,7 +17,7 @@ pieces-preserved g c =
     let next : IsNext c.args.octets.now c.args.size c.pieces.before c.split_at-in-pieces.result.0.now =
     next_piece _ _ _ _ _ _ c.pieces-test.true c.split_at.ensures.back c.min.ensures c.split_at-in-pieces.ensures.front in
     let more = c.in_ok-feed.was ∙ ap Ok c.in-More.is in
-    feeding_more g.H.Head.begins g.H.Head.field_count g.H.MessageHead.framing_of g.H.MessageHead.without_framing
+    feeding_more g.H.MessageHead.form
     c.args.kind c.args.room c.args.octets.now c.args.size c.pieces.before c.pieces.calls c.pieces.reader c.feed.new.self
     c.split_at-in-pieces.result.0.now c.feed.result c.pieces.invariant next c.requires
     (c.feed.ensures.gives _ _ _ c.pieces.invariant.agrees)
@@ -27,7 +27,7 @@ pub returns-in-Whole : goal.returns-in-Whole
 returns-in-Whole g c =
     let next : IsNext c.args.octets.now c.args.size c.pieces.before c.split_at-in-pieces.result.0.now =
     next_piece _ _ _ _ _ _ c.pieces-test.true c.split_at.ensures.back c.min.ensures c.split_at-in-pieces.ensures.front in
-    feeding_whole g.H.Head.begins g.H.Head.field_count g.H.MessageHead.framing_of g.H.MessageHead.without_framing
+    feeding_whole g.H.MessageHead.form
     c.args.kind c.args.room c.args.octets.now c.args.size c.pieces.before c.pieces.calls c.pieces.reader c.feed.new.self
     c.split_at-in-pieces.result.0.now c.feed.result c.pieces.invariant next c.requires
     (c.feed.ensures.gives _ _ _ c.pieces.invariant.agrees)
@@ -35,5 +35,5 @@ returns-in-Whole g c =
 
 pub returns : goal.returns
 returns g c =
-    feeding_end g.H.Head.begins g.H.Head.field_count g.H.MessageHead.framing_of g.H.MessageHead.without_framing
+    feeding_end g.H.MessageHead.form
     c.args.kind c.args.room c.args.octets.now c.args.size c.pieces.before c.pieces.calls c.pieces.reader c.pieces.invariant c.pieces-test.false

@@ -5,7 +5,7 @@ use Rattle.hc_bench.proofs.feeding.feed_all.Given as goal
 -- so far the octets are these messages
 abbrev pub invariant-messages : goal.invariant-messages
 invariant-messages g l =
-    AreReadThen g.H.Head.begins g.H.Head.field_count g.H.MessageHead.framing_of g.H.MessageHead.without_framing l.kind l.room
+    AreReadThen g.H.MessageHead.form l.kind l.room
     l.messages.items l.octets l.rest
 
 abbrev pub decreases-messages : goal.decreases-messages

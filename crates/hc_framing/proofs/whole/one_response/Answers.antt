@@ -1,8 +1,8 @@
-use Rattle.hc_head.specs.Heads.{BeginsResponseHead, response_field_count}
 use Rattle.hc_framing.specs.declared.kind.Kind.TheVariants.{Response}
-use Rattle.hc_framing.specs.Messages.{framing_of_response, response_without_framing}
-use Rattle.hc_framing.proofs.ReaderLemmas.{response_laws, message_unique}
+use Rattle.hc_framing.specs.Messages.{response_form}
+use Rattle.hc_framing.specs.FramingLaws.{response_laws}
+use Rattle.hc_framing.proofs.ReaderLemmas.{message_unique}
 use Rattle.hc_framing.proofs.whole.one_response.Goals as goal
 
 pub returns : goal.returns
-returns c = λ to_head. message_unique BeginsResponseHead response_field_count framing_of_response response_without_framing response_laws (Response to_head)
+returns c = λ to_head. message_unique response_form response_laws (Response to_head)

@@ -1,23 +1,12 @@
 use Rattle.std.proofs.Common.{[], sym, subst, inr}
 use Rattle.hc_framing.specs.declared.message.Message.{Message}
 use Rattle.hc_framing.specs.Faults.{IsWholeIn}
-use Rattle.hc_framing.proofs.ReaderLemmas.{HeadLaws, goes_on_behind, ends_with_all, ended}
-use Rattle.hc_framing.proofs.whole.whole.Given.{Over}
+use Rattle.hc_framing.proofs.ReaderLemmas.{goes_on_behind, ends_with_all, ended}
 use Rattle.hc_framing.proofs.whole.whole.Goals as goal
-
-laws : (g : Over) → HeadLaws g.H.Head.begins
-laws g = record {
-  one_head = g.met.H.Head.one_head;
-  goes_on = g.met.H.Head.goes_on;
-  within = g.met.H.Head.within;
-  front = g.met.H.Head.front;
-  ends_with_empty_line = g.met.H.Head.ends_with_empty_line;
-  at_its_first = g.met.H.Head.at_its_first;
-}
 
 pub returns-then-used-bytes : goal.returns-then-used-bytes
 returns-then-used-bytes g c =
-    inr (goes_on_behind g.H.Head.begins g.H.Head.field_count g.H.MessageHead.framing_of g.H.MessageHead.without_framing (laws g) c.args.kind c.args.room c.feed.new.self c.args.bytes.now c.in-Ok-Whole.used
+    inr (goes_on_behind g.H.MessageHead.form g.met.H.MessageHead.laws c.args.kind c.args.room c.feed.new.self c.args.bytes.now c.in-Ok-Whole.used
     (rw c.in-Ok-Whole.field-0-is at (c.in-Ok-Whole.ensures.gives c.args.kind c.args.room [] c.new-reader.ensures.agrees)) c.if-used-bytes.true)
 
 pub take-requires : goal.take-requires
@@ -27,13 +16,13 @@ take-requires g c =
 pub returns-else-used-bytes : goal.returns-else-used-bytes
 returns-else-used-bytes g c =
     let e = rw c.in-Ok-Whole.field-0-is at (c.in-Ok-Whole.ensures.gives c.args.kind c.args.room [] c.new-reader.ensures.agrees) in
-    let whole = ends_with_all g.H.Head.begins g.H.Head.field_count g.H.MessageHead.framing_of g.H.MessageHead.without_framing (laws g) c.args.kind c.args.room c.feed.new.self c.args.bytes.now c.in-Ok-Whole.used e c.if-used-bytes.false in
-    subst (λ (m : Message g.row.H.Denot). IsWholeIn g.H.Head.begins g.H.Head.field_count (g.H.MessageHead.framing_of c.args.kind) g.H.MessageHead.without_framing c.args.bytes.now c.args.room m)
+    let whole = ends_with_all g.H.MessageHead.form g.met.H.MessageHead.laws c.args.kind c.args.room c.feed.new.self c.args.bytes.now c.in-Ok-Whole.used e c.if-used-bytes.false in
+    subst (λ (m : Message g.row.H.Denot). IsWholeIn g.H.MessageHead.form c.args.kind c.args.bytes.now c.args.room m)
     (sym (c.take.ensures e.message e.holds)) whole
 
 pub returns-in-Ok : goal.returns-in-Ok
 returns-in-Ok g c =
     let agrees = rw c.in-Ok-More.field-0-is at (c.in-Ok-More.ensures.gives c.args.kind c.args.room [] c.new-reader.ensures.agrees) in
-    let e = ended g.H.Head.begins g.H.Head.field_count g.H.MessageHead.framing_of g.H.MessageHead.without_framing (laws g) c.args.kind c.args.room c.end.new.self c.args.bytes.now c.in-Ok.field-0 (c.in-Ok.ensures.gives c.args.kind c.args.room c.args.bytes.now agrees) in
-    subst (λ (m : Message g.row.H.Denot). IsWholeIn g.H.Head.begins g.H.Head.field_count (g.H.MessageHead.framing_of c.args.kind) g.H.MessageHead.without_framing c.args.bytes.now c.args.room m)
+    let e = ended g.H.MessageHead.form g.met.H.MessageHead.laws c.args.kind c.args.room c.end.new.self c.args.bytes.now c.in-Ok.field-0 (c.in-Ok.ensures.gives c.args.kind c.args.room c.args.bytes.now agrees) in
+    subst (λ (m : Message g.row.H.Denot). IsWholeIn g.H.MessageHead.form c.args.kind c.args.bytes.now c.args.room m)
     (sym (c.take-in-Ok.ensures e.message e.holds)) e.is

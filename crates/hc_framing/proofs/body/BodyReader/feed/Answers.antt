@@ -1,4 +1,4 @@
-use Rattle.std.proofs.Common.{rules, ◌+◌, ◌<◌, ◌≤◌, ◌++◌, ap, subst, ◌∙◌, arith, take, length, Ok, Result}
+use Rattle.std.proofs.Common.{rules, refl, ◌+◌, ◌<◌, ◌≤◌, ◌++◌, ap, subst, ◌∙◌, arith, take, length, Ok, Result}
 use Rattle.hc_framing.specs.declared.fault.FrameFault.{FrameFault}
 use Rattle.hc_framing.specs.declared.body.Part.{Part}
 use Rattle.hc_framing.specs.BodyReading.{GivesPart}
@@ -32,15 +32,13 @@ loop-used-preserved c =
           (on_part framing c.step.new.self octets c.args.piece.now c.split_at.result.1.now c.loop-used.used c.in-On.taken c.split_at.ensures.back c.loop-used.invariant.within gives).2;
     }
 
-taken_end : (c : goal.In-End) → c.loop-used.used + c.in-End.taken ≤ length c.args.piece.now
-taken_end c =
+pub overflow_add-result : goal.overflow_add-result
+overflow_add-result c =
     let octets = c.requires.octets ++ take c.loop-used.used c.args.piece.now in
     let gives = subst (λ (r : Result Part FrameFault). GivesPart r c.requires.framing c.step.new.self octets c.split_at.result.1.now) (c.in_ok-taken.was ∙ ap (λ (p : Part). Ok p) c.in-End.is)
     (c.step.ensures.gives c.requires.framing octets (c.loop-used.invariant.agrees c.requires.framing c.requires.octets c.requires.agrees)) in
-    (end_part c.requires.framing c.step.new.self c.requires.octets c.args.piece.now c.split_at.result.1.now c.loop-used.used c.in-End.taken c.split_at.ensures.back c.loop-used.invariant.within gives).0
-
-pub overflow_add-result : goal.overflow_add-result
-overflow_add-result c = let t = taken_end c in search (rules, arith, t)
+    let t = (end_part c.requires.framing c.step.new.self c.requires.octets c.args.piece.now c.split_at.result.1.now c.step.new.self.octets c.loop-used.used c.in-End.taken c.split_at.ensures.back c.loop-used.invariant.within refl gives).0 in
+    search (rules, arith, t)
 
 pub returns-in-End : goal.returns-in-End
 returns-in-End c =
@@ -49,5 +47,5 @@ returns-in-End c =
           let before = octets ++ take c.loop-used.used c.args.piece.now in
           let gives = subst (λ (r : Result Part FrameFault). GivesPart r framing c.step.new.self before c.split_at.result.1.now) (c.in_ok-taken.was ∙ ap (λ (p : Part). Ok p) c.in-End.is)
           (c.step.ensures.gives framing before (c.loop-used.invariant.agrees framing octets agrees)) in
-          end_part framing c.step.new.self octets c.args.piece.now c.split_at.result.1.now c.loop-used.used c.in-End.taken c.split_at.ensures.back c.loop-used.invariant.within gives;
+          end_part framing c.step.new.self octets c.args.piece.now c.split_at.result.1.now c.freeze.new.self.whole c.loop-used.used c.in-End.taken c.split_at.ensures.back c.loop-used.invariant.within c.in_ok-freeze-in-End.ensures gives;
     }

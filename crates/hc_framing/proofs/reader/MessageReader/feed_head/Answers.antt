@@ -1,21 +1,10 @@
 use Rattle.std.proofs.Common.{ℕ, ◌-◌, List, ◌++◌, refl, ap, ◌∙◌}
-use Rattle.hc_framing.proofs.ReaderLemmas.{HeadLaws, head_awaited, head_faulty, body_begun, body_broken, body_whole, head_faulty_shows, body_broken_shows}
-use Rattle.hc_framing.proofs.reader.MessageReader.feed_head.Given.{Over}
+use Rattle.hc_framing.proofs.ReaderLemmas.{head_awaited, head_faulty, body_begun, body_broken, body_whole, head_faulty_shows, body_broken_shows}
 use Rattle.hc_framing.proofs.reader.MessageReader.feed_head.Goals as goal
-
-laws : (g : Over) → HeadLaws g.H.Head.begins
-laws g = record {
-  one_head = g.met.H.Head.one_head;
-  goes_on = g.met.H.Head.goes_on;
-  within = g.met.H.Head.within;
-  front = g.met.H.Head.front;
-  ends_with_empty_line = g.met.H.Head.ends_with_empty_line;
-  at_its_first = g.met.H.Head.at_its_first;
-}
 
 pub returns-in-Err-clause-gives : goal.returns-in-Err-clause-gives
 returns-in-Err-clause-gives g c = λ kind room octets agrees.
-    head_faulty g.H.Head.begins g.H.Head.field_count g.H.MessageHead.framing_of g.H.MessageHead.without_framing (laws g)
+    head_faulty g.H.MessageHead.form g.met.H.MessageHead.laws
     kind room c.args.self.now (record c.args.self.now { start = c.extend_from_slice.new.self; search = c.find_empty_line-search.result.0 }) octets c.args.piece.now c.front_of-near.result.now c.split_at.result.1.now c.saturating_sub.result c.find_empty_line-search.result.1 c.in-Err.fault
     (record {
       stage_is = c.requires.stage;
@@ -38,7 +27,7 @@ returns-in-Err-clause-gives g c = λ kind room octets agrees.
 
 pub returns-in-Err-clause-head : goal.returns-in-Err-clause-head
 returns-in-Err-clause-head g c = λ kind room octets agrees.
-    head_faulty_shows g.H.Head.begins g.H.Head.field_count g.H.MessageHead.framing_of g.H.MessageHead.without_framing (laws g)
+    head_faulty_shows g.H.MessageHead.form g.met.H.MessageHead.laws
     kind room c.args.self.now (record c.args.self.now { start = c.extend_from_slice.new.self; search = c.find_empty_line-search.result.0 }) c.read_head.new.self octets c.args.piece.now c.front_of-near.result.now c.split_at.result.1.now c.saturating_sub.result c.find_empty_line-search.result.1 c.in-Err.fault
     (record {
       stage_is = c.requires.stage;
@@ -61,7 +50,7 @@ returns-in-Err-clause-head g c = λ kind room octets agrees.
 
 pub returns-in-Ok-None-clause-gives : goal.returns-in-Ok-None-clause-gives
 returns-in-Ok-None-clause-gives g c = λ kind room octets agrees.
-    head_awaited g.H.Head.begins g.H.Head.field_count g.H.MessageHead.framing_of g.H.MessageHead.without_framing (laws g)
+    head_awaited g.H.MessageHead.form g.met.H.MessageHead.laws
     kind room c.args.self.now (record c.args.self.now { start = c.extend_from_slice.new.self; search = c.find_empty_line-search.result.0 }) c.read_head.new.self octets c.args.piece.now c.front_of-near.result.now c.split_at.result.1.now c.saturating_sub.result c.find_empty_line-search.result.1
     (record {
       stage_is = c.requires.stage;
@@ -84,7 +73,7 @@ returns-in-Ok-None-clause-gives g c = λ kind room octets agrees.
 
 pub returns-in-Ok-More-clause-gives : goal.returns-in-Ok-More-clause-gives
 returns-in-Ok-More-clause-gives g c = λ kind room octets agrees.
-    body_begun g.H.Head.begins g.H.Head.field_count g.H.MessageHead.framing_of g.H.MessageHead.without_framing (laws g)
+    body_begun g.H.MessageHead.form g.met.H.MessageHead.laws
     kind room c.args.self.now (record c.args.self.now { start = c.extend_from_slice.new.self; search = c.find_empty_line-search.result.0 }) c.read_head.new.self c.begin_body.new.self octets c.args.piece.now c.front_of-near.result.now c.split_at.result.1.now c.saturating_sub.result c.find_empty_line-search.result.1 c.in-Ok-Some.framing
     (record {
       stage_is = c.requires.stage;
@@ -107,7 +96,7 @@ returns-in-Ok-More-clause-gives g c = λ kind room octets agrees.
 
 pub returns-in-Err-begin_body-clause-gives : goal.returns-in-Err-begin_body-clause-gives
 returns-in-Err-begin_body-clause-gives g c = λ kind room octets agrees.
-    body_broken g.H.Head.begins g.H.Head.field_count g.H.MessageHead.framing_of g.H.MessageHead.without_framing (laws g)
+    body_broken g.H.MessageHead.form g.met.H.MessageHead.laws
     kind room c.args.self.now (record c.args.self.now { start = c.extend_from_slice.new.self; search = c.find_empty_line-search.result.0 }) c.read_head.new.self c.begin_body.new.self octets c.args.piece.now c.front_of-near.result.now c.split_at.result.1.now c.saturating_sub.result c.find_empty_line-search.result.1 c.in-Ok-Some.framing c.in-Err-begin_body.fault
     (record {
       stage_is = c.requires.stage;
@@ -130,7 +119,7 @@ returns-in-Err-begin_body-clause-gives g c = λ kind room octets agrees.
 
 pub returns-in-Err-begin_body-clause-head : goal.returns-in-Err-begin_body-clause-head
 returns-in-Err-begin_body-clause-head g c = λ kind room octets agrees.
-    body_broken_shows g.H.Head.begins g.H.Head.field_count g.H.MessageHead.framing_of g.H.MessageHead.without_framing (laws g)
+    body_broken_shows g.H.MessageHead.form g.met.H.MessageHead.laws
     kind room c.args.self.now (record c.args.self.now { start = c.extend_from_slice.new.self; search = c.find_empty_line-search.result.0 }) c.read_head.new.self c.begin_body.new.self octets c.args.piece.now c.front_of-near.result.now c.split_at.result.1.now c.saturating_sub.result c.find_empty_line-search.result.1 c.in-Ok-Some.framing c.in-Err-begin_body.fault
     (record {
       stage_is = c.requires.stage;
@@ -153,7 +142,7 @@ returns-in-Err-begin_body-clause-head g c = λ kind room octets agrees.
 
 pub returns-in-Ok-Whole-clause-gives : goal.returns-in-Ok-Whole-clause-gives
 returns-in-Ok-Whole-clause-gives g c = λ kind room octets agrees.
-    body_whole g.H.Head.begins g.H.Head.field_count g.H.MessageHead.framing_of g.H.MessageHead.without_framing (laws g)
+    body_whole g.H.MessageHead.form g.met.H.MessageHead.laws
     kind room c.args.self.now (record c.args.self.now { start = c.extend_from_slice.new.self; search = c.find_empty_line-search.result.0 }) c.read_head.new.self c.begin_body.new.self octets c.args.piece.now c.front_of-near.result.now c.split_at.result.1.now c.saturating_sub.result c.find_empty_line-search.result.1 c.in-Ok-Whole.taken c.in-Ok-Some.framing
     (record {
       stage_is = c.requires.stage;
