@@ -5,14 +5,12 @@ use Rattle.hc_head.specs.declared.head.ResponseHead.{ResponseHead}
 use Rattle.hc_head.specs.declared.head.Room.{Room}
 use Rattle.hc_head.specs.declared.head.Target.{Target}
 use Rattle.hc_head.specs.declared.head.TheConstants.Room.{RECORDED}
-use Rattle.hc_head.specs.Heads.{BeginsRequestHead, request_field_count, BeginsResponseHead, response_field_count}
-use Rattle.hc_framing.specs.declared.fault.FrameFault.{FrameFault}
-use Rattle.hc_framing.specs.declared.framing.Framing.{Framing}
 use Rattle.hc_framing.specs.declared.kind.Kind.{Kind}
 use Rattle.hc_framing.specs.declared.kind.Kind.TheVariants.{Request, Response}
 use Rattle.hc_framing.specs.declared.message.Message.{Message}
+use Rattle.hc_framing.specs.Forms.{Form}
 use Rattle.hc_framing.specs.Faults.{IsWholeIn, IsWholeRequest, IsWholeResponse}
-use Rattle.hc_framing.specs.Messages.{framing_of_request, request_without_framing, framing_of_response, response_without_framing}
+use Rattle.hc_framing.specs.Messages.{request_form, response_form}
 use Rattle.hc_framing.specs.Reader.{BeginsIn}
 use Rattle.hc_framing.specs.Texts.{request_text, response_text}
 use Rattle.hc_framing.specs.Written.{IsReadableRequest, IsReadableResponse}
@@ -27,10 +25,10 @@ use Rattle.hc_transcript.specs.Transcript.{ReadsRequest, ReadsResponse, Follows,
 use Rattle.hc_transcript.specs.Written.{IsWritableAsk, IsWritableAnswer, IsWritable, written_as}
 use Rattle.hc_transcript.proofs.OnceLemmas.{one_more}
 
-module _ {H : Type 0} (Begins : List ℕ → H → ℕ → Type 0) (field_count : H → ℕ) (framing : Kind → H → Result Framing FrameFault) (bare : H → H) where
+module _ {H : Type 0} (form : Form H) where
   -- a message that takes all of the octets that it begins is whole
-  whole_there : (kind : Kind) (octets : List ℕ) (room : Room) (message : Message H) → BeginsIn Begins field_count framing bare kind octets room message (length octets)
-      → IsWholeIn Begins field_count (framing kind) bare octets room message
+  whole_there : (kind : Kind) (octets : List ℕ) (room : Room) (message : Message H) → BeginsIn form kind octets room message (length octets)
+      → IsWholeIn form kind octets room message
   whole_there kind octets room message b =
       let m = b.begins in
       record {
@@ -50,16 +48,16 @@ module _ {H : Type 0} (Begins : List ℕ → H → ℕ → Type 0) (field_count 
 request_whole : (request : Message RequestHead) → IsReadableRequest request RECORDED → IsWholeRequest (request_text request) RECORDED request
 request_whole request readable =
     let octets = request_text request in
-    whole_there BeginsRequestHead request_field_count framing_of_request request_without_framing Request octets RECORDED request
-    (subst (λ (o : List ℕ). BeginsIn BeginsRequestHead request_field_count framing_of_request request_without_framing Request o RECORDED request (length octets)) (append-nil octets)
+    whole_there request_form Request octets RECORDED request
+    (subst (λ (o : List ℕ). BeginsIn request_form Request o RECORDED request (length octets)) (append-nil octets)
     (request_begins request RECORDED readable []))
 
 response_whole : (to_head : Bool) (response : Message ResponseHead) → IsReadableResponse to_head response RECORDED
     → IsWholeResponse to_head (response_text (Response to_head) response) RECORDED response
 response_whole to_head response readable =
     let octets = response_text (Response to_head) response in
-    whole_there BeginsResponseHead response_field_count framing_of_response response_without_framing (Response to_head) octets RECORDED response
-    (subst (λ (o : List ℕ). BeginsIn BeginsResponseHead response_field_count framing_of_response response_without_framing (Response to_head) o RECORDED response (length octets)) (append-nil octets)
+    whole_there response_form (Response to_head) octets RECORDED response
+    (subst (λ (o : List ℕ). BeginsIn response_form (Response to_head) o RECORDED response (length octets)) (append-nil octets)
     (response_begins to_head response RECORDED readable []))
 
 reads_request : (request : Message RequestHead) (target : Target) → IsWritableAsk request target → ReadsRequest (request_text request) request target

@@ -1,9 +1,9 @@
 -- What a record means: an item, with its message read and, for a request, its target.
-use Rattle.std.specs.Prelude.{ℕ, Bool, false, codes, Option, Some, None}
-use Rattle.std.specs.Str.{bytes_eq}
+use Rattle.std.specs.Prelude.{ℕ, Bool, false, Option, Some, None}
 use Rattle.hc_head.specs.declared.head.RequestHead.{RequestHead}
 use Rattle.hc_head.specs.declared.head.ResponseHead.{ResponseHead}
 use Rattle.hc_head.specs.declared.head.Target.{Target}
+use Rattle.hc_head.specs.Methods.{is_head}
 use Rattle.hc_framing.specs.declared.message.Message.{Message}
 use Rattle.hc_transcript.specs.declared.item.Meaning.{Meaning}
 use Rattle.hc_transcript.specs.declared.item.Meaning.TheVariants as meaning
@@ -39,18 +39,14 @@ pub record Forward : Type 0 where
   pub request : RequestHead
   pub target : Target
 
--- a request whose response has no body (RFC 9110 section 9.3.2)
-abbrev pub is_head : RequestHead → Bool
-is_head request = bytes_eq request.method (codes "HEAD")
-
--- whether what answers the exchange, or the forward, answers HEAD
+-- whether what answers the exchange, or the forward, answers HEAD, and so has no body (RFC 9110 section 9.3.2)
 abbrev pub exchange_is_head : Option Exchange → Bool
 exchange_is_head None = false
-exchange_is_head (Some exchange) = is_head exchange.request
+exchange_is_head (Some exchange) = is_head exchange.request.method
 
 abbrev pub forward_is_head : Option Forward → Bool
 forward_is_head None = false
-forward_is_head (Some forward) = is_head forward.request
+forward_is_head (Some forward) = is_head forward.request.method
 
 -- what a meaning is under a number, at a moment
 abbrev pub item_with : ℕ → ℕ → Meaning → Item

@@ -3,6 +3,7 @@ use Rattle.std.specs.Prelude.{◌≡◌, ℕ, ◌+◌, ◌<◌, ◌≤◌, Bool,
 use Rattle.std.specs.Option.{option_map}
 use Rattle.std.specs.Ordering.{nat_cmp}
 use Rattle.std.specs.BTreeMap.{get}
+use Rattle.hc_head.specs.Methods.{is_head}
 use Rattle.hc_transcript.specs.declared.item.OwnedItem.{OwnedItem}
 use Rattle.hc_transcript.specs.declared.fault.RecordFault.{RecordFault}
 use Rattle.hc_transcript.specs.declared.line.Kind.{Kind}
@@ -10,15 +11,15 @@ use Rattle.hc_transcript.specs.declared.line.Kind.TheVariants as kind
 use Rattle.hc_transcript.specs.declared.line.Line.{Line}
 use Rattle.hc_transcript.specs.declared.open_numbers.Standing.{Standing}
 use Rattle.hc_transcript.specs.Limits.{greatest_number}
-use Rattle.hc_transcript.specs.Items.{Item, Exchange, Forward, is_head, meaning_kind}
+use Rattle.hc_transcript.specs.Items.{Item, Exchange, Forward, meaning_kind}
 use Rattle.hc_transcript.specs.Checks.{first_fault}
 use Rattle.hc_transcript.specs.History.{exchange_of, forward_of, last_moment, last_exchange, last_forward}
 
 abbrev pub exchange_head : Exchange → Bool
-exchange_head exchange = is_head exchange.request
+exchange_head exchange = is_head exchange.request.method
 
 abbrev pub forward_head : Forward → Bool
-forward_head forward = is_head forward.request
+forward_head forward = is_head forward.request.method
 
 -- it stands as the history leaves it
 pub record StandsAs (s : Standing) (h : List Item) : Type 0 where

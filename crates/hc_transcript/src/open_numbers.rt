@@ -4,7 +4,7 @@ ghost use Rattle.std.specs.Prelude.{◌≡◌, ℕ, ◌+◌, ◌*◌, ◌<◌, �
 ghost use Rattle.std.specs.Ordering.{nat_cmp};
 ghost use Rattle.std.specs.BTreeMap.{get, btree_map_len};
 ghost use Rattle.hc_transcript.specs.Limits.{greatest_number};
-ghost use Rattle.hc_transcript.specs.Items.{Item, item_of, is_head};
+ghost use Rattle.hc_transcript.specs.Items.{Item, item_of};
 ghost use Rattle.hc_transcript.specs.Checks.{has_right_length, has_right_number, answers_open};
 ghost use Rattle.hc_transcript.specs.Transcript.{is_to_head};
 
@@ -12,7 +12,7 @@ use crate::fault::RecordFault;
 use crate::item::{Meaning, OwnedItem};
 use crate::limits::{GREATEST_MOMENT, GREATEST_NUMBER, LONGEST_MESSAGE};
 use crate::line::{Kind, Line};
-use hc_head::RequestHead;
+use hc_head::is_head;
 use std::alloc::{AllocError, Global};
 use std::collections::BTreeMap;
 
@@ -60,12 +60,6 @@ fn answers_open(kind: Kind, has_exchange: bool, has_forward: bool) -> bool
         Kind::OriginResponse | Kind::OriginFailure => has_forward,
         Kind::ClientReply => has_exchange,
     }
-}
-
-fn is_head(request: &RequestHead) -> bool
-    ensures { result ≡ is_head request.now }
-{
-    request.method.as_slice() == b"HEAD".as_slice()
 }
 
 impl Standing {
@@ -134,10 +128,10 @@ impl Standing {
         let moment = item.moment;
         match &item.of {
             Meaning::ClientRequest { request, .. } => {
-                self.open_exchange(number, moment, is_head(&request.head))
+                self.open_exchange(number, moment, is_head(request.head.method.as_slice()))
             }
             Meaning::OriginRequest { request, .. } => {
-                self.open_forward(number, moment, is_head(&request.head))
+                self.open_forward(number, moment, is_head(request.head.method.as_slice()))
             }
             Meaning::OriginResponse(_) => Ok(self.close_forward(number, moment)),
             Meaning::OriginFailure => Ok(self.close_forward(number, moment)),
