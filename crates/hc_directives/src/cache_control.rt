@@ -17,7 +17,7 @@ pub enum Seconds {
     Absent,
     /// The first directive of the name has no argument.
     Bare,
-    /// Its argument is a number; one over 2147483648 is that number (RFC 9111 section 1.2.2).
+    /// Its argument is a number; one over `LARGEST_NUMBER` is that number.
     Value(u32),
     /// Its argument is no number.
     Unreadable,

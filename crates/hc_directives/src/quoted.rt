@@ -6,10 +6,8 @@ ghost use Rattle.hc_fields.specs.Numbers.{number_of};
 ghost use Rattle.hc_directives.specs.QuotedStrings.{is_escapable, is_plain, is_quoted_text, quoted_text, unescaped};
 ghost use Rattle.hc_directives.specs.QuotedSteps.{escaped_behind};
 
+use hc_fields::LARGEST_NUMBER;
 use std::marker::Model;
-
-/// Greater numbers are read as this one (RFC 9111 section 1.2.2).
-const GREATEST: u64 = 2_147_483_648;
 
 /// Whether the octet may stand behind a backslash.
 fn is_escapable(octet: u8) -> bool
@@ -89,7 +87,7 @@ impl Iterator for Unescaped<'_> {
     }
 }
 
-/// The number that the text of a quoted string says; a value over 2147483648 is that number.
+/// The number that the text of a quoted string says; a value over `LARGEST_NUMBER` is that number.
 pub(crate) fn quoted_number(text: &[u8]) -> Option<u32>
     ensures { result ≡ number_of (unescaped text.now) }
 {
@@ -99,7 +97,7 @@ pub(crate) fn quoted_number(text: &[u8]) -> Option<u32>
             return None;
         }
         let value = u64::from(number.unwrap_or(0)) * 10 + u64::from(octet - b'0');
-        number = Some(value.min(GREATEST) as u32);
+        number = Some(value.min(u64::from(LARGEST_NUMBER)) as u32);
     }
     number
 }

@@ -4,7 +4,7 @@ use Rattle.std.specs.List.{slice_get}
 use Rattle.hc_fields.specs.declared.fields.Field.{Field}
 use Rattle.hc_fields.specs.Values.{values_of}
 use Rattle.hc_fields.specs.Lists.{list_members}
-use Rattle.hc_fields.specs.Numbers.{number_of}
+use Rattle.hc_fields.specs.Numbers.{largest_number, number_of}
 use Rattle.hc_fresh.specs.declared.ages.Times.{Times}
 
 -- the first Age line, if there is one
@@ -39,9 +39,9 @@ corrected_initial_age times = max (apparent_age times) (corrected_age_value time
 abbrev pub resident_time : Times → ℕ → ℕ
 resident_time times now = now - times.response_time
 
--- the age of the response now, at most 2147483648 (section 1.2.2)
+-- the age of the response now, at most the largest number (section 1.2.2)
 abbrev pub current_age : Times → ℕ → ℕ
-current_age times now = min 2147483648 (corrected_initial_age times + resident_time times now)
+current_age times now = min largest_number (corrected_initial_age times + resident_time times now)
 
 -- ---- ages against lifetimes (section 4.2)
 

@@ -3,6 +3,7 @@ use Rattle.std.specs.Prelude.{ℕ, Bool, ◌||◌, ◌-◌, min, List, Option, S
 use Rattle.std.specs.List.{slice_get}
 use Rattle.std.specs.Option.{option_or}
 use Rattle.hc_fields.specs.declared.fields.Field.{Field}
+use Rattle.hc_fields.specs.Numbers.{largest_number}
 use Rattle.hc_fields.specs.Values.{values_of, has_name}
 use Rattle.hc_directives.specs.declared.cache_control.Seconds.{Seconds}
 use Rattle.hc_directives.specs.declared.cache_control.Seconds.TheVariants.{Absent, Bare, Value, Unreadable}
@@ -24,7 +25,7 @@ directive_lifetime name fields = seconds_stated (seconds_of (first_directive nam
 
 -- the seconds from a date to that of an Expires, 0 where that isn't later or is no date (section 5.3)
 abbrev pub seconds_until : ℕ → List ℕ → ℕ
-seconds_until date expires = min 2147483648 (unwrap_or (option_map (λ end. end - date) (date_of expires)) 0)
+seconds_until date expires = min largest_number (unwrap_or (option_map (λ end. end - date) (date_of expires)) 0)
 
 -- the lifetime that the first Expires states, if there is one
 abbrev pub expires_lifetime : List Field → ℕ → Option ℕ

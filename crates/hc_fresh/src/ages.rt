@@ -3,10 +3,7 @@
 ghost use Rattle.std.specs.Prelude.{◌≡◌};
 ghost use Rattle.hc_fresh.specs.Ages.{age_stated, age_value, current_age, fresh, staleness};
 
-use hc_fields::{Fields, list_members, number};
-
-/// Greater ages are this one (RFC 9111 section 1.2.2).
-const GREATEST: u64 = 2_147_483_648;
+use hc_fields::{Fields, LARGEST_NUMBER, list_members, number};
 
 /// What the age of a response is counted from (RFC 9111 section 4.2.3), in seconds since 1 January
 /// 1970, but for the value of its Age.
@@ -46,7 +43,7 @@ pub fn current_age(times: Times, now: u64) -> u32
     let corrected = u64::from(times.age_value).saturating_add(delay);
     let resident = now.saturating_sub(times.response_time);
     let age = corrected.max(apparent).saturating_add(resident);
-    age.min(GREATEST) as u32
+    age.min(u64::from(LARGEST_NUMBER)) as u32
 }
 
 /// Whether a response of that freshness lifetime is fresh at that age (RFC 9111 section 4.2).

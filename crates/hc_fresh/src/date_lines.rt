@@ -1,6 +1,7 @@
 //! The Date of a response (RFC 9110 section 6.6.1).
 
 ghost use Rattle.std.specs.Prelude.{◌≡◌, ◌<◌, IfOk};
+ghost use Rattle.hc_fields.specs.Numbers.{end_of_moments};
 ghost use Rattle.hc_fresh.specs.DateLines.{date_stated, date_line, dated};
 
 use crate::dates::{date_text, read_date};
@@ -16,7 +17,7 @@ pub fn date_stated(fields: &Fields) -> Option<u64>
 
 /// A Date line of that moment.
 fn date_line(alloc: Global, moment: u64) -> Result<Field, AllocError>
-    requires { moment < 253_402_300_800 }
+    requires { moment < end_of_moments }
     ensures { IfOk result (λ line. line ≡ date_line moment) }
 {
     Ok(Field {
@@ -28,7 +29,7 @@ fn date_line(alloc: Global, moment: u64) -> Result<Field, AllocError>
 /// The fields with exactly one Date: where they state none, their Date lines are removed, and a line
 /// of that moment, which lies before the year 10000, follows the others.
 pub fn dated(fields: Fields, moment: u64) -> Result<Fields, AllocError>
-    requires { moment < 253_402_300_800 }
+    requires { moment < end_of_moments }
     ensures { IfOk result (λ f. f ≡ dated moment fields) }
 {
     if date_stated(&fields).is_some() {

@@ -5,10 +5,7 @@ ghost use Rattle.hc_fresh.specs.Lifetimes.{seconds_stated, seconds_until, expire
 
 use crate::dates::read_date;
 use hc_directives::{Directives, Seconds};
-use hc_fields::Fields;
-
-/// Greater lifetimes are this one (RFC 9111 section 1.2.2).
-const GREATEST: u64 = 2_147_483_648;
+use hc_fields::{Fields, LARGEST_NUMBER};
 
 /// The lifetime that a directive states, if it is there.
 fn seconds_stated(said: Seconds) -> Option<u32>
@@ -26,7 +23,7 @@ fn seconds_until(date: u64, expires: &[u8]) -> u32
     ensures { result ≡ seconds_until date expires.now }
 {
     match read_date(expires) {
-        Some(end) => end.saturating_sub(date).min(GREATEST) as u32,
+        Some(end) => end.saturating_sub(date).min(u64::from(LARGEST_NUMBER)) as u32,
         None => 0,
     }
 }

@@ -6,13 +6,14 @@ use Rattle.hc_fields.specs.Values.{has_name}
 use Rattle.hc_head.specs.declared.head.RequestHead.{RequestHead}
 use Rattle.hc_head.specs.declared.head.ResponseHead.{ResponseHead}
 use Rattle.hc_head.specs.Methods.{is_get}
+use Rattle.hc_head.specs.Statuses.{partial_content, not_modified}
 use Rattle.hc_fresh.specs.Lifetimes.{says, explicit}
 
 -- ---- statuses
 
 -- a final status that may be stored; not 206, whose reuse isn't judged, and not 304, which only updates (this project's own choice)
 abbrev pub is_storable : ℕ → Bool
-is_storable status = nat_le 200 status && nat_le status 599 && not (status == 206) && not (status == 304)
+is_storable status = nat_le 200 status && nat_le status 599 && not (status == partial_content) && not (status == not_modified)
 
 -- the heuristically cacheable statuses, which may be stored where nothing says so (RFC 9110 section 15.1; this project leaves out 206)
 abbrev pub heuristically_cacheable_statuses : List ℕ

@@ -7,6 +7,7 @@ ghost use Rattle.hc_fields.specs.Values.{has_name};
 ghost use Rattle.hc_fields.specs.Lists.{members_of};
 ghost use Rattle.hc_head.specs.declared.head.RequestHead.{RequestHead};
 ghost use Rattle.hc_head.specs.declared.head.ResponseHead.{ResponseHead};
+ghost use Rattle.hc_head.specs.Statuses.{not_modified, partial_content};
 ghost use Rattle.hc_fresh.specs.Lifetimes.{says};
 ghost use Rattle.hc_rules.specs.Storing.{may_store};
 ghost use Rattle.hc_rules.specs.Selecting.{selects};
@@ -57,13 +58,13 @@ pub fn only_get_is_stored()
 /// Nor is a part of a body (RFC 9110 section 15.3.7).
 pub fn partial_is_never_stored()
     ensures { (forward : RequestHead) (response : ResponseHead)
-        → response.status ≡ 206 → may_store forward response ≡ false }
+        → response.status ≡ partial_content → may_store forward response ≡ false }
 {}
 
 /// Nor is what says that a stored response still holds (RFC 9110 section 15.4.5).
 pub fn not_modified_is_never_stored()
     ensures { (forward : RequestHead) (response : ResponseHead)
-        → response.status ≡ 304 → may_store forward response ≡ false }
+        → response.status ≡ not_modified → may_store forward response ≡ false }
 {}
 
 /// A 200 to a GET without Authorization is stored where neither says `no-store`, nor it `private`.

@@ -7,21 +7,15 @@ ghost use Rattle.hc_rules.specs.Storing.{asks_for_storable, has_authorization, i
 
 use hc_directives::{Directives, KnownDirectives};
 use hc_fresh::explicit;
-use hc_head::{RequestHead, ResponseHead, is_get};
+use hc_head::{NOT_MODIFIED, PARTIAL_CONTENT, RequestHead, ResponseHead, is_get};
 
 /// The statuses that may be stored where nothing says so (RFC 9110 section 15.1), but 206.
 const HEURISTICALLY_CACHEABLE: [u16; 11] = [200, 203, 204, 300, 301, 308, 404, 405, 410, 414, 501];
 
-/// The status of a response with a part of the body (RFC 9110 section 15.3.7).
-const PARTIAL: u16 = 206;
-
-/// The status that says that a stored response still holds (RFC 9110 section 15.4.5).
-const NOT_MODIFIED: u16 = 304;
-
 fn is_storable(status: u16) -> bool
     ensures { result ≡ is_storable status }
 {
-    200 <= status && status <= 599 && status != PARTIAL && status != NOT_MODIFIED
+    200 <= status && status <= 599 && status != PARTIAL_CONTENT && status != NOT_MODIFIED
 }
 
 fn is_heuristically_cacheable(status: u16) -> bool
