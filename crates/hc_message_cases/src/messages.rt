@@ -276,8 +276,8 @@ fn first_answer(alloc: Global, octets: &[u8]) -> (Option<FrameFault>, usize) {
 struct AfterFault {
     had_head: bool,
     has_head: bool,
-    first: Option<FrameFault>,
-    second: Option<FrameFault>,
+    first: FrameFault,
+    second: FrameFault,
     end: Option<FrameFault>,
 }
 
@@ -287,46 +287,50 @@ pub fn after_a_fault(alloc: Global, about: &[Vec<u8>], out: &mut String) -> Resu
     let [first, second] = about else {
         return Err(Unanswered::Unknown);
     };
-    let found = answers_after(alloc, first.as_slice(), second.as_slice());
-    out.push_str(if found.had_head {
-        "with a head: "
-    } else {
-        "without a head: "
-    })?;
-    answered(found.first, out)?;
-    out.push_str(if found.has_head {
-        "with a head: "
-    } else {
-        "without a head: "
-    })?;
-    answered(found.second, out)?;
-    out.push_str("end: ")?;
-    answered(found.end, out)?;
-    Ok(out.push_str("no more")?)
+    let Some(found) = answers_after(alloc, first.as_slice(), second.as_slice()) else {
+        return Err(Unanswered::Unknown);
+    };
+    Ok(shown(found, out)?)
 }
 
-fn answers_after(alloc: Global, first: &[u8], second: &[u8]) -> AfterFault {
+// Nothing where one of them is no fault.
+fn answers_after(alloc: Global, first: &[u8], second: &[u8]) -> Option<AfterFault> {
     let mut reader = MessageReader::<RequestHead>::new(alloc, Kind::Request, Room::RECEIVED);
     let had_head = reader.head().is_some();
-    let first = reader.feed(first).err();
+    let Err(first) = reader.feed(first) else {
+        return None;
+    };
     let has_head = reader.head().is_some();
-    let second = reader.feed(second).err();
+    let Err(second) = reader.feed(second) else {
+        return None;
+    };
     let end = reader.end().err();
-    AfterFault {
+    Some(AfterFault {
         had_head,
         has_head,
         first,
         second,
         end,
+    })
+}
+
+fn shown(found: AfterFault, out: &mut String) -> Result<(), AllocError> {
+    out.push_str(place(found.had_head))?;
+    frame_fault(found.first, out)?;
+    out.push_str(", ")?;
+    out.push_str(place(found.has_head))?;
+    frame_fault(found.second, out)?;
+    out.push_str(", end: ")?;
+    match found.end {
+        None => out.push_str("no fault"),
+        Some(fault) => frame_fault(fault, out),
     }
 }
 
-fn answered(fault: Option<FrameFault>, out: &mut String) -> Result<(), AllocError> {
-    match fault {
-        None => out.push_str("no fault, "),
-        Some(fault) => {
-            frame_fault(fault, out)?;
-            out.push_str(", ")
-        }
+fn place(has_head: bool) -> &'static str {
+    if has_head {
+        "with a head: "
+    } else {
+        "without a head: "
     }
 }
