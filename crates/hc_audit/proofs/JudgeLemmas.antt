@@ -7,7 +7,8 @@ use Rattle.hc_transcript.specs.declared.record.Record.{Record}
 use Rattle.hc_transcript.specs.Items.{Item, ClientRequest, OriginRequest, OriginResponse, OriginFailure, ClientReply}
 use Rattle.hc_transcript.specs.History.{next_position}
 use Rattle.hc_transcript.specs.Transcript.{Splits, IsTranscript}
-use Rattle.hc_transcript.specs.Reader.{Agrees, Advances, ReadsTo, WaitsBy, Waits, Stops, HasUnread, HasUnreadBy, IsUnfinishedOpening, reader_position}
+use Rattle.hc_transcript.specs.Malformed.{IsUnfinishedOpening}
+use Rattle.hc_transcript.specs.Reader.{Agrees, Advances, ReadsTo, WaitsBy, Waits, MeetsFault, HasUnread, HasUnreadBy, reader_position}
 use Rattle.hc_status.specs.declared.marks.Mark.{Mark}
 use Rattle.hc_status.specs.declared.marks.Mark.TheVariants.{Hit, Forwarded, Both, Unmarked}
 use Rattle.hc_history.specs.declared.verdicts.Counts.{Counts}
@@ -21,13 +22,13 @@ use Rattle.hc_audit.specs.Notes.{IsSeenAs}
 
 -- ---- a fault of the transcript
 
-malformed : (r : RecordReader) (octets : List ℕ) (h : List Item) (f : RecordFault) → AllRight h → Stops r octets h f → IsVerdict octets (Malformed (reader_position r) f)
+malformed : (r : RecordReader) (octets : List ℕ) (h : List Item) (f : RecordFault) → AllRight h → MeetsFault r octets h f → IsVerdict octets (Malformed (reader_position r) f)
 malformed r octets h f right stops = elim stops [
   | inl opening ↦ inl (opening.1.1, inl (opening.0, opening.1.0))
   | inr behind ↦ inr (record { history = h; all_right = right; breaks = inl behind.0; position_is = behind.1 })
 ]
 
-pub stops_give : (r : RecordReader) (octets : List ℕ) (h : List Item) (f : RecordFault) → AllRight h → (f ≢ faults.Memory → Stops r octets h f) → GivesVerdict (stopped f (reader_position r)) octets
+pub stops_give : (r : RecordReader) (octets : List ℕ) (h : List Item) (f : RecordFault) → AllRight h → (f ≢ faults.Memory → MeetsFault r octets h f) → GivesVerdict (stopped f (reader_position r)) octets
 stops_give r octets h faults.Memory right stops = tt
 stops_give r octets h faults.Opening right stops = malformed r octets h faults.Opening right (stops (λ e. cc))
 stops_give r octets h faults.Line right stops = malformed r octets h faults.Line right (stops (λ e. cc))

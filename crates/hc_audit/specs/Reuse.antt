@@ -57,8 +57,8 @@ claim_of exchange moment reply = record { target = exchange.target; moment = mom
 abbrev pub same_target : Target → Target → Bool
 same_target a b = bytes_eq a.host b.host && bytes_eq a.path b.path
 
-abbrev pub is_get : Message RequestHead → Bool
-is_get request = bytes_eq request.head.method (codes "GET")
+abbrev pub is_get : RequestHead → Bool
+is_get request = bytes_eq request.method (codes "GET")
 
 -- fresh for more seconds than lie between the forward and the reply
 abbrev pub is_fresh : Option ℕ → ℕ → ℕ → Bool

@@ -1,16 +1,13 @@
 -- What is said of a transcript.
-use Rattle.std.specs.Prelude.{◌≡◌, ◌≢◌, ℕ, ◌⊎◌, List, [], ◌∷◌, Option, Some, None}
+use Rattle.std.specs.Prelude.{◌≡◌, ℕ, ◌⊎◌, List, [], ◌∷◌, Option, Some, None}
 use Rattle.hc_head.specs.declared.head.ResponseHead.{ResponseHead}
 use Rattle.hc_framing.specs.declared.message.Message.{Message}
 use Rattle.hc_transcript.specs.declared.fault.RecordFault.{RecordFault}
-use Rattle.hc_transcript.specs.declared.fault.RecordFault.TheVariants as fault
 use Rattle.hc_transcript.specs.declared.record.Record.{Record}
 use Rattle.hc_transcript.specs.Items.{Item, ClientRequest, OriginRequest, OriginResponse, OriginFailure, ClientReply, Exchange}
 use Rattle.hc_transcript.specs.History.{next_position, exchange_of}
-use Rattle.hc_transcript.specs.Checks.{line_fault}
-use Rattle.hc_transcript.specs.Frames.{IsUnfinished}
 use Rattle.hc_transcript.specs.Transcript.{Splits, IsTranscript}
-use Rattle.hc_transcript.specs.Reader.{HasNoOpening, IsUnfinishedOpening, BreaksAfter}
+use Rattle.hc_transcript.specs.Malformed.{BreaksOpening, IsMalformedAfter}
 use Rattle.hc_status.specs.declared.marks.Mark.{Mark}
 use Rattle.hc_status.specs.declared.marks.Mark.TheVariants.{Hit, Forwarded, Both, Unmarked}
 use Rattle.hc_history.specs.declared.verdicts.Counts.{Counts}
@@ -55,27 +52,11 @@ pub record IsYes (octets : List ℕ) (counts : Counts) : Type 0 where
   pub all_right : AllRight history
   pub counts_are : counts ≡ counts_of history
 
--- behind these items the octets end inside a record
-pub record IsTornAfter (octets : List ℕ) (h : List Item) : Type 0 where
-  pub records : List Record
-  pub rest : List ℕ
-  pub splits : Splits octets records h rest
-  pub some : rest ≢ []
-  pub torn : IsUnfinished (line_fault h) rest
-
--- where a record breaks the octets
-abbrev pub BreaksBehind : List ℕ → List Item → RecordFault → Type 0
-BreaksBehind octets h f = BreaksAfter octets h f ⊎ ((f ≡ fault.Torn) × IsTornAfter octets h)
-
--- where the opening breaks the octets
-abbrev pub BreaksOpening : List ℕ → RecordFault → Type 0
-BreaksOpening octets f = (HasNoOpening octets × (f ≡ fault.Opening)) ⊎ (IsUnfinishedOpening octets × (f ≡ fault.Torn))
-
 -- every reply before a record is right, and the record at that position breaks the octets
 pub record BreaksAt (octets : List ℕ) (position : ℕ) (f : RecordFault) : Type 0 where
   pub history : List Item
   pub all_right : AllRight history
-  pub breaks : BreaksBehind octets history f
+  pub breaks : IsMalformedAfter octets history f
   pub position_is : position ≡ next_position history
 
 -- the verdict on octets

@@ -6,14 +6,14 @@ ghost use Rattle.hc_history.specs.Marks.{item_mark};
 ghost use Rattle.hc_history.specs.Counting.{marked};
 
 use hc_history::{Counts, Mark, MarkFault, reply_mark};
-use hc_transcript::OwnedItem;
+use hc_transcript::{Meaning, OwnedItem};
 use std::alloc::Global;
 
 /// The mark of a record, if it is a reply.
 pub(crate) fn item_mark(alloc: Global, item: &OwnedItem) -> Result<Option<Mark>, MarkFault>
     ensures { IfOk result (λ mark. mark ≡ item_mark (item_of item.now)) }
 {
-    let OwnedItem::ClientReply { reply, .. } = item else {
+    let Meaning::ClientReply(reply) = &item.of else {
         return Ok(None);
     };
     let mark = reply_mark(alloc, reply)?;

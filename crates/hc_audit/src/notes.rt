@@ -14,7 +14,7 @@ use hc_fields::SharedOctets;
 use hc_framing::Message;
 use hc_head::{RequestHead, ResponseHead, Target};
 use hc_history::Mark;
-use hc_transcript::OwnedItem;
+use hc_transcript::{Meaning, OwnedItem};
 use std::alloc::{AllocError, Global};
 use std::collections::BTreeMap;
 
@@ -53,10 +53,10 @@ fn same_target(one: &Target, other: &Target) -> bool
     one.host.as_slice() == other.host.as_slice() && one.path.as_slice() == other.path.as_slice()
 }
 
-fn is_get(request: &Message<RequestHead>) -> bool
+fn is_get(request: &RequestHead) -> bool
     ensures { result ≡ is_get request.now }
 {
-    request.head.method.as_slice() == b"GET".as_slice()
+    request.method.as_slice() == b"GET".as_slice()
 }
 
 /// Whether the reply to a request of that target may be the response again.
@@ -120,15 +120,10 @@ impl Notes {
         ensures yes { (h : List Item) → IsSeenAs self.now h → result ≡ true → IsRight h (item_of item.now) }
         ensures no { (h : List Item) → IsSeenAs self.now h → result ≡ false → ¬ (IsRight h (item_of item.now)) }
     {
-        let OwnedItem::ClientReply {
-            exchange,
-            moment,
-            reply,
-        } = item
-        else {
+        let Meaning::ClientReply(reply) = &item.of else {
             return true;
         };
-        let Some(target) = self.exchanges.get(exchange) else {
+        let Some(target) = self.exchanges.get(&item.number) else {
             return false;
         };
         let Some(said) = mark else {
@@ -139,7 +134,7 @@ impl Notes {
                 if ttl.is_some() {
                     return false;
                 }
-                self.is_reused(target, *moment, reply)
+                self.is_reused(target, item.moment, reply)
             }
             Mark::Forwarded => false,
             Mark::Both => false,
@@ -151,29 +146,19 @@ impl Notes {
     pub(crate) fn note(&mut self, item: &OwnedItem) -> Result<(), AllocError>
         ensures { (h : List Item) → IsSeenAs self.old h → OnOk result (IsSeenAs self.new (item_of item.now ∷ h)) }
     {
-        match item {
-            OwnedItem::ClientRequest {
-                exchange,
-                target,
-                ..
-            } => self.open_exchange(*exchange, target),
-            OwnedItem::OriginRequest {
-                forward,
-                moment,
-                request,
-                target,
-            } => self.open_forward(*forward, *moment, request, target),
-            OwnedItem::OriginResponse {
-                forward,
-                response,
-                ..
-            } => self.answer(*forward, response),
-            OwnedItem::OriginFailure { forward, .. } => {
-                let _ = self.forwards.remove(forward);
+        let number = item.number;
+        match &item.of {
+            Meaning::ClientRequest { target, .. } => self.open_exchange(number, target),
+            Meaning::OriginRequest { request, target } => {
+                self.open_forward(number, item.moment, &request.head, target)
+            }
+            Meaning::OriginResponse(response) => self.answer(number, response),
+            Meaning::OriginFailure => {
+                let _ = self.forwards.remove(&number);
                 Ok(())
             }
-            OwnedItem::ClientReply { exchange, .. } => {
-                let _ = self.exchanges.remove(exchange);
+            Meaning::ClientReply(_) => {
+                let _ = self.exchanges.remove(&number);
                 Ok(())
             }
         }
@@ -191,7 +176,7 @@ impl Notes {
         &mut self,
         number: u64,
         moment: u64,
-        request: &Message<RequestHead>,
+        request: &RequestHead,
         target: &Target,
     ) -> Result<(), AllocError>
         ensures { OnOk result (OpensForward self.old self.new number (record { is_get = is_get request.now; moment = moment; target = target.now })) }

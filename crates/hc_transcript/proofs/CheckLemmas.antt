@@ -62,6 +62,11 @@ number_in_range kind.ClientReply e f n right = let b = both (nat_lt 0 n) (nat_le
 pub number_fits : (l : Line) (m e f : ℕ) (he hf : Bool) → IsInOrder l m e f he hf → l.number ≤ greatest_number
 number_fits l m e f he hf o = number_in_range l.kind e f l.number o.right_number
 
+-- the moment of a line that passes the checks is in time
+pub in_time : (s : Standing) (l : Line) → standing_fault s l ≡ None → l.moment ≤ greatest_moment
+in_time s l none =
+    (in_order l s.moment s.exchange s.forward (is_some (get nat_cmp s.exchanges l.number)) (is_some (get nat_cmp s.forwards l.number)) none).moment_fits
+
 is_there : (o : Option Bool) → is_some o ≡ true → IsSome o
 is_there (Some b) e = e
 is_there None e = cc

@@ -10,3 +10,4 @@ pub mod ReaderLemmas
 pub mod ItemLemmas
 pub mod FrontLemmas
 pub mod OnceLemmas
+pub mod WrittenLemmas

@@ -1,5 +1,5 @@
 -- What a reader of records keeps, from call to call.
-use Rattle.std.proofs.Common.{◌≡◌, ◌≢◌, ℕ, ◌+◌, Bool, true, false, cond, List, [], ◌∷◌, ◌++◌, length, take, drop, Option, Some, None, is_some, refl, sym, ap, subst, ◌∙◌, arith, inr, append_assoc, length-append, length-drop, ◌<◌}
+use Rattle.std.proofs.Common.{◌≡◌, ◌≢◌, ℕ, ◌+◌, Bool, true, false, cond, List, [], ◌∷◌, ◌++◌, length, take, drop, Option, Some, None, is_some, refl, sym, ap, subst, ◌∙◌, arith, inl, inr, append_assoc, length-append, length-drop, ◌<◌, ◌≤◌}
 use Rattle.std.proofs.Math.Seq.{drop-append_seam}
 use Rattle.std.proofs.lemmas.List.{take-append-drop, append-nil}
 use Rattle.std.proofs.lemmas.Slice.Eq.{bytes_eq-Decides}
@@ -19,6 +19,7 @@ use Rattle.hc_transcript.specs.declared.line.Kind.TheVariants as kind
 use Rattle.hc_transcript.specs.declared.record.Passed.{Passed}
 use Rattle.hc_transcript.specs.declared.record.Passed.TheVariants as passed
 use Rattle.hc_transcript.specs.declared.record.Record.{Record}
+use Rattle.hc_transcript.specs.Limits.{longest_unfinished}
 use Rattle.hc_transcript.specs.Items.{Item, item_of}
 use Rattle.hc_transcript.specs.History.{next_position}
 use Rattle.hc_transcript.specs.Records.{opening, line_text, passed_kind, passed_octets, line_of, message_of, record_text, records_text}
@@ -27,7 +28,8 @@ use Rattle.hc_transcript.specs.Transcript.{is_to_head, IsItemOf, IsReadAs, Split
 use Rattle.hc_transcript.specs.Reading.{Refuses, IsItemWith}
 use Rattle.hc_transcript.specs.Standing.{StandsAs, standing_fault}
 use Rattle.hc_transcript.specs.Malformed.{IsFramed, IsUnfinished, BreaksLine, IsNoMessage, HasNoMessage, BreaksRecord, IsUnfinishedOpening}
-use Rattle.hc_transcript.specs.Reader.{ReadsTo, Agrees, WaitsBy, Waits, MeetsFault, Advances, reader_position, HasUnreadBy, is_whole_by}
+use Rattle.hc_transcript.specs.Reader.{ReadsTo, Agrees, WaitsBy, Waits, MeetsFault, Advances, reader_position, HasUnreadBy}
+use Rattle.hc_transcript.specs.ReaderParts.{is_whole_by}
 use Rattle.hc_transcript.proofs.CheckLemmas.{standing_fault_is, no_message_check, in_order}
 
 -- the checks by what the reader keeps are those after the history
@@ -201,6 +203,18 @@ unfinished_opening held front not_whole =
 pub shrinks : (check : Line → Option RecordFault) (held : List ℕ) (l : Line) (message : List ℕ) (len : ℕ) → IsFramed check held l message len → length (drop len held) < length held
 shrinks check held l message len framed =
     omega (arith, framed.len_is, length-drop len held, ap length framed.octets_are, length-append (line_text l) (10 ∷ (message ++ 10 ∷ framed.rest)), length-append message (10 ∷ framed.rest))
+
+-- ---- what is left
+
+-- less than a record is left where none is whole
+pub unfinished_is_short : (s : Standing) (octets : List ℕ) → IsUnfinished (standing_fault s) octets → length octets ≤ longest_unfinished
+unfinished_is_short s octets (inl line) = omega (arith, line.short)
+unfinished_is_short s octets (inr rest) =
+    let o = in_order rest.line s.moment s.exchange s.forward (is_some (get nat_cmp s.exchanges rest.line.number)) (is_some (get nat_cmp s.forwards rest.line.number)) rest.keeps in
+    omega (arith, rest.short, rest.has.begins.short, o.size_fits)
+
+pub unfinished_opening_is_short : (octets : List ℕ) → IsUnfinishedOpening octets → length octets ≤ longest_unfinished
+unfinished_opening_is_short octets u = omega (arith, ap length u.1, length-append octets u.0)
 
 -- ---- the end
 

@@ -11,27 +11,21 @@ use Rattle.hc_transcript.specs.History.{exchange_of, forward_of, last_moment, la
 
 -- a failure has no octets
 abbrev pub has_right_length : Kind → ℕ → Bool
-has_right_length kind.ClientRequest size = true
-has_right_length kind.OriginRequest size = true
-has_right_length kind.OriginResponse size = true
 has_right_length kind.OriginFailure size = size == 0
-has_right_length kind.ClientReply size = true
+has_right_length other size = true
 
 -- a request opens a number greater than the last of its kind, up to the greatest; an answer has a number from 1 up to it
 abbrev pub has_right_number : Kind → ℕ → ℕ → ℕ → Bool
 has_right_number kind.ClientRequest exchange forward n = nat_lt exchange n && nat_le n greatest_number
 has_right_number kind.OriginRequest exchange forward n = nat_lt forward n && nat_le n greatest_number
-has_right_number kind.OriginResponse exchange forward n = nat_lt 0 n && nat_le n greatest_number
-has_right_number kind.OriginFailure exchange forward n = nat_lt 0 n && nat_le n greatest_number
-has_right_number kind.ClientReply exchange forward n = nat_lt 0 n && nat_le n greatest_number
+has_right_number other exchange forward n = nat_lt 0 n && nat_le n greatest_number
 
 -- an answer answers what is open
 abbrev pub answers_open : Kind → Bool → Bool → Bool
-answers_open kind.ClientRequest exchange forward = true
-answers_open kind.OriginRequest exchange forward = true
 answers_open kind.OriginResponse exchange forward = forward
 answers_open kind.OriginFailure exchange forward = forward
 answers_open kind.ClientReply exchange forward = exchange
+answers_open other exchange forward = true
 
 -- the first check that the line fails, by the last moment, the last numbers, and whether its exchange and its forward are open
 abbrev pub first_fault : Line → ℕ → ℕ → ℕ → Bool → Bool → Option RecordFault

@@ -8,6 +8,8 @@ pub mod History
 pub mod Checks
 pub mod Transcript
 pub mod Malformed
+pub mod Written
 pub mod Reading
 pub mod Standing
 pub mod Reader
+pub mod ReaderParts

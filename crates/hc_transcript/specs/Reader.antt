@@ -1,5 +1,5 @@
 -- A reader of records, and the octets that it was given.
-use Rattle.std.specs.Prelude.{◌≡◌, ◌≢◌, ℕ, ◌+◌, ◌⊎◌, Bool, true, false, List, [], ◌∷◌, ◌++◌, length, Some, None, Result, Ok, Err, IsSome, bytes_eq, ◌==◌, if◌then◌else◌}
+use Rattle.std.specs.Prelude.{◌≡◌, ◌≢◌, ℕ, ◌+◌, ◌⊎◌, Bool, true, false, List, [], ◌∷◌, ◌++◌, length, Option, Some, None, Result, Ok, Err, IsSome, if◌then◌else◌}
 use Rattle.hc_transcript.specs.declared.fault.RecordFault.{RecordFault}
 use Rattle.hc_transcript.specs.declared.fault.RecordFault.TheVariants as fault
 use Rattle.hc_transcript.specs.declared.item.OwnedItem.{OwnedItem}
@@ -46,11 +46,6 @@ CountsRecord (Ok true) old new = new ≡ old + 1
 CountsRecord (Ok false) old new = new ≡ old
 CountsRecord (Err f) old new = new ≡ old
 
--- the opening is there, and no octet behind what was read
-abbrev pub is_whole_by : Bool → List ℕ → Bool
-is_whole_by false held = bytes_eq held opening
-is_whole_by true held = length held == 0
-
 -- octets are left, or the opening isn't there
 abbrev pub HasUnreadBy : Bool → List ℕ → Type 0
 HasUnreadBy false held = held ≢ opening
@@ -59,19 +54,28 @@ HasUnreadBy true held = held ≢ []
 abbrev pub HasUnread : RecordReader → Type 0
 HasUnread r = HasUnreadBy r.is_open r.held
 
--- the reader lends what the record that was read last means
+-- what the reader lends: what the record that was read last means
+abbrev pub lent : RecordReader → Option OwnedItem
+lent r = r.current
+
+abbrev pub HasItem : RecordReader → Type 0
+HasItem r = IsSome (lent r)
+
+-- what the reader lends means the item
 pub record Lends (r : RecordReader) (item : Item) : Type 0 where
   pub held : OwnedItem
-  pub is_held : r.current ≡ Some held
+  pub is_held : lent r ≡ Some held
   pub item_is : item_of held ≡ item
 
--- the reader has an item to lend
-abbrev pub HasItem : RecordReader → Type 0
-HasItem r = IsSome r.current
+-- the fault that the reader has met, which it answers for ever
+abbrev pub fault_met : RecordReader → Option RecordFault
+fault_met r = r.fault
 
--- the reader answers the fault for ever
 abbrev pub HasFailed : RecordReader → RecordFault → Type 0
-HasFailed r f = r.fault ≡ Some f
+HasFailed r f = fault_met r ≡ Some f
+
+abbrev pub HasNoFault : RecordReader → Type 0
+HasNoFault r = fault_met r ≡ None
 
 -- the position of what is read next: 0 while the opening isn't whole, the first record has 1
 abbrev pub reader_position : RecordReader → ℕ
@@ -90,15 +94,14 @@ pub record Advances (r : RecordReader) (octets : List ℕ) (records : List Recor
   pub agrees : Agrees r octets (one ∷ records) (item ∷ h)
   pub lends : Lends r item
 
+-- the position stays, or is that of the record behind those that were read; it is that where one was read
+abbrev pub PositionsNext : Result Bool RecordFault → RecordReader → RecordReader → Type 0
+PositionsNext (Ok true) old new = reader_position new ≡ records_read new + 1
+PositionsNext (Ok false) old new = (reader_position new ≡ reader_position old) ⊎ (reader_position new ≡ records_read new + 1)
+PositionsNext (Err f) old new = (reader_position new ≡ reader_position old) ⊎ (reader_position new ≡ records_read new + 1)
+
 -- what the answer to a call of `advance` says
 abbrev pub GivesAdvance : Result Bool RecordFault → RecordReader → List ℕ → List Record → List Item → Type 0
 GivesAdvance (Ok true) r octets records h = Advances r octets records h
 GivesAdvance (Ok false) r octets records h = Agrees r octets records h × Waits r h
 GivesAdvance (Err f) r octets records h = f ≢ fault.Memory → MeetsFault r octets h f
-
--- what the answer to a reading of the opening says
-abbrev pub GivesOpening : Result Bool RecordFault → RecordReader → RecordReader → Type 0
-GivesOpening (Ok true) old new =
-    (old.held ≡ opening ++ new.held) × ((new.is_open ≡ true) × ((new.standing ≡ old.standing) × (new.fault ≡ old.fault)))
-GivesOpening (Ok false) old new = (new ≡ old) × IsUnfinishedOpening old.held
-GivesOpening (Err f) old new = (f ≡ fault.Opening) × ((new.is_open ≡ false) × ((new.standing ≡ old.standing) × HasNoOpening old.held))

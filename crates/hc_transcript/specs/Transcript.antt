@@ -39,11 +39,9 @@ IsItemOf kind.ClientReply number moment to_head octets item =
 
 -- whether what such a record bears answers HEAD, by what is open after a history
 abbrev pub is_to_head : Kind → ℕ → List Item → Bool
-is_to_head kind.ClientRequest number h = false
-is_to_head kind.OriginRequest number h = false
 is_to_head kind.OriginResponse number h = forward_is_head (forward_of number h)
-is_to_head kind.OriginFailure number h = false
 is_to_head kind.ClientReply number h = exchange_is_head (exchange_of number h)
+is_to_head other number h = false
 
 -- how a record is read after a history
 abbrev pub IsReadAs : List Item → Record → Item → Type 0

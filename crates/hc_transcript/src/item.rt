@@ -1,6 +1,7 @@
 //! What a record means.
 
-ghost use Rattle.std.specs.Prelude.{◌≡◌, IfSome, IfNone};
+ghost use Rattle.std.specs.Prelude.{◌≤◌};
+ghost use Rattle.hc_transcript.specs.Limits.{greatest_moment};
 
 use hc_framing::Message;
 use hc_head::{RequestHead, ResponseHead, Target};
@@ -14,6 +15,7 @@ pub struct OwnedItem {
     pub moment: u64,
     /// What passed.
     pub of: Meaning,
+    ghost in_time: { moment ≤ greatest_moment },
 }
 
 /// What passed, read.

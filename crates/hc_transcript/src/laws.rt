@@ -1,13 +1,14 @@
 //! Laws of the definitions.
 
-ghost use Rattle.std.specs.Prelude.{◌≡◌, ◌≢◌, ℕ, ◌⊎◌, Bool, List, [], ◌∷◌, ◌++◌};
+ghost use Rattle.std.specs.Prelude.{◌≡◌, ◌≢◌, ℕ, ◌⊎◌, Bool, List, [], ◌∷◌, ◌++◌, None};
 ghost use Rattle.hc_transcript.specs.declared.fault.RecordFault.{RecordFault};
 ghost use Rattle.hc_transcript.specs.declared.line.Kind.{Kind};
 ghost use Rattle.hc_transcript.specs.declared.record.Record.{Record};
-ghost use Rattle.hc_transcript.specs.Records.{record_text};
+ghost use Rattle.hc_transcript.specs.Records.{line_of, record_text};
 ghost use Rattle.hc_transcript.specs.Items.{Item};
 ghost use Rattle.hc_transcript.specs.Checks.{line_fault};
 ghost use Rattle.hc_transcript.specs.Transcript.{IsItemOf, Follows, Splits, GoesOn, IsTranscript};
+ghost use Rattle.hc_transcript.specs.Written.{IsWritable, written_as};
 ghost use Rattle.hc_transcript.specs.Malformed.{HasNoOpening, IsUnfinishedOpening, IsUnfinished, IsNoMessage, BreaksAfter};
 
 /// A record's octets are read as one item at most, and as none where they are no message of its
@@ -22,10 +23,18 @@ pub fn one_item()
 
 /// A transcript, with the text of a record behind it that may follow, is a transcript of one record
 /// more.
-pub fn written_record_read_back()
+pub fn record_text_goes_on()
     ensures { (octets : List ℕ) (records : List Record) (h : List Item) (r : Record) (item : Item)
         → IsTranscript octets records h → Follows h r item
         → IsTranscript (octets ++ record_text r) (r ∷ records) (item ∷ h) }
+{}
+
+/// A record that is written for an item is read back as that very item: its message's head may be
+/// written, its body is within its limit, and the record keeps to the format behind the transcript.
+pub fn written_record_read_back()
+    ensures { (octets : List ℕ) (records : List Record) (h : List Item) (item : Item)
+        → IsTranscript octets records h → IsWritable h item → line_fault h (line_of (written_as h item)) ≡ None
+        → IsTranscript (octets ++ record_text (written_as h item)) (written_as h item ∷ records) (item ∷ h) }
 {}
 
 /// Octets are a transcript of one list of records at most, read as one list of items; and of two

@@ -19,7 +19,7 @@ mod writing;
 pub use fault::RecordFault;
 pub use item::{Meaning, OwnedItem};
 pub use laws::{
-    breaks_once, broken_for_ever, one_item, one_transcript, unfinished_once,
+    breaks_once, broken_for_ever, one_item, one_transcript, record_text_goes_on, unfinished_once,
     written_record_read_back,
 };
 pub use limits::{GREATEST_MOMENT, GREATEST_NUMBER, LONGEST_MESSAGE};

@@ -1,7 +1,8 @@
 //! A reader of the records of a transcript.
 
-ghost use Rattle.std.specs.Prelude.{◌≡◌, ◌≢◌, ℕ, ◌+◌, ◌<◌, ◌≤◌, ◌⊎◌, List, [], ◌∷◌, ◌++◌, OnOk, OnErr, IfErr, Ok, Err, true, false};
+ghost use Rattle.std.specs.Prelude.{◌≡◌, ◌≢◌, ℕ, ◌+◌, ◌<◌, ◌≤◌, ◌⊎◌, List, [], ◌∷◌, ◌++◌, length, Some, None, is_ok, OnOk, OnErr, IfErr, Ok, Err, true, false, if◌then◌else◌};
 ghost use Rattle.hc_transcript.specs.declared.record.Record.{Record};
+ghost use Rattle.hc_transcript.specs.Limits.{greatest_moment, longest_unfinished};
 ghost use Rattle.hc_transcript.specs.Items.{Item, item_of};
 ghost use Rattle.hc_transcript.specs.Transcript.{IsTranscript};
 
@@ -27,7 +28,8 @@ pub struct RecordReader {
 }
 
 impl RecordReader {
-    ghost use Rattle.hc_transcript.specs.Reader.{Agrees, GivesAdvance, HasFailed, HasItem, Lends, CountsRecord, HasUnread, unread, records_read, reader_position, is_whole_by, GivesOpening};
+    ghost use Rattle.hc_transcript.specs.Reader.{Agrees, GivesAdvance, PositionsNext, HasFailed, HasNoFault, fault_met, HasItem, Lends, lent, CountsRecord, HasUnread, unread, records_read, reader_position};
+    ghost use Rattle.hc_transcript.specs.ReaderParts.{is_whole_by, GivesOpening};
 
     /// A reader that was given nothing.
     pub fn new(alloc: Global) -> Self
@@ -43,17 +45,18 @@ impl RecordReader {
         }
     }
 
-    /// Takes the next piece. After a fault that fault is answered again.
+    /// Takes the next piece. After a fault that fault is answered again, and nothing changes.
     pub fn feed(&mut self, piece: &[u8]) -> Result<(), RecordFault>
         ensures ok { (octets : List ℕ) (records : List Record) (h : List Item) → Agrees self.old octets records h
             → OnOk result (Agrees self.new (octets ++ piece.now) records h) }
         ensures counted { records_read self.new ≡ records_read self.old }
-        // A record that was read is lent as before.
-        ensures keeps { (item : Item) → Lends self.old item → Lends self.new item }
-        ensures lends { HasItem self.old → HasItem self.new }
+        ensures position { reader_position self.new ≡ reader_position self.old }
+        ensures lends { lent self.new ≡ lent self.old }
+        ensures unread { unread self.new ≡ (if is_ok result then unread self.old + length piece.now else unread self.old) }
         // Only memory can fail, unless a fault was answered before.
         ensures err { IfErr result (λ f. HasFailed self.new f × ((f ≡ RecordFault.Memory) ⊎ HasFailed self.old f)) }
-        ensures failed { (f : RecordFault) → HasFailed self.old f → result ≡ Err f }
+        ensures unfailed { OnOk result (HasNoFault self.old × HasNoFault self.new) }
+        ensures failed { (f : RecordFault) → HasFailed self.old f → (result ≡ Err f) × (self.new ≡ self.old) }
     {
         if let Some(fault) = self.fault {
             return Err(fault);
@@ -66,21 +69,27 @@ impl RecordReader {
     }
 
     /// Reads the next record, if it is whole: `true` where one was read, which `item` then lends.
-    /// After a fault that fault is answered again.
+    /// What was lent before is given up. After a fault that fault is answered again, and nothing
+    /// changes.
     pub fn advance(&mut self) -> Result<bool, RecordFault>
         // Which records were read of which octets, and where each fault stands.
         ensures gives { (octets : List ℕ) (records : List Record) (h : List Item) → Agrees self.old octets records h
             → GivesAdvance result self.new octets records h }
         ensures lends { result ≡ Ok true → HasItem self.new }
+        ensures gives_up { HasNoFault self.old → result ≢ Ok true → lent self.new ≡ None }
         ensures shrinks { result ≡ Ok true → unread self.new < unread self.old }
+        ensures waits { result ≡ Ok false → unread self.new ≤ longest_unfinished }
         ensures counted { CountsRecord result (records_read self.old) (records_read self.new) }
+        ensures position { PositionsNext result self.old self.new }
         ensures err { IfErr result (HasFailed self.new) }
-        ensures failed { (f : RecordFault) → HasFailed self.old f → result ≡ Err f }
+        ensures unfailed { OnOk result (HasNoFault self.old × HasNoFault self.new) }
+        ensures failed { (f : RecordFault) → HasFailed self.old f → (result ≡ Err f) × (self.new ≡ self.old) }
     {
-        if let Some(fault) = self.fault {
-            return Err(fault);
+        if let Some(earlier) = self.fault {
+            return Err(earlier);
         }
         self.held.let_go();
+        drop(self.current.take());
         match self.step() {
             Ok(found) => Ok(found),
             Err(fault) => {
@@ -93,7 +102,9 @@ impl RecordReader {
     /// What the record that was read last means.
     pub fn item(&self) -> &OwnedItem
         requires { HasItem self.now }
-        ensures { (item : Item) → Lends self.now item → item_of result.now ≡ item }
+        ensures lent { lent self.now ≡ Some result.now }
+        ensures item { (item : Item) → Lends self.now item → item_of result.now ≡ item }
+        ensures in_time { result.now.moment ≤ greatest_moment }
     {
         self.current.as_ref().unwrap()
     }
@@ -102,14 +113,16 @@ impl RecordReader {
     /// read.
     pub fn take_item(&mut self) -> OwnedItem
         requires { HasItem self.old }
+        ensures lent { lent self.old ≡ Some result }
         ensures item { (item : Item) → Lends self.old item → item_of result ≡ item }
+        ensures in_time { result.moment ≤ greatest_moment }
         ensures agrees { (octets : List ℕ) (records : List Record) (h : List Item) → Agrees self.old octets records h
             → Agrees self.new octets records h }
         ensures unread { unread self.new ≡ unread self.old }
         ensures counted { records_read self.new ≡ records_read self.old }
         ensures position { reader_position self.new ≡ reader_position self.old }
-        ensures failed { (f : RecordFault) → HasFailed self.old f → HasFailed self.new f }
-        ensures taken { ¬ (HasItem self.new) }
+        ensures fault { fault_met self.new ≡ fault_met self.old }
+        ensures taken { lent self.new ≡ None }
     {
         self.current.take().unwrap()
     }
@@ -134,19 +147,24 @@ impl RecordReader {
     }
 
     /// Ends the transcript: `Torn` where the opening isn't whole, or octets are left after the last
-    /// record that was read. After a fault that fault is answered again.
+    /// record that was read. After a fault that fault is answered again. Only the fault changes, and
+    /// where there is none nothing does.
     pub fn finish(&mut self) -> Result<(), RecordFault>
         ensures ok { (octets : List ℕ) (records : List Record) (h : List Item) → Agrees self.old octets records h
             → OnOk result (IsTranscript octets records h) }
-        ensures err { IfErr result (λ f. HasFailed self.new f × ((f ≡ RecordFault.Torn) ⊎ HasFailed self.old f)) }
-        ensures keeps { (item : Item) → Lends self.old item → Lends self.new item }
+        ensures unchanged { OnOk result (self.new ≡ self.old) }
+        ensures counted { records_read self.new ≡ records_read self.old }
         ensures position { reader_position self.new ≡ reader_position self.old }
+        ensures lends { lent self.new ≡ lent self.old }
+        ensures unread { unread self.new ≡ unread self.old }
+        ensures err { IfErr result (λ f. HasFailed self.new f × ((f ≡ RecordFault.Torn) ⊎ HasFailed self.old f)) }
         ensures torn { (octets : List ℕ) (records : List Record) (h : List Item) → Agrees self.old octets records h
             → OnErr result (HasUnread self.old) }
-        ensures failed { (f : RecordFault) → HasFailed self.old f → result ≡ Err f }
+        ensures unfailed { OnOk result (HasNoFault self.old × HasNoFault self.new) }
+        ensures failed { (f : RecordFault) → HasFailed self.old f → (result ≡ Err f) × (self.new ≡ self.old) }
     {
-        if let Some(fault) = self.fault {
-            return Err(fault);
+        if let Some(met) = self.fault {
+            return Err(met);
         }
         if !self.is_whole() {
             self.fault = Some(RecordFault::Torn);
@@ -167,12 +185,18 @@ impl RecordReader {
         }
     }
 
+    /// Reads the opening where that is still to be read, and the next record, if both are whole.
     fn step(&mut self) -> Result<bool, RecordFault>
+        requires { lent self.old ≡ None }
         ensures gives { (octets : List ℕ) (records : List Record) (h : List Item) → Agrees self.old octets records h
             → GivesAdvance result self.new octets records h }
         ensures lends { result ≡ Ok true → HasItem self.new }
+        ensures gives_up { result ≢ Ok true → lent self.new ≡ None }
         ensures shrinks { result ≡ Ok true → unread self.new < unread self.old }
+        ensures waits { result ≡ Ok false → unread self.new ≤ longest_unfinished }
         ensures counted { CountsRecord result (records_read self.old) (records_read self.new) }
+        ensures position { PositionsNext result self.old self.new }
+        ensures fault { fault_met self.new ≡ fault_met self.old }
     {
         if !self.is_open {
             match self.read_opening() {
@@ -204,12 +228,17 @@ impl RecordReader {
 
     /// Reads the record behind the opening, if it is whole.
     fn read_record(&mut self) -> Result<bool, RecordFault>
-        requires { self.old.is_open ≡ true }
+        requires is_open { self.old.is_open ≡ true }
+        requires lent { lent self.old ≡ None }
         ensures gives { (octets : List ℕ) (records : List Record) (h : List Item) → Agrees self.old octets records h
             → GivesAdvance result self.new octets records h }
         ensures lends { result ≡ Ok true → HasItem self.new }
+        ensures gives_up { result ≢ Ok true → lent self.new ≡ None }
         ensures shrinks { result ≡ Ok true → unread self.new < unread self.old }
+        ensures waits { result ≡ Ok false → unread self.new ≤ longest_unfinished }
         ensures counted { CountsRecord result (records_read self.old) (records_read self.new) }
+        ensures is_open { self.new.is_open ≡ true }
+        ensures fault { fault_met self.new ≡ fault_met self.old }
     {
         let framed = match record_at(self.held.as_slice(), &self.standing) {
             Err(fault) => return Err(fault),

@@ -1,5 +1,7 @@
 //! What the octets of a record are read as.
 
+ghost use Rattle.std.specs.Prelude.{◌≤◌};
+ghost use Rattle.hc_transcript.specs.Limits.{greatest_moment};
 ghost use Rattle.hc_transcript.specs.Reading.{GivesRequestRead, GivesResponseRead, GivesMeaning, GivesItem};
 
 use crate::fault::RecordFault;
@@ -68,6 +70,7 @@ pub(crate) fn read_item(
     octets: &[u8],
     to_head: bool,
 ) -> Result<OwnedItem, RecordFault>
+    requires { line.now.moment ≤ greatest_moment }
     ensures { GivesItem line.now to_head octets.now result }
 {
     let of = read_meaning(alloc, line.kind, octets, to_head)?;

@@ -26,14 +26,14 @@ pub returns-then-not-is_right-clause-gives : goal.returns-then-not-is_right-clau
 returns-then-not-is_right-clause-gives c = λ octets j.
     let a = rw c.in-Ok-true.field-0-test at (c.in-Ok-true.ensures.gives octets j.records j.history j.agrees) in
     wrong_gives c.advance.new.self octets j.records j.history a (item_of c.item-item.result.now) c.records.result
-    (c.item-item.ensures a.one a.item a.lends) j.right (c.is_right.ensures.no j.history j.seen c.if-not-is_right.true)
+    (c.item-item.ensures.item a.item a.lends) j.right (c.is_right.ensures.no j.history j.seen c.if-not-is_right.true)
     (omega (arith, c.records.ensures.value, a.agrees.stands.records))
 
 pub returns-clause-gives : goal.returns-clause-gives
 returns-clause-gives c = λ octets j.
     let a = rw c.in-Ok-true.field-0-test at (c.in-Ok-true.ensures.gives octets j.records j.history j.agrees) in
     right_goes_on _ octets j.records j.history a (item_of c.item-item.result.now) _
-    (c.item-item.ensures a.one a.item a.lends) j.right (c.is_right.ensures.yes j.history j.seen c.if-not-is_right.false)
+    (c.item-item.ensures.item a.item a.lends) j.right (c.is_right.ensures.yes j.history j.seen c.if-not-is_right.false)
     (c.in-Ok-note.ensures j.history j.seen)
     (counts_one_more c.args.self.now.counts j.history c.records-self.result j.counts (omega (arith, c.records-self.ensures.value, a.agrees.stands.records)))
     (c.count_mark.ensures ∙ ap (λ (m : Option Mark). marked m (record c.args.self.now.counts { records = c.records-self.result })) c.in-Ok.ensures)
