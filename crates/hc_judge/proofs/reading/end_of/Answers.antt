@@ -1,4 +1,4 @@
-use Rattle.std.proofs.Common.{List, ℕ, sym, subst, IfOk, Result}
+use Rattle.std.proofs.Common.{sym, subst, IfOk, Result}
 use Rattle.std.specs.declared.alloc.AllocError.{AllocError}
 use Rattle.hc_judge.specs.declared.reading.Ending.{Ending}
 use Rattle.hc_judge.specs.Reading.{EndsBy}
