@@ -1,5 +1,5 @@
 -- What is seen of a history is enough to judge its replies.
-use Rattle.std.proofs.Common.{◌≡◌, ℕ, ◌≤◌, ◌<◌, Bool, List, Option, Some, None, refl, sym, ap, subst, ◌∙◌, arith, ltb, ◌⊎◌, inl, inr}
+use Rattle.std.proofs.Common.{◌≡◌, ℕ, ◌≤◌, Bool, List, Option, Some, None, refl, sym, ap, subst, ◌∙◌, arith, ltb, inl, inr}
 use Rattle.std.specs.List.{list_any}
 use Rattle.hc_head.specs.declared.head.ResponseHead.{ResponseHead}
 use Rattle.hc_head.specs.declared.head.Target.{Target}
@@ -17,7 +17,7 @@ use Rattle.hc_history.specs.Claims.{Claim, ttl_of, claim_of}
 use Rattle.hc_history.specs.Reused.{Pass, IsFirstFailed, anywhere, filter_count, forwarded_count}
 use Rattle.hc_history.specs.Forwarded.{carries, is_forwarded}
 use Rattle.hc_history.specs.Right.{IsFoundBy, IsFinding}
-use Rattle.hc_history.specs.Seen.{WindowResponse, responses_since, window_responses_of, Seen, IsSeenAs}
+use Rattle.hc_history.specs.Seen.{responses_since, window_responses_of, Seen, IsSeenAs}
 use Rattle.hc_history.specs.Furthest.{furthest, furthest_live}
 use Rattle.hc_history.proofs.WindowLemmas.{some_since-latest, carried}
 use Rattle.hc_history.proofs.FurthestLemmas.{Pass-found, Pass-only}

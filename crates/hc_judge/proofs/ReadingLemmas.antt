@@ -1,5 +1,5 @@
 -- What octets are read as.
-use Rattle.std.proofs.Common.{◌≡◌, ◌≢◌, ℕ, Bool, true, false, List, [], ◌∷◌, ◌++◌, Result, Ok, Err, refl, sym, ap, subst, ◌∙◌, inl, inr}
+use Rattle.std.proofs.Common.{◌≡◌, ◌≢◌, ℕ, ◌+◌, ◌⊎◌, Bool, true, false, if◌then◌else◌, IfOk, List, [], ◌∷◌, ◌++◌, Some, None, Result, Ok, Err, refl, sym, ap, subst, ◌∙◌, inl, inr}
 use Rattle.std.specs.Prelude.{map, reverse}
 use Rattle.std.specs.Allocator.{alloc_error}
 use Rattle.std.specs.declared.alloc.AllocError.{AllocError}
@@ -10,7 +10,8 @@ use Rattle.hc_transcript.specs.declared.item.OwnedItem.{OwnedItem}
 use Rattle.hc_transcript.specs.declared.reader.RecordReader.{RecordReader}
 use Rattle.hc_transcript.specs.declared.record.Record.{Record}
 use Rattle.hc_transcript.specs.Items.{Item, item_of}
-use Rattle.hc_transcript.specs.Reader.{Agrees, ReadsTo, MeetsFault, reader_position}
+use Rattle.hc_transcript.specs.Malformed.{IsUnfinishedOpening}
+use Rattle.hc_transcript.specs.Reader.{Agrees, ReadsTo, Waits, WaitsBy, HasUnread, HasUnreadBy, HasFailed, MeetsFault, reader_position}
 use Rattle.hc_judge.specs.declared.reading.Ending.{Ending}
 use Rattle.hc_judge.specs.declared.reading.Ending.TheVariants.{Broken}
 use Rattle.hc_judge.specs.declared.past.PastItem.{PastItem}
@@ -66,3 +67,18 @@ fault_ends r octets h f position ending position-is meets e = go f meets e
     go : (g : RecordFault) → (g ≢ fault.Memory → MeetsFault r octets h g) → broken_at position g ≡ Ok ending → EndsBy octets h ending
     go fault.Memory meets e = absurd (refused (broken_at position fault.Memory) ending refl e)
     go g meets e = told g (λ e. cc) meets refl e
+
+-- octets of a reader that waits end inside what it waits for
+pub torn_end : (r : RecordReader) (octets : List ℕ) (records : List Record) (h : List Item) (f : RecordFault) (position : ℕ) → position ≡ reader_position r
+    → Agrees r octets records h → Waits r h → HasUnread r → (f ≡ fault.Torn) ⊎ HasFailed r f → IfOk (broken_at position f) (EndsBy octets h)
+torn_end r octets records h f position position-is agrees waits unread (inl torn) =
+    subst (λ (g : RecordFault). IfOk (broken_at position g) (EndsBy octets h)) (sym torn) (go r.is_open agrees.reads waits unread position-is)
+  where
+    go : (b : Bool) → ReadsTo b octets records h r.held → WaitsBy b h r.held → HasUnreadBy b r.held → position ≡ (if b then r.standing.records + 1 else 0)
+        → EndsBy octets h (Broken position fault.Torn)
+    go false reads waits unread at = inl (at, inr (subst IsUnfinishedOpening (sym reads.1.1) waits, refl))
+    go true reads waits unread at = inr (
+      at ∙ ap (λ (n : ℕ). n + 1) agrees.stands.records,
+      inr (refl, record { records = records; rest = r.held; splits = reads; some = unread; torn = waits }),
+    )
+torn_end r octets records h f position position-is agrees waits unread (inr failed) = absurd (let both : None ≡ Some f = sym agrees.unfailed ∙ failed in cc)
