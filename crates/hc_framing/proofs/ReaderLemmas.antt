@@ -40,8 +40,6 @@ use Rattle.hc_framing.specs.BodyReading.{AgreesAt as BodyAgreesAt}
 use Rattle.hc_framing.specs.Faults.{head_fault}
 use Rattle.hc_head.proofs.ReadingLemmas.{finds_head}
 use Rattle.hc_framing.proofs.BodyLemmas.{body_is_open, open_has_no_body, broken_has_no_body, body_unique, body-append, whole_body, one_whole_body, broken_is_not_whole, open_is_not_whole, shorter_is_not_whole}
-use Rattle.hc_head.specs.Heads.{BeginsRequestHead, BeginsResponseHead}
-use Rattle.hc_head.specs.Laws.{request_unique, request_goes_on, request_within, request_front, request_ends_with_empty_line, request_at_its_first, response_unique, response_goes_on, response_within, response_front, response_ends_with_empty_line, response_at_its_first}
 
 -- how a piece is searched for the end of the head
 pub record Searches (before after : Search) (piece near : List ℕ) (most used : ℕ) : Type 0 where

@@ -1,5 +1,5 @@
 -- A written message is read as it was written.
-use Rattle.std.proofs.Common.{◌≡◌, ℕ, ◌≤◌, ◌<◌, ◌^◌, Bool, true, false, cond, ◌&&◌, ◌||◌, not, List, [], ◌∷◌, ◌++◌, length, reverse, drop, flat_map, Option, Some, None, Result, Ok, rules, refl, sym, ap, subst, ◌∙◌, arith, append_assoc, append-nil, length-append}
+use Rattle.std.proofs.Common.{◌≡◌, ℕ, ◌≤◌, ◌<◌, ◌^◌, Bool, true, false, cond, ◌&&◌, ◌||◌, not, List, [], ◌∷◌, ◌++◌, length, reverse, drop, flat_map, Option, Some, None, Ok, rules, refl, sym, ap, subst, ◌∙◌, arith, append_assoc, append-nil, length-append}
 use Rattle.std.specs.Prelude.{codes, decimal, nat_le, nat_lt, ◌==◌}
 use Rattle.std.specs.List.{list_all, AllPass}
 use Rattle.std.specs.Char.{is_ascii_digit}
@@ -23,7 +23,6 @@ use Rattle.hc_head.specs.declared.head.RequestHead.{RequestHead}
 use Rattle.hc_head.specs.declared.head.ResponseHead.{ResponseHead}
 use Rattle.hc_head.specs.declared.head.Room.{Room}
 use Rattle.hc_head.specs.declared.head.Version.{Version}
-use Rattle.hc_head.specs.Heads.{BeginsRequestHead, request_field_count, BeginsResponseHead, response_field_count}
 use Rattle.hc_head.specs.Methods.{is_unsafe}
 use Rattle.hc_head.specs.Reading.{IsWholeHead}
 use Rattle.hc_head.specs.Texts.{length_field, with_length, request_with_length, response_with_length, request_head_text, response_head_text}
@@ -32,7 +31,6 @@ use Rattle.hc_head.proofs.WrittenLemmas as heads
 use Rattle.hc_framing.specs.declared.message.Message.{Message}
 use Rattle.hc_framing.specs.declared.kind.Kind.{Kind}
 use Rattle.hc_framing.specs.declared.kind.Kind.TheVariants.{Request, Response}
-use Rattle.hc_framing.specs.declared.fault.FrameFault.{FrameFault}
 use Rattle.hc_framing.specs.declared.framing.Framing.{Framing}
 use Rattle.hc_framing.specs.declared.framing.Framing.TheVariants.{Nothing, Sized, UntilClose}
 use Rattle.hc_head.specs.Writable.{longest_body}

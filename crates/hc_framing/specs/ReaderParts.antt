@@ -4,7 +4,6 @@ use Rattle.hc_head.specs.declared.fault.HeadFault.TheVariants as heads
 use Rattle.hc_head.specs.declared.empty_line.Search.{Search}
 use Rattle.hc_head.specs.declared.empty_line.Search.TheVariants.{Blank, Line, Start, Return, Found}
 use Rattle.hc_head.specs.Reading.{IsWholeHead, GivesHead}
-use Rattle.hc_framing.specs.declared.kind.Kind.{Kind}
 use Rattle.hc_framing.specs.declared.fault.FrameFault.{FrameFault}
 use Rattle.hc_framing.specs.declared.fault.FrameFault.TheVariants as faults
 use Rattle.hc_framing.specs.declared.framing.Framing.{Framing}
