@@ -1,5 +1,5 @@
 -- Which items are read back once they are written, and the records that bear them.
-use Rattle.std.specs.Prelude.{ℕ, ◌≤◌, Bool, List}
+use Rattle.std.specs.Prelude.{◌≤◌, Bool, List}
 use Rattle.hc_head.specs.declared.head.RequestHead.{RequestHead}
 use Rattle.hc_head.specs.declared.head.ResponseHead.{ResponseHead}
 use Rattle.hc_head.specs.declared.head.Target.{Target}
