@@ -84,7 +84,10 @@ fn wants<R: Read>(
 ) {
     let mut said = Vec::new(rt.alloc());
     let mut wrong = Vec::new(rt.alloc());
-    assert_eq!(rt; audit(rt.alloc(), "a.hct", input, &mut said, &mut wrong), status);
+    assert_eq!(rt;
+        audit(rt.alloc(), "a.hct", input, &mut said, &mut wrong),
+        status
+    );
     assert_eq!(rt; said.as_slice(), output);
     assert_eq!(rt; wrong.as_slice(), faults);
 }
@@ -123,7 +126,13 @@ fn pieces_change_nothing(rt: HostRuntime) {
 fn a_failed_read_gives_no_verdict(rt: HostRuntime) {
     for bad in [0, 1, 4, 31, 45, 46] {
         let mut reader = in_pieces(ASKED, 1, Some(bad), ErrorKind::Other);
-        wants(&rt, &mut reader, 3, b"", b"error: device\na.hct: other error\n");
+        wants(
+            &rt,
+            &mut reader,
+            3,
+            b"",
+            b"error: device\na.hct: other error\n",
+        );
         let mut reader = in_pieces(ASKED, 1, Some(bad), ErrorKind::Interrupted);
         wants(&rt, &mut reader, 0, ASKED_LINE, b"");
     }
@@ -135,13 +144,22 @@ fn a_failed_write_is_a_fault(rt: HostRuntime) {
         let mut output = Full { takes_writes };
         let mut faults = Vec::new(rt.alloc());
         let mut input = ASKED;
-        assert_eq!(rt; audit(rt.alloc(), "a.hct", &mut input, &mut output, &mut faults), 3);
-        assert_eq!(rt; faults.as_slice(), b"error: device\nstandard output: no storage space\n".as_slice());
+        assert_eq!(rt;
+            audit(rt.alloc(), "a.hct", &mut input, &mut output, &mut faults),
+            3
+        );
+        assert_eq!(rt;
+            faults.as_slice(),
+            b"error: device\nstandard output: no storage space\n".as_slice()
+        );
 
         // Where that can't be written either, the status says it alone.
         let mut faults = Full { takes_writes };
         let mut input = ASKED;
-        assert_eq!(rt; audit(rt.alloc(), "a.hct", &mut input, &mut output, &mut faults), 3);
+        assert_eq!(rt;
+            audit(rt.alloc(), "a.hct", &mut input, &mut output, &mut faults),
+            3
+        );
     }
 }
 
