@@ -10,11 +10,13 @@ use Rattle.std.proofs.lemmas.List.Folds.{list_any-append}
 use Rattle.std.proofs.Math.Bool.{or-true, and-false}
 use Rattle.hc_head.specs.declared.head.ResponseHead.{ResponseHead}
 use Rattle.hc_head.specs.declared.head.Target.{Target}
+use Rattle.hc_head.specs.Methods.{is_get}
+use Rattle.hc_head.specs.Targets.{same_target}
 use Rattle.hc_framing.specs.declared.message.Message.{Message}
 use Rattle.hc_status.specs.declared.marks.Mark.{Mark}
 use Rattle.hc_status.specs.declared.marks.Mark.TheVariants.{Hit}
 use Rattle.hc_history.specs.Marks.{reply_mark, item_mark}
-use Rattle.hc_audit.specs.Reuse.{Answer, Claim, claim_of, answer_of, answer_at, is_get, plain_max_age, same_target, is_fresh, serves, IsReused}
+use Rattle.hc_audit.specs.Reuse.{Answer, Claim, claim_of, answer_of, answer_at, plain_max_age, is_fresh, serves, IsReused}
 use Rattle.hc_audit.specs.ThinVerdicts.{IsRightBy, IsRightTo, IsRight}
 use Rattle.hc_transcript.specs.Items.{Item, ClientReply, Exchange}
 use Rattle.hc_transcript.specs.History.{next_position, exchange_of}
@@ -34,7 +36,7 @@ or_false true = refl
 or_false false = refl
 
 answer_serves : (claim : Claim) (a : Answer) → list_any (kept_serves claim) (kept_at (Some a)) ≡ serves claim a
-answer_serves claim a = go (is_get a.forward.request) (plain_max_age a.response.head.fields)
+answer_serves claim a = go (is_get a.forward.request.method) (plain_max_age a.response.head.fields)
   where
     go : (g : Bool) (o : Option ℕ)
         → list_any (kept_serves claim) (cond g (kept_for o (open_forward a.forward) a.response) [])

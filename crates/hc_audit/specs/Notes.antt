@@ -8,7 +8,9 @@ use Rattle.hc_head.specs.declared.head.Target.{Target}
 use Rattle.hc_framing.specs.declared.message.Message.{Message}
 use Rattle.hc_transcript.specs.Items.{Item, Exchange, Forward}
 use Rattle.hc_transcript.specs.History.{exchange_of, forward_of}
-use Rattle.hc_audit.specs.Reuse.{Answer, Claim, answer_of, is_get, plain_max_age, same_target}
+use Rattle.hc_head.specs.Methods.{is_get}
+use Rattle.hc_head.specs.Targets.{same_target}
+use Rattle.hc_audit.specs.Reuse.{Answer, Claim, answer_of, plain_max_age}
 use Rattle.hc_audit.specs.declared.notes.Kept.{Kept}
 use Rattle.hc_audit.specs.declared.notes.OpenForward.{OpenForward}
 use Rattle.hc_audit.specs.declared.notes.Notes.{Notes}
@@ -18,7 +20,7 @@ abbrev pub exchange_target : Exchange → Target
 exchange_target exchange = exchange.target
 
 abbrev pub open_forward : Forward → OpenForward
-open_forward forward = record { is_get = is_get forward.request; moment = forward.moment; target = forward.target }
+open_forward forward = record { is_get = is_get forward.request.method; moment = forward.moment; target = forward.target }
 
 -- what is kept of a response: nothing unless it answers a GET and says how long it is fresh
 abbrev pub kept_for : Option ℕ → OpenForward → Message ResponseHead → List Kept

@@ -5,9 +5,10 @@ use Rattle.std.specs.Option.{option_map}
 use Rattle.hc_fields.specs.declared.fields.Field.{Field}
 use Rattle.hc_fields.specs.Values.{values_of}
 use Rattle.hc_fields.specs.Numbers.{number_of}
-use Rattle.hc_head.specs.declared.head.RequestHead.{RequestHead}
 use Rattle.hc_head.specs.declared.head.ResponseHead.{ResponseHead}
 use Rattle.hc_head.specs.declared.head.Target.{Target}
+use Rattle.hc_head.specs.Methods.{is_get}
+use Rattle.hc_head.specs.Targets.{same_target}
 use Rattle.hc_framing.specs.declared.message.Message.{Message}
 use Rattle.hc_transcript.specs.Items.{Item, ClientRequest, OriginRequest, OriginResponse, OriginFailure, ClientReply, Exchange, Forward}
 use Rattle.hc_transcript.specs.History.{next_position, forward_of}
@@ -54,12 +55,6 @@ pub record Claim : Type 0 where
 abbrev pub claim_of : Exchange → ℕ → Message ResponseHead → Claim
 claim_of exchange moment reply = record { target = exchange.target; moment = moment; status = reply.head.status; body = reply.body }
 
-abbrev pub same_target : Target → Target → Bool
-same_target a b = bytes_eq a.host b.host && bytes_eq a.path b.path
-
-abbrev pub is_get : RequestHead → Bool
-is_get request = bytes_eq request.method (codes "GET")
-
 -- fresh for more seconds than lie between the forward and the reply
 abbrev pub is_fresh : Option ℕ → ℕ → ℕ → Bool
 is_fresh None asked now = false
@@ -68,7 +63,7 @@ is_fresh (Some lifetime) asked now = nat_lt (now - asked) lifetime
 -- the answer may be served again as the claim says
 abbrev pub serves : Claim → Answer → Bool
 serves claim answer =
-    is_get answer.forward.request
+    is_get answer.forward.request.method
     && (same_target answer.forward.target claim.target
     && (answer.response.head.status == claim.status
     && (is_fresh (plain_max_age answer.response.head.fields) answer.forward.moment claim.moment

@@ -5,14 +5,14 @@ ghost use Rattle.std.specs.List.{list_any};
 ghost use Rattle.std.specs.Option.{option_to_list};
 ghost use Rattle.hc_transcript.specs.Items.{Item, item_of};
 ghost use Rattle.hc_history.specs.Marks.{item_mark};
-ghost use Rattle.hc_audit.specs.Reuse.{same_target, is_get};
+ghost use Rattle.hc_head.specs.Methods.{is_get};
 ghost use Rattle.hc_audit.specs.ThinVerdicts.{IsRight};
 ghost use Rattle.hc_audit.specs.Notes.{kept_from, kept_serves};
 
 use crate::max_age::plain_max_age;
 use hc_fields::SharedOctets;
 use hc_framing::Message;
-use hc_head::{RequestHead, ResponseHead, Target};
+use hc_head::{RequestHead, ResponseHead, Target, is_get, same_target};
 use hc_history::Mark;
 use hc_transcript::{Meaning, OwnedItem};
 use std::alloc::{AllocError, Global};
@@ -45,18 +45,6 @@ pub(crate) struct Notes {
     exchanges: BTreeMap<u64, Target>,
     forwards: BTreeMap<u64, OpenForward>,
     kept: Vec<Kept>,
-}
-
-fn same_target(one: &Target, other: &Target) -> bool
-    ensures { result ≡ same_target one.now other.now }
-{
-    one.host.as_slice() == other.host.as_slice() && one.path.as_slice() == other.path.as_slice()
-}
-
-fn is_get(request: &RequestHead) -> bool
-    ensures { result ≡ is_get request.now }
-{
-    request.method.as_slice() == b"GET".as_slice()
 }
 
 /// Whether the reply to a request of that target may be the response again.
@@ -179,10 +167,10 @@ impl Notes {
         request: &RequestHead,
         target: &Target,
     ) -> Result<(), AllocError>
-        ensures { OnOk result (OpensForward self.old self.new number (record { is_get = is_get request.now; moment = moment; target = target.now })) }
+        ensures { OnOk result (OpensForward self.old self.new number (record { is_get = is_get request.now.method; moment = moment; target = target.now })) }
     {
         let forward = OpenForward {
-            is_get: is_get(request),
+            is_get: is_get(request.method.as_slice()),
             moment,
             target: target.copy(self.alloc)?,
         };

@@ -5,7 +5,8 @@ use Rattle.std.proofs.lemmas.List.Folds.{list_all-append, list_all-map}
 use Rattle.hc_fields.specs.declared.fields.Field.{Field}
 use Rattle.hc_update.specs.declared.stored.Stored.{Stored}
 use Rattle.hc_history.specs.Claims.{Claim}
-use Rattle.hc_history.specs.Filters.{has_its_fields, not_modified, is_exempt, names_of, repeated_names, same_values}
+use Rattle.hc_head.specs.Statuses.{not_modified}
+use Rattle.hc_history.specs.Filters.{has_its_fields, is_exempt, names_of, repeated_names, same_values}
 
 -- whether the reply has the values of that name, or they aren't compared
 abbrev pub has_values : Claim → Stored → List ℕ → Bool

@@ -8,6 +8,7 @@ use Rattle.hc_fields.specs.Connection.{left_out_of_store}
 use Rattle.hc_fields.specs.Numbers.{number_of}
 use Rattle.hc_head.specs.declared.head.Target.{Target}
 use Rattle.hc_head.specs.Methods.{is_get}
+use Rattle.hc_head.specs.Statuses.{not_modified}
 use Rattle.hc_head.specs.Targets.{same_target}
 use Rattle.hc_fresh.specs.Lifetimes.{explicit}
 use Rattle.hc_rules.specs.Selecting.{selects}
@@ -36,10 +37,6 @@ is_valid state = not state.invalid
 -- 4: it states a lifetime (RFC 9111 section 4.2.1), or may be used without
 abbrev pub is_explicit : Claim → Stored → Bool
 is_explicit claim state = explicit state.fields || is_usable claim state
-
--- the status that says that what the client has still holds (RFC 9110 section 15.4.5)
-abbrev pub not_modified : ℕ
-not_modified = 304
 
 -- 6: the reply has its status and its body, none where the request is HEAD; or the reply is a 304 that the client's condition earns (RFC 9111 section 4.3.2)
 abbrev pub has_body : Claim → List ℕ → Bool

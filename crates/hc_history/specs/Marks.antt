@@ -5,11 +5,8 @@ use Rattle.hc_framing.specs.declared.message.Message.{Message}
 use Rattle.hc_status.specs.declared.marks.Mark.{Mark}
 use Rattle.hc_status.specs.declared.marks.Mark.TheVariants.{Hit, Unmarked}
 use Rattle.hc_status.specs.Marks.{mark_of}
+use Rattle.hc_head.specs.Statuses.{partial_content}
 use Rattle.hc_transcript.specs.Items.{Item, ClientReply}
-
--- the status of a response that is a part of what was asked for (RFC 9110 section 15.3.7)
-abbrev pub partial_content : ℕ
-partial_content = 206
 
 -- the mark by which a reply of that status is judged: reuse of a part isn't judged, so a hit of a part counts as unmarked (this project's own choice)
 abbrev pub judged_mark : ℕ → Mark → Mark

@@ -3,10 +3,12 @@
 ghost use Rattle.std.specs.Prelude.{◌≡◌, ◌||◌, ◌==◌};
 ghost use Rattle.std.specs.List.{list_all, list_any};
 ghost use Rattle.std.specs.Str.{bytes_eq};
-ghost use Rattle.hc_history.specs.Filters.{has_its_fields, is_exempt, not_modified, rewritten_names, same_values};
+ghost use Rattle.hc_head.specs.Statuses.{not_modified};
+ghost use Rattle.hc_history.specs.Filters.{has_its_fields, is_exempt, rewritten_names, same_values};
 
 use crate::claim::ReplyClaim;
 use hc_fields::{Fields, is_among};
+use hc_head::NOT_MODIFIED;
 use hc_update::Stored;
 
 /// The fields that each cache writes anew.
@@ -21,9 +23,6 @@ const REPEATED: [&[u8]; 6] = [
     b"expires",
     b"vary",
 ];
-
-/// The status that says that what the client has still holds (RFC 9110 section 15.4.5).
-const NOT_MODIFIED: u16 = 304;
 
 /// Whether the reply says that what the client has still holds.
 pub(crate) fn is_not_modified(claim: &ReplyClaim<'_>) -> bool

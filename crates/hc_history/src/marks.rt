@@ -4,12 +4,9 @@ ghost use Rattle.std.specs.Prelude.{◌≡◌, IfOk};
 ghost use Rattle.hc_history.specs.Marks.{judged_mark, reply_mark};
 
 use hc_framing::Message;
-use hc_head::ResponseHead;
+use hc_head::{PARTIAL_CONTENT, ResponseHead};
 use hc_status::{Mark, MarkFault, mark};
 use std::alloc::{AllocError, Global};
-
-/// The status of a response that is a part of what was asked for (RFC 9110 section 15.3.7).
-const PARTIAL_CONTENT: u16 = 206;
 
 /// The mark by which a reply of that status is judged, whose Cache-Status says this.
 fn judged_mark(status: u16, mark: Mark) -> Mark
