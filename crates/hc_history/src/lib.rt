@@ -28,7 +28,7 @@ pub use laws::{
     least_reason_by_the_furthest, noting_goes_on, one_verdict, seen_is_enough,
     standing_verdict_stays, window_is_what_is_later_than_the_request, wrong_by_one_reason,
 };
-pub use marks::reply_mark;
+pub use marks::{MarkedReply, reply_mark};
 pub use reasons::Reason;
 pub use right::allows_unmarked;
 pub use settings::{FieldNames, Settings, UnmarkedReplies};

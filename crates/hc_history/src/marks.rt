@@ -7,6 +7,7 @@ use hc_framing::Message;
 use hc_head::{PARTIAL_CONTENT, ResponseHead};
 use hc_status::{Mark, MarkFault, mark};
 use std::alloc::{AllocError, Global};
+use std::marker::Model;
 
 /// The mark by which a reply of that status is judged, whose Cache-Status says this.
 fn judged_mark(status: u16, mark: Mark) -> Mark
@@ -34,5 +35,49 @@ pub fn reply_mark(alloc: Global, reply: &Message<ResponseHead>) -> Result<Mark, 
     match mark(alloc, &reply.head.fields) {
         Ok(mark) => Ok(judged_mark(reply.head.status, mark)),
         Err(MarkFault::Memory) => Err(AllocError),
+    }
+}
+
+/// A reply with its mark, which is read once. Contracts see it as the reply.
+#[derive(Debug, Drop)]
+pub struct MarkedReply<'a> {
+    reply: &'a Message<ResponseHead>,
+    mark: Mark,
+}
+
+impl<'a> Model for MarkedReply<'a> {
+    ghost use Rattle.std.specs.Prelude.{◌≡◌};
+    ghost use Rattle.hc_head.specs.declared.head.ResponseHead.{ResponseHead};
+    ghost use Rattle.hc_framing.specs.declared.message.Message.{Message};
+    ghost use Rattle.hc_history.specs.Marks.{reply_mark};
+
+    ghost Value = { Message ResponseHead };
+
+    ghost view = { λ m. m.reply.now };
+
+    ghost invariant = { λ m. m.mark ≡ reply_mark m.reply.now };
+}
+
+impl<'a> MarkedReply<'a> {
+    /// The reply with what its Cache-Status says of it.
+    pub fn read(alloc: Global, reply: &'a Message<ResponseHead>) -> Result<Self, AllocError>
+        ensures { IfOk result (λ m. m ≡ reply.now) }
+    {
+        let mark = reply_mark(alloc, reply)?;
+        Ok(MarkedReply { reply, mark })
+    }
+
+    /// The reply.
+    pub fn reply(&self) -> &'a Message<ResponseHead>
+        ensures { result.now ≡ self.now }
+    {
+        self.reply
+    }
+
+    /// What it says of itself.
+    pub fn mark(&self) -> Mark
+        ensures { result ≡ reply_mark self.now }
+    {
+        self.mark
     }
 }

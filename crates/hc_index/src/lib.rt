@@ -1,0 +1,7 @@
+//! What is known of the records so far, as far as the next reply needs it, behind one law: an index is
+//! seen as the history of the records that it has noted.
+#![tactic(auto)]
+
+mod index;
+
+pub use index::Index;
