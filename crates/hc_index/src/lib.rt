@@ -3,5 +3,8 @@
 #![tactic(auto)]
 
 mod index;
+mod kept;
+mod list_index;
 
 pub use index::Index;
+pub use list_index::ListIndex;

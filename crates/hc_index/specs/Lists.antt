@@ -1,0 +1,50 @@
+-- What plain lists are seen as.
+use Rattle.std.specs.Prelude.{ℕ, ◌==◌, List, [], filter, find, map, Option, Some, None}
+use Rattle.std.specs.Option.{option_map}
+use Rattle.std.specs.Ordering.{nat_cmp}
+use Rattle.std.specs.BTreeMap.{BTreeMap, get}
+use Rattle.hc_head.specs.declared.head.Target.{Target}
+use Rattle.hc_head.specs.Targets.{same_target}
+use Rattle.hc_transcript.specs.Items.{Exchange, Forward}
+use Rattle.hc_history.specs.Seen.{Live, WindowResponse, Seen}
+use Rattle.hc_index.specs.declared.kept.LiveResponse.{LiveResponse}
+use Rattle.hc_index.specs.declared.kept.WindowAnswer.{WindowAnswer}
+use Rattle.hc_index.specs.declared.kept.OpenExchange.{OpenExchange}
+use Rattle.hc_index.specs.declared.kept.OpenForward.{OpenForward}
+use Rattle.hc_index.specs.declared.list_index.ListIndex.{ListIndex}
+
+-- ---- each thing that is kept
+
+abbrev pub live_seen : LiveResponse → Live
+live_seen live = record { position = live.position; state = live.state }
+
+abbrev pub answer_seen : WindowAnswer → WindowResponse
+answer_seen answer = record { method = answer.method; status = answer.status; body = answer.body }
+
+abbrev pub exchange_seen : OpenExchange → Exchange
+exchange_seen exchange = record { number = exchange.number; position = exchange.position; request = exchange.request; target = exchange.target }
+
+abbrev pub window_seen : OpenExchange → List WindowResponse
+window_seen exchange = map answer_seen exchange.window.items
+
+abbrev pub forward_seen : OpenForward → Forward
+forward_seen forward = record { moment = forward.moment; request = forward.request; target = forward.target }
+
+-- ---- lists of them
+
+-- the live responses of a target
+abbrev pub live_in : Target → List LiveResponse → List Live
+live_in target lives = map live_seen (filter (λ live. same_target live.target target) lives)
+
+-- the exchange of a number
+abbrev pub open_in : ℕ → List OpenExchange → Option OpenExchange
+open_in e exchanges = find (λ exchange. exchange.number == e) exchanges
+
+abbrev pub window_of : Option OpenExchange → List WindowResponse
+window_of None = []
+window_of (Some exchange) = window_seen exchange
+
+-- the position that is kept of a target; 0 where none is
+abbrev pub position_or_none : Option ℕ → ℕ
+position_or_none None = 0
+position_or_none (Some position) = position

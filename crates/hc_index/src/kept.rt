@@ -1,0 +1,45 @@
+//! What a list index keeps.
+
+use hc_fields::{Octets, SharedOctets};
+use hc_head::{RequestHead, Target};
+use hc_update::Stored;
+
+/// A response that may be stored, as the records behind it have left it.
+#[derive(Debug, Drop)]
+pub(crate) struct LiveResponse {
+    /// The position of its record.
+    pub(crate) position: u64,
+    /// The target of the request that it answers.
+    pub(crate) target: Target,
+    /// What is kept of it.
+    pub(crate) state: Stored,
+}
+
+/// What the origin answered in the window of an exchange.
+#[derive(Debug, Drop)]
+pub(crate) struct WindowAnswer {
+    /// The method of the forward.
+    pub(crate) method: Octets,
+    pub(crate) status: u16,
+    pub(crate) body: SharedOctets,
+}
+
+/// An open exchange.
+#[derive(Debug, Drop)]
+pub(crate) struct OpenExchange {
+    pub(crate) number: u64,
+    /// The position of its request.
+    pub(crate) position: u64,
+    pub(crate) request: RequestHead,
+    pub(crate) target: Target,
+    /// What the origin has answered for its target since then, the oldest first.
+    pub(crate) window: Vec<WindowAnswer>,
+}
+
+/// An open forward.
+#[derive(Debug, Drop)]
+pub(crate) struct OpenForward {
+    pub(crate) moment: u64,
+    pub(crate) request: RequestHead,
+    pub(crate) target: Target,
+}
