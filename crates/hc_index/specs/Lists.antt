@@ -3,6 +3,8 @@ use Rattle.std.specs.Prelude.{ℕ, ◌==◌, List, [], filter, find, map, Option
 use Rattle.std.specs.Option.{option_map}
 use Rattle.std.specs.Ordering.{nat_cmp}
 use Rattle.std.specs.BTreeMap.{BTreeMap, get}
+use Rattle.std.specs.declared.cmp.Ordering.{Ordering}
+use Rattle.hc_head.specs.contracts.head.TargetOrd.TheImpl as target_order
 use Rattle.hc_head.specs.declared.head.Target.{Target}
 use Rattle.hc_head.specs.Targets.{same_target}
 use Rattle.hc_transcript.specs.Items.{Exchange, Forward}
@@ -48,3 +50,24 @@ window_of (Some exchange) = window_seen exchange
 abbrev pub position_or_none : Option ℕ → ℕ
 position_or_none None = 0
 position_or_none (Some position) = position
+
+-- the order of targets
+abbrev pub by_target : Target → Target → Ordering
+by_target = (target_order.ghosts).cmp
+
+-- the position that is kept of a target; 0 where none is
+abbrev pub position_in : Target → BTreeMap Target ℕ → ℕ
+position_in target positions = position_or_none (get by_target positions target)
+
+-- ---- all of them
+
+-- what the index is seen as
+abbrev pub seen_in : ListIndex → Seen
+seen_in index = record {
+  live = λ target. live_in target index.lives.items;
+  exchange = λ e. option_map exchange_seen (open_in e index.exchanges.items);
+  forward = λ f. option_map forward_seen (get nat_cmp index.forwards f);
+  window = λ e. window_of (open_in e index.exchanges.items);
+  error = λ target. position_in target index.errors;
+  failure = λ target. position_in target index.failures;
+}
