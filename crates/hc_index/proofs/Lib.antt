@@ -1,0 +1,5 @@
+pub mod LoopLemmas
+pub mod OpenLemmas
+pub mod LiveLemmas
+pub mod NoteLemmas
+pub mod PositionLemmas

@@ -2,9 +2,11 @@
 //! seen as the history of the records that it has noted.
 #![tactic(auto)]
 
+mod exchanges;
 mod index;
 mod kept;
 mod list_index;
+mod lives;
 
 pub use index::Index;
 pub use list_index::ListIndex;
