@@ -2,6 +2,7 @@
 //! seen as the history of the records that it has noted.
 #![tactic(auto)]
 
+mod finding;
 mod index;
 mod kept;
 mod list_index;
