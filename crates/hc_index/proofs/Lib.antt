@@ -3,3 +3,4 @@ pub mod OpenLemmas
 pub mod LiveLemmas
 pub mod NoteLemmas
 pub mod PositionLemmas
+pub mod FindLemmas

@@ -3,6 +3,7 @@
 #![tactic(auto)]
 
 mod exchanges;
+mod finding;
 mod index;
 mod kept;
 mod list_index;

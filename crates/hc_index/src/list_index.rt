@@ -12,11 +12,13 @@ ghost use Rattle.hc_history.specs.Noting.{Notes};
 ghost use Rattle.hc_index.specs.Lists.{by_target, position_in, seen_in};
 
 use crate::exchanges::{add_to_windows, close_exchange, open_exchange};
+use crate::finding::finding;
+use crate::index::Index;
 use crate::kept::{LiveResponse, OpenExchange, OpenForward};
 use crate::lives::{answer_lives, begin_live};
 use hc_framing::Message;
 use hc_head::{RequestHead, ResponseHead, Target};
-use hc_history::is_error_status;
+use hc_history::{Finding, MarkedReply, Settings, is_error_status};
 use hc_transcript::{Meaning, OwnedItem};
 use std::alloc::{AllocError, Global};
 use std::collections::BTreeMap;
@@ -69,7 +71,7 @@ fn keep_error(
 impl ListIndex {
     /// An index that has noted nothing.
     pub fn new(alloc: Global) -> Self
-        ensures { IsSeenAs (seen_in result) [] }
+        ensures { IsSeenAs (⟦<ListIndex as Index>⟧.seen result) [] }
     {
         ListIndex {
             alloc,
@@ -184,5 +186,23 @@ impl ListIndex {
             Meaning::OriginFailure => self.fail_forward(number, position),
             Meaning::ClientReply(_) => Ok(self.close_exchange(number)),
         }
+    }
+}
+
+impl Index for ListIndex {
+    ghost seen = { λ index. seen_in index };
+
+    fn note(&mut self, position: u64, item: OwnedItem) -> Result<(), AllocError> {
+        self.take(position, item)
+    }
+
+    fn find(
+        &self,
+        exchange: u64,
+        reply: &MarkedReply<'_>,
+        moment: u64,
+        settings: &Settings,
+    ) -> Result<Finding, AllocError> {
+        finding(self, exchange, reply, moment, settings)
     }
 }
