@@ -1,26 +1,24 @@
 -- What each kind of item makes of plain lists.
-use Rattle.std.proofs.Common.{◌≡◌, ℕ, Bool, true, false, ◌&&◌, cond, eqb, List, [], ◌∷◌, ◌++◌, Option, Some, None, map, refl, ap, sym, ◌∙◌}
+use Rattle.std.proofs.Common.{◌≡◌, ℕ, Bool, true, false, ◌&&◌, cond, eqb, List, [], ◌++◌, Option, Some, None, map, refl, ap, sym, ◌∙◌}
 use Rattle.std.specs.Option.{option_map}
 use Rattle.std.specs.Ordering.{nat_cmp}
 use Rattle.std.specs.BTreeMap.{BTreeMap, get}
 use Rattle.std.proofs.lemmas.List.{append-nil}
-use Rattle.hc_head.specs.declared.head.RequestHead.{RequestHead}
 use Rattle.hc_head.specs.declared.head.ResponseHead.{ResponseHead}
 use Rattle.hc_head.specs.declared.head.Target.{Target}
 use Rattle.hc_head.specs.Targets.{same_target}
 use Rattle.hc_framing.specs.declared.message.Message.{Message}
-use Rattle.hc_transcript.specs.Items.{ClientRequest, OriginRequest, OriginResponse, OriginFailure, ClientReply, Exchange, Forward}
+use Rattle.hc_transcript.specs.Items.{OriginResponse, Forward}
 use Rattle.hc_rules.specs.Storing.{may_store}
 use Rattle.hc_update.specs.States.{initial_state}
 use Rattle.hc_history.specs.States.{begun_by}
 use Rattle.hc_history.specs.Windows.{is_error_status, is_forward_of}
-use Rattle.hc_history.specs.Seen.{Live, live_at, WindowResponse, Seen}
+use Rattle.hc_history.specs.Seen.{Live, live_at}
 use Rattle.hc_history.specs.Noting.{live_answered, lives_answered, added_to_window, Notes}
 use Rattle.hc_index.specs.declared.kept.LiveResponse.{LiveResponse}
-use Rattle.hc_index.specs.declared.kept.OpenExchange.{OpenExchange}
 use Rattle.hc_index.specs.declared.kept.OpenForward.{OpenForward}
 use Rattle.hc_index.specs.declared.list_index.ListIndex.{ListIndex}
-use Rattle.hc_index.specs.Lists.{exchange_seen, forward_seen, live_in, open_in, window_of, position_or_none, position_in, by_target, watched, watched_answered, live_response_answered, seen_in}
+use Rattle.hc_index.specs.Lists.{exchange_seen, forward_seen, live_in, open_in, window_of, position_in, watched, watched_answered, live_response_answered, seen_in}
 use Rattle.hc_index.proofs.OpenLemmas.{exchange_answered, window_answered}
 use Rattle.hc_index.proofs.LiveLemmas.{lives_answered_in}
 

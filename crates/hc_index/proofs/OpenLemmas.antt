@@ -5,10 +5,10 @@ use Rattle.std.proofs.lemmas.Bool.{ne_eqb, eqb-true, cases_Bool, cases_eq}
 use Rattle.hc_head.specs.declared.head.ResponseHead.{ResponseHead}
 use Rattle.hc_framing.specs.declared.message.Message.{Message}
 use Rattle.hc_transcript.specs.Items.{Exchange, Forward}
-use Rattle.hc_history.specs.Seen.{WindowResponse, response_to}
+use Rattle.hc_history.specs.Seen.{WindowResponse}
 use Rattle.hc_history.specs.Noting.{added_to_window}
 use Rattle.hc_index.specs.declared.kept.OpenExchange.{OpenExchange}
-use Rattle.hc_index.specs.Lists.{exchange_seen, window_seen, open_in, window_of, Watched, watched, watched_answered}
+use Rattle.hc_index.specs.Lists.{exchange_seen, open_in, window_of, Watched, watched, watched_answered}
 
 -- ---- closing
 

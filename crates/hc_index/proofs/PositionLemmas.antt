@@ -1,5 +1,5 @@
 -- Targets as keys.
-use Rattle.std.proofs.Common.{◌≡◌, refl, sym, ◌∙◌}
+use Rattle.std.proofs.Common.{◌≡◌, sym}
 use Rattle.std.specs.Ordering.{is_eq}
 use Rattle.hc_head.specs.declared.head.Target.{Target}
 use Rattle.hc_head.specs.contracts.head.TargetOrd.TheImpl.Laws.{matches_eq-law}
