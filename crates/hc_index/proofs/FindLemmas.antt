@@ -48,6 +48,13 @@ most_few : (claim : Claim) (lives : List LiveResponse) → most_passed claim liv
 most_few claim [] = omega arith
 most_few claim (live ∷ lives) = omega (arith, passed_few (filters claim (record { target = live.target; state = live.state })), most_few claim lives)
 
+-- one of the claim's target passes as many as what is seen of it
+passed_seen : (claim : Claim) (live : LiveResponse) → same_target live.target claim.target ≡ true → 0 < live.position
+    → passed_live claim live ≡ passed_later anywhere claim live.position (Some (record { target = claim.target; state = live.state }))
+passed_seen claim live same some =
+    ap (λ (t : Target). passed (filters claim (record { target = t; state = live.state }))) (same_target_one live.target claim.target same)
+    ∙ ap (λ (b : Bool). cond b (passed (filters claim (record { target = claim.target; state = live.state }))) 0) (sym (lt-ltb anywhere live.position some))
+
 most_zero : (n : ℕ) → max 0 n ≡ n
 most_zero n = omega arith
 
@@ -57,21 +64,18 @@ others_of claim lives = filter (λ live. same_target live.target claim.target) l
 one_more : (claim : Claim) (live : LiveResponse) (lives : List LiveResponse) (same : Bool) → same_target live.target claim.target ≡ same
     → (HavePositions (live_in claim.target lives) → most_passed claim lives ≡ furthest_live anywhere claim (live_in claim.target lives))
     → HavePositions (map live_seen (cond same (live ∷ others_of claim lives) (others_of claim lives)))
-    → max (passed_live claim live) (most_passed claim lives) ≡ furthest_live anywhere claim (map live_seen (cond same (live ∷ others_of claim lives) (others_of claim lives)))
+    → most_passed claim (live ∷ lives) ≡ furthest_live anywhere claim (map live_seen (cond same (live ∷ others_of claim lives) (others_of claim lives)))
 unfolding others_of
 one_more claim live lives true is rest there =
-    let at_target : passed_live claim live ≡ passed (filters claim (record { target = claim.target; state = live.state })) =
-    ap (λ (t : Target). passed (filters claim (record { target = t; state = live.state }))) (same_target_one live.target claim.target is) in
-    let later : passed (filters claim (record { target = claim.target; state = live.state })) ≡ passed_later anywhere claim live.position (Some (record { target = claim.target; state = live.state })) =
-    ap (λ (b : Bool). cond b (passed (filters claim (record { target = claim.target; state = live.state }))) 0) (sym (lt-ltb anywhere live.position there.0)) in
-    ap (λ (n : ℕ). max n (most_passed claim lives)) (at_target ∙ later)
-    ∙ ap (λ (n : ℕ). max (passed_later anywhere claim live.position (Some (record { target = claim.target; state = live.state }))) n) (rest there.1)
+    ap (λ (n : ℕ). max n (most_passed claim lives)) (passed_seen claim live is there.0)
+    ∙ ap (max (passed_later anywhere claim live.position (Some (record { target = claim.target; state = live.state })))) (rest there.1)
 one_more claim live lives false is rest there =
     ap (λ (n : ℕ). max n (most_passed claim lives)) (passed_other claim (record { target = live.target; state = live.state }) is)
     ∙ most_zero (most_passed claim lives)
     ∙ rest there
 
-most_is_live : (claim : Claim) (lives : List LiveResponse) → HavePositions (live_in claim.target lives) → most_passed claim lives ≡ furthest_live anywhere claim (live_in claim.target lives)
+most_is_live : (claim : Claim) (lives : List LiveResponse) → HavePositions (live_in claim.target lives)
+    → most_passed claim lives ≡ furthest_live anywhere claim (live_in claim.target lives)
 unfolding others_of
 most_is_live claim [] there = refl
 most_is_live claim (live ∷ lives) there = one_more claim live lives (same_target live.target claim.target) refl (most_is_live claim lives) there
@@ -83,26 +87,29 @@ most_is_furthest claim lives h are =
     ∙ ap (furthest_live anywhere claim) are
     ∙ furthest_is_live anywhere claim h
 
--- where one passes them all, nobody passes more
 most_at : (claim : Claim) (lives : List LiveResponse) (i : ℕ) (live : LiveResponse) → i < length lives → live ≡ get_or lives i live
     → most_passed claim (drop i lives) ≡ max (passed_live claim live) (most_passed claim (drop (i + 1) lives))
 most_at claim lives i live lt is =
     at_drop_more (most_passed claim) lives i live lt
     ∙ ap (λ (l : LiveResponse). max (passed_live claim l) (most_passed claim (drop (i + 1) lives))) (sym is)
 
-pub full_is_furthest : (claim : Claim) (lives : List LiveResponse) (i most here : ℕ) (live : LiveResponse) (h : List Item) → i < length lives → live ≡ get_or lives i live
-    → max most (most_passed claim (drop i lives)) ≡ most_passed claim lives → here ≡ passed_live claim live → here ≡ filter_count
+-- where one passes them all, nobody passes more
+pub full_is_furthest : (claim : Claim) (lives : List LiveResponse) (i most here : ℕ) (live : LiveResponse) (h : List Item)
+    → i < length lives → live ≡ get_or lives i live
+    → max most (most_passed claim (drop i lives)) ≡ most_passed claim lives
+    → here ≡ passed_live claim live → here ≡ filter_count
     → live_in claim.target lives ≡ live_of claim.target h → here ≡ furthest anywhere claim h
 full_is_furthest claim lives i most here live h lt is so_far here-is full are =
-    let all_of_them : here ≡ most_passed claim lives = omega (arith, so_far, here-is, full, most_at claim lives i live lt is, most_few claim lives) in
-    all_of_them ∙ most_is_furthest claim lives h are
+    let nobody_more : here ≡ most_passed claim lives = omega (arith, so_far, here-is, full, most_at claim lives i live lt is, most_few claim lives) in
+    nobody_more ∙ most_is_furthest claim lives h are
 
+-- behind the last one, the most so far is the most of all
 pub end_is_furthest : (claim : Claim) (lives : List LiveResponse) (i most : ℕ) (h : List Item) → length lives ≤ i
     → max most (most_passed claim (drop i lives)) ≡ most_passed claim lives
     → live_in claim.target lives ≡ live_of claim.target h → most ≡ furthest anywhere claim h
 end_is_furthest claim lives i most h le so_far are =
-    let all_of_them : most ≡ most_passed claim lives = omega (arith, so_far, at_drop_all (most_passed claim) lives i le) in
-    all_of_them ∙ most_is_furthest claim lives h are
+    let nothing_left : most ≡ most_passed claim lives = omega (arith, so_far, at_drop_all (most_passed claim) lives i le) in
+    nothing_left ∙ most_is_furthest claim lives h are
 
 -- ---- what the window holds
 
@@ -128,16 +135,21 @@ window_tells claim window h b are is =
 -- ---- what is found
 
 -- what is found of a claim that is the reply's, is found of the reply
-pub finding_is : (index : ListIndex) (settings : Settings) (number moment : ℕ) (reply : Message ResponseHead) (h : List Item) (exchange : OpenExchange) (mark : Mark) (claim : Claim)
-    (found : Result Finding AllocError) → IsSeenAs (seen_in index) h → Some exchange ≡ open_in number index.exchanges.items
+pub finding_is : (index : ListIndex) (settings : Settings) (number moment : ℕ) (reply : Message ResponseHead) (h : List Item)
+    (exchange : OpenExchange) (mark : Mark) (claim : Claim) (found : Result Finding AllocError)
+    → IsSeenAs (seen_in index) h → Some exchange ≡ open_in number index.exchanges.items
     → mark ≡ reply_mark reply → claim ≡ claim_of settings (exchange_seen exchange) moment reply h
-    → (live_in claim.target index.lives.items ≡ live_of claim.target h → window_seen exchange ≡ responses_since claim.target claim.since h → IfOk found (IsFoundBy mark claim h))
+    → (live_in claim.target index.lives.items ≡ live_of claim.target h → window_seen exchange ≡ responses_since claim.target claim.since h
+    → IfOk found (IsFoundBy mark claim h))
     → IfOk found (IsFinding settings (exchange_of number h) moment reply h)
 finding_is index settings number moment reply h exchange mark claim found seen is mark-is claim-is by =
     let its_claim = claim_of settings (exchange_seen exchange) moment reply h in
     let there : exchange_of number h ≡ Some (exchange_seen exchange) = sym (seen.exchange number) ∙ ap (option_map exchange_seen) (sym is) in
     let window : window_seen exchange ≡ responses_since exchange.target exchange.position h =
     ap window_of is ∙ seen.window number ∙ ap (λ (o : Option Exchange). window_responses_of o h) there in
-    let by_claim = subst (λ (k : Claim). live_in k.target index.lives.items ≡ live_of k.target h → window_seen exchange ≡ responses_since k.target k.since h → IfOk found (IsFoundBy mark k h)) claim-is by in
-    let by_mark = subst (λ (m : Mark). IfOk found (IsFoundBy m its_claim h)) mark-is (by_claim (seen.live exchange.target) window) in
+    let lives : live_in claim.target index.lives.items ≡ live_of claim.target h = seen.live claim.target in
+    let its_window : window_seen exchange ≡ responses_since claim.target claim.since h =
+    subst (λ (k : Claim). window_seen exchange ≡ responses_since k.target k.since h) (sym claim-is) window in
+    let by_claim = subst (λ (k : Claim). IfOk found (IsFoundBy mark k h)) claim-is (by lives its_window) in
+    let by_mark = subst (λ (m : Mark). IfOk found (IsFoundBy m its_claim h)) mark-is by_claim in
     subst (λ (o : Option Exchange). IfOk found (IsFinding settings o moment reply h)) (sym there) by_mark
