@@ -1,0 +1,3 @@
+pub mod ArgumentLemmas
+pub mod AuditLemmas
+pub mod NameLemmas
