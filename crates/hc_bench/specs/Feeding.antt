@@ -51,5 +51,5 @@ module _ {H : Type 0} (form : Form H) where
   pub record IsRateOf (kind : Kind) (room : Room) (octets : List ℕ) (rate : Rate) : Type 0 where
     pub messages : List (Message H)
     pub are : AreReadThen kind room messages octets []
-    pub messages_is : rate.messages ≡ length messages
+    pub count_is : rate.count ≡ length messages
     pub octets_is : rate.octets ≡ length octets

@@ -1,10 +1,12 @@
 //! What no clause says: the texts, readers and writers that fail, and that calls succeed.
+use crate::auditing::audited;
 use crate::counts::count;
 use crate::feeding::feed;
 use crate::measures::{Pair, compare};
 use crate::messages::{chunked_response, long_request};
 use crate::rate::Rate;
 use crate::run::answered;
+use crate::transcripts::transcript;
 use crate::trouble::Trouble;
 use hc_framing::{FrameFault, Kind};
 use hc_head::{RequestHead, ResponseHead, Room};
@@ -76,6 +78,18 @@ fn messages_are_those_of_the_standard(rt: HostRuntime) -> Result<(), Fail> {
     assert_eq!(rt; long_request(rt.alloc(), 8, 1_008)?.len(), 8_192);
     assert_eq!(rt; long_request(rt.alloc(), 64, 1_015)?.len(), 65_536);
     Ok(())
+}
+
+// Audits a transcript of three exchanges that are forwarded and four hits.
+fn audited_as(rt: &impl AllocGlobal, records: usize) -> Result<(), Trouble> {
+    let text = transcript(rt.alloc(), 3, 7)?;
+    audited(rt.alloc(), text.as_slice(), records)
+}
+
+#[test]
+fn transcripts_are_right(rt: HostRuntime) {
+    assert_eq!(rt; audited_as(&rt, 20), Ok(()));
+    assert_eq!(rt; audited_as(&rt, 18), Err(Trouble::NotRight));
 }
 
 #[test]
@@ -189,7 +203,7 @@ fn answers(
 
 #[test]
 fn words_are_answered(rt: HostRuntime) {
-    let usage = "usage: hc_bench [measure]\n";
+    let usage = "usage: hc_bench [measure|audit]\n";
     answers(&rt, &["hc_bench"], 0, COUNTS, "");
     answers(&rt, &[], 0, COUNTS, "");
     answers(&rt, &["hc_bench", "fast"], 64, "", usage);

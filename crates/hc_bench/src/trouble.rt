@@ -24,6 +24,9 @@ pub enum Trouble {
     /// What was fed ends within a message.
     #[error("the message doesn't end")]
     Unended,
+    /// What was audited isn't right, or has another count of records.
+    #[error("the transcript isn't right")]
+    NotRight,
 }
 
 impl Trouble {
