@@ -1,2 +1,3 @@
 pub mod CommandLemmas
 pub mod FeedingLemmas
+pub mod TranscriptLemmas

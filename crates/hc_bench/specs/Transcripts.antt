@@ -22,7 +22,7 @@ abbrev pub hit_lines : List ℕ
 hit_lines = codes "age: 0" ++ line_end ++ codes "cache-status: hcache;hit" ++ line_end
 
 -- the text of what passed under that number; all passes at the moment of the date
-abbrev pub passed_text : ℕ → Passed → List ℕ
+unfoldable pub passed_text : ℕ → Passed → List ℕ
 passed_text number passed = record_text (record { number = number; moment = 1000; of = passed })
 
 -- an exchange that is forwarded, under its own number

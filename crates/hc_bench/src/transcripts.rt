@@ -76,7 +76,8 @@ fn push_forwarded(
         text,
         number,
         Passed::ClientReply(fresh_response(alloc, "")?),
-    )
+    )?;
+    Ok(())
 }
 
 // Puts an exchange at the end that is answered with what is stored.
@@ -94,10 +95,12 @@ fn push_hit(alloc: Global, text: &mut Octets, number: u64, target: usize) -> Res
         text,
         number,
         Passed::ClientReply(fresh_response(alloc, HIT_LINES)?),
-    )
+    )?;
+    Ok(())
 }
 
 // Puts a record at the end.
+#[tactic(auto, unfolding(crate::specs::Transcripts::passed_text))]
 fn push(alloc: Global, text: &mut Octets, number: u64, passed: Passed) -> Result<(), AllocError>
     ensures { OnOk result (text.new ≡ text.old ++ passed_text number passed) }
 {
