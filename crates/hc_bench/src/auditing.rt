@@ -4,8 +4,9 @@ ghost use Rattle.hc_history.specs.Verdict.{IsVerdict};
 ghost use Rattle.hc_bench.specs.Auditing.{AreRight, plain};
 
 use crate::trouble::Trouble;
-use hc_history::{FieldNames, Settings, UnmarkedReplies, Verdict};
-use hc_judge::judge;
+use hc_audit::{Auditor, Verdict};
+use hc_history::{FieldNames, Settings, UnmarkedReplies};
+use hc_index::ListIndex;
 use std::alloc::Global;
 
 /// How many octets a piece has.
@@ -33,5 +34,12 @@ fn verdict(alloc: Global, octets: &[u8]) -> Result<Verdict, Trouble>
         ignored: FieldNames::new(alloc),
         unmarked: UnmarkedReplies::Allow,
     };
-    Ok(judge(alloc, octets, &settings)?)
+    let mut auditor = Auditor::new(alloc, ListIndex::new(alloc), settings);
+    let mut rest = octets;
+    'pieces: while !rest.is_empty() {
+        let (piece, behind) = rest.split_at(PIECE.min(rest.len()));
+        auditor.feed(piece)?;
+        rest = behind;
+    }
+    Ok(auditor.finish()?)
 }

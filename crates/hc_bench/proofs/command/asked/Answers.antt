@@ -11,7 +11,7 @@ returns-in-len2-clause-measures g c = (
 
 pub returns-in-len2-2-clause-audits : goal.returns-in-len2-2-clause-audits
 returns-in-len2-2-clause-audits g c = (
-  λ same. asks g.S.AsStr.text (codes "audit") c.args.words.now c.word-item-2.result c.as_str-2.result.now c.eq-2.result
-      c.in-len2-2.len_at_least c.in-len2-2.len_below c.word-item-2.is c.as_str-2.ensures c.eq-2.ensures c.if-eq-2.true,
+  λ same. asks g.S.AsStr.text (codes "audit") c.args.words.now c.word-item-then-words-lt3.result c.as_str-then-words-lt3.result.now c.eq-then-words-lt3.result
+      c.in-len2.len_at_least c.in-len2.len_below c.word-item-then-words-lt3.is c.as_str-then-words-lt3.ensures c.eq-then-words-lt3.ensures c.if-eq-2.true,
   λ asks. refl,
 )
