@@ -4,7 +4,7 @@ use Rattle.hc_history.specs.declared.settings.Settings.{Settings}
 use Rattle.hc_history.specs.declared.settings.UnmarkedReplies.TheVariants.{Allow}
 use Rattle.hc_history.specs.declared.verdicts.Counts.{Counts}
 use Rattle.hc_history.specs.declared.verdicts.Verdict.TheVariants.{Yes}
-use Rattle.hc_history.specs.Verdict.{IsVerdict}
+use Rattle.hc_history.specs.Verdicts.{IsVerdict}
 use Rattle.hc_bench.specs.declared.rate.Rate.{Rate}
 
 -- the settings of an audit that lets nothing pass but replies without a mark

@@ -1,11 +1,12 @@
 //! Transcripts, fed in pieces to an auditor.
-ghost use Rattle.std.specs.Prelude.{IfOk, OnOk};
-ghost use Rattle.hc_history.specs.Verdict.{IsVerdict};
+ghost use Rattle.std.specs.Prelude.{◌++◌, ℕ, List, IfOk, OnOk};
+ghost use Rattle.hc_history.specs.declared.settings.Settings.{Settings};
+ghost use Rattle.hc_history.specs.Verdicts.{IsVerdict};
+ghost use Rattle.hc_audit.specs.Agreement.{Agrees};
 ghost use Rattle.hc_bench.specs.Auditing.{AreRight, plain};
 
 use crate::trouble::Trouble;
-use hc_audit::{Auditor, Verdict};
-use hc_history::{FieldNames, Settings, UnmarkedReplies};
+use hc_audit::{AuditFault, Auditor, FieldNames, Index, Settings, UnmarkedReplies, Verdict};
 use hc_index::ListIndex;
 use std::alloc::Global;
 
@@ -35,11 +36,20 @@ fn verdict(alloc: Global, octets: &[u8]) -> Result<Verdict, Trouble>
         unmarked: UnmarkedReplies::Allow,
     };
     let mut auditor = Auditor::new(alloc, ListIndex::new(alloc), settings);
+    feed_all(&mut auditor, octets)?;
+    Ok(auditor.finish()?)
+}
+
+// Feeds the octets to the auditor, a piece at a time.
+fn feed_all<I: Index + Drop>(auditor: &mut Auditor<I>, octets: &[u8]) -> Result<(), AuditFault>
+    ensures { (settings : Settings) (before : List ℕ) → Agrees I.seen auditor.old settings before
+        → OnOk result (Agrees I.seen auditor.new settings (before ++ octets.now)) }
+{
     let mut rest = octets;
     'pieces: while !rest.is_empty() {
         let (piece, behind) = rest.split_at(PIECE.min(rest.len()));
         auditor.feed(piece)?;
         rest = behind;
     }
-    Ok(auditor.finish()?)
+    Ok(())
 }

@@ -3,6 +3,7 @@ ghost use Rattle.std.specs.Prelude.{◌≡◌};
 ghost use Rattle.hc_bench.specs.declared.trouble.Trouble.TheVariants.{Memory};
 
 use crate::print::printed;
+use hc_audit::AuditFault;
 use hc_framing::FrameFault;
 use std::alloc::{AllocError, AllocFailed};
 use std::io;
@@ -56,6 +57,15 @@ impl<T: Drop> From<AllocFailed<T>> for Trouble {
     ghost from_gives = { λ _ t. t ≡ Memory };
 
     fn from(_error: AllocFailed<T>) -> Trouble {
+        Trouble::Memory
+    }
+}
+
+impl From<AuditFault> for Trouble {
+    ghost from_gives = { λ _ t. t ≡ Memory };
+
+    // An auditor fails for want of memory alone.
+    fn from(_fault: AuditFault) -> Trouble {
         Trouble::Memory
     }
 }
