@@ -1,5 +1,5 @@
 //! Transcripts of many records, and how fast they are audited.
-ghost use Rattle.std.specs.Prelude.{IfOk};
+ghost use Rattle.std.specs.Prelude.{◌<◌, IfOk};
 ghost use Rattle.hc_bench.specs.Auditing.{IsAuditRateOf};
 
 use crate::auditing::audited;
