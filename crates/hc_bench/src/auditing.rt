@@ -1,9 +1,9 @@
 //! Transcripts, fed in pieces to an auditor.
-ghost use Rattle.std.specs.Prelude.{◌++◌, ℕ, List, IfOk, OnOk};
+ghost use Rattle.std.specs.Prelude.{◌≡◌, ◌++◌, ℕ, List, IfOk, IfErr, OnOk};
 ghost use Rattle.hc_history.specs.declared.settings.Settings.{Settings};
 ghost use Rattle.hc_history.specs.Verdicts.{IsVerdict};
 ghost use Rattle.hc_audit.specs.Agreement.{Agrees};
-ghost use Rattle.hc_bench.specs.Auditing.{AreRight, plain};
+ghost use Rattle.hc_bench.specs.Auditing.{AuditsTo, plain};
 
 use crate::trouble::Trouble;
 use hc_audit::{AuditFault, Auditor, FieldNames, Index, Settings, UnmarkedReplies, Verdict};
@@ -15,7 +15,7 @@ const PIECE: usize = 65_536;
 
 /// Audits octets that are to be a transcript of so many records in which every reply is right.
 pub fn audited(alloc: Global, octets: &[u8], records: usize) -> Result<(), Trouble>
-    ensures { OnOk result (AreRight octets.now records) }
+    ensures { AuditsTo result octets.now records }
 {
     let Verdict::Yes(counts) = verdict(alloc, octets)? else {
         return Err(Trouble::NotRight);
@@ -28,7 +28,8 @@ pub fn audited(alloc: Global, octets: &[u8], records: usize) -> Result<(), Troub
 
 // The verdict on the octets.
 fn verdict(alloc: Global, octets: &[u8]) -> Result<Verdict, Trouble>
-    ensures { IfOk result (IsVerdict octets.now plain) }
+    ensures ok { IfOk result (IsVerdict octets.now plain) }
+    ensures err { IfErr result (λ trouble. trouble ≡ Trouble.Memory) }
 {
     let settings = Settings {
         slack: 0,
