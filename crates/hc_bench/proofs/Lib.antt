@@ -1,2 +1,4 @@
+pub mod AuditingLemmas
 pub mod CommandLemmas
 pub mod FeedingLemmas
+pub mod TranscriptLemmas

@@ -9,6 +9,10 @@ AsksCounts words = length words ≤ 1
 abbrev pub AsksMeasures : List (List ℕ) → Type 0
 AsksMeasures words = (name : List ℕ) × (words ≡ name ∷ codes "measure" ∷ [])
 
+-- they ask for audits
+abbrev pub AsksAudits : List (List ℕ) → Type 0
+AsksAudits words = (name : List ℕ) × (words ≡ name ∷ codes "audit" ∷ [])
+
 -- they ask for something
 abbrev pub IsKnown : List (List ℕ) → Type 0
-IsKnown words = AsksCounts words ⊎ AsksMeasures words
+IsKnown words = AsksCounts words ⊎ (AsksMeasures words ⊎ AsksAudits words)

@@ -12,7 +12,7 @@ use Rattle.hc_framing.specs.Reader.{BeginsIn, HasNoMessage}
 use Rattle.hc_bench.specs.declared.feeding.Fed.{Fed}
 use Rattle.hc_bench.specs.declared.rate.Rate.{Rate}
 use Rattle.hc_bench.specs.declared.trouble.Trouble.{Trouble}
-use Rattle.hc_bench.specs.declared.trouble.Trouble.TheVariants.{Memory, Device, Fault, Unended}
+use Rattle.hc_bench.specs.declared.trouble.Trouble.TheVariants.{Memory, Device, Fault, Unended, NotRight}
 
 -- a fault of a message as a trouble
 abbrev pub trouble_of : FrameFault → Trouble
@@ -40,6 +40,7 @@ module _ {H : Type 0} (form : Form H) where
   FeedsTo (Err (Fault fault)) kind room octets size =
       (len : ℕ) × StandsIn form kind fault (take len octets) room
   FeedsTo (Err Unended) kind room octets size = HasNoMessage form kind octets
+  FeedsTo (Err NotRight) kind room octets size = ⊥
 
   -- the octets are these messages, one behind another, and then rest
   abbrev pub AreReadThen : Kind → Room → List (Message H) → List ℕ → List ℕ → Type 0
@@ -51,5 +52,5 @@ module _ {H : Type 0} (form : Form H) where
   pub record IsRateOf (kind : Kind) (room : Room) (octets : List ℕ) (rate : Rate) : Type 0 where
     pub messages : List (Message H)
     pub are : AreReadThen kind room messages octets []
-    pub messages_is : rate.messages ≡ length messages
+    pub count_is : rate.count ≡ length messages
     pub octets_is : rate.octets ≡ length octets

@@ -2,7 +2,7 @@
 use Rattle.std.specs.Prelude.{ℕ, List, [], ◌∷◌, ◌++◌, length, codes, decimal}
 use Rattle.hc_bench.specs.declared.feeding.Fed.{Fed}
 use Rattle.hc_bench.specs.declared.rate.Rate.{Rate}
-use Rattle.hc_bench.specs.Rates.{octets_per_second, percent_of}
+use Rattle.hc_bench.specs.Rates.{count_per_second, octets_per_second, percent_of}
 
 -- what was read, and in pieces of how many octets
 abbrev pub start : List ℕ → ℕ → List ℕ → List ℕ
@@ -17,10 +17,17 @@ counts_line name size fed = start name size
 -- how fast they were read
 abbrev pub rate_line : List ℕ → ℕ → Rate → List ℕ
 rate_line name size rate = start name size
-    (codes " messages=" ++ (decimal rate.messages ++ (codes " octets=" ++ (decimal rate.octets
+    (codes " messages=" ++ (decimal rate.count ++ (codes " octets=" ++ (decimal rate.octets
     ++ (codes " octets_per_second=" ++ (decimal (octets_per_second rate) ++ 10 ∷ []))))))
 
 -- what an octet of the long ones cost, in percent of what an octet of the short ones cost
 abbrev pub cost_line : List ℕ → ℕ → Rate → Rate → List ℕ
 cost_line name size short long =
     start name size (codes " cost_percent=" ++ (decimal (percent_of long short) ++ 10 ∷ []))
+
+-- how fast records of so many targets were audited
+abbrev pub audit_line : ℕ → Rate → List ℕ
+audit_line targets rate =
+    codes "audit records=" ++ (decimal rate.count ++ (codes " targets=" ++ (decimal targets
+    ++ (codes " octets=" ++ (decimal rate.octets ++ (codes " records_per_second=" ++ (decimal (count_per_second rate)
+    ++ (codes " octets_per_second=" ++ (decimal (octets_per_second rate) ++ 10 ∷ [])))))))))

@@ -1,8 +1,12 @@
--- How fast messages were read.
+-- How fast messages were read, or records audited.
 use Rattle.std.specs.Prelude.{ℕ, ◌*◌, ◌/◌, ◌^◌, max}
 use Rattle.hc_bench.specs.declared.rate.Rate.{Rate}
 
--- how many octets a second that is; a time of nothing counts as a nanosecond
+-- how many messages or records a second that is; a time of nothing counts as a nanosecond
+abbrev pub count_per_second : Rate → ℕ
+count_per_second rate = rate.count * 10 ^ 9 / max rate.nanoseconds 1
+
+-- how many octets a second that is
 abbrev pub octets_per_second : Rate → ℕ
 octets_per_second rate = rate.octets * 10 ^ 9 / max rate.nanoseconds 1
 

@@ -1,6 +1,6 @@
 //! The lines that the program prints.
 ghost use Rattle.std.specs.Prelude.{◌≡◌, IfOk, string_bytes};
-ghost use Rattle.hc_bench.specs.Lines.{counts_line, rate_line, cost_line};
+ghost use Rattle.hc_bench.specs.Lines.{audit_line, counts_line, rate_line, cost_line};
 
 use crate::feeding::Fed;
 use crate::rate::Rate;
@@ -25,7 +25,7 @@ pub fn counts_line<H>(
 pub fn rate_line(alloc: Global, name: &str, size: usize, rate: &Rate) -> Result<String, AllocError>
     ensures { IfOk result (λ line. string_bytes line ≡ rate_line name.now size rate.now) }
 {
-    let messages = rate.messages;
+    let messages = rate.count;
     let octets = rate.octets;
     let speed = rate.octets_per_second();
     format!(in alloc;
@@ -45,4 +45,17 @@ pub fn cost_line(
 {
     let percent = long.percent_of(short);
     format!(in alloc; "{name} piece={size} cost_percent={percent}\n")
+}
+
+/// How fast a transcript of records of so many targets was audited.
+pub fn audit_line(alloc: Global, targets: usize, rate: &Rate) -> Result<String, AllocError>
+    ensures { IfOk result (λ line. string_bytes line ≡ audit_line targets rate.now) }
+{
+    let records = rate.count;
+    let octets = rate.octets;
+    let records_speed = rate.count_per_second();
+    let octets_speed = rate.octets_per_second();
+    format!(in alloc;
+        "audit records={records} targets={targets} octets={octets} records_per_second={records_speed} octets_per_second={octets_speed}\n"
+    )
 }

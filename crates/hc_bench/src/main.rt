@@ -1,9 +1,11 @@
-//! `hc_bench`: what it costs to read messages in pieces.
+//! `hc_bench`: what it costs to read messages in pieces, and to audit transcripts.
 //!
 //! Without an argument it reads two short messages in pieces and says how many calls that took. With
-//! `measure` it reads long ones against the clock.
+//! `measure` it reads long ones against the clock, and with `audit` it audits transcripts against it.
 #![tactic(auto)]
 
+mod auditing;
+mod audits;
 mod command;
 mod counts;
 mod feeding;
@@ -15,6 +17,7 @@ mod rate;
 mod run;
 #[cfg(test)]
 mod tests;
+mod transcripts;
 mod trouble;
 
 use std::process::ExitCode;

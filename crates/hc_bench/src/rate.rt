@@ -1,11 +1,11 @@
-//! How fast messages were read.
+//! How fast messages were read, or records audited.
 
 use std::time::Duration;
 
-/// So many messages, with so many octets together, in so much time.
+/// So many messages or records, with so many octets together, in so much time.
 #[derive(Clone, Copy, Debug, PartialEq, Eq)]
 pub struct Rate {
-    pub messages: usize,
+    pub count: usize,
     pub octets: usize,
     pub nanoseconds: u64,
 }
@@ -13,16 +13,16 @@ pub struct Rate {
 impl Rate {
     ghost use Rattle.std.specs.Prelude.{◌≡◌, ◌⊎◌, ◌-◌, ◌^◌, min};
     ghost use Rattle.std.specs.Duration.{as_nanos};
-    ghost use Rattle.hc_bench.specs.Rates.{octets_per_second, cost, percent_of};
+    ghost use Rattle.hc_bench.specs.Rates.{count_per_second, octets_per_second, cost, percent_of};
 
-    /// So many messages and octets in that time, which counts as 584 years at most.
-    pub fn new(messages: usize, octets: usize, time: Duration) -> Self
-        ensures messages { result.messages ≡ messages }
+    /// So many of them and octets in that time, which counts as 584 years at most.
+    pub fn new(count: usize, octets: usize, time: Duration) -> Self
+        ensures count { result.count ≡ count }
         ensures octets { result.octets ≡ octets }
         ensures time { result.nanoseconds ≡ min (as_nanos time) (2 ^ 64 - 1) }
     {
         Rate {
-            messages,
+            count,
             octets,
             nanoseconds: u64::try_from(time.as_nanos()).unwrap_or(u64::MAX),
         }
@@ -38,6 +38,13 @@ impl Rate {
         } else {
             other
         }
+    }
+
+    /// How many messages or records a second that is.
+    pub fn count_per_second(&self) -> u128
+        ensures { result ≡ count_per_second self.now }
+    {
+        self.count as u128 * 1_000_000_000 / u128::from(self.nanoseconds.max(1))
     }
 
     /// How many octets a second that is.

@@ -3,6 +3,7 @@ ghost use Rattle.std.specs.Prelude.{◌≡◌, ◌↔◌, map};
 ghost use Rattle.std.specs.Io.KnownBytes.{Keeps};
 ghost use Rattle.hc_bench.specs.Command.{IsKnown};
 
+use crate::audits::audit;
 use crate::command::{Task, USAGE, asked};
 use crate::counts::count;
 use crate::measures::measure;
@@ -47,6 +48,7 @@ where
     let done = match asked(words) {
         Some(Task::Count) => count(rt.alloc(), output),
         Some(Task::Measure) => measure(rt.alloc(), rt, output),
+        Some(Task::Audit) => audit(rt.alloc(), rt, output),
         None => return refused(faults),
     };
     match done {

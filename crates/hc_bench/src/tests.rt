@@ -1,4 +1,5 @@
 //! What no clause says: the texts, readers and writers that fail, and that calls succeed.
+use crate::audits::{Sample, audit_sample};
 use crate::counts::count;
 use crate::feeding::feed;
 use crate::measures::{Pair, compare};
@@ -147,6 +148,30 @@ head piece=7 cost_percent=100
     Ok(())
 }
 
+// Audits so many records of three targets.
+fn audited(rt: &impl AllocGlobal, records: usize, output: &mut Vec<u8>) -> Result<(), Trouble> {
+    let clock = Ticks {
+        microseconds: Cell::new(0),
+        last: 18,
+    };
+    let sample = Sample {
+        records,
+        targets: 3,
+    };
+    audit_sample::<Ticks, Vec<u8>>(rt.alloc(), &clock, &sample, output)
+}
+
+#[test]
+fn audits_are_said(rt: HostRuntime) {
+    let mut said = Vec::new(rt.alloc());
+    assert_eq!(rt; audited(&rt, 21, &mut said), Err(Trouble::NotRight));
+    assert!(rt; said.is_empty());
+    assert_eq!(rt; audited(&rt, 20, &mut said), Ok(()));
+    let want =
+        "audit records=20 targets=3 octets=2731 records_per_second=20000000 octets_per_second=2731000000\n";
+    assert_eq!(rt; said.as_slice(), want.as_bytes());
+}
+
 #[test]
 fn devices_that_fail(rt: HostRuntime) {
     for readings in 0..36 {
@@ -160,6 +185,7 @@ fn devices_that_fail(rt: HostRuntime) {
         (Trouble::Memory, "error: memory\n"),
         (Trouble::Device, "error: device\n"),
         (Trouble::Unended, "error: the message doesn't end\n"),
+        (Trouble::NotRight, "error: the transcript isn't right\n"),
     ] {
         let mut wrong = Vec::new(rt.alloc());
         assert_eq!(rt; trouble.told(&mut wrong), 3);
@@ -189,7 +215,7 @@ fn answers(
 
 #[test]
 fn words_are_answered(rt: HostRuntime) {
-    let usage = "usage: hc_bench [measure]\n";
+    let usage = "usage: hc_bench [measure|audit]\n";
     answers(&rt, &["hc_bench"], 0, COUNTS, "");
     answers(&rt, &[], 0, COUNTS, "");
     answers(&rt, &["hc_bench", "fast"], 64, "", usage);

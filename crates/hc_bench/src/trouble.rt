@@ -3,6 +3,7 @@ ghost use Rattle.std.specs.Prelude.{◌≡◌};
 ghost use Rattle.hc_bench.specs.declared.trouble.Trouble.TheVariants.{Memory};
 
 use crate::print::printed;
+use hc_audit::AuditFault;
 use hc_framing::FrameFault;
 use std::alloc::{AllocError, AllocFailed};
 use std::io;
@@ -24,6 +25,9 @@ pub enum Trouble {
     /// What was fed ends within a message.
     #[error("the message doesn't end")]
     Unended,
+    /// What was audited isn't right, or has another count of records.
+    #[error("the transcript isn't right")]
+    NotRight,
 }
 
 impl Trouble {
@@ -53,6 +57,15 @@ impl<T: Drop> From<AllocFailed<T>> for Trouble {
     ghost from_gives = { λ _ t. t ≡ Memory };
 
     fn from(_error: AllocFailed<T>) -> Trouble {
+        Trouble::Memory
+    }
+}
+
+impl From<AuditFault> for Trouble {
+    ghost from_gives = { λ _ t. t ≡ Memory };
+
+    // An auditor fails for want of memory alone.
+    fn from(_fault: AuditFault) -> Trouble {
         Trouble::Memory
     }
 }

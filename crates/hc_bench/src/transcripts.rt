@@ -1,0 +1,133 @@
+//! Transcripts of any length, made in memory.
+ghost use Rattle.std.specs.Prelude.{◌≡◌, ◌<◌, ◌-◌, ◌^◌, ◌++◌, IfOk, OnOk};
+ghost use Rattle.hc_bench.specs.Transcripts.{exchange, forwarded, fresh_response, get_request, hit, passed_text, transcript};
+
+use hc_fields::Octets;
+use hc_transcript::{OPENING, Passed, Record, write_record};
+use std::alloc::{AllocError, Global};
+
+/// The moment of each record, in seconds since 1970, which the dates tell too.
+const MOMENT: u64 = 1_000;
+
+/// The lines that mark a reply as a hit.
+const HIT_LINES: &str = "age: 0\r\ncache-status: hcache;hit\r\n";
+
+/// A transcript of so many exchanges for so many targets, in which every reply is right: the first for
+/// each target is forwarded, and those behind are hits, for one target after another.
+pub fn transcript(alloc: Global, targets: usize, exchanges: usize) -> Result<Octets, AllocError>
+    requires { 0 < targets }
+    ensures { IfOk result (λ text. text ≡ transcript targets exchanges) }
+{
+    let mut text = Octets::from_slice(alloc, OPENING)?;
+    'exchanges: for before in 0..exchanges {
+        push_exchange(alloc, &mut text, targets, before)?;
+    }
+    Ok(text)
+}
+
+// Puts the exchange behind so many at the end.
+fn push_exchange(
+    alloc: Global,
+    text: &mut Octets,
+    targets: usize,
+    before: usize,
+) -> Result<(), AllocError>
+    requires some { 0 < targets }
+    requires within { before < 2 ^ 64 - 1 }
+    ensures { OnOk result (text.new ≡ text.old ++ exchange targets before) }
+{
+    let number = before as u64 + 1;
+    if before < targets {
+        push_forwarded(alloc, text, number, before)
+    } else {
+        push_hit(alloc, text, number, before % targets)
+    }
+}
+
+// Puts an exchange at the end that is forwarded.
+fn push_forwarded(
+    alloc: Global,
+    text: &mut Octets,
+    number: u64,
+    target: usize,
+) -> Result<(), AllocError>
+    ensures { OnOk result (text.new ≡ text.old ++ forwarded number target) }
+{
+    push(
+        alloc,
+        text,
+        number,
+        Passed::ClientRequest(get_request(alloc, target)?),
+    )?;
+    push(
+        alloc,
+        text,
+        number,
+        Passed::OriginRequest(get_request(alloc, target)?),
+    )?;
+    push(
+        alloc,
+        text,
+        number,
+        Passed::OriginResponse(fresh_response(alloc, "")?),
+    )?;
+    push(
+        alloc,
+        text,
+        number,
+        Passed::ClientReply(fresh_response(alloc, "")?),
+    )?;
+    Ok(())
+}
+
+// Puts an exchange at the end that is answered with what is stored.
+fn push_hit(alloc: Global, text: &mut Octets, number: u64, target: usize) -> Result<(), AllocError>
+    ensures { OnOk result (text.new ≡ text.old ++ hit number target) }
+{
+    push(
+        alloc,
+        text,
+        number,
+        Passed::ClientRequest(get_request(alloc, target)?),
+    )?;
+    push(
+        alloc,
+        text,
+        number,
+        Passed::ClientReply(fresh_response(alloc, HIT_LINES)?),
+    )?;
+    Ok(())
+}
+
+// Puts a record at the end.
+#[tactic(auto, unfolding(crate::specs::Transcripts::passed_text))]
+fn push(alloc: Global, text: &mut Octets, number: u64, passed: Passed) -> Result<(), AllocError>
+    ensures { OnOk result (text.new ≡ text.old ++ passed_text number passed) }
+{
+    let record = Record {
+        number,
+        moment: MOMENT,
+        of: passed,
+    };
+    let written = write_record(alloc, &record)?;
+    text.extend_from_slice(written.as_slice())
+}
+
+// A request for the target of that number.
+fn get_request(alloc: Global, target: usize) -> Result<Octets, AllocError>
+    ensures { IfOk result (λ text. text ≡ get_request target) }
+{
+    let text = format!(in alloc; "GET /{target} HTTP/1.1\r\nhost: h\r\n\r\n")?;
+    Ok(Octets::from_vec(text.into_bytes()))
+}
+
+// A response that may be stored, with such lines more.
+fn fresh_response(alloc: Global, lines: &str) -> Result<Octets, AllocError>
+    ensures { IfOk result (λ text. text ≡ fresh_response lines.now) }
+{
+    let body = "x".repeat(alloc, 100)?;
+    let text = format!(in alloc;
+        "HTTP/1.1 200 \r\ndate: Thu, 01 Jan 1970 00:16:40 GMT\r\ncache-control: max-age=3600\r\ncontent-length: 100\r\n{lines}\r\n{body}"
+    )?;
+    Ok(Octets::from_vec(text.into_bytes()))
+}
