@@ -1,45 +1,100 @@
 -- What one record more makes of a judgement, and what its end.
-use Rattle.std.proofs.Common.{◌≡◌, ◌≢◌, ℕ, ◌+◌, Bool, true, false, cond, List, [], ◌∷◌, length, Option, Some, None, refl, sym, ap, subst, ◌∙◌, arith, ◌⊎◌, inl, inr}
+use Rattle.std.proofs.Common.{◌≡◌, ◌≢◌, ℕ, ◌+◌, Bool, true, false, cond, List, [], ◌∷◌, ◌++◌, Option, Some, None, IfOk, Result, Ok, refl, sym, ap, subst, ◌∙◌, ◌⊎◌, inl, inr}
+use Rattle.std.specs.declared.alloc.AllocError.{AllocError}
 use Rattle.hc_transcript.specs.declared.fault.RecordFault.{RecordFault}
-use Rattle.hc_transcript.specs.declared.fault.RecordFault.TheVariants as faults
+use Rattle.hc_transcript.specs.declared.fault.RecordFault.TheVariants as fault
 use Rattle.hc_transcript.specs.declared.reader.RecordReader.{RecordReader}
 use Rattle.hc_transcript.specs.declared.record.Record.{Record}
-use Rattle.hc_transcript.specs.Items.{Item, ClientRequest, OriginRequest, OriginResponse, OriginFailure, ClientReply}
-use Rattle.hc_transcript.specs.History.{next_position}
+use Rattle.hc_transcript.specs.Records.{opening}
+use Rattle.hc_transcript.specs.Items.{Item}
+use Rattle.hc_transcript.specs.History.{next_position, last_moment, last_exchange, last_forward}
+use Rattle.hc_transcript.specs.Checks.{line_fault}
 use Rattle.hc_transcript.specs.Transcript.{Splits, IsTranscript}
-use Rattle.hc_transcript.specs.Malformed.{IsUnfinishedOpening}
-use Rattle.hc_transcript.specs.Reader.{Agrees, Advances, ReadsTo, WaitsBy, Waits, MeetsFault, HasUnread, HasUnreadBy, reader_position}
-use Rattle.hc_status.specs.declared.marks.Mark.{Mark}
-use Rattle.hc_status.specs.declared.marks.Mark.TheVariants.{Hit, Forwarded, Both, Unmarked}
+use Rattle.hc_transcript.specs.Malformed.{IsUnfinishedOpening, IsUnfinished, BreaksAfter}
+use Rattle.hc_transcript.specs.Reader.{Agrees, ReadsTo, WaitsBy, Waits, MeetsFault, HasUnread, HasUnreadBy, reader_position}
+use Rattle.hc_transcript.proofs.CheckLemmas.{no_torn_check}
+use Rattle.hc_transcript.proofs.OnceLemmas.{broken_more, no_opening_more}
+use Rattle.hc_history.specs.declared.reasons.Reason.{Reason}
+use Rattle.hc_history.specs.declared.settings.Settings.{Settings}
 use Rattle.hc_history.specs.declared.verdicts.Counts.{Counts}
-use Rattle.hc_history.specs.Marks.{item_mark}
-use Rattle.hc_history.specs.declared.verdicts.Verdict.TheVariants.{Yes, Malformed}
-use Rattle.hc_audit.specs.ThinVerdicts.{IsRight, AllRight, IsVerdict, IsUnsupportedAt}
-use Rattle.hc_history.specs.Counting.{counts_of, marked, marked_by, one_more}
+use Rattle.hc_history.specs.declared.verdicts.Finding.{Finding}
+use Rattle.hc_history.specs.declared.verdicts.Finding.TheVariants.{Right, Wrong}
+use Rattle.hc_history.specs.declared.verdicts.Verdict.{Verdict}
+use Rattle.hc_history.specs.declared.verdicts.Verdict.TheVariants.{Yes, No, Malformed}
+use Rattle.hc_history.specs.Counting.{counts_of}
+use Rattle.hc_history.specs.Found.{IsFound, AnswersOpen}
+use Rattle.hc_history.specs.Right.{AllRight}
+use Rattle.hc_history.specs.Seen.{Seen, IsSeenAs}
+use Rattle.hc_history.specs.Verdicts.{IsVerdict}
+use Rattle.hc_history.proofs.FoundLemmas.{found_right, found_wrong, follows_open}
+use Rattle.hc_history.proofs.VerdictLemmas.{no_stays, one_verdict}
 use Rattle.hc_audit.specs.declared.judge.Judge.{Judge}
-use Rattle.hc_audit.specs.Judging.{IsJudging, GivesVerdict, stopped}
-use Rattle.hc_audit.specs.Notes.{IsSeenAs}
+use Rattle.hc_audit.specs.Standing.{MayChange, Stands}
+use Rattle.hc_audit.specs.Judging.{IsJudging, IsWaiting, stopped}
+
+-- ---- nothing read yet
+
+no_opening_yet : (rest : List ℕ) → [] ≡ opening ++ rest → ⊥
+no_opening_yet rest e = cc
+
+some_opening : opening ≢ []
+some_opening e = cc
+
+pub fresh_waits : (r : RecordReader) → Agrees r [] [] [] → Waits r []
+fresh_waits r agrees = go r.is_open agrees.reads
+  where
+    go : (b : Bool) → ReadsTo b [] [] [] r.held → WaitsBy b [] r.held
+    go false reads = subst (λ (held : List ℕ). IsUnfinishedOpening held) reads.1.1 (opening, refl, some_opening)
+    go true reads = absurd (no_opening_yet _ reads.octets_are)
 
 -- ---- a fault of the transcript
 
-malformed : (r : RecordReader) (octets : List ℕ) (h : List Item) (f : RecordFault) → AllRight h → MeetsFault r octets h f → IsVerdict octets (Malformed (reader_position r) f)
-malformed r octets h f right stops = elim stops [
-  | inl opening ↦ inl (opening.1.1, inl (opening.0, opening.1.0))
-  | inr behind ↦ inr (record { history = h; all_right = right; breaks = inl behind.0; position_is = behind.1 })
-]
+malformed : (r : RecordReader) (octets : List ℕ) (settings : Settings) (h : List Item) (f : RecordFault) → AllRight settings h → MeetsFault r octets h f
+    → IsVerdict octets settings (Malformed (reader_position r) f)
+malformed r octets settings h f right (inl begins) = inl (begins.1.1, inl (begins.0, begins.1.0))
+malformed r octets settings h f right (inr behind) = inr (record { history = h; all_right = right; breaks = inl behind.0; position_is = behind.1 })
 
-pub stops_give : (r : RecordReader) (octets : List ℕ) (h : List Item) (f : RecordFault) → AllRight h → (f ≢ faults.Memory → MeetsFault r octets h f) → GivesVerdict (stopped f (reader_position r)) octets
-stops_give r octets h faults.Memory right stops = tt
-stops_give r octets h faults.Opening right stops = malformed r octets h faults.Opening right (stops (λ e. cc))
-stops_give r octets h faults.Line right stops = malformed r octets h faults.Line right (stops (λ e. cc))
-stops_give r octets h faults.Torn right stops = malformed r octets h faults.Torn right (stops (λ e. cc))
-stops_give r octets h faults.MomentBack right stops = malformed r octets h faults.MomentBack right (stops (λ e. cc))
-stops_give r octets h faults.Number right stops = malformed r octets h faults.Number right (stops (λ e. cc))
-stops_give r octets h faults.NothingOpen right stops = malformed r octets h faults.NothingOpen right (stops (λ e. cc))
-stops_give r octets h faults.Message right stops = malformed r octets h faults.Message right (stops (λ e. cc))
-stops_give r octets h faults.TooLong right stops = malformed r octets h faults.TooLong right (stops (λ e. cc))
+met_more : (r : RecordReader) (octets more : List ℕ) (h : List Item) (f : RecordFault) → MeetsFault r octets h f → MeetsFault r (octets ++ more) h f
+met_more r octets more h f (inl begins) = inl (no_opening_more octets more begins.0, begins.1)
+met_more r octets more h f (inr behind) = inr (broken_more octets more h f behind.0, behind.1)
+
+torn_breaks_nothing : (octets : List ℕ) (h : List Item) → ¬ (BreaksAfter octets h fault.Torn)
+torn_breaks_nothing octets h b = no_torn_check b.breaks.line (last_moment h) (last_exchange h) (last_forward h) _ _ b.breaks.fails
+
+not_torn : (r : RecordReader) (octets : List ℕ) (h : List Item) (f : RecordFault) → MeetsFault r octets h f → f ≢ fault.Torn
+not_torn r octets h f (inl begins) torn = let other : fault.Opening ≡ fault.Torn = sym begins.1.0 ∙ torn in cc
+not_torn r octets h f (inr behind) torn = torn_breaks_nothing octets h (subst (λ (g : RecordFault). BreaksAfter octets h g) torn behind.0)
+
+met_stands : (r : RecordReader) (octets : List ℕ) (settings : Settings) (h : List Item) (f : RecordFault) → AllRight settings h → MeetsFault r octets h f
+    → Stands (Malformed (reader_position r) f) settings octets
+met_stands r octets settings h f right met = record {
+  is_final = not_torn r octets h f met;
+  holds = λ more. malformed r (octets ++ more) settings h f right (met_more r octets more h f met);
+}
+
+-- a fault that isn't memory
+pub stopped_stands : (r : RecordReader) (octets : List ℕ) (settings : Settings) (h : List Item) (f : RecordFault) → AllRight settings h → (f ≢ fault.Memory → MeetsFault r octets h f)
+    → IfOk (stopped f (reader_position r)) (λ verdict. Stands verdict settings octets)
+stopped_stands r octets settings h fault.Memory right meets = tt
+stopped_stands r octets settings h fault.Opening right meets = met_stands r octets settings h fault.Opening right (meets (λ e. cc))
+stopped_stands r octets settings h fault.Line right meets = met_stands r octets settings h fault.Line right (meets (λ e. cc))
+stopped_stands r octets settings h fault.Torn right meets = met_stands r octets settings h fault.Torn right (meets (λ e. cc))
+stopped_stands r octets settings h fault.MomentBack right meets = met_stands r octets settings h fault.MomentBack right (meets (λ e. cc))
+stopped_stands r octets settings h fault.Number right meets = met_stands r octets settings h fault.Number right (meets (λ e. cc))
+stopped_stands r octets settings h fault.NothingOpen right meets = met_stands r octets settings h fault.NothingOpen right (meets (λ e. cc))
+stopped_stands r octets settings h fault.Message right meets = met_stands r octets settings h fault.Message right (meets (λ e. cc))
+stopped_stands r octets settings h fault.TooLong right meets = met_stands r octets settings h fault.TooLong right (meets (λ e. cc))
+
+pub told : (r : Result Verdict AllocError) (verdict : Verdict) (octets : List ℕ) (settings : Settings) → r ≡ Ok verdict → IfOk r (λ v. Stands v settings octets) → Stands verdict settings octets
+told r verdict octets settings is stands = subst (λ (s : Result Verdict AllocError). IfOk s (λ v. Stands v settings octets)) is stands
 
 -- ---- a record more
+
+pub found_here : (given settings : Settings) (held item : Item) (h : List Item) (finding found : Finding) → given ≡ settings → held ≡ item → finding ≡ found
+    → IsFound given h held finding → IsFound settings h item found
+found_here given settings held item h finding found settings-are item-is found-is is =
+    subst (λ (s : Settings). IsFound s h item found) settings-are
+    (subst (λ (i : Item). IsFound given h i found) item-is (subst (λ (f : Finding). IsFound given h held f) found-is is))
 
 not_empty : (one : Record) (records : List Record) → one ∷ records ≡ [] → ⊥
 not_empty one records e = cc
@@ -52,74 +107,51 @@ splits_of r octets one records h agrees = go r.is_open agrees.reads
     go true reads = reads
     go false reads = absurd (not_empty one records reads.0)
 
--- only a reply can be wrong
-wrong_reply : (octets : List ℕ) (records : List Record) (h : List Item) (item : Item) (rest : List ℕ) (position : ℕ) → Splits octets records (item ∷ h) rest
-    → AllRight h → ¬ (IsRight h item) → position ≡ next_position h → IsUnsupportedAt octets position
-wrong_reply octets records h (ClientRequest number moment request target) rest position splits right wrong position-is = absurd (wrong tt)
-wrong_reply octets records h (OriginRequest number moment request target) rest position splits right wrong position-is = absurd (wrong tt)
-wrong_reply octets records h (OriginResponse number moment response) rest position splits right wrong position-is = absurd (wrong tt)
-wrong_reply octets records h (OriginFailure number moment) rest position splits right wrong position-is = absurd (wrong tt)
-wrong_reply octets records h (ClientReply number moment reply) rest position splits right wrong position-is = record {
-  history = h;
-  all_right = right;
-  position_is = position-is;
-  records = records;
-  number = number;
-  moment = moment;
-  reply = reply;
-  rest = rest;
-  splits = splits;
-  wrong = wrong;
+answers_open : (r : RecordReader) (octets : List ℕ) (one : Record) (records : List Record) (item : Item) (h : List Item) → Agrees r octets (one ∷ records) (item ∷ h) → AnswersOpen h item
+answers_open r octets one records item h agrees = follows_open h one item (splits_of r octets one records (item ∷ h) agrees).are_read.1
+
+-- the reader has read one record more, of which this is found
+pub wrong_stands : (r : RecordReader) (octets : List ℕ) (settings : Settings) (one : Record) (records : List Record) (item : Item) (h : List Item) (why : Reason) (position : ℕ)
+    → Agrees r octets (one ∷ records) (item ∷ h) → AllRight settings h → IsFound settings h item (Wrong why) → position ≡ next_position h → Stands (No position why) settings octets
+wrong_stands r octets settings one records item h why position agrees right found position-is = record {
+  is_final = tt;
+  holds = λ more. no_stays octets more settings position why (record {
+    records = one ∷ records;
+    history = h;
+    item = item;
+    rest = r.held;
+    splits = splits_of r octets one records (item ∷ h) agrees;
+    all_right = right;
+    is_wrong = found_wrong settings h item why (answers_open r octets one records item h agrees) found;
+    position_is = position-is;
+  });
 }
 
-pub wrong_gives : (r : RecordReader) (octets : List ℕ) (records : List Record) (h : List Item) (a : Advances r octets records h) (item : Item) (position : ℕ)
-    → item ≡ a.item → AllRight h → ¬ (IsRight h item) → position ≡ next_position h → IsUnsupportedAt octets position
-wrong_gives r octets records h a item position item-is right wrong position-is =
-    wrong_reply octets (a.one ∷ records) h a.item r.held position (splits_of r octets a.one records (a.item ∷ h) a.agrees)
-    right (λ is. wrong (subst (λ (i : Item). IsRight h i) (sym item-is) is)) position-is
-
-pub right_goes_on : (j : Judge) (octets : List ℕ) (records : List Record) (h : List Item) (a : Advances j.reader octets records h) (item : Item) (counts : Counts)
-    → item ≡ a.item → AllRight h → IsRight h item → IsSeenAs j.notes (item ∷ h) → counts ≡ one_more (counts_of h) → j.counts ≡ marked (item_mark item) counts → IsJudging j octets
-right_goes_on j octets records h a item counts item-is right is seen counts-are marked-is = record {
-  records = a.one ∷ records;
+pub right_goes_on : {I : Type 0} (seen : I → Seen) (j : Judge I) (octets : List ℕ) (settings : Settings) (one : Record) (records : List Record) (item : Item) (h : List Item)
+    → Agrees j.reader octets (one ∷ records) (item ∷ h) → AllRight settings h → IsFound settings h item Right → IsSeenAs (seen j.index) (item ∷ h) → j.counts ≡ counts_of (item ∷ h)
+    → j.settings ≡ settings → IsJudging seen j settings octets
+right_goes_on seen j octets settings one records item h agrees right found index counts settings-are = record {
+  records = one ∷ records;
   history = item ∷ h;
-  agrees = subst (λ (i : Item). Agrees j.reader octets (a.one ∷ records) (i ∷ h)) (sym item-is) a.agrees;
-  seen = seen;
-  counts = marked-is ∙ ap (marked (item_mark item)) counts-are;
-  right = (right, is);
+  reads = agrees;
+  index = index;
+  counts = counts;
+  settings_are = settings-are;
+  right = (right, found_right settings h item (answers_open j.reader octets one records item h agrees) found);
 }
-
-records_marked_by : (m : Mark) (c : Counts) → (marked_by m c).records ≡ c.records
-records_marked_by (Hit ttl) c = refl
-records_marked_by Forwarded c = refl
-records_marked_by Both c = refl
-records_marked_by Unmarked c = refl
-
-records_marked : (mark : Option Mark) (c : Counts) → (marked mark c).records ≡ c.records
-records_marked None c = refl
-records_marked (Some mark) c = records_marked_by mark c
-
-records_of : (h : List Item) → (counts_of h).records ≡ length h
-records_of [] = refl
-records_of (item ∷ h) = omega (arith, records_marked (item_mark item) (one_more (counts_of h)), records_of h)
-
-pub counts_one_more : (c : Counts) (h : List Item) (n : ℕ) → c ≡ counts_of h → n ≡ length h + 1
-    → record { records = n; replies = c.replies; hits = c.hits; forwarded = c.forwarded; unmarked = c.unmarked } ≡ one_more (counts_of h)
-counts_one_more c h n is n-is =
-    let n-is' : n ≡ (counts_of h).records + 1 = n-is ∙ ap (λ (k : ℕ). k + 1) (sym (records_of h)) in
-    λ i. record { records = n-is' i; replies = (is i).replies; hits = (is i).hits; forwarded = (is i).forwarded; unmarked = (is i).unmarked }
 
 -- ---- the end
 
-pub yes_of : (octets : List ℕ) (records : List Record) (h : List Item) (counts : Counts) → IsTranscript octets records h → AllRight h → counts ≡ counts_of h → IsVerdict octets (Yes counts)
-yes_of octets records h counts is right counts-are = record { records = records; history = h; is_transcript = is; all_right = right; counts_are = counts-are }
+pub yes_of : (octets : List ℕ) (settings : Settings) (records : List Record) (h : List Item) (counts : Counts) → IsTranscript octets records h → AllRight settings h → counts ≡ counts_of h
+    → IsVerdict octets settings (Yes counts)
+yes_of octets settings records h counts is right counts-are = record { records = records; history = h; is_transcript = is; all_right = right; counts_are = counts-are }
 
 -- octets that are left are torn
-pub torn_of : (r : RecordReader) (octets : List ℕ) (records : List Record) (h : List Item) → Agrees r octets records h → AllRight h → Waits r h → HasUnread r
-    → IsVerdict octets (Malformed (reader_position r) faults.Torn)
-torn_of r octets records h agrees right waits unread = go r.is_open agrees.reads waits unread
+pub torn_of : (r : RecordReader) (octets : List ℕ) (settings : Settings) (records : List Record) (h : List Item) → Agrees r octets records h → AllRight settings h → Waits r h → HasUnread r
+    → IsVerdict octets settings (Malformed (reader_position r) fault.Torn)
+torn_of r octets settings records h agrees right waits unread = go r.is_open agrees.reads waits unread
   where
-    go : (b : Bool) → ReadsTo b octets records h r.held → WaitsBy b h r.held → HasUnreadBy b r.held → IsVerdict octets (Malformed (cond b (r.standing.records + 1) 0) faults.Torn)
+    go : (b : Bool) → ReadsTo b octets records h r.held → WaitsBy b h r.held → HasUnreadBy b r.held → IsVerdict octets settings (Malformed (cond b (r.standing.records + 1) 0) fault.Torn)
     go false reads waits unread = inl (refl, inr (subst (λ (o : List ℕ). IsUnfinishedOpening o) (sym reads.1.1) waits, refl))
     go true reads waits unread =
         inr (record {
@@ -132,11 +164,57 @@ torn_of r octets records h agrees right waits unread = go r.is_open agrees.reads
 none_is_some : (o : Option RecordFault) (f : RecordFault) → o ≡ None → o ≡ Some f → ⊥
 none_is_some o f none some = cc
 
-pub end_gives : (r : RecordReader) (octets : List ℕ) (records : List Record) (h : List Item) (f : RecordFault) (position : ℕ) → Agrees r octets records h → AllRight h → Waits r h
-    → (f ≡ faults.Torn) ⊎ (r.fault ≡ Some f) → HasUnread r → position ≡ reader_position r → GivesVerdict (stopped f position) octets
-end_gives r octets records h f position agrees right waits known unread position-is = elim known [
-  | inl is ↦
-      subst (λ (g : RecordFault). GivesVerdict (stopped g position) octets) (sym is)
-      (subst (λ (n : ℕ). GivesVerdict (stopped faults.Torn n) octets) (sym position-is) (torn_of r octets records h agrees right waits unread))
-  | inr failed ↦ absurd (none_is_some r.fault f agrees.unfailed failed)
-]
+pub end_is : (r : RecordReader) (octets : List ℕ) (settings : Settings) (records : List Record) (h : List Item) (f : RecordFault) (position : ℕ)
+    → Agrees r octets records h → AllRight settings h → Waits r h → (f ≡ fault.Torn) ⊎ (r.fault ≡ Some f) → HasUnread r → position ≡ reader_position r
+    → IsVerdict octets settings (Malformed position f)
+end_is r octets settings records h f position agrees right waits (inl is) unread position-is =
+    subst (λ (g : RecordFault). IsVerdict octets settings (Malformed position g)) (sym is)
+    (subst (λ (n : ℕ). IsVerdict octets settings (Malformed n fault.Torn)) (sym position-is) (torn_of r octets settings records h agrees right waits unread))
+end_is r octets settings records h f position agrees right waits (inr failed) unread position-is = absurd (none_is_some r.fault f agrees.unfailed failed)
+
+-- ---- what octets are that may go on
+
+record MayGoOn (octets : List ℕ) (settings : Settings) : Type 0 where
+  pub verdict : Verdict
+  pub may : MayChange verdict
+  pub is : IsVerdict octets settings verdict
+
+cell : (b : ℕ) (held : List ℕ) → b ∷ held ≢ []
+cell b held e = cc
+
+ends_behind : (octets : List ℕ) (settings : Settings) (records : List Record) (h : List Item) (held : List ℕ) → Splits octets records h held → AllRight settings h
+    → IsUnfinished (line_fault h) held → MayGoOn octets settings
+ends_behind octets settings records h [] splits right waits = record {
+  verdict = Yes (counts_of h);
+  may = tt;
+  is = yes_of octets settings records h (counts_of h) splits right refl;
+}
+ends_behind octets settings records h (b ∷ held) splits right waits = record {
+  verdict = Malformed (next_position h) fault.Torn;
+  may = refl;
+  is = inr (record {
+    history = h;
+    all_right = right;
+    breaks = inr (refl, record { records = records; rest = b ∷ held; splits = splits; some = cell b held; torn = waits });
+    position_is = refl;
+  });
+}
+
+may_go_on : (r : RecordReader) (octets : List ℕ) (settings : Settings) (records : List Record) (h : List Item) → Agrees r octets records h → AllRight settings h → Waits r h
+    → MayGoOn octets settings
+may_go_on r octets settings records h agrees right waits = go r.is_open agrees.reads waits
+  where
+    go : (b : Bool) → ReadsTo b octets records h r.held → WaitsBy b h r.held → MayGoOn octets settings
+    go false reads waits = record {
+      verdict = Malformed 0 fault.Torn;
+      may = refl;
+      is = inl (refl, inr (subst (λ (o : List ℕ). IsUnfinishedOpening o) (sym reads.1.1) waits, refl));
+    }
+    go true reads waits = ends_behind octets settings records h r.held reads right waits
+
+pub may_change : {I : Type 0} (seen : I → Seen) (j : Judge I) (octets : List ℕ) (settings : Settings) (verdict : Verdict) → IsWaiting seen j settings octets → IsVerdict octets settings verdict
+    → MayChange verdict
+may_change seen j octets settings verdict w is =
+    let k = w.judging in
+    let other = may_go_on j.reader octets settings k.records k.history k.reads k.right w.waits in
+    subst MayChange (one_verdict octets settings other.verdict verdict other.is is) other.may

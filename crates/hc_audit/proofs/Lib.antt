@@ -1,2 +1,2 @@
-pub mod ReuseLemmas
 pub mod JudgeLemmas
+pub mod AuditorLemmas

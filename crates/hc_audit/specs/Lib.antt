@@ -1,5 +1,4 @@
-pub mod Reuse
-pub mod ThinVerdicts
 pub mod Names
-pub mod Notes
+pub mod Standing
 pub mod Judging
+pub mod Agreement

@@ -1,69 +1,118 @@
 //! The auditor of a transcript.
 
-ghost use Rattle.std.specs.Prelude.{◌≡◌, ℕ, ◌++◌, ◌⊎◌, List, [], OnOk, OnErr, IfErr, Err};
+ghost use Rattle.std.specs.Prelude.{◌≡◌, ◌≤◌, ◌++◌, ◌⊎◌, ℕ, List, [], Option, Some, IsSome, IfOk, IfErr, IfSome, OnOk, OnErr, Ok, Err};
+ghost use Rattle.std.specs.Option.{option_map};
+ghost use Rattle.hc_transcript.specs.Limits.{longest_unfinished};
+ghost use Rattle.hc_history.specs.declared.settings.Settings.{Settings};
+ghost use Rattle.hc_history.specs.declared.verdicts.Verdict.{Verdict};
+ghost use Rattle.hc_history.specs.Seen.{IsSeenAs};
+ghost use Rattle.hc_history.specs.Verdicts.{IsVerdict};
+ghost use Rattle.hc_audit.specs.Standing.{MayChange, Stands};
 
 use crate::fault::AuditFault;
 use crate::judge::Judge;
-use hc_history::Verdict;
-use hc_transcript::RecordReader;
+use hc_history::{Settings, Verdict};
+use hc_index::Index;
 use std::alloc::Global;
 
-/// Audits a transcript that comes in pieces. It keeps all octets that it is fed, and judges them in
-/// `finish`.
-#[derive(Debug, Drop)]
-pub struct Auditor {
-    alloc: Global,
-    reader: RecordReader,
-    has_failed: bool,
+/// How far an audit has come.
+#[derive(Drop)]
+enum Stage<I> {
+    /// Every reply so far is right.
+    Open(Judge<I>),
+    /// The verdict holds however the octets go on.
+    Settled(Verdict),
+    /// Memory was refused.
+    Failed,
 }
 
-impl Auditor {
-    ghost use Rattle.hc_audit.specs.Judging.{AgreesWith, HasFailed, GivesVerdict};
+/// Audits a transcript that comes in pieces. It judges each record once it is whole, and keeps no more
+/// of the octets than those of a record that isn't whole yet.
+#[derive(Drop)]
+pub struct Auditor<I> {
+    stage: Stage<I>,
+}
 
-    /// An auditor that was fed nothing.
-    pub fn new(alloc: Global) -> Self
-        ensures { AgreesWith result [] }
+impl<I: Index + Drop> Auditor<I> {
+    ghost use Rattle.hc_audit.specs.Agreement.{Agrees, HasFailed, settled, rest};
+
+    /// An auditor that was fed nothing. `index` is to know of nothing yet.
+    pub fn new(alloc: Global, index: I, settings: Settings) -> Self
+        ensures { IsSeenAs (I.seen index) [] → Agrees I.seen result settings [] }
     {
         Auditor {
-            alloc,
-            reader: RecordReader::new(alloc),
-            has_failed: false,
+            stage: Stage::Open(Judge::new(alloc, index, settings)),
         }
     }
 
-    /// Takes the next piece of the transcript. After an `Err` it answers `Failed` for ever.
-    pub fn feed(&mut self, bytes: &[u8]) -> Result<(), AuditFault>
-        ensures ok { (octets : List ℕ) → AgreesWith self.old octets
-            → OnOk result (AgreesWith self.new (octets ++ bytes.now)) }
+    /// Takes the next piece of the transcript, and judges the records that are whole then. Once a verdict
+    /// stands, nothing behind it is read. After an `Err` it answers `Failed` for ever.
+    pub fn feed(&mut self, piece: &[u8]) -> Result<(), AuditFault>
+        ensures ok { (settings : Settings) (octets : List ℕ) → Agrees I.seen self.old settings octets
+            → OnOk result (Agrees I.seen self.new settings (octets ++ piece.now)) }
+        // What waits is less than a record.
+        ensures rest { OnOk result (rest self.new ≤ longest_unfinished) }
+        ensures settled { IsSome (settled self.old) → (result ≡ Ok tt) × (self.new ≡ self.old) }
         ensures err { IfErr result (λ fault. HasFailed self.new × ((fault ≡ AuditFault.Memory) ⊎ HasFailed self.old)) }
-        ensures failed { HasFailed self.old → result ≡ Err AuditFault.Failed }
+        ensures failed { HasFailed self.old → (result ≡ Err AuditFault.Failed) × (self.new ≡ self.old) }
     {
-        if self.has_failed {
-            return Err(AuditFault::Failed);
+        let judge = match &mut self.stage {
+            Stage::Open(judge) => judge,
+            Stage::Settled(_) => return Ok(()),
+            Stage::Failed => return Err(AuditFault::Failed),
+        };
+        match judge.feed(piece) {
+            Ok(None) => Ok(()),
+            Ok(Some(verdict)) => {
+                self.stage = Stage::Settled(verdict);
+                Ok(())
+            }
+            Err(_) => {
+                self.stage = Stage::Failed;
+                Err(AuditFault::Memory)
+            }
         }
-        if self.reader.feed(bytes).is_err() {
-            self.has_failed = true;
-            return Err(AuditFault::Memory);
-        }
-        Ok(())
     }
 
-    /// The verdict on all octets that were fed. `Unsupported` tells the position of the first reply
-    /// that can't be judged yet.
+    /// How many octets were fed and aren't judged yet.
+    pub fn rest(&self) -> usize
+        ensures { result ≡ rest self.now }
+    {
+        match &self.stage {
+            Stage::Open(judge) => judge.rest(),
+            Stage::Settled(_) | Stage::Failed => 0,
+        }
+    }
+
+    /// The verdict that holds however the octets go on, if there is one yet: a No, or a Malformed by any
+    /// fault but Torn.
+    pub fn settled(&self) -> Option<&Verdict>
+        ensures value { option_map (λ verdict. verdict.now) result ≡ settled self.now }
+        ensures stands { (settings : Settings) (octets : List ℕ) → Agrees I.seen self.now settings octets
+            → IfSome result (λ verdict. Stands verdict.now settings octets) }
+        // Where there is none, other octets behind those that were fed may still give another verdict.
+        ensures open { (settings : Settings) (octets : List ℕ) (verdict : Verdict) → Agrees I.seen self.now settings octets
+            → result ≡ None → IsVerdict octets settings verdict → MayChange verdict }
+        ensures failed { HasFailed self.now → result ≡ None }
+    {
+        match &self.stage {
+            Stage::Settled(verdict) => Some(verdict),
+            Stage::Open(_) => None,
+            Stage::Failed => None,
+        }
+    }
+
+    /// The verdict on all octets that were fed.
     pub fn finish(self) -> Result<Verdict, AuditFault>
-        // `Yes` only where the octets fed, in whatever pieces, are a transcript and every reply in it is
-        // right; `Malformed` only where they break at that position by that fault.
-        ensures verdict { (octets : List ℕ) → AgreesWith self octets → GivesVerdict result octets }
+        ensures verdict { (settings : Settings) (octets : List ℕ) → Agrees I.seen self settings octets
+            → IfOk result (IsVerdict octets settings) }
+        ensures ok { OnErr result (HasFailed self) }
         ensures failed { HasFailed self → result ≡ Err AuditFault.Failed }
     {
-        let Auditor {
-            alloc,
-            reader,
-            has_failed,
-        } = self;
-        if has_failed {
-            return Err(AuditFault::Failed);
+        match self.stage {
+            Stage::Open(judge) => Ok(judge.finish()),
+            Stage::Settled(verdict) => Ok(verdict),
+            Stage::Failed => Err(AuditFault::Failed),
         }
-        Judge::new(alloc, reader).verdict()
     }
 }

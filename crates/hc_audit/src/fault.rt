@@ -3,7 +3,7 @@
 ghost use Rattle.std.specs.Prelude.{◌≡◌};
 ghost use Rattle.hc_audit.specs.declared.fault.AuditFault.TheVariants.{Memory};
 
-use std::alloc::{AllocError, AllocFailed};
+use std::alloc::AllocError;
 use thiserror::Error;
 
 /// Why there is no verdict.
@@ -15,9 +15,6 @@ pub enum AuditFault {
     /// A fault was answered before.
     #[error("a fault was met before")]
     Failed,
-    /// The reply at this position, the first record has 1, can't be judged yet.
-    #[error("the record at position {0} is not supported")]
-    Unsupported(u64),
 }
 
 impl AuditFault {
@@ -31,7 +28,6 @@ impl AuditFault {
         match self {
             AuditFault::Memory => 1,
             AuditFault::Failed => 2,
-            AuditFault::Unsupported(_) => 3,
         }
     }
 
@@ -42,23 +38,6 @@ impl AuditFault {
         match self {
             AuditFault::Memory => "Memory",
             AuditFault::Failed => "Failed",
-            AuditFault::Unsupported(_) => "Unsupported",
         }
-    }
-}
-
-impl From<AllocError> for AuditFault {
-    ghost from_gives = { λ _ e. e ≡ Memory };
-
-    fn from(_e: AllocError) -> AuditFault {
-        AuditFault::Memory
-    }
-}
-
-impl<T: Drop> From<AllocFailed<T>> for AuditFault {
-    ghost from_gives = { λ _ e. e ≡ Memory };
-
-    fn from(_e: AllocFailed<T>) -> AuditFault {
-        AuditFault::Memory
     }
 }

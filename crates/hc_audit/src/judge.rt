@@ -1,100 +1,142 @@
 //! The judging of a transcript, a record at a time.
 
-ghost use Rattle.std.specs.Prelude.{◌≡◌, ◌<◌, ◌≤◌, ℕ, List, [], Ok, true};
-ghost use Rattle.hc_transcript.specs.Reader.{unread, records_read, Agrees};
+ghost use Rattle.std.specs.Prelude.{◌≡◌, ◌<◌, ◌≤◌, ◌++◌, ℕ, List, [], IfOk, Ok, None};
+ghost use Rattle.hc_transcript.specs.Items.{Item, item_of};
+ghost use Rattle.hc_transcript.specs.Limits.{longest_unfinished};
+ghost use Rattle.hc_transcript.specs.Reader.{unread, records_read};
+ghost use Rattle.hc_history.specs.declared.settings.Settings.{Settings};
+ghost use Rattle.hc_history.specs.Counting.{AreAtMost};
+ghost use Rattle.hc_history.specs.Found.{IsFound};
+ghost use Rattle.hc_history.specs.Marks.{item_mark};
+ghost use Rattle.hc_history.specs.Seen.{IsSeenAs};
+ghost use Rattle.hc_history.specs.Verdicts.{IsVerdict};
 
-use crate::fault::AuditFault;
-use crate::marks::{count_mark, item_mark};
-use crate::notes::Notes;
 use crate::stops::stopped;
-use hc_history::{Counts, Verdict};
-use hc_transcript::RecordReader;
-use std::alloc::Global;
+use hc_history::{Counts, Finding, Mark, MarkedReply, Settings, Verdict};
+use hc_index::Index;
+use hc_transcript::{Meaning, OwnedItem, RecordReader};
+use std::alloc::{AllocError, Global};
 
-/// The records that were read and judged so far, all of them right, and what is still to be read.
-#[derive(Debug, Drop)]
-pub(crate) struct Judge {
-    alloc: Global,
-    reader: RecordReader,
-    notes: Notes,
-    counts: Counts,
-    // Each reply is a record, and each mark that of a reply: so none can overflow.
-    ghost counted: { counts.records ≡ records_read reader },
-    ghost replies_few: { counts.replies ≤ counts.records },
-    ghost hits_few: { counts.hits ≤ counts.replies },
-    ghost forwarded_few: { counts.forwarded ≤ counts.replies },
-    ghost unmarked_few: { counts.unmarked ≤ counts.replies },
+/// What became of the next record.
+#[derive(Clone, Copy, Debug)]
+pub(crate) enum Step {
+    /// It isn't whole yet.
+    Waiting,
+    /// It is whole, and if it is a reply it is right.
+    Right,
+    /// The verdict holds however the octets go on.
+    Settled(Verdict),
 }
 
-impl Judge {
-    ghost use Rattle.hc_audit.specs.Judging.{IsJudging, IsEnding, GivesStep, GivesVerdict};
+/// The records that were read and judged so far, all of them right, and what is still to be read.
+#[derive(Drop)]
+pub(crate) struct Judge<I> {
+    alloc: Global,
+    reader: RecordReader,
+    index: I,
+    settings: Settings,
+    counts: Counts,
+    // Nothing is counted more often than a record was read, so no count can overflow.
+    ghost few: { AreAtMost (records_read reader) counts },
+}
 
-    pub(crate) fn new(alloc: Global, reader: RecordReader) -> Self
-        ensures { (octets : List ℕ) → Agrees reader octets [] [] → IsJudging result octets }
+impl<I: Index + Drop> Judge<I> {
+    ghost use Rattle.hc_audit.specs.Judging.{IsJudging, IsWaiting, GivesStep, GivesJudged};
+
+    pub(crate) fn new(alloc: Global, index: I, settings: Settings) -> Self
+        ensures { IsSeenAs (I.seen index) [] → IsWaiting I.seen result settings [] }
     {
-        let counts = Counts {
-            records: reader.records(),
-            replies: 0,
-            hits: 0,
-            forwarded: 0,
-            unmarked: 0,
-        };
         Judge {
             alloc,
-            reader,
-            notes: Notes::new(alloc),
-            counts,
+            reader: RecordReader::new(alloc),
+            index,
+            settings,
+            counts: Counts::new(),
         }
     }
 
-    /// The verdict on all octets that were fed.
-    pub(crate) fn verdict(mut self) -> Result<Verdict, AuditFault>
-        ensures { (octets : List ℕ) → IsJudging self octets → GivesVerdict result octets }
+    /// How many octets wait to be judged.
+    pub(crate) fn rest(&self) -> usize
+        ensures { result ≡ unread self.now.reader }
+    {
+        self.reader.rest()
+    }
+
+    /// Takes a piece, and judges each record that is whole then. It answers the verdict that stands, if
+    /// there is one now.
+    pub(crate) fn feed(&mut self, piece: &[u8]) -> Result<Option<Verdict>, AllocError>
+        ensures gives { (settings : Settings) (octets : List ℕ) → IsWaiting I.seen self.old settings octets
+            → GivesJudged I.seen result self.new settings (octets ++ piece.now) }
+        ensures rest { result ≡ Ok None → unread self.new.reader ≤ longest_unfinished }
+    {
+        if self.reader.feed(piece).is_err() {
+            return Err(AllocError);
+        }
+        self.judge_whole()
+    }
+
+    /// Judges each record that is whole. It answers the verdict that stands, if there is one now.
+    fn judge_whole(&mut self) -> Result<Option<Verdict>, AllocError>
+        ensures gives { (settings : Settings) (octets : List ℕ) → IsJudging I.seen self.old settings octets
+            → GivesJudged I.seen result self.new settings octets }
+        ensures rest { result ≡ Ok None → unread self.new.reader ≤ longest_unfinished }
     {
         'records: loop {
-            match self.step() {
-                Ok(true) => {}
-                Ok(false) => return self.end(),
-                Err(stop) => return stop,
+            match self.step()? {
+                Step::Waiting => return Ok(None),
+                Step::Right => {}
+                Step::Settled(verdict) => return Ok(Some(verdict)),
             }
         }
     }
 
     /// Judges the next record, if it is whole.
-    fn step(&mut self) -> Result<bool, Result<Verdict, AuditFault>>
-        ensures gives { (octets : List ℕ) → IsJudging self.old octets → GivesStep result self.new octets }
-        ensures shrinks { result ≡ Ok true → unread self.new.reader < unread self.old.reader }
+    fn step(&mut self) -> Result<Step, AllocError>
+        ensures gives { (settings : Settings) (octets : List ℕ) → IsJudging I.seen self.old settings octets
+            → GivesStep I.seen result self.new settings octets }
+        ensures shrinks { result ≡ Ok Step.Right → unread self.new.reader < unread self.old.reader }
+        ensures rest { result ≡ Ok Step.Waiting → unread self.new.reader ≤ longest_unfinished }
     {
         match self.reader.advance() {
-            Err(fault) => return Err(stopped(fault, self.reader.position())),
-            Ok(false) => return Ok(false),
+            Err(fault) => return Ok(Step::Settled(stopped(fault, self.reader.position())?)),
+            Ok(false) => return Ok(Step::Waiting),
             Ok(true) => {}
         }
-        self.counts.records = self.reader.records();
-        let item = self.reader.item();
-        let mark = match item_mark(self.alloc, item) {
-            Err(_) => return Err(Err(AuditFault::Memory)),
-            Ok(mark) => mark,
-        };
-        if !self.notes.is_right(item, mark) {
-            return Err(Err(AuditFault::Unsupported(self.reader.records())));
+        let position = self.reader.records();
+        let (finding, mark) = self.found(self.reader.item())?;
+        if let Finding::Wrong(reason) = finding {
+            return Ok(Step::Settled(Verdict::No(position, reason)));
         }
-        match self.notes.note(item) {
-            Err(_) => return Err(Err(AuditFault::Memory)),
-            Ok(()) => {}
-        }
-        count_mark(&mut self.counts, mark);
-        Ok(true)
+        self.counts.count(mark);
+        self.index.note(position, self.reader.take_item())?;
+        Ok(Step::Right)
     }
 
-    /// The verdict where no whole record is left.
-    fn end(mut self) -> Result<Verdict, AuditFault>
-        ensures { (octets : List ℕ) → IsEnding self octets → GivesVerdict result octets }
+    /// What is found of the next record, and its mark: that it is right, where it is no reply.
+    fn found(&self, item: &OwnedItem) -> Result<(Finding, Option<Mark>), AllocError>
+        ensures finding { (h : List Item) → IsSeenAs (I.seen self.now.index) h
+            → IfOk result (λ found. IsFound self.now.settings h (item_of item.now) found.0) }
+        ensures mark { IfOk result (λ found. found.1 ≡ item_mark (item_of item.now)) }
+    {
+        let Meaning::ClientReply(reply) = &item.of else {
+            return Ok((Finding::Right, None));
+        };
+        let reply = MarkedReply::read(self.alloc, reply)?;
+        let finding = self
+            .index
+            .find(item.number, &reply, item.moment, &self.settings)?;
+        Ok((finding, Some(reply.mark())))
+    }
+
+    /// The verdict where the octets end.
+    pub(crate) fn finish(mut self) -> Verdict
+        ensures { (settings : Settings) (octets : List ℕ) → IsWaiting I.seen self settings octets
+            → IsVerdict octets settings result }
     {
         let position = self.reader.position();
         match self.reader.finish() {
-            Ok(()) => Ok(Verdict::Yes(self.counts)),
-            Err(fault) => stopped(fault, position),
+            Ok(()) => Verdict::Yes(self.counts),
+            Err(fault) => Verdict::Malformed(position, fault),
         }
     }
 }

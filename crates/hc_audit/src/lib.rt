@@ -1,15 +1,13 @@
-//! The auditor: it reads a transcript and tells whether every reply in it is right.
+//! The auditor: it reads a transcript in pieces, and answers the verdict on it, by whatever index.
 #![tactic(auto)]
 
 mod auditor;
 mod fault;
 mod judge;
-mod marks;
-mod max_age;
-mod notes;
 mod stops;
 
 pub use auditor::Auditor;
 pub use fault::AuditFault;
-pub use hc_history::{Counts, Verdict};
+pub use hc_history::{Counts, FieldNames, Reason, Settings, UnmarkedReplies, Verdict};
+pub use hc_index::Index;
 pub use hc_transcript::RecordFault;

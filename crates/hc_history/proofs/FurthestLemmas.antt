@@ -26,7 +26,7 @@ hold_from [] (suc n) le h = absurd (omega arith)
 hold_from (true ∷ tests) (suc n) le h = omega (arith, hold_from tests n (omega arith) h)
 hold_from (false ∷ tests) (suc n) le h = cc
 
-passed_few : (tests : List Bool) → passed tests ≤ length tests
+pub passed_few : (tests : List Bool) → passed tests ≤ length tests
 passed_few [] = omega arith
 passed_few (true ∷ tests) = omega (arith, passed_few tests)
 passed_few (false ∷ tests) = omega arith

@@ -10,3 +10,5 @@ pub mod NoteLemmas
 pub mod VerdictLemmas
 pub mod ComparedLemmas
 pub mod SeenLemmas
+pub mod CountLemmas
+pub mod FoundLemmas

@@ -1,5 +1,5 @@
 -- What is kept of the responses of a target tells how many filters one passes.
-use Rattle.std.proofs.Common.{◌≡◌, ℕ, zero, suc, Bool, true, false, not, ◌&&◌, ◌||◌, cond, List, [], ◌∷◌, ◌++◌, length, max, ltb, Option, Some, None, refl, ap, sym, ◌∙◌, arith}
+use Rattle.std.proofs.Common.{◌≡◌, ℕ, zero, suc, ◌<◌, Bool, true, false, not, ◌&&◌, ◌||◌, cond, List, [], ◌∷◌, ◌++◌, length, max, ltb, Option, Some, None, refl, ap, sym, ◌∙◌, arith}
 use Rattle.std.specs.Prelude.{filter, codes}
 use Rattle.std.specs.List.{list_all, flat_map}
 use Rattle.std.specs.Str.{bytes_eq}
@@ -70,7 +70,7 @@ and_false true = refl
 and_false false = refl
 
 -- a response of another target passes no filter
-passed_other : (claim : Claim) (kept : Kept) → same_target kept.target claim.target ≡ false → passed (filters claim kept) ≡ 0
+pub passed_other : (claim : Claim) (kept : Kept) → same_target kept.target claim.target ≡ false → passed (filters claim kept) ≡ 0
 passed_other claim kept other = rw (other, and_false (is_get claim.request.method || asks_head claim)) refl
 
 none_later : (n : ℕ) (b : Bool) → n ≡ 0 → cond b n 0 ≡ 0
@@ -107,3 +107,28 @@ up_to_live since claim (suc n) h =
 
 pub furthest_is_live : (since : ℕ) (claim : Claim) (h : List Item) → furthest_live since claim (live_of claim.target h) ≡ furthest since claim h
 furthest_is_live since claim h = up_to_live since claim (length h) h
+
+-- ---- each has a position
+
+abbrev pub HavePositions : List Live → Type 0
+HavePositions [] = Unit {0}
+HavePositions (live ∷ lives) = (0 < live.position) × HavePositions lives
+
+positions_append : (xs ys : List Live) → HavePositions xs → HavePositions ys → HavePositions (xs ++ ys)
+positions_append [] ys none there = there
+positions_append (x ∷ xs) ys here there = (here.0, positions_append xs ys here.1 there)
+
+positions_at : (target : Target) (n : ℕ) (o : Option Kept) → HavePositions (live_at target (suc n) o)
+positions_at target n None = tt
+positions_at target n (Some kept) = go (same_target kept.target target)
+  where
+    go : (same : Bool) → HavePositions (cond same (record { position = suc n; state = remaining kept.state } ∷ []) [])
+    go true = (omega arith, tt)
+    go false = tt
+
+positions_up_to : (target : Target) (n : ℕ) (h : List Item) → HavePositions (live_up_to target n h)
+positions_up_to target zero h = tt
+positions_up_to target (suc n) h = positions_append (live_up_to target n h) (live_at target (suc n) (state_at (suc n) h)) (positions_up_to target n h) (positions_at target n (state_at (suc n) h))
+
+pub live_positions : (target : Target) (h : List Item) → HavePositions (live_of target h)
+live_positions target h = positions_up_to target (length h) h

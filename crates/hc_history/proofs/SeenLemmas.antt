@@ -24,7 +24,7 @@ use Rattle.hc_history.proofs.FurthestLemmas.{Pass-found, Pass-only}
 use Rattle.hc_history.proofs.LiveLemmas.{furthest_is_live}
 
 -- what a reply to an exchange claims, by what stands in its window
-claim_with : Settings → Exchange → ℕ → Message ResponseHead → Bool → Bool → Claim
+abbrev pub claim_with : Settings → Exchange → ℕ → Message ResponseHead → Bool → Bool → Claim
 claim_with settings exchange moment reply error failure = record {
   exchange = exchange.number;
   request = exchange.request;
@@ -38,28 +38,27 @@ claim_with settings exchange moment reply error failure = record {
   settings = settings;
 }
 
-same_error : (seen : Seen) (h g : List Item) (target : Target) (since : ℕ) → IsSeenAs seen h → IsSeenAs seen g
-    → some_since (is_error target) since h ≡ some_since (is_error target) since g
-same_error seen h g target since one other =
-    some_since-latest (is_error target) since h
-    ∙ ap (ltb since) (sym (one.error target) ∙ other.error target)
-    ∙ sym (some_since-latest (is_error target) since g)
+error_seen : (seen : Seen) (h : List Item) (target : Target) (since : ℕ) → IsSeenAs seen h → ltb since (seen.error target) ≡ some_since (is_error target) since h
+error_seen seen h target since one = ap (ltb since) (one.error target) ∙ sym (some_since-latest (is_error target) since h)
 
-same_failure : (seen : Seen) (h g : List Item) (target : Target) (since : ℕ) → IsSeenAs seen h → IsSeenAs seen g
-    → some_since (is_failure target) since h ≡ some_since (is_failure target) since g
-same_failure seen h g target since one other =
-    some_since-latest (is_failure target) since h
-    ∙ ap (ltb since) (sym (one.failure target) ∙ other.failure target)
-    ∙ sym (some_since-latest (is_failure target) since g)
+failure_seen : (seen : Seen) (h : List Item) (target : Target) (since : ℕ) → IsSeenAs seen h
+    → ltb since (seen.failure target) ≡ some_since (is_failure target) since h
+failure_seen seen h target since one = ap (ltb since) (one.failure target) ∙ sym (some_since-latest (is_failure target) since h)
+
+-- what a reply claims, by what is seen
+pub claim_seen : (seen : Seen) (h : List Item) (settings : Settings) (exchange : Exchange) (moment : ℕ) (reply : Message ResponseHead) → IsSeenAs seen h
+    → claim_with settings exchange moment reply (ltb exchange.position (seen.error exchange.target)) (ltb exchange.position (seen.failure exchange.target))
+    ≡ claim_of settings exchange moment reply h
+claim_seen seen h settings exchange moment reply one =
+    ap (λ (b : Bool). claim_with settings exchange moment reply b (ltb exchange.position (seen.failure exchange.target)))
+    (error_seen seen h exchange.target exchange.position one)
+    ∙ ap (λ (b : Bool). claim_with settings exchange moment reply (some_since (is_error exchange.target) exchange.position h) b)
+    (failure_seen seen h exchange.target exchange.position one)
 
 same_claim : (seen : Seen) (h g : List Item) (settings : Settings) (exchange : Exchange) (moment : ℕ) (reply : Message ResponseHead) → IsSeenAs seen h → IsSeenAs seen g
     → claim_of settings exchange moment reply h ≡ claim_of settings exchange moment reply g
-unfolding claim_with
 same_claim seen h g settings exchange moment reply one other =
-    ap (λ (b : Bool). claim_with settings exchange moment reply b (some_since (is_failure exchange.target) exchange.position h))
-    (same_error seen h g exchange.target exchange.position one other)
-    ∙ ap (claim_with settings exchange moment reply (some_since (is_error exchange.target) exchange.position g))
-    (same_failure seen h g exchange.target exchange.position one other)
+    sym (claim_seen seen h settings exchange moment reply one) ∙ claim_seen seen g settings exchange moment reply other
 
 same_furthest : (seen : Seen) (h g : List Item) (since : ℕ) (claim : Claim) → IsSeenAs seen h → IsSeenAs seen g → furthest since claim h ≡ furthest since claim g
 same_furthest seen h g since claim one other =

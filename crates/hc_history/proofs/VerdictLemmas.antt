@@ -7,10 +7,11 @@ use Rattle.hc_transcript.specs.declared.fault.RecordFault.TheVariants as fault
 use Rattle.hc_transcript.specs.declared.record.Record.{Record}
 use Rattle.hc_transcript.specs.Records.{opening, records_text}
 use Rattle.hc_transcript.specs.Items.{Item, ClientReply, Exchange}
-use Rattle.hc_transcript.specs.History.{next_position, exchange_of}
+use Rattle.hc_transcript.specs.History.{next_position, exchange_of, last_moment, last_exchange, last_forward}
 use Rattle.hc_transcript.specs.Checks.{line_fault}
 use Rattle.hc_transcript.specs.Malformed.{IsUnfinished, BreaksOpening, IsMalformedAfter}
 use Rattle.hc_transcript.specs.Transcript.{Splits, IsTranscript}
+use Rattle.hc_transcript.proofs.CheckLemmas.{no_memory_check}
 use Rattle.hc_transcript.proofs.OnceLemmas.{front, one as one_reading, one_break, break_last, broken_is_no_transcript, one_unfinished, unfinished_last, unfinished_is_no_transcript, unfinished_is_unbroken, no_opening_no_records, no_opening_is_hopeless, unfinished_opening_no_records, broken_more, no_opening_more}
 use Rattle.hc_history.specs.declared.reasons.Reason.{Reason}
 use Rattle.hc_history.specs.declared.settings.Settings.{Settings}
@@ -216,3 +217,18 @@ malformed_stays octets more settings position f whole (inr b) = inr (record {
   breaks = behind_stays octets more b.history f whole b.breaks;
   position_is = b.position_is;
 })
+
+-- ---- no octets are malformed by want of memory
+
+no_memory_opening : (octets : List ℕ) → ¬ (BreaksOpening octets fault.Memory)
+no_memory_opening octets (inl none) = let other : fault.Memory ≡ fault.Opening = none.1 in cc
+no_memory_opening octets (inr short) = let other : fault.Memory ≡ fault.Torn = short.1 in cc
+
+no_memory_behind : (octets : List ℕ) (h : List Item) → ¬ (IsMalformedAfter octets h fault.Memory)
+no_memory_behind octets h (inl broken) =
+    no_memory_check broken.breaks.line (last_moment h) (last_exchange h) (last_forward h) _ _ broken.breaks.fails
+no_memory_behind octets h (inr torn) = let other : fault.Memory ≡ fault.Torn = torn.0 in cc
+
+pub no_memory : (octets : List ℕ) (settings : Settings) (position : ℕ) → ¬ (IsVerdict octets settings (Malformed position fault.Memory))
+no_memory octets settings position (inl opening) = no_memory_opening octets opening.1
+no_memory octets settings position (inr b) = no_memory_behind octets b.history b.breaks

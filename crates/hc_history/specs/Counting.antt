@@ -1,5 +1,5 @@
 -- What is counted in a transcript.
-use Rattle.std.specs.Prelude.{◌+◌, List, [], ◌∷◌, Option, Some, None}
+use Rattle.std.specs.Prelude.{ℕ, ◌+◌, ◌≤◌, List, [], ◌∷◌, Option, Some, None}
 use Rattle.hc_status.specs.declared.marks.Mark.{Mark}
 use Rattle.hc_status.specs.declared.marks.Mark.TheVariants.{Hit, Forwarded, Both, Unmarked}
 use Rattle.hc_transcript.specs.Items.{Item}
@@ -28,3 +28,11 @@ marked (Some mark) c = marked_by mark c
 abbrev pub counts_of : List Item → Counts
 counts_of [] = no_counts
 counts_of (item ∷ h) = marked (item_mark item) (one_more (counts_of h))
+
+-- none of the counts is over a number
+pub record AreAtMost (most : ℕ) (c : Counts) : Type 0 where
+  pub records : c.records ≤ most
+  pub replies : c.replies ≤ most
+  pub hits : c.hits ≤ most
+  pub forwarded : c.forwarded ≤ most
+  pub unmarked : c.unmarked ≤ most

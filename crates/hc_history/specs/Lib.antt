@@ -13,3 +13,4 @@ pub mod Verdicts
 pub mod Seen
 pub mod Noting
 pub mod Furthest
+pub mod Found

@@ -12,7 +12,7 @@ ghost use Rattle.hc_update.specs.States.{freshened};
 ghost use Rattle.hc_update.specs.Identifying.{identifies};
 ghost use Rattle.hc_status.specs.declared.marks.Mark.{Mark};
 ghost use Rattle.hc_transcript.specs.declared.fault.RecordFault.{RecordFault};
-ghost use Rattle.hc_transcript.specs.declared.fault.RecordFault.TheVariants.{Torn};
+ghost use Rattle.hc_transcript.specs.declared.fault.RecordFault.TheVariants.{Torn, Memory};
 ghost use Rattle.hc_transcript.specs.Items.{Item, OriginResponse, Forward};
 ghost use Rattle.hc_transcript.specs.History.{next_position, exchange_of, forward_of};
 ghost use Rattle.hc_history.specs.declared.reasons.Reason.{Reason};
@@ -117,6 +117,11 @@ pub fn seen_is_enough()
 pub fn one_verdict()
     ensures { (octets : List ℕ) (settings : Settings) (one other : Verdict)
         → IsVerdict octets settings one → IsVerdict octets settings other → one ≡ other }
+{}
+
+/// No octets are malformed by want of memory.
+pub fn memory_breaks_nothing()
+    ensures { (octets : List ℕ) (settings : Settings) (position : ℕ) → ¬ (IsVerdict octets settings (Malformed position Memory)) }
 {}
 
 /// A no, and malformed by any fault but Torn, holds however the octets go on.

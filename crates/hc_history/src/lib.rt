@@ -25,8 +25,9 @@ pub use hc_status::Mark;
 pub use kept::Kept;
 pub use laws::{
     forgetting_and_noting_commute, forgotten_changes_no_reason, later_update_clears_the_mark,
-    least_reason_by_the_furthest, noting_goes_on, one_verdict, seen_is_enough,
-    standing_verdict_stays, window_is_what_is_later_than_the_request, wrong_by_one_reason,
+    least_reason_by_the_furthest, memory_breaks_nothing, noting_goes_on, one_verdict,
+    seen_is_enough, standing_verdict_stays, window_is_what_is_later_than_the_request,
+    wrong_by_one_reason,
 };
 pub use marks::{MarkedReply, reply_mark};
 pub use reasons::Reason;

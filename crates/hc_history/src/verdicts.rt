@@ -1,6 +1,10 @@
 //! What is said of a transcript, and of a reply.
 
+ghost use Rattle.std.specs.Prelude.{◌≡◌};
+ghost use Rattle.hc_history.specs.Counting.{AreAtMost, no_counts, one_more, marked_by, marked};
+
 use crate::reasons::Reason;
+use hc_status::Mark;
 use hc_transcript::RecordFault;
 
 /// What was counted in a transcript whose replies are all right.
@@ -16,6 +20,46 @@ pub struct Counts {
     pub forwarded: u64,
     /// Replies without a mark, and hits of status 206.
     pub unmarked: u64,
+}
+
+impl Counts {
+    /// What is counted where there is nothing.
+    pub fn new() -> Self
+        ensures { result ≡ no_counts }
+    {
+        Counts {
+            records: 0,
+            replies: 0,
+            hits: 0,
+            forwarded: 0,
+            unmarked: 0,
+        }
+    }
+
+    /// Counts one item more, which has that mark if it is a reply.
+    pub fn count(&mut self, mark: Option<Mark>)
+        requires { AreAtMost 9223372036854775807 self.old }
+        ensures { self.new ≡ marked mark (one_more self.old) }
+    {
+        self.records += 1;
+        if let Some(mark) = mark {
+            self.count_reply(mark);
+        }
+    }
+
+    /// Counts one reply more.
+    fn count_reply(&mut self, mark: Mark)
+        requires { AreAtMost 9223372036854775808 self.old }
+        ensures { self.new ≡ marked_by mark self.old }
+    {
+        self.replies += 1;
+        match mark {
+            Mark::Hit { .. } => self.hits += 1,
+            Mark::Forwarded => self.forwarded += 1,
+            Mark::Unmarked => self.unmarked += 1,
+            Mark::Both => {}
+        }
+    }
 }
 
 /// The verdict on a transcript. Positions count the records from 1; the opening has position 0.

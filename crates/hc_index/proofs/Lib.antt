@@ -1,0 +1,6 @@
+pub mod LoopLemmas
+pub mod OpenLemmas
+pub mod LiveLemmas
+pub mod NoteLemmas
+pub mod PositionLemmas
+pub mod FindLemmas

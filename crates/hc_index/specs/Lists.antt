@@ -1,12 +1,17 @@
 -- What plain lists are seen as.
-use Rattle.std.specs.Prelude.{ℕ, ◌==◌, List, [], filter, find, map, Option, Some, None}
+use Rattle.std.specs.Prelude.{ℕ, ◌==◌, List, [], ◌++◌, filter, find, map, Option, Some, None, if◌then◌else◌}
 use Rattle.std.specs.Option.{option_map}
 use Rattle.std.specs.Ordering.{nat_cmp}
 use Rattle.std.specs.BTreeMap.{BTreeMap, get}
+use Rattle.std.specs.declared.cmp.Ordering.{Ordering}
+use Rattle.hc_head.specs.contracts.head.TargetOrd.TheImpl as target_order
+use Rattle.hc_head.specs.declared.head.ResponseHead.{ResponseHead}
 use Rattle.hc_head.specs.declared.head.Target.{Target}
 use Rattle.hc_head.specs.Targets.{same_target}
 use Rattle.hc_transcript.specs.Items.{Exchange, Forward}
-use Rattle.hc_history.specs.Seen.{Live, WindowResponse, Seen}
+use Rattle.hc_framing.specs.declared.message.Message.{Message}
+use Rattle.hc_history.specs.States.{state_answered}
+use Rattle.hc_history.specs.Seen.{Live, remaining, WindowResponse, response_to, Seen}
 use Rattle.hc_index.specs.declared.kept.LiveResponse.{LiveResponse}
 use Rattle.hc_index.specs.declared.kept.WindowAnswer.{WindowAnswer}
 use Rattle.hc_index.specs.declared.kept.OpenExchange.{OpenExchange}
@@ -48,3 +53,46 @@ window_of (Some exchange) = window_seen exchange
 abbrev pub position_or_none : Option ℕ → ℕ
 position_or_none None = 0
 position_or_none (Some position) = position
+
+-- the order of targets
+abbrev pub by_target : Target → Target → Ordering
+by_target = (target_order.ghosts).cmp
+
+-- the position that is kept of a target; 0 where none is
+abbrev pub position_in : Target → BTreeMap Target ℕ → ℕ
+position_in target positions = position_or_none (get by_target positions target)
+
+-- ---- what a response makes of them
+
+-- a live response: one of the forward's target as it is then, every other as it was
+abbrev pub live_response_answered : Forward → ℕ → ℕ → Message ResponseHead → LiveResponse → LiveResponse
+live_response_answered forward position moment response live =
+    if same_target forward.target live.target
+    then record { position = live.position; target = live.target; state = remaining (state_answered forward position moment response live.state) }
+    else live
+
+-- an open exchange with its window
+pub record Watched : Type 0 where
+  pub exchange : Exchange
+  pub window : List WindowResponse
+
+abbrev pub watched : OpenExchange → Watched
+watched exchange = record { exchange = exchange_seen exchange; window = window_seen exchange }
+
+-- its window has the response as well, where that is to a forward of its target
+abbrev pub watched_answered : Forward → Message ResponseHead → Watched → Watched
+watched_answered forward response seen =
+    record { exchange = seen.exchange; window = seen.window ++ response_to seen.exchange.target (Some forward) response }
+
+-- ---- all of them
+
+-- what the index is seen as
+abbrev pub seen_in : ListIndex → Seen
+seen_in index = record {
+  live = λ target. live_in target index.lives.items;
+  exchange = λ e. option_map exchange_seen (open_in e index.exchanges.items);
+  forward = λ f. option_map forward_seen (get nat_cmp index.forwards f);
+  window = λ e. window_of (open_in e index.exchanges.items);
+  error = λ target. position_in target index.errors;
+  failure = λ target. position_in target index.failures;
+}

@@ -2,9 +2,12 @@
 //! seen as the history of the records that it has noted.
 #![tactic(auto)]
 
+mod exchanges;
+mod finding;
 mod index;
 mod kept;
 mod list_index;
+mod lives;
 
 pub use index::Index;
 pub use list_index::ListIndex;

@@ -1,8 +1,26 @@
 //! An index that keeps plain lists.
 
+ghost use Rattle.std.specs.Prelude.{◌≡◌, ◌<◌, ◌&&◌, ℕ, [], OnOk, Some, if◌then◌else◌};
+ghost use Rattle.std.specs.BTreeMap.{get};
+ghost use Rattle.hc_fields.specs.Numbers.{end_of_moments};
+ghost use Rattle.hc_head.specs.declared.head.Target.{Target};
+ghost use Rattle.hc_head.specs.Targets.{same_target};
+ghost use Rattle.hc_transcript.specs.Items.{Item, ClientRequest, OriginRequest, OriginResponse, OriginFailure, ClientReply, item_of};
+ghost use Rattle.hc_history.specs.Windows.{is_error_status};
+ghost use Rattle.hc_history.specs.Seen.{IsSeenAs};
+ghost use Rattle.hc_history.specs.Noting.{Notes};
+ghost use Rattle.hc_index.specs.Lists.{by_target, position_in, seen_in};
+
+use crate::exchanges::{add_to_windows, close_exchange, open_exchange};
+use crate::finding::finding;
+use crate::index::Index;
 use crate::kept::{LiveResponse, OpenExchange, OpenForward};
-use hc_head::Target;
-use std::alloc::Global;
+use crate::lives::{answer_lives, begin_live};
+use hc_framing::Message;
+use hc_head::{RequestHead, ResponseHead, Target};
+use hc_history::{Finding, MarkedReply, Settings, is_error_status};
+use hc_transcript::{Meaning, OwnedItem};
+use std::alloc::{AllocError, Global};
 use std::collections::BTreeMap;
 
 /// An index that keeps lists and walks them: the time for a reply grows with the number of live responses,
@@ -18,4 +36,173 @@ pub struct ListIndex {
     pub(crate) errors: BTreeMap<Target, u64>,
     /// The position of the latest failure of a forward of each target.
     pub(crate) failures: BTreeMap<Target, u64>,
+}
+
+/// Keeps the position for that target.
+fn keep_position(
+    positions: &mut BTreeMap<Target, u64>,
+    target: Target,
+    position: u64,
+) -> Result<(), AllocError>
+    ensures { OnOk result ((other : Target) → get by_target positions.new other
+        ≡ (if same_target target other then Some position else get by_target positions.old other)) }
+{
+    positions.insert(target, position)?;
+    Ok(())
+}
+
+/// Keeps the position for the target of the forward, if the response is an error.
+fn keep_error(
+    alloc: Global,
+    positions: &mut BTreeMap<Target, u64>,
+    forward: &OpenForward,
+    response: &Message<ResponseHead>,
+    position: u64,
+) -> Result<(), AllocError>
+    ensures { OnOk result ((target : Target) → position_in target positions.new
+        ≡ (if is_error_status response.now.head.status && same_target forward.now.target target then position else position_in target positions.old)) }
+{
+    if !is_error_status(response.head.status) {
+        return Ok(());
+    }
+    keep_position(positions, forward.target.copy(alloc)?, position)
+}
+
+impl ListIndex {
+    /// An index that has noted nothing.
+    pub fn new(alloc: Global) -> Self
+        ensures { IsSeenAs (⟦<ListIndex as Index>⟧.seen result) [] }
+    {
+        ListIndex {
+            alloc,
+            lives: Vec::new(alloc),
+            exchanges: Vec::new(alloc),
+            forwards: BTreeMap::new(alloc),
+            errors: BTreeMap::new(alloc),
+            failures: BTreeMap::new(alloc),
+        }
+    }
+
+    /// Notes a request of a client.
+    fn open_exchange(
+        &mut self,
+        number: u64,
+        position: u64,
+        request: Message<RequestHead>,
+        target: Target,
+    ) -> Result<(), AllocError>
+        ensures { (moment : ℕ) → OnOk result
+            (Notes (seen_in self.old) position (ClientRequest number moment request target) (seen_in self.new)) }
+    {
+        let exchange = OpenExchange {
+            number,
+            position,
+            request: request.head,
+            target,
+            window: Vec::new(self.alloc),
+        };
+        open_exchange(&mut self.exchanges, exchange)
+    }
+
+    /// Notes a reply to a client.
+    fn close_exchange(&mut self, number: u64)
+        ensures { (position moment : ℕ) (reply : Message ResponseHead)
+            → Notes (seen_in self.old) position (ClientReply number moment reply) (seen_in self.new) }
+    {
+        close_exchange(&mut self.exchanges, number);
+    }
+
+    /// Notes a request to the origin.
+    fn open_forward(
+        &mut self,
+        number: u64,
+        moment: u64,
+        request: Message<RequestHead>,
+        target: Target,
+    ) -> Result<(), AllocError>
+        ensures { (position : ℕ) → OnOk result
+            (Notes (seen_in self.old) position (OriginRequest number moment request target) (seen_in self.new)) }
+    {
+        let forward = OpenForward {
+            moment,
+            request: request.head,
+            target,
+        };
+        self.forwards.insert(number, forward)?;
+        Ok(())
+    }
+
+    /// Notes that the origin gave no answer.
+    fn fail_forward(&mut self, number: u64, position: u64) -> Result<(), AllocError>
+        ensures { (moment : ℕ) → OnOk result
+            (Notes (seen_in self.old) position (OriginFailure number moment) (seen_in self.new)) }
+    {
+        let Some(forward) = self.forwards.remove(&number) else {
+            return Ok(());
+        };
+        keep_position(&mut self.failures, forward.target, position)
+    }
+
+    /// Notes a response of the origin.
+    fn answer_forward(
+        &mut self,
+        number: u64,
+        position: u64,
+        moment: u64,
+        response: Message<ResponseHead>,
+    ) -> Result<(), AllocError>
+        requires { moment < end_of_moments }
+        ensures { OnOk result
+            (Notes (seen_in self.old) position (OriginResponse number moment response) (seen_in self.new)) }
+    {
+        let alloc = self.alloc;
+        let Some(forward) = self.forwards.remove(&number) else {
+            return Ok(());
+        };
+        keep_error(alloc, &mut self.errors, &forward, &response, position)?;
+        add_to_windows(alloc, &forward, &response, &mut self.exchanges)?;
+        let lives = &mut self.lives;
+        answer_lives(alloc, &forward, position, moment, &response, lives)?;
+        begin_live(alloc, forward, position, moment, response, lives)
+    }
+
+    /// Notes the next item, which stands at that position.
+    fn take(&mut self, position: u64, item: OwnedItem) -> Result<(), AllocError>
+        ensures { OnOk result (Notes (seen_in self.old) position (item_of item) (seen_in self.new)) }
+    {
+        let number = item.number;
+        let moment = item.moment;
+        let of = item.of;
+        match of {
+            Meaning::ClientRequest { request, target } => {
+                self.open_exchange(number, position, request, target)
+            }
+            Meaning::OriginRequest { request, target } => {
+                self.open_forward(number, moment, request, target)
+            }
+            Meaning::OriginResponse(response) => {
+                self.answer_forward(number, position, moment, response)
+            }
+            Meaning::OriginFailure => self.fail_forward(number, position),
+            Meaning::ClientReply(_) => Ok(self.close_exchange(number)),
+        }
+    }
+}
+
+impl Index for ListIndex {
+    ghost seen = { λ index. seen_in index };
+
+    fn note(&mut self, position: u64, item: OwnedItem) -> Result<(), AllocError> {
+        self.take(position, item)
+    }
+
+    fn find(
+        &self,
+        exchange: u64,
+        reply: &MarkedReply<'_>,
+        moment: u64,
+        settings: &Settings,
+    ) -> Result<Finding, AllocError> {
+        finding(self, exchange, reply, moment, settings)
+    }
 }

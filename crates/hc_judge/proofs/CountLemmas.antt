@@ -1,70 +1,11 @@
--- No count is over the number of items.
-use Rattle.std.proofs.Common.{◌≡◌, ℕ, ◌+◌, ◌≤◌, List, [], ◌∷◌, length, Option, Some, None, sym, subst, arith}
-use Rattle.hc_status.specs.declared.marks.Mark.{Mark}
-use Rattle.hc_status.specs.declared.marks.Mark.TheVariants.{Hit, Forwarded, Both, Unmarked}
-use Rattle.hc_transcript.specs.Items.{Item}
-use Rattle.hc_judge.specs.declared.past.PastItem.{PastItem}
+-- No count is over the number of items that are held.
+use Rattle.std.proofs.Common.{◌≡◌, ℕ, ◌≤◌, length, sym, subst, arith}
 use Rattle.hc_history.specs.declared.verdicts.Counts.{Counts}
-use Rattle.hc_history.specs.Counting.{counts_of, marked, marked_by, one_more}
-use Rattle.hc_history.specs.Marks.{item_mark}
+use Rattle.hc_history.specs.Counting.{AreAtMost, counts_of}
+use Rattle.hc_history.proofs.CountLemmas.{lift, at_most_items}
+use Rattle.hc_judge.specs.declared.past.PastItem.{PastItem}
 use Rattle.hc_judge.specs.Past.{history_of}
-use Rattle.hc_judge.specs.Judging.{AreAtMost}
 use Rattle.hc_judge.proofs.PastLemmas.{position_behind}
-
--- one item more adds one at most to each
-at_most_by : (n : ℕ) (m : Mark) (c : Counts) → AreAtMost n c → AreAtMost (n + 1) (marked_by m (one_more c))
-at_most_by n (Hit ttl) c a = record {
-  records = omega (arith, a.records);
-  replies = omega (arith, a.replies);
-  hits = omega (arith, a.hits);
-  forwarded = omega (arith, a.forwarded);
-  unmarked = omega (arith, a.unmarked);
-}
-at_most_by n Forwarded c a = record {
-  records = omega (arith, a.records);
-  replies = omega (arith, a.replies);
-  hits = omega (arith, a.hits);
-  forwarded = omega (arith, a.forwarded);
-  unmarked = omega (arith, a.unmarked);
-}
-at_most_by n Both c a = record {
-  records = omega (arith, a.records);
-  replies = omega (arith, a.replies);
-  hits = omega (arith, a.hits);
-  forwarded = omega (arith, a.forwarded);
-  unmarked = omega (arith, a.unmarked);
-}
-at_most_by n Unmarked c a = record {
-  records = omega (arith, a.records);
-  replies = omega (arith, a.replies);
-  hits = omega (arith, a.hits);
-  forwarded = omega (arith, a.forwarded);
-  unmarked = omega (arith, a.unmarked);
-}
-
-at_most_more : (n : ℕ) (mark : Option Mark) (c : Counts) → AreAtMost n c → AreAtMost (n + 1) (marked mark (one_more c))
-at_most_more n None c a = record {
-  records = omega (arith, a.records);
-  replies = omega (arith, a.replies);
-  hits = omega (arith, a.hits);
-  forwarded = omega (arith, a.forwarded);
-  unmarked = omega (arith, a.unmarked);
-}
-at_most_more n (Some m) c a = at_most_by n m c a
-
-lift : (n k : ℕ) (c : Counts) → AreAtMost n c → n ≤ k → AreAtMost k c
-lift n k c a few = record {
-  records = omega (arith, a.records, few);
-  replies = omega (arith, a.replies, few);
-  hits = omega (arith, a.hits, few);
-  forwarded = omega (arith, a.forwarded, few);
-  unmarked = omega (arith, a.unmarked, few);
-}
-
-at_most_items : (h : List Item) → AreAtMost (length h) (counts_of h)
-at_most_items [] = record { records = omega (arith); replies = omega (arith); hits = omega (arith); forwarded = omega (arith); unmarked = omega (arith) }
-at_most_items (item ∷ h) =
-    lift (length h + 1) (length (item ∷ h)) (counts_of (item ∷ h)) (at_most_more (length h) (item_mark item) (counts_of h) (at_most_items h)) (omega (arith))
 
 pub at_most : (c : Counts) (items : List PastItem) (n : ℕ) → c ≡ counts_of (history_of items) → length items ≤ n → AreAtMost n c
 at_most c items n is few =

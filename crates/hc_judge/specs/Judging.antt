@@ -1,23 +1,11 @@
 -- For the plain judge: what it finds of one reply, and of all.
-use Rattle.std.specs.Prelude.{◌≡◌, ℕ, ◌≤◌, List, [], ◌∷◌, ◌++◌, Option, Some, None, IsSome}
-use Rattle.hc_transcript.specs.Items.{Item, ClientReply}
-use Rattle.hc_transcript.specs.History.{next_position, exchange_of}
+use Rattle.std.specs.Prelude.{◌≡◌, ℕ, List, [], ◌∷◌, ◌++◌, Option, Some, None}
+use Rattle.hc_transcript.specs.Items.{Item}
+use Rattle.hc_transcript.specs.History.{next_position}
 use Rattle.hc_history.specs.declared.reasons.Reason.{Reason}
 use Rattle.hc_history.specs.declared.settings.Settings.{Settings}
-use Rattle.hc_history.specs.declared.verdicts.Counts.{Counts}
-use Rattle.hc_history.specs.declared.verdicts.Finding.{Finding}
-use Rattle.hc_history.specs.declared.verdicts.Finding.TheVariants.{Right}
-use Rattle.hc_history.specs.Right.{IsFinding, IsWrong, AllRight}
-
--- what is found of the next item: that it is right, where it is no reply
-abbrev pub IsFound : Settings → List Item → Item → Finding → Type 0
-IsFound settings h (ClientReply number moment reply) found = IsFinding settings (exchange_of number h) moment reply h found
-IsFound settings h item found = found ≡ Right
-
--- the next item, if it is a reply, answers what is open
-abbrev pub AnswersOpen : List Item → Item → Type 0
-AnswersOpen h (ClientReply number moment reply) = IsSome (exchange_of number h)
-AnswersOpen h item = Unit {0}
+use Rattle.hc_history.specs.Found.{AnswersOpen}
+use Rattle.hc_history.specs.Right.{IsWrong, AllRight}
 
 -- each reply answers what is open
 abbrev pub AllAnswerOpen : List Item → Type 0
@@ -38,11 +26,3 @@ pub record HasWrongAt (settings : Settings) (h : List Item) (position : ℕ) (wh
 abbrev pub IsFirstWrong : Settings → List Item → Option (ℕ × Reason) → Type 0
 IsFirstWrong settings h None = AllRight settings h
 IsFirstWrong settings h (Some wrong) = HasWrongAt settings h wrong.0 wrong.1
-
--- none of the counts is over a number
-pub record AreAtMost (most : ℕ) (c : Counts) : Type 0 where
-  pub records : c.records ≤ most
-  pub replies : c.replies ≤ most
-  pub hits : c.hits ≤ most
-  pub forwarded : c.forwarded ≤ most
-  pub unmarked : c.unmarked ≤ most

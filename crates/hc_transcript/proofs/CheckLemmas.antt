@@ -131,3 +131,9 @@ no_check g l m e f he hf d =
 
 pub no_message_check : (l : Line) (m e f : ℕ) (he hf : Bool) → first_fault l m e f he hf ≡ Some fault.Message → ⊥
 no_message_check l m e f he hf = no_check fault.Message l m e f he hf (λ e. cc, λ e. cc, λ e. cc, λ e. cc, λ e. cc)
+
+pub no_torn_check : (l : Line) (m e f : ℕ) (he hf : Bool) → first_fault l m e f he hf ≡ Some fault.Torn → ⊥
+no_torn_check l m e f he hf = no_check fault.Torn l m e f he hf (λ e. cc, λ e. cc, λ e. cc, λ e. cc, λ e. cc)
+
+pub no_memory_check : (l : Line) (m e f : ℕ) (he hf : Bool) → first_fault l m e f he hf ≡ Some fault.Memory → ⊥
+no_memory_check l m e f he hf = no_check fault.Memory l m e f he hf (λ e. cc, λ e. cc, λ e. cc, λ e. cc, λ e. cc)

@@ -127,6 +127,13 @@ impl RecordReader {
         self.current.take().unwrap()
     }
 
+    /// How many octets were fed and not yet read.
+    pub fn rest(&self) -> usize
+        ensures { result ≡ unread self.now }
+    {
+        self.held.as_slice().len()
+    }
+
     /// How many records were read, at most 4 * 10 ^ 12.
     pub fn records(&self) -> u64
         ensures value { result ≡ records_read self.now }

@@ -3,8 +3,9 @@ use Rattle.hc_transcript.specs.Items.{Item, item_of}
 use Rattle.hc_history.specs.declared.verdicts.Finding.{Finding}
 use Rattle.hc_history.specs.Right.{AllRight}
 use Rattle.hc_judge.specs.Past.{history_of}
-use Rattle.hc_judge.specs.Judging.{IsFound}
-use Rattle.hc_judge.proofs.JudgingLemmas.{found_right, found_wrong, history_at, history_next, position_at, open_in}
+use Rattle.hc_history.specs.Found.{IsFound}
+use Rattle.hc_history.proofs.FoundLemmas.{found_right, found_wrong}
+use Rattle.hc_judge.proofs.JudgingLemmas.{history_at, history_next, position_at, open_in}
 use Rattle.hc_judge.proofs.judging.first_wrong.Goals as goal
 
 pub returns-in-Wrong : goal.returns-in-Wrong

@@ -1,0 +1,17 @@
+use Rattle.std.proofs.Common.{[], refl}
+use Rattle.hc_audit.proofs.JudgeLemmas.{fresh_waits}
+use Rattle.hc_audit.proofs.judge.Judge.new.Goals as goal
+
+pub returns : goal.returns
+returns g c = λ seen. record {
+  judging = record {
+    records = [];
+    history = [];
+    reads = c.new.ensures;
+    index = seen;
+    counts = c.new-2.ensures;
+    settings_are = refl;
+    right = tt;
+  };
+  waits = fresh_waits c.new.result c.new.ensures;
+}

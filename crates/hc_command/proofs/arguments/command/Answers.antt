@@ -1,0 +1,15 @@
+use Rattle.std.proofs.Common.{◌≡◌, ◌∙◌, ap, ap₂, rules, true}
+use Rattle.std.proofs.lemmas.Result.{IfOk-weaker}
+use Rattle.clap.specs.Words.{App, with_subcommand}
+use Rattle.clap.specs.Simple.{app_of_fields, on_top}
+use Rattle.hc_command.proofs.arguments.command.Goals as goal
+
+pub returns : goal.returns
+returns c =
+    let versioned = λ (a : App). on_top (λ s. record s { has_version = true }) a in
+    let requiring = λ (a : App). on_top (λ s. record s { subcommand_required = true }) a in
+    let named_is = ap app_of_fields c.in_ok-bin_name.ensures.0 ∙ c.new.ensures.app in
+    let above_is = ap app_of_fields c.subcommand_required.ensures
+    ∙ ap requiring (ap app_of_fields c.about.ensures ∙ ap app_of_fields c.version.ensures ∙ ap versioned named_is) in
+    IfOk-weaker c.subcommand.result _ _ (λ r adds. adds.shape c.in_ok-audit.ensures.local
+    ∙ ap₂ with_subcommand above_is (ap (λ (a : App). a.top) c.in_ok-audit.ensures.app)) c.subcommand.ensures

@@ -1,0 +1,40 @@
+use Rattle.std.proofs.Common.{◌≡◌, ◌∙◌, None, Some, ap, codes, option_map, rules, sym}
+use Rattle.clap.specs.Words.{found_of, subcommand_rows_of}
+use Rattle.hc_command.specs.Values.{ignored_by, slack_by, unmarked_by}
+use Rattle.hc_command.proofs.ArgumentLemmas.{value_at}
+use Rattle.hc_command.proofs.arguments.order_in.Goals as goal
+
+pub returns-in_default-get_str-clause-err : goal.returns-in_default-get_str-clause-err
+returns-in_default-get_str-clause-err c =
+    let value = value_at (subcommand_rows_of c.args.matches.now) (found_of c.in-Some.found.now) (codes "FILE") _ c.in-Some.ensures.rows c.get_str.ensures in
+    search rules
+
+pub returns-in_default-slack_by-clause-err : goal.returns-in_default-slack_by-clause-err
+returns-in_default-slack_by-clause-err c =
+    let value = value_at (subcommand_rows_of c.args.matches.now) (found_of c.in-Some.found.now) (codes "slack") _ c.in-Some.ensures.rows c.get_str-2.ensures in
+    let none : c.slack_by.result ≡ None = search rules in
+    sym (ap slack_by value) ∙ sym c.slack_by.ensures ∙ none
+
+pub returns-in_default-2-clause-err : goal.returns-in_default-2-clause-err
+returns-in_default-2-clause-err c =
+    let value = value_at (subcommand_rows_of c.args.matches.now) (found_of c.in-Some.found.now) (codes "ignore") _ c.in-Some.ensures.rows c.get_str-3.ensures in
+    let none : c.in_ok-ignored.field-0 ≡ None = search rules in
+    sym (ap ignored_by value) ∙ sym c.in_ok-ignored.ensures ∙ none
+
+pub returns-clause-ok : goal.returns-clause-ok
+returns-clause-ok c =
+    let given = subcommand_rows_of c.args.matches.now in
+    let found = found_of c.in-Some.found.now in
+    let file = value_at given found (codes "FILE") _ c.in-Some.ensures.rows c.get_str.ensures in
+    let slack = value_at given found (codes "slack") _ c.in-Some.ensures.rows c.get_str-2.ensures in
+    let ignored = value_at given found (codes "ignore") _ c.in-Some.ensures.rows c.get_str-3.ensures in
+    let unmarked = value_at given found (codes "errors-only") _ c.in-Some.ensures.rows c.get_str-4.ensures in
+    let is_slack : c.slack_by.result ≡ Some c.in-Some-slack_by.slack = search rules in
+    let is_ignored : c.in_ok-ignored.field-0 ≡ Some c.in-Some-2.ignored = search rules in
+    let is_file : option_map (λ s. s.now) c.get_str.result ≡ Some c.in-Some-get_str.file.now = search rules in
+    record {
+      file_is = sym file ∙ is_file;
+      slack_is = sym (ap slack_by slack) ∙ sym c.slack_by.ensures ∙ is_slack;
+      ignored_is = sym (ap ignored_by ignored) ∙ sym c.in_ok-ignored.ensures ∙ is_ignored;
+      unmarked_is = sym (ap unmarked_by unmarked) ∙ sym c.unmarked_by-unmarked.ensures;
+    }

@@ -1,0 +1,5 @@
+pub mod Audit
+pub mod Command
+pub mod Line
+pub mod Trouble
+pub mod Values

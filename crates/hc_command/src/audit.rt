@@ -1,0 +1,163 @@
+//! The audit of one transcript: from a reader to a line on a writer and an exit status.
+ghost use Rattle.std.specs.Prelude.{◌≡◌, ◌⊎◌, ◌<◌, ◌++◌, ℕ, List, [], None, false, length, IfErr, IfOk, IfSome, vec_len};
+ghost use Rattle.std.specs.Io.KnownBytes.{IsAtEnd, Keeps};
+ghost use Rattle.hc_history.specs.declared.settings.Settings.{Settings};
+ghost use Rattle.hc_history.specs.Verdicts.{IsVerdict};
+ghost use Rattle.hc_audit.specs.Agreement.{Agrees};
+ghost use Rattle.hc_command.specs.Audit.{AnswersFor, Feeds, FeedsPiece, IsConcluded, IsReadUp, SaysLine, SaysVerdict};
+ghost use Rattle.hc_command.specs.Line.{status_of};
+ghost use Rattle.hc_command.specs.Trouble.{is_of_output};
+
+use crate::line::verdict_line;
+use crate::print::printed;
+use crate::trouble::Trouble;
+use hc_audit::{AuditFault, Auditor};
+use hc_history::{Settings, Verdict};
+use hc_index::{Index, ListIndex};
+use std::alloc::{AllocError, Global};
+use std::io;
+use std::io::{ErrorKind, Read, Write};
+
+/// The most octets that one read takes.
+pub const PIECE: usize = 65_536;
+
+/// The most reads of one transcript. One that has not ended by then counts as a device that failed.
+pub const READS: u64 = 4_294_967_296;
+
+/// Audits the transcript that `input` gives up to its end, or up to where a verdict stands, and answers
+/// the exit status. `name` is what the input is called where it fails.
+///
+/// A verdict is one line on `output`, and the status is 0 for a transcript that is right, 1 for one with
+/// a wrong reply and 2 for one that is malformed. Where there is none, by a read or a write that fails
+/// or by memory, the status is 3, and one line on `faults` says why. A write to `faults` that fails is
+/// passed over.
+pub fn audit<R: Read, W: Write, E: Write>(
+    alloc: Global,
+    settings: Settings,
+    name: &str,
+    input: &mut R,
+    output: &mut W,
+    faults: &mut E,
+) -> u8
+    // A verdict is that of all octets that the reader had, where they are known, also where some of them
+    // are left.
+    ensures answers { AnswersFor settings (R.remaining input.old) (R.remaining input.new) result
+        (W.contents output.old) (W.contents output.new) (E.contents faults.old) (E.contents faults.new) }
+
+    // Nothing is written on the output before the input's end, or before a verdict stands.
+    ensures late { IsReadUp settings (R.remaining input.old) (R.remaining input.new)
+        ⊎ Keeps (W.contents output.old) (W.contents output.new) }
+{
+    match concluded(alloc, settings, input, output) {
+        Ok(status) => status,
+        Err(trouble) => trouble.told(name, faults),
+    }
+}
+
+// Says the verdict on what `input` gives, and answers its status.
+fn concluded<R: Read, W: Write>(
+    alloc: Global,
+    settings: Settings,
+    input: &mut R,
+    output: &mut W,
+) -> Result<u8, Trouble>
+    ensures ok { IfOk result (λ status. SaysVerdict settings (R.remaining input.old) (R.remaining input.new) status
+        (W.contents output.old) (W.contents output.new)) }
+    ensures late { IsReadUp settings (R.remaining input.old) (R.remaining input.new)
+        ⊎ Keeps (W.contents output.old) (W.contents output.new) }
+    ensures quiet { IfErr result (λ trouble. is_of_output trouble ≡ false
+        → Keeps (W.contents output.old) (W.contents output.new)) }
+{
+    let verdict = judged(alloc, settings, input)?;
+    said(alloc, &verdict, output)
+}
+
+// The verdict on what `input` gives.
+fn judged<R: Read>(alloc: Global, settings: Settings, input: &mut R) -> Result<Verdict, Trouble>
+    ensures verdict { IfOk result (λ verdict. IfSome (R.remaining input.old) (λ octets. IsVerdict octets settings verdict)) }
+    ensures concluded { IfOk result (λ verdict. IsConcluded settings verdict (R.remaining input.old) (R.remaining input.new)) }
+    ensures err { IfErr result (λ trouble. is_of_output trouble ≡ false) }
+{
+    let mut piece = buffer(alloc)?;
+    let mut auditor = Auditor::new(alloc, ListIndex::new(alloc), settings);
+    match feed_all(&mut auditor, input, piece.as_mut_slice())? {
+        Some(verdict) => Ok(verdict),
+        None => Ok(auditor.finish()?),
+    }
+}
+
+// Room for one read.
+fn buffer(alloc: Global) -> Result<Vec<u8>, AllocError>
+    ensures { IfOk result (λ piece. vec_len piece ≡ PIECE) }
+{
+    vec![in alloc; 0u8; PIECE]
+}
+
+// Feeds the auditor what `input` gives, a piece at a time, up to its end or to a verdict that stands, which
+// is the answer.
+fn feed_all<I: Index + Drop, R: Read>(
+    auditor: &mut Auditor<I>,
+    input: &mut R,
+    piece: &mut [u8],
+) -> Result<Option<Verdict>, Trouble>
+    requires { 0 < length piece.old }
+    ensures fed { (settings : Settings) (octets : List ℕ) → Agrees I.seen auditor.old settings octets
+        → IfOk result (Feeds I.seen auditor.new settings octets (R.remaining input.old) (R.remaining input.new)) }
+    ensures end { IfOk result (λ settled. settled ≡ None → IsAtEnd (R.remaining input.new)) }
+    ensures err { IfErr result (λ trouble. is_of_output trouble ≡ false) }
+{
+    'pieces: for _ in 0..READS {
+        match input.read(piece) {
+            Ok(0) => return Ok(None),
+            Ok(count) => {
+                let settled = feed(auditor, &piece[..count])?;
+                if settled.is_some() {
+                    return Ok(settled);
+                }
+            }
+            Err(error) if error.kind() == ErrorKind::Interrupted => {}
+            Err(error) => return Err(Trouble::Input(error)),
+        }
+    }
+    Err(Trouble::Input(io::Error::other("too many reads")))
+}
+
+// Feeds the auditor a piece, and answers the verdict that stands then.
+fn feed<I: Index + Drop>(
+    auditor: &mut Auditor<I>,
+    piece: &[u8],
+) -> Result<Option<Verdict>, AuditFault>
+    ensures { (settings : Settings) (octets : List ℕ) → Agrees I.seen auditor.old settings octets
+        → IfOk result (FeedsPiece I.seen auditor.new settings (octets ++ piece.now)) }
+{
+    auditor.feed(piece)?;
+    match auditor.settled() {
+        Some(verdict) => Ok(Some(*verdict)),
+        None => Ok(None),
+    }
+}
+
+// Writes the verdict's line on `output`, and answers its status.
+fn said<W: Write>(alloc: Global, verdict: &Verdict, output: &mut W) -> Result<u8, Trouble>
+    ensures ok { IfOk result (λ status.
+        SaysLine verdict.now status (W.contents output.old) (W.contents output.new)) }
+    ensures status { IfOk result (λ status. status ≡ status_of verdict.now) }
+    ensures quiet { IfErr result (λ trouble. is_of_output trouble ≡ false
+        → Keeps (W.contents output.old) (W.contents output.new)) }
+{
+    let line = verdict_line(alloc, verdict)?;
+    match printed(line.as_str(), output) {
+        Ok(()) => Ok(status(verdict)),
+        Err(error) => Err(Trouble::Output(error)),
+    }
+}
+
+fn status(verdict: &Verdict) -> u8
+    ensures { result ≡ status_of verdict.now }
+{
+    match verdict {
+        Verdict::Yes(_) => 0,
+        Verdict::No(_, _) => 1,
+        Verdict::Malformed(_, _) => 2,
+    }
+}

@@ -1,0 +1,115 @@
+//! What the program does, over any system and any two writers.
+ghost use Rattle.std.specs.Prelude.{◌≡◌, ◌∷◌, [], codes, map};
+ghost use Rattle.std.specs.Io.KnownBytes.{Keeps};
+ghost use Rattle.clap.specs.Words.{Text, kind_of};
+ghost use Rattle.hc_command.specs.Audit.{Answers, Ends};
+ghost use Rattle.hc_command.specs.Command.{IsErrorStatus, IsFileWord};
+
+use crate::arguments::{Order, not_text, parsed};
+use crate::audit::audit;
+use crate::print::printed;
+use crate::trouble::Trouble;
+use clap::Error;
+use clap::error::ErrorKind;
+use std::convert::AsStr;
+use std::io::Write;
+use std::rt::{Env, Files};
+use std::{env, fs, io};
+
+/// Does what the program's own arguments ask, and answers its exit status.
+pub fn status<R, W: Write, E: Write>(rt: &R, output: &mut W, faults: &mut E) -> u8
+where
+    R: Env + Files + Input + AllocGlobal,
+    ensures { Ends result (W.contents output.old) (W.contents output.new)
+        (E.contents faults.old) (E.contents faults.new) }
+{
+    match arguments(rt) {
+        Ok(words) => answered(rt, words.as_slice(), output, faults),
+        Err(error) if error.kind() == io::ErrorKind::OutOfMemory => Trouble::Memory.told(
+            "", faults,
+        ),
+        Err(_) => match not_text(rt.alloc()) {
+            Ok(error) => shown(&error, output, faults),
+            Err(_) => Trouble::Memory.told("", faults),
+        },
+    }
+}
+
+// The program's name and its arguments. One that is not text is an error.
+fn arguments<R: Env + AllocGlobal>(rt: &R) -> io::Result<Vec<String>> {
+    Ok(env::args(rt)?.collect(rt.alloc())?)
+}
+
+/// Does what the words ask, of which the first is the program's name, and answers the exit status.
+///
+/// A transcript is read from the system, a verdict, help or the version goes to `output`, and what
+/// went wrong goes to `faults`.
+pub fn answered<R, S: AsStr, W: Write, E: Write>(
+    rt: &R,
+    words: &[S],
+    output: &mut W,
+    faults: &mut E,
+) -> u8
+where
+    R: Files + Input + AllocGlobal,
+    // `audit FILE` is answered by an audit, and by no usage error.
+    ensures audit { (name file : Text) → IsFileWord file
+        → map S.text words.now ≡ name ∷ codes "audit" ∷ file ∷ []
+        → Answers result (W.contents output.old) (W.contents output.new)
+        (E.contents faults.old) (E.contents faults.new) }
+    ensures ends { Ends result (W.contents output.old) (W.contents output.new)
+        (E.contents faults.old) (E.contents faults.new) }
+{
+    match parsed(rt.alloc(), words) {
+        Ok(order) => audited(rt, order, output, faults),
+        Err(error) => shown(&error, output, faults),
+    }
+}
+
+// Audits the file, or standard input for `-`.
+fn audited<R, W: Write, E: Write>(
+    rt: &R,
+    order: Order<'_>,
+    output: &mut W,
+    faults: &mut E,
+) -> u8
+where
+    R: Files + Input + AllocGlobal,
+    ensures { Answers result (W.contents output.old) (W.contents output.new)
+        (E.contents faults.old) (E.contents faults.new) }
+{
+    let Order { file, settings } = order;
+    if file == "-" {
+        return audit(
+            rt.alloc(),
+            settings,
+            "standard input",
+            &mut rt.reader(),
+            output,
+            faults,
+        );
+    }
+    match fs::open(rt, file) {
+        Ok(mut opened) => audit(rt.alloc(), settings, file, &mut opened, output, faults),
+        Err(error) => Trouble::Input(error).told(file, faults),
+    }
+}
+
+// Shows an error of the parse: help and the version on `output`, and a mistake on `faults`.
+fn shown<W: Write, E: Write>(error: &Error, output: &mut W, faults: &mut E) -> u8
+    ensures status { IsErrorStatus (kind_of error.now) result }
+    ensures mistake { result ≡ 64 → Keeps (W.contents output.old) (W.contents output.new) }
+    ensures asked { result ≡ 0 → Keeps (E.contents faults.old) (E.contents faults.new) }
+{
+    match error.kind() {
+        ErrorKind::OutOfMemory => Trouble::Memory.told("", faults),
+        ErrorKind::DisplayHelp | ErrorKind::DisplayVersion => match printed(error, output) {
+            Ok(()) => 0,
+            Err(error) => Trouble::Output(error).told("", faults),
+        },
+        _ => {
+            let _ = printed(error, faults);
+            64
+        }
+    }
+}

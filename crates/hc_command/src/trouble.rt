@@ -1,0 +1,74 @@
+//! Why there is no verdict, and what the program says of it.
+ghost use Rattle.std.specs.Prelude.{◌≡◌};
+ghost use Rattle.hc_command.specs.Trouble.{trouble_line};
+ghost use Rattle.hc_command.specs.declared.trouble.Trouble.TheVariants.{Memory};
+
+use crate::print::printed;
+use hc_audit::AuditFault;
+use std::alloc::AllocError;
+use std::io;
+use std::io::Write;
+
+/// Why the program gives no verdict.
+#[derive(Clone, Copy, Debug)]
+pub enum Trouble {
+    /// Memory was refused.
+    Memory,
+    /// The transcript can't be opened or read to its end, for this reason.
+    Input(io::Error),
+    /// The answer can't be written, for this reason.
+    Output(io::Error),
+}
+
+impl Trouble {
+    /// The exit status of a program that gives no verdict.
+    pub const STATUS: u8 = 3;
+
+    /// The line that says it, with its line feed.
+    pub fn line(self) -> &'static str
+        ensures { result.now ≡ trouble_line self }
+    {
+        match self {
+            Trouble::Memory => "error: memory\n",
+            Trouble::Input(_) | Trouble::Output(_) => "error: device\n",
+        }
+    }
+
+    /// Says it on `faults`, and answers the exit status. Where a device failed, a second line names
+    /// it, of which the transcript is the one with that name, and gives the system's reason. A
+    /// write that fails is passed over.
+    pub fn told<E: Write>(self, name: &str, faults: &mut E) -> u8
+        ensures { result ≡ 3 }
+    {
+        let _ = printed(self.line(), faults);
+        match self {
+            Trouble::Input(reason) => explain(name, reason, faults),
+            Trouble::Output(reason) => explain("standard output", reason, faults),
+            Trouble::Memory => {}
+        }
+        Trouble::STATUS
+    }
+}
+
+// Says what failed, and why.
+fn explain<E: Write>(name: &str, reason: io::Error, faults: &mut E) {
+    let _ = writeln!(faults, "{name}: {reason}");
+    let _ = faults.flush();
+}
+
+impl From<AllocError> for Trouble {
+    ghost from_gives = { λ _ t. t ≡ Memory };
+
+    fn from(_error: AllocError) -> Trouble {
+        Trouble::Memory
+    }
+}
+
+impl From<AuditFault> for Trouble {
+    ghost from_gives = { λ _ t. t ≡ Memory };
+
+    // An auditor that has failed was refused memory before.
+    fn from(_fault: AuditFault) -> Trouble {
+        Trouble::Memory
+    }
+}

@@ -1,0 +1,86 @@
+-- A reply of a transcript answers what is open, so that what is found of it says whether it is right.
+use Rattle.std.proofs.Common.{◌≡◌, ℕ, Bool, true, List, ◌∷◌, Option, Some, None, is_some, refl, sym, subst}
+use Rattle.std.specs.Prelude.{IsSome}
+use Rattle.hc_head.specs.declared.head.RequestHead.{RequestHead}
+use Rattle.hc_head.specs.declared.head.ResponseHead.{ResponseHead}
+use Rattle.hc_head.specs.declared.head.Target.{Target}
+use Rattle.hc_framing.specs.declared.message.Message.{Message}
+use Rattle.hc_transcript.specs.declared.line.Kind.{Kind}
+use Rattle.hc_transcript.specs.declared.line.Kind.TheVariants as kind
+use Rattle.hc_transcript.specs.declared.line.Line.{Line}
+use Rattle.hc_transcript.specs.declared.record.Record.{Record}
+use Rattle.hc_transcript.specs.Records.{line_of, message_of}
+use Rattle.hc_transcript.specs.Items.{Item, ClientRequest, OriginRequest, OriginResponse, OriginFailure, ClientReply, Exchange}
+use Rattle.hc_transcript.specs.History.{exchange_of, forward_of, last_moment, last_exchange, last_forward}
+use Rattle.hc_transcript.specs.Checks.{answers_open, line_fault}
+use Rattle.hc_transcript.specs.Transcript.{IsItemOf, is_to_head, Follows}
+use Rattle.hc_transcript.proofs.CheckLemmas.{in_order}
+use Rattle.hc_history.specs.declared.reasons.Reason.{Reason}
+use Rattle.hc_history.specs.declared.settings.Settings.{Settings}
+use Rattle.hc_history.specs.declared.verdicts.Finding.TheVariants.{Right, Wrong}
+use Rattle.hc_history.specs.Right.{IsRightTo, IsWrongTo, IsRight, IsWrong, IsFinding}
+use Rattle.hc_history.specs.Found.{IsFound, AnswersOpen}
+
+-- ---- what is found of a reply to what is open
+
+right_to : (settings : Settings) (o : Option Exchange) (moment : ℕ) (reply : Message ResponseHead) (h : List Item) → IsSome o
+    → IsFinding settings o moment reply h Right → IsRightTo settings o moment reply h
+right_to settings None moment reply h some is = cc
+right_to settings (Some exchange) moment reply h some is = is
+
+wrong_to : (settings : Settings) (o : Option Exchange) (moment : ℕ) (reply : Message ResponseHead) (h : List Item) (why : Reason) → IsSome o
+    → IsFinding settings o moment reply h (Wrong why) → IsWrongTo settings o moment reply h why
+wrong_to settings None moment reply h why some is = cc
+wrong_to settings (Some exchange) moment reply h why some is = is
+
+pub found_right : (settings : Settings) (h : List Item) (item : Item) → AnswersOpen h item → IsFound settings h item Right → IsRight settings h item
+found_right settings h (ClientReply number moment reply) opens is = right_to settings (exchange_of number h) moment reply h opens is
+found_right settings h item opens is = tt
+
+pub found_wrong : (settings : Settings) (h : List Item) (item : Item) (why : Reason) → AnswersOpen h item → IsFound settings h item (Wrong why) → IsWrong settings h item why
+found_wrong settings h (ClientReply number moment reply) why opens is = wrong_to settings (exchange_of number h) moment reply h why opens is
+found_wrong settings h item why opens is = cc
+
+-- ---- a reply of a transcript
+
+is_there : {A : Type 0} (o : Option A) → is_some o ≡ true → IsSome o
+is_there (Some a) e = e
+is_there None e = cc
+
+no_client_request : (n m a b : ℕ) (reply : Message ResponseHead) (request : Message RequestHead) (target : Target) → ClientReply n m reply ≡ ClientRequest a b request target → ⊥
+no_client_request n m a b reply request target e = cc
+
+no_origin_request : (n m a b : ℕ) (reply : Message ResponseHead) (request : Message RequestHead) (target : Target) → ClientReply n m reply ≡ OriginRequest a b request target → ⊥
+no_origin_request n m a b reply request target e = cc
+
+no_response : (n m a b : ℕ) (reply response : Message ResponseHead) → ClientReply n m reply ≡ OriginResponse a b response → ⊥
+no_response n m a b reply response e = cc
+
+no_failure : (n m a b : ℕ) (reply : Message ResponseHead) → ClientReply n m reply ≡ OriginFailure a b → ⊥
+no_failure n m a b reply e = cc
+
+same_number : (n m a b : ℕ) (reply other : Message ResponseHead) → ClientReply n m reply ≡ ClientReply a b other → n ≡ a
+same_number n m a b reply other e = cc
+
+-- what is read as a reply is a record of one, with its number
+reply_read : (k : Kind) (a b : ℕ) (to_head : Bool) (octets : List ℕ) (n m : ℕ) (reply : Message ResponseHead) → IsItemOf k a b to_head octets (ClientReply n m reply)
+    → (k ≡ kind.ClientReply) × (n ≡ a)
+reply_read kind.ClientRequest a b to_head octets n m reply is = absurd (no_client_request n m a b reply is.0 is.1 is.3)
+reply_read kind.OriginRequest a b to_head octets n m reply is = absurd (no_origin_request n m a b reply is.0 is.1 is.3)
+reply_read kind.OriginResponse a b to_head octets n m reply is = absurd (no_response n m a b reply is.0 is.2)
+reply_read kind.OriginFailure a b to_head octets n m reply is = absurd (no_failure n m a b reply is)
+reply_read kind.ClientReply a b to_head octets n m reply is = (refl, same_number n m a b reply is.0 is.2)
+
+-- a reply of a transcript answers what is open
+reply_open : (h : List Item) (l : Line) (octets : List ℕ) (n m : ℕ) (reply : Message ResponseHead) → line_fault h l ≡ None
+    → IsItemOf l.kind l.number l.moment (is_to_head l.kind l.number h) octets (ClientReply n m reply) → IsSome (exchange_of n h)
+reply_open h l octets n m reply keeps reads =
+    let is = reply_read l.kind l.number l.moment (is_to_head l.kind l.number h) octets n m reply reads in
+    let order = in_order l (last_moment h) (last_exchange h) (last_forward h) (is_some (exchange_of l.number h)) (is_some (forward_of l.number h)) keeps in
+    subst (λ (k : ℕ). IsSome (exchange_of k h)) (sym is.1)
+    (is_there (exchange_of l.number h)
+    (subst (λ (k : Kind). answers_open k (is_some (exchange_of l.number h)) (is_some (forward_of l.number h)) ≡ true) is.0 order.is_open))
+
+pub follows_open : (h : List Item) (r : Record) (item : Item) → Follows h r item → AnswersOpen h item
+follows_open h r (ClientReply number moment reply) follows = reply_open h (line_of r) (message_of r) number moment reply follows.keeps follows.reads
+follows_open h r item follows = tt

@@ -1,0 +1,155 @@
+-- What the lists of an index tell of a reply.
+use Rattle.std.proofs.Common.{◌≡◌, ℕ, ◌+◌, ◌≤◌, ◌<◌, Bool, true, false, ◌||◌, cond, List, [], ◌∷◌, length, get_or, drop, max, Option, Some, refl, sym, ap, subst, ◌∙◌, arith}
+use Rattle.std.specs.Prelude.{filter, map, Result, IfOk}
+use Rattle.std.specs.Option.{option_map}
+use Rattle.std.specs.declared.alloc.AllocError.{AllocError}
+use Rattle.std.specs.List.{list_any}
+use Rattle.std.proofs.lemmas.Bool.{lt-ltb}
+use Rattle.std.proofs.lemmas.List.{at_drop_more, at_drop_all}
+use Rattle.hc_head.specs.declared.head.Target.{Target}
+use Rattle.hc_head.specs.Targets.{same_target}
+use Rattle.hc_head.specs.declared.head.ResponseHead.{ResponseHead}
+use Rattle.hc_framing.specs.declared.message.Message.{Message}
+use Rattle.hc_status.specs.declared.marks.Mark.{Mark}
+use Rattle.hc_transcript.specs.Items.{Item, Exchange}
+use Rattle.hc_transcript.specs.History.{exchange_of}
+use Rattle.hc_history.specs.declared.settings.Settings.{Settings}
+use Rattle.hc_history.specs.declared.verdicts.Finding.{Finding}
+use Rattle.hc_history.specs.Marks.{reply_mark}
+use Rattle.hc_history.specs.Claims.{Claim, claim_of}
+use Rattle.hc_history.specs.Filters.{filters}
+use Rattle.hc_history.specs.Forwarded.{carries, is_forwarded}
+use Rattle.hc_history.specs.Furthest.{passed, passed_later, furthest, furthest_live}
+use Rattle.hc_history.specs.Reused.{anywhere, filter_count}
+use Rattle.hc_history.specs.Right.{IsFoundBy, IsFinding}
+use Rattle.hc_history.specs.Seen.{IsSeenAs, live_of, responses_since, window_responses_of}
+use Rattle.hc_history.proofs.TargetLemmas.{same_target_one}
+use Rattle.hc_history.proofs.WindowLemmas.{carried}
+use Rattle.hc_history.proofs.FurthestLemmas.{passed_few}
+use Rattle.hc_history.proofs.LiveLemmas.{passed_other, furthest_is_live, HavePositions, live_positions}
+use Rattle.hc_index.specs.declared.kept.LiveResponse.{LiveResponse}
+use Rattle.hc_index.specs.declared.kept.WindowAnswer.{WindowAnswer}
+use Rattle.hc_index.specs.declared.kept.OpenExchange.{OpenExchange}
+use Rattle.hc_index.specs.declared.list_index.ListIndex.{ListIndex}
+use Rattle.hc_index.specs.Lists.{live_seen, answer_seen, exchange_seen, window_seen, live_in, open_in, window_of, seen_in}
+
+-- ---- the most filters that one live response passes
+
+-- how many filters a live response passes, of whatever target
+abbrev pub passed_live : Claim → LiveResponse → ℕ
+passed_live claim live = passed (filters claim (record { target = live.target; state = live.state }))
+
+-- the most that one of them passes
+abbrev pub most_passed : Claim → List LiveResponse → ℕ
+most_passed claim [] = 0
+most_passed claim (live ∷ lives) = max (passed_live claim live) (most_passed claim lives)
+
+most_few : (claim : Claim) (lives : List LiveResponse) → most_passed claim lives ≤ filter_count
+most_few claim [] = omega arith
+most_few claim (live ∷ lives) = omega (arith, passed_few (filters claim (record { target = live.target; state = live.state })), most_few claim lives)
+
+-- one of the claim's target passes as many as what is seen of it
+passed_seen : (claim : Claim) (live : LiveResponse) → same_target live.target claim.target ≡ true → 0 < live.position
+    → passed_live claim live ≡ passed_later anywhere claim live.position (Some (record { target = claim.target; state = live.state }))
+passed_seen claim live same some =
+    ap (λ (t : Target). passed (filters claim (record { target = t; state = live.state }))) (same_target_one live.target claim.target same)
+    ∙ ap (λ (b : Bool). cond b (passed (filters claim (record { target = claim.target; state = live.state }))) 0) (sym (lt-ltb anywhere live.position some))
+
+most_zero : (n : ℕ) → max 0 n ≡ n
+most_zero n = omega arith
+
+others_of : Claim → List LiveResponse → List LiveResponse
+others_of claim lives = filter (λ live. same_target live.target claim.target) lives
+
+one_more : (claim : Claim) (live : LiveResponse) (lives : List LiveResponse) (same : Bool) → same_target live.target claim.target ≡ same
+    → (HavePositions (live_in claim.target lives) → most_passed claim lives ≡ furthest_live anywhere claim (live_in claim.target lives))
+    → HavePositions (map live_seen (cond same (live ∷ others_of claim lives) (others_of claim lives)))
+    → most_passed claim (live ∷ lives) ≡ furthest_live anywhere claim (map live_seen (cond same (live ∷ others_of claim lives) (others_of claim lives)))
+unfolding others_of
+one_more claim live lives true is rest there =
+    ap (λ (n : ℕ). max n (most_passed claim lives)) (passed_seen claim live is there.0)
+    ∙ ap (max (passed_later anywhere claim live.position (Some (record { target = claim.target; state = live.state })))) (rest there.1)
+one_more claim live lives false is rest there =
+    ap (λ (n : ℕ). max n (most_passed claim lives)) (passed_other claim (record { target = live.target; state = live.state }) is)
+    ∙ most_zero (most_passed claim lives)
+    ∙ rest there
+
+most_is_live : (claim : Claim) (lives : List LiveResponse) → HavePositions (live_in claim.target lives)
+    → most_passed claim lives ≡ furthest_live anywhere claim (live_in claim.target lives)
+unfolding others_of
+most_is_live claim [] there = refl
+most_is_live claim (live ∷ lives) there = one_more claim live lives (same_target live.target claim.target) refl (most_is_live claim lives) there
+
+pub most_is_furthest : (claim : Claim) (lives : List LiveResponse) (h : List Item) → live_in claim.target lives ≡ live_of claim.target h
+    → most_passed claim lives ≡ furthest anywhere claim h
+most_is_furthest claim lives h are =
+    most_is_live claim lives (subst HavePositions (sym are) (live_positions claim.target h))
+    ∙ ap (furthest_live anywhere claim) are
+    ∙ furthest_is_live anywhere claim h
+
+most_at : (claim : Claim) (lives : List LiveResponse) (i : ℕ) (live : LiveResponse) → i < length lives → live ≡ get_or lives i live
+    → most_passed claim (drop i lives) ≡ max (passed_live claim live) (most_passed claim (drop (i + 1) lives))
+most_at claim lives i live lt is =
+    at_drop_more (most_passed claim) lives i live lt
+    ∙ ap (λ (l : LiveResponse). max (passed_live claim l) (most_passed claim (drop (i + 1) lives))) (sym is)
+
+-- where one passes them all, nobody passes more
+pub full_is_furthest : (claim : Claim) (lives : List LiveResponse) (i most here : ℕ) (live : LiveResponse) (h : List Item)
+    → i < length lives → live ≡ get_or lives i live
+    → max most (most_passed claim (drop i lives)) ≡ most_passed claim lives
+    → here ≡ passed_live claim live → here ≡ filter_count
+    → live_in claim.target lives ≡ live_of claim.target h → here ≡ furthest anywhere claim h
+full_is_furthest claim lives i most here live h lt is so_far here-is full are =
+    let nobody_more : here ≡ most_passed claim lives = omega (arith, so_far, here-is, full, most_at claim lives i live lt is, most_few claim lives) in
+    nobody_more ∙ most_is_furthest claim lives h are
+
+-- behind the last one, the most so far is the most of all
+pub end_is_furthest : (claim : Claim) (lives : List LiveResponse) (i most : ℕ) (h : List Item) → length lives ≤ i
+    → max most (most_passed claim (drop i lives)) ≡ most_passed claim lives
+    → live_in claim.target lives ≡ live_of claim.target h → most ≡ furthest anywhere claim h
+end_is_furthest claim lives i most h le so_far are =
+    let nothing_left : most ≡ most_passed claim lives = omega (arith, so_far, at_drop_all (most_passed claim) lives i le) in
+    nothing_left ∙ most_is_furthest claim lives h are
+
+-- ---- what the window holds
+
+carries_answer : Claim → WindowAnswer → Bool
+carries_answer claim answer = carries claim answer.method answer.status answer.body
+
+any_seen : (claim : Claim) (window : List WindowAnswer)
+    → list_any (λ one. carries claim one.method one.status one.body) (map answer_seen window) ≡ list_any (carries_answer claim) window
+unfolding carries_answer
+any_seen claim [] = refl
+any_seen claim (answer ∷ window) = ap (λ (b : Bool). carries_answer claim answer || b) (any_seen claim window)
+
+-- the window tells whether the reply carries a response of it
+pub window_tells : (claim : Claim) (window : List WindowAnswer) (h : List Item) (b : Bool) → map answer_seen window ≡ responses_since claim.target claim.since h
+    → b ≡ list_any (λ answer. carries claim answer.method answer.status answer.body) window → is_forwarded claim h ≡ b
+unfolding carries_answer
+window_tells claim window h b are is =
+    carried claim h
+    ∙ ap (list_any (λ one. carries claim one.method one.status one.body)) (sym are)
+    ∙ any_seen claim window
+    ∙ sym is
+
+-- ---- what is found
+
+-- what is found of a claim that is the reply's, is found of the reply
+pub finding_is : (index : ListIndex) (settings : Settings) (number moment : ℕ) (reply : Message ResponseHead) (h : List Item)
+    (exchange : OpenExchange) (mark : Mark) (claim : Claim) (found : Result Finding AllocError)
+    → IsSeenAs (seen_in index) h → Some exchange ≡ open_in number index.exchanges.items
+    → mark ≡ reply_mark reply → claim ≡ claim_of settings (exchange_seen exchange) moment reply h
+    → (live_in claim.target index.lives.items ≡ live_of claim.target h → window_seen exchange ≡ responses_since claim.target claim.since h
+    → IfOk found (IsFoundBy mark claim h))
+    → IfOk found (IsFinding settings (exchange_of number h) moment reply h)
+finding_is index settings number moment reply h exchange mark claim found seen is mark-is claim-is by =
+    let its_claim = claim_of settings (exchange_seen exchange) moment reply h in
+    let there : exchange_of number h ≡ Some (exchange_seen exchange) = sym (seen.exchange number) ∙ ap (option_map exchange_seen) (sym is) in
+    let window : window_seen exchange ≡ responses_since exchange.target exchange.position h =
+    ap window_of is ∙ seen.window number ∙ ap (λ (o : Option Exchange). window_responses_of o h) there in
+    let lives : live_in claim.target index.lives.items ≡ live_of claim.target h = seen.live claim.target in
+    let its_window : window_seen exchange ≡ responses_since claim.target claim.since h =
+    subst (λ (k : Claim). window_seen exchange ≡ responses_since k.target k.since h) (sym claim-is) window in
+    let by_claim = subst (λ (k : Claim). IfOk found (IsFoundBy mark k h)) claim-is (by lives its_window) in
+    let by_mark = subst (λ (m : Mark). IfOk found (IsFoundBy m its_claim h)) mark-is by_claim in
+    subst (λ (o : Option Exchange). IfOk found (IsFinding settings o moment reply h)) (sym there) by_mark

@@ -1,0 +1,4 @@
+use Rattle.hc_index.proofs.finding.found_of_hit_among.Goals as goal
+
+pub returns : goal.returns
+returns c = λ ttl h lives. c.found_of_hit.ensures ttl c.args.claim.now h (c.in_ok-passed.ensures h lives)

@@ -1,0 +1,67 @@
+//! The open exchanges and their windows.
+
+ghost use Rattle.std.specs.Prelude.{◌≡◌, ◌==◌, ℕ, Some, None, map, OnOk, if◌then◌else◌};
+ghost use Rattle.hc_index.specs.Lists.{forward_seen, open_in, watched, watched_answered};
+
+use crate::kept::{OpenExchange, OpenForward, WindowAnswer};
+use hc_framing::Message;
+use hc_head::{ResponseHead, same_target};
+use std::alloc::{AllocError, Global};
+
+/// Closes the exchange of that number.
+pub(crate) fn close_exchange(exchanges: &mut Vec<OpenExchange>, number: u64)
+    ensures { (e : ℕ) → open_in e exchanges.new.items
+        ≡ (if number == e then None else open_in e exchanges.old.items) }
+{
+    exchanges.retain(|exchange| exchange.number != number);
+}
+
+/// Opens that exchange in the place of any other of its number.
+pub(crate) fn open_exchange(
+    exchanges: &mut Vec<OpenExchange>,
+    exchange: OpenExchange,
+) -> Result<(), AllocError>
+    ensures { OnOk result ((e : ℕ) → open_in e exchanges.new.items
+        ≡ (if exchange.number == e then Some exchange else open_in e exchanges.old.items)) }
+{
+    close_exchange(exchanges, exchange.number);
+    exchanges.push(exchange)?;
+    Ok(())
+}
+
+/// Puts the response to a forward of any target into the window of an exchange.
+fn add_to_window(
+    alloc: Global,
+    forward: &OpenForward,
+    response: &Message<ResponseHead>,
+    exchange: &mut OpenExchange,
+) -> Result<(), AllocError>
+    ensures { OnOk result (watched exchange.new ≡ watched_answered (forward_seen forward.now) response.now (watched exchange.old)) }
+{
+    if !same_target(&forward.target, &exchange.target) {
+        return Ok(());
+    }
+    exchange.window.push(WindowAnswer {
+        method: forward.request.method.copy(alloc)?,
+        status: response.head.status,
+        body: response.body.share()?,
+    })?;
+    Ok(())
+}
+
+/// Puts the response to a forward into the windows of its target.
+#[tactic(auto, using(crate::proofs::LoopLemmas::seen_over_at))]
+pub(crate) fn add_to_windows(
+    alloc: Global,
+    forward: &OpenForward,
+    response: &Message<ResponseHead>,
+    exchanges: &mut Vec<OpenExchange>,
+) -> Result<(), AllocError>
+    ensures { OnOk result (map watched exchanges.new.items
+        ≡ map (watched_answered (forward_seen forward.now) response.now) (map watched exchanges.old.items)) }
+{
+    for exchange in exchanges.iter_mut() {
+        add_to_window(alloc, forward, response, exchange)?;
+    }
+    Ok(())
+}

@@ -1,8 +1,0 @@
-use Rattle.std.proofs.Common.{inl, subst}
-use Rattle.clap.specs.declared.error.ErrorKind.{ErrorKind}
-use Rattle.hc_prog.specs.Command.{IsErrorStatus}
-use Rattle.hc_prog.proofs.run.answered.Goals as goal
-
-pub returns-in-Err-clause-audit : goal.returns-in-Err-clause-audit
-returns-in-Err-clause-audit g c = λ name file word same.
-    inl (subst (λ (k : ErrorKind). IsErrorStatus k c.shown.result) (c.in-Err.ensures.audit name file word same) c.shown.ensures.status)

@@ -1,4 +1,0 @@
-pub mod Audit
-pub mod Command
-pub mod Line
-pub mod Trouble
