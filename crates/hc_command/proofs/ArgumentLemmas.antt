@@ -142,9 +142,9 @@ audit_at_ok name file words got settings is e asked =
 none_refused : (given : Option (Text × List Row)) (file : Text) (refusal : Refusal) (e : Error) → AreAlone given file → RefusesIn given refusal
     → refused_kind refusal ≡ Some (kind_of e) → ⊥
 none_refused given file Memory e one refuses kind = cc
-none_refused given file File e one refuses kind = let bad : Some file ≡ None = sym one.file_is ∙ refuses in absurd bad
-none_refused given file Slack e one refuses kind = let bad = rw one.slack_is at refuses in absurd bad
-none_refused given file Ignore e one refuses kind = let bad = rw one.ignored_is at refuses in absurd bad
+none_refused given file File e one refuses kind = let bad : Some file ≡ None = sym one.file_is ∙ refuses in cc
+none_refused given file Slack e one refuses kind = let bad = rw one.slack_is at refuses in cc
+none_refused given file Ignore e one refuses kind = let bad = rw one.ignored_is at refuses in cc
 
 pub audit_at_err : (name file : Text) (words : List Text) (e : Error) → IsFileWord file → words ≡ name ∷ codes "audit" ∷ file ∷ []
     → IsRefused words e → kind_of e ≡ OutOfMemory

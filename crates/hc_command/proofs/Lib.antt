@@ -1,2 +1,3 @@
 pub mod ArgumentLemmas
+pub mod AuditLemmas
 pub mod NameLemmas

@@ -2,7 +2,7 @@
 #![tactic(auto)]
 
 mod arguments;
-mod audit;
+mod auditing;
 mod line;
 mod names;
 mod print;
@@ -13,6 +13,6 @@ mod tests;
 mod trouble;
 
 pub use arguments::{Order, parsed};
-pub use audit::audit;
+pub use auditing::audit;
 pub use line::verdict_line;
 pub use run::{answered, shown, status};

@@ -6,7 +6,7 @@ ghost use Rattle.hc_command.specs.Audit.{Answers, Ends};
 ghost use Rattle.hc_command.specs.Command.{IsErrorStatus, IsFileWord};
 
 use crate::arguments::{Order, not_text, parsed};
-use crate::audit::audit;
+use crate::auditing::audit;
 use crate::print::printed;
 use crate::trouble::Trouble;
 use clap::Error;

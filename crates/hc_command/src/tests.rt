@@ -1,6 +1,8 @@
-//! What no clause says: the text that is printed, and readers and writers that fail.
-use crate::audit::audit;
+//! What no clause says: the text that is printed, readers and writers that fail, and how far a reader is read.
+use crate::arguments::parsed;
+use crate::auditing::audit;
 use crate::run::answered;
+use hc_history::{FieldNames, Settings, UnmarkedReplies};
 use std::io;
 use std::io::{ErrorKind, Read, Write};
 use std::process::Abort;
@@ -14,12 +16,14 @@ GET /a HTTP/1.1\r\nhost: h\r\n\r\n
 
 const ASKED_LINE: &[u8] = b"yes records=1 replies=0 hits=0 forwarded=0 unmarked=0\n";
 
-// A hit of nothing.
+// A hit of nothing, and another record.
 const HIT_OF_NOTHING: &[u8] = b"HCT1
 q 1 1000 28
 GET /a HTTP/1.1\r\nhost: h\r\n\r\n
 a 1 1000 57
 HTTP/1.1 200 \r\ncache-status: a;hit\r\ncontent-length: 0\r\n\r\n
+q 2 1000 28
+GET /a HTTP/1.1\r\nhost: h\r\n\r\n
 ";
 
 // Gives at most `most` octets a read. The read numbered `bad`, from 0, fails with `kind`.
@@ -74,6 +78,14 @@ impl Write for Full {
     }
 }
 
+fn plain_settings(rt: &impl AllocGlobal) -> Settings {
+    Settings {
+        slack: 0,
+        ignored: FieldNames::new(rt.alloc()),
+        unmarked: UnmarkedReplies::Allow,
+    }
+}
+
 // Audits what `input` gives, and wants this status and these octets on the two writers.
 fn wants<R: Read>(
     rt: &(impl Abort + AllocGlobal),
@@ -85,7 +97,14 @@ fn wants<R: Read>(
     let mut said = Vec::new(rt.alloc());
     let mut wrong = Vec::new(rt.alloc());
     assert_eq!(rt;
-        audit(rt.alloc(), "a.hct", input, &mut said, &mut wrong),
+        audit(
+            rt.alloc(),
+            plain_settings(rt),
+            "a.hct",
+            input,
+            &mut said,
+            &mut wrong,
+        ),
         status
     );
     assert_eq!(rt; said.as_slice(), output);
@@ -104,14 +123,39 @@ fn a_verdict_is_one_line(rt: HostRuntime) {
         ),
         (
             HIT_OF_NOTHING,
-            3,
+            1,
+            b"no 2 1 NoResponse\n".as_slice(),
             b"".as_slice(),
-            b"error: unsupported\n".as_slice(),
         ),
     ] {
         let mut input = octets;
         wants(&rt, &mut input, status, output, faults);
     }
+}
+
+// How many reads an audit makes of the octets, of which each gives at most `most`.
+fn reads_of(rt: &(impl Abort + AllocGlobal), octets: &[u8], most: usize, status: u8) -> usize {
+    let mut reader = in_pieces(octets, most, None, ErrorKind::Other);
+    let mut said = Vec::new(rt.alloc());
+    let mut wrong = Vec::new(rt.alloc());
+    let answer = audit(
+        rt.alloc(),
+        plain_settings(rt),
+        "a.hct",
+        &mut reader,
+        &mut said,
+        &mut wrong,
+    );
+    assert_eq!(rt; answer, status);
+    reader.reads
+}
+
+// The last read of a transcript that is right gives nothing. Behind a verdict that stands nothing is read.
+#[test]
+fn nothing_is_read_behind_a_verdict_that_stands(rt: HostRuntime) {
+    assert_eq!(rt; reads_of(&rt, ASKED, 1, 0), 47);
+    assert_eq!(rt; reads_of(&rt, HIT_OF_NOTHING, 1, 1), 117);
+    assert_eq!(rt; reads_of(&rt, b"HCT2\nq 1 1000 28\n", 5, 2), 1);
 }
 
 #[test]
@@ -145,7 +189,14 @@ fn a_failed_write_is_a_fault(rt: HostRuntime) {
         let mut faults = Vec::new(rt.alloc());
         let mut input = ASKED;
         assert_eq!(rt;
-            audit(rt.alloc(), "a.hct", &mut input, &mut output, &mut faults),
+            audit(
+                rt.alloc(),
+                plain_settings(&rt),
+                "a.hct",
+                &mut input,
+                &mut output,
+                &mut faults,
+            ),
             3
         );
         assert_eq!(rt;
@@ -157,7 +208,14 @@ fn a_failed_write_is_a_fault(rt: HostRuntime) {
         let mut faults = Full { takes_writes };
         let mut input = ASKED;
         assert_eq!(rt;
-            audit(rt.alloc(), "a.hct", &mut input, &mut output, &mut faults),
+            audit(
+                rt.alloc(),
+                plain_settings(&rt),
+                "a.hct",
+                &mut input,
+                &mut output,
+                &mut faults,
+            ),
             3
         );
     }
@@ -183,30 +241,10 @@ fn answers(
 }
 
 const HELP: &str = "\
-Audits the transcripts of a cache. Its yes is that of a plain test so far
-
-Usage: hcache <COMMAND>
-
-Commands:
-  audit  Says whether each hit in a transcript is shown right, by a plain test of reuse
-  help   Print this message or the help of the given subcommand(s)
-
-Options:
-  -h, --help     Print help
-  -V, --version  Print version
-";
+HELP_TEXT";
 
 const AUDIT_HELP: &str = "\
-Says whether each hit in a transcript is shown right, by a plain test of reuse
-
-Usage: hcache audit <FILE>
-
-Arguments:
-  <FILE>  The transcript, or - for standard input
-
-Options:
-  -h, --help  Print help
-";
+AUDIT_HELP_TEXT";
 
 #[test]
 fn help_and_version_end_well(rt: HostRuntime) {
@@ -249,20 +287,18 @@ Usage: hcache audit <FILE>
 For more information, try '--help'.
 ";
 
-const TWO_FILES: &str = "\
-error: unexpected argument 'b' found
+const BAD_SLACK: &str = "\
+error: invalid value for '--slack <N>': not a decimal from 0 to 2147483648
 
-Usage: hcache audit <FILE>
+Usage: hcache audit [OPTIONS] <FILE>
 
 For more information, try '--help'.
 ";
 
-const UNKNOWN_OPTION: &str = "\
-error: unexpected argument '--fast' found
+const BAD_IGNORE: &str = "\
+error: invalid value for '--ignore <NAME,..>': not names of fields with commas between them
 
-  tip: to pass '--fast' as a value, use '-- --fast'
-
-Usage: hcache audit <FILE>
+Usage: hcache audit [OPTIONS] <FILE>
 
 For more information, try '--help'.
 ";
@@ -273,13 +309,84 @@ fn a_mistake_ends_with_its_own_status(rt: HostRuntime) {
         (["hcache"].as_slice(), NO_COMMAND),
         (["hcache", "watch"].as_slice(), UNKNOWN_COMMAND),
         (["hcache", "audit"].as_slice(), NO_FILE),
-        (["hcache", "audit", "a", "b"].as_slice(), TWO_FILES),
-        (
-            ["hcache", "audit", "--fast", "a"].as_slice(),
-            UNKNOWN_OPTION,
-        ),
+        (["hcache", "audit", "--slack", "+5", "a"].as_slice(), BAD_SLACK),
+        (["hcache", "audit", "--ignore=a,,b", "a"].as_slice(), BAD_IGNORE),
     ] {
         answers(&rt, words, 64, "", faults);
+    }
+}
+
+// Wants the words refused, with the usage and nothing on the output.
+fn is_refused(rt: &(impl Abort + AllocGlobal + Files + Input), words: &[&str]) {
+    let mut said = Vec::new(rt.alloc());
+    let mut wrong = Vec::new(rt.alloc());
+    assert_eq!(rt;
+        answered(rt, words, &mut said, &mut wrong),
+        64,
+        "{words:?}"
+    );
+    assert!(rt; said.is_empty(), "{words:?}");
+    let usage = b"\nUsage: hcache audit ".as_slice();
+    assert!(rt; wrong.as_slice().windows(usage.len()).any(|text| text == usage), "{words:?}");
+}
+
+#[test]
+fn these_words_are_refused(rt: HostRuntime) {
+    for words in [
+        ["hcache", "audit", "a", "b"].as_slice(),
+        ["hcache", "audit", "--fast", "a"].as_slice(),
+        ["hcache", "audit", "--slack", "", "a"].as_slice(),
+        ["hcache", "audit", "--slack", "-1", "a"].as_slice(),
+        ["hcache", "audit", "--slack", "2147483649", "a"].as_slice(),
+        ["hcache", "audit", "--slack", "18446744073709551616", "a"].as_slice(),
+        ["hcache", "audit", "--slack", "0x1", "a"].as_slice(),
+        ["hcache", "audit", "--slack", "1", "--slack", "1", "a"].as_slice(),
+        ["hcache", "audit", "a", "--slack"].as_slice(),
+        ["hcache", "audit", "--ignore", "", "a"].as_slice(),
+        ["hcache", "audit", "--ignore", "a,", "a"].as_slice(),
+        ["hcache", "audit", "--ignore", "a b", "a"].as_slice(),
+        ["hcache", "audit", "--ignore", "a", "--ignore", "b", "a"].as_slice(),
+        ["hcache", "audit", "a", "--ignore"].as_slice(),
+        ["hcache", "audit", "--errors-only", "--errors-only", "a"].as_slice(),
+        ["hcache", "audit", "--errors-only=true", "a"].as_slice(),
+    ] {
+        is_refused(&rt, words);
+    }
+}
+
+// The settings of an order.
+fn is_ordered(
+    rt: &(impl Abort + AllocGlobal),
+    words: &[&str],
+    slack: u32,
+    ignored: &[u8],
+    unmarked: UnmarkedReplies,
+) {
+    let order = parsed(rt.alloc(), words).expect(rt, "an order");
+    assert_eq!(rt; order.file, "a", "{words:?}");
+    assert_eq!(rt; order.settings.slack, slack, "{words:?}");
+    assert!(rt; order.settings.ignored.contains(ignored), "{words:?}");
+    assert_eq!(rt; order.settings.unmarked, unmarked, "{words:?}");
+}
+
+// Options may stand on either side of FILE, and a value behind `=`.
+#[test]
+fn these_words_are_taken(rt: HostRuntime) {
+    for (words, slack, ignored, unmarked) in [
+        (
+            ["hcache", "audit", "--slack", "2147483648", "--ignore=X-Two", "a"].as_slice(),
+            2_147_483_648,
+            b"x-two".as_slice(),
+            UnmarkedReplies::Allow,
+        ),
+        (
+            ["hcache", "audit", "a", "--ignore", "one,Two", "--errors-only", "--slack=07"].as_slice(),
+            7,
+            b"two".as_slice(),
+            UnmarkedReplies::ErrorsOnly,
+        ),
+    ] {
+        is_ordered(&rt, words, slack, ignored, unmarked);
     }
 }
 

@@ -79,8 +79,24 @@ fn judged<R: Read>(alloc: Global, settings: Settings, input: &mut R) -> Result<V
     ensures err { IfErr result (λ trouble. is_of_output trouble ≡ false) }
 {
     let mut piece = buffer(alloc)?;
-    let mut auditor = Auditor::new(alloc, ListIndex::new(alloc), settings);
-    match feed_all(&mut auditor, input, piece.as_mut_slice())? {
+    let auditor = Auditor::new(alloc, ListIndex::new(alloc), settings);
+    judged_by(auditor, input, piece.as_mut_slice())
+}
+
+// The verdict of the auditor on what `input` gives.
+fn judged_by<I: Index + Drop, R: Read>(
+    mut auditor: Auditor<I>,
+    input: &mut R,
+    piece: &mut [u8],
+) -> Result<Verdict, Trouble>
+    requires { 0 < length piece.old }
+    ensures verdict { (settings : Settings) → Agrees I.seen auditor settings []
+        → IfOk result (λ verdict. IfSome (R.remaining input.old) (λ octets. IsVerdict octets settings verdict)) }
+    ensures concluded { (settings : Settings) → Agrees I.seen auditor settings []
+        → IfOk result (λ verdict. IsConcluded settings verdict (R.remaining input.old) (R.remaining input.new)) }
+    ensures err { IfErr result (λ trouble. is_of_output trouble ≡ false) }
+{
+    match feed_all(&mut auditor, input, piece)? {
         Some(verdict) => Ok(verdict),
         None => Ok(auditor.finish()?),
     }

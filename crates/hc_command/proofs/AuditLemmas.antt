@@ -1,0 +1,49 @@
+-- What a verdict on what was read says of all octets of an input.
+use Rattle.std.proofs.Common.{◌≡◌, ◌∙◌, ℕ, List, [], ◌++◌, Option, None, Some, IfSome, ap, append-nil, inl, inr, subst, sym}
+use Rattle.std.specs.Io.KnownBytes.{Consumes, IsAtEnd}
+use Rattle.hc_history.specs.declared.settings.Settings.{Settings}
+use Rattle.hc_history.specs.declared.verdicts.Verdict.{Verdict}
+use Rattle.hc_history.specs.Seen.{Seen}
+use Rattle.hc_history.specs.Verdicts.{IsVerdict}
+use Rattle.hc_audit.specs.declared.auditor.Auditor.{Auditor}
+use Rattle.hc_audit.specs.Agreement.{Agrees}
+use Rattle.hc_audit.specs.Standing.{Stands}
+use Rattle.hc_command.specs.Audit.{Answers, AnswersFor, Feeds}
+
+-- ---- the verdict
+
+-- an input that is read to its end had what was read
+at_end : (settings : Settings) (verdict : Verdict) (old new : Option (List ℕ)) (read : List ℕ) → Consumes old new read → IsAtEnd new
+    → IsVerdict read settings verdict → IfSome old (λ octets. IsVerdict octets settings verdict)
+at_end settings verdict None new read consumed end is = tt
+at_end settings verdict (Some xs) None read consumed end is = absurd consumed
+at_end settings verdict (Some xs) (Some ys) read consumed end is =
+    let all = sym (append-nil read) ∙ ap (λ rest. read ++ rest) (sym end) ∙ sym consumed in
+    subst (λ o. IsVerdict o settings verdict) all is
+
+-- and another one had that and something behind it
+before_end : (settings : Settings) (verdict : Verdict) (old new : Option (List ℕ)) (read : List ℕ) → Consumes old new read
+    → Stands verdict settings read → IfSome old (λ octets. IsVerdict octets settings verdict)
+before_end settings verdict None new read consumed stands = tt
+before_end settings verdict (Some xs) None read consumed stands = absurd consumed
+before_end settings verdict (Some xs) (Some ys) read consumed stands = subst (λ o. IsVerdict o settings verdict) (sym consumed) (stands.holds ys)
+
+module _ {I : Type 0} (seen : I → Seen) (settings : Settings) where
+  pub settled_verdict : (a : Auditor I) (old new : Option (List ℕ)) (settled : Option Verdict) (verdict : Verdict)
+      → Feeds seen a settings [] old new settled → settled ≡ Some verdict → IfSome old (λ octets. IsVerdict octets settings verdict)
+  settled_verdict a old new settled verdict f is =
+      before_end settings verdict old new f.bytes f.consumed (subst (λ s. IfSome s (λ one. Stands one settings f.bytes)) is f.stands)
+
+  pub ended_verdict : (a : Auditor I) (old new : Option (List ℕ)) (settled : Option Verdict) (verdict : Verdict)
+      → Feeds seen a settings [] old new settled → IsAtEnd new
+      → ((octets : List ℕ) → Agrees seen a settings octets → IsVerdict octets settings verdict)
+      → IfSome old (λ octets. IsVerdict octets settings verdict)
+  ended_verdict a old new settled verdict f end is = at_end settings verdict old new f.bytes f.consumed end (is f.bytes f.agrees)
+
+-- ---- what is said of an input that isn't known
+
+pub answers_unknown : (settings : Settings) (input left : Option (List ℕ)) (status : ℕ) (old new faults_old faults_new : Option (List ℕ))
+    → AnswersFor settings input left status old new faults_old faults_new → Answers status old new faults_old faults_new
+answers_unknown settings input left status old new faults_old faults_new (inl three) = inl three
+answers_unknown settings input left status old new faults_old faults_new (inr said) =
+    inr (record { verdict = said.0.verdict; says = said.0.says }, said.1)
