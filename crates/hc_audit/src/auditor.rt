@@ -51,7 +51,7 @@ impl<I: Index + Drop> Auditor<I> {
         ensures ok { (settings : Settings) (octets : List ℕ) → Agrees I.seen self.old settings octets
             → OnOk result (Agrees I.seen self.new settings (octets ++ piece.now)) }
         // What waits is less than a record.
-        ensures rest { OnOk result (rest self.new ≤ longest_unfinished) }
+        ensures rest { rest self.new ≤ longest_unfinished }
         ensures settled { IsSome (settled self.old) → (result ≡ Ok tt) × (self.new ≡ self.old) }
         ensures err { IfErr result (λ fault. HasFailed self.new × ((fault ≡ AuditFault.Memory) ⊎ HasFailed self.old)) }
         ensures failed { HasFailed self.old → (result ≡ Err AuditFault.Failed) × (self.new ≡ self.old) }

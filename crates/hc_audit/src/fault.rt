@@ -1,9 +1,5 @@
 //! Why there is no verdict.
 
-ghost use Rattle.std.specs.Prelude.{◌≡◌};
-ghost use Rattle.hc_audit.specs.declared.fault.AuditFault.TheVariants.{Memory};
-
-use std::alloc::AllocError;
 use thiserror::Error;
 
 /// Why there is no verdict.

@@ -18,7 +18,7 @@ use hc_transcript::{Meaning, OwnedItem, RecordReader};
 use std::alloc::{AllocError, Global};
 
 /// What became of the next record.
-#[derive(Clone, Copy, Debug)]
+#[derive(Drop)]
 pub(crate) enum Step {
     /// It isn't whole yet.
     Waiting,

@@ -45,6 +45,7 @@ live_in target lives = map live_seen (filter (λ live. same_target live.target t
 abbrev pub open_in : ℕ → List OpenExchange → Option OpenExchange
 open_in e exchanges = find (λ exchange. exchange.number == e) exchanges
 
+-- the window of an open exchange
 abbrev pub window_of : Option OpenExchange → List WindowResponse
 window_of None = []
 window_of (Some exchange) = window_seen exchange
@@ -76,6 +77,7 @@ pub record Watched : Type 0 where
   pub exchange : Exchange
   pub window : List WindowResponse
 
+-- what is seen of an open exchange
 abbrev pub watched : OpenExchange → Watched
 watched exchange = record { exchange = exchange_seen exchange; window = window_seen exchange }
 

@@ -1,5 +1,5 @@
 -- No count is over the number of items that are held.
-use Rattle.std.proofs.Common.{◌≡◌, ℕ, ◌≤◌, length, sym, subst, arith}
+use Rattle.std.proofs.Common.{◌≡◌, ℕ, ◌≤◌, List, length, sym, subst, arith}
 use Rattle.hc_history.specs.declared.verdicts.Counts.{Counts}
 use Rattle.hc_history.specs.Counting.{AreAtMost, counts_of}
 use Rattle.hc_history.proofs.CountLemmas.{lift, at_most_items}
