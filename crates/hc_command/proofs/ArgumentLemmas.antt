@@ -14,7 +14,7 @@ use Rattle.clap.proofs.WalkLemmas.{first_value-rows}
 use Rattle.hc_history.specs.declared.settings.Settings.{Settings}
 use Rattle.hc_command.specs.declared.refusal.Refusal.{Refusal}
 use Rattle.hc_command.specs.declared.refusal.Refusal.TheVariants.{Memory, File, Slack, Ignore}
-use Rattle.hc_command.specs.Command.{Asks, AsksIn, IsFileWord, IsOutside, IsRefused, RefusesIn, hcache, refused_kind, value_in}
+use Rattle.hc_command.specs.Command.{Asks, AsksIn, IsFileWord, IsRefused, RefusesIn, hcache, refused_kind, value_in}
 use Rattle.hc_command.specs.Values.{plain}
 
 -- ---- any words

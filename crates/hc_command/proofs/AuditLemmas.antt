@@ -1,5 +1,5 @@
 -- What a verdict on what was read says of all octets of an input.
-use Rattle.std.proofs.Common.{◌≡◌, ◌∙◌, ℕ, List, [], ◌++◌, Option, None, Some, IfSome, ap, append-nil, inl, inr, subst, sym}
+use Rattle.std.proofs.Common.{◌≡◌, ◌∙◌, ℕ, List, [], ◌++◌, Option, None, Some, IfSome, ap, append-nil, subst, sym}
 use Rattle.std.specs.Io.KnownBytes.{Consumes, IsAtEnd}
 use Rattle.hc_history.specs.declared.settings.Settings.{Settings}
 use Rattle.hc_history.specs.declared.verdicts.Verdict.{Verdict}
@@ -8,7 +8,7 @@ use Rattle.hc_history.specs.Verdicts.{IsVerdict}
 use Rattle.hc_audit.specs.declared.auditor.Auditor.{Auditor}
 use Rattle.hc_audit.specs.Agreement.{Agrees}
 use Rattle.hc_audit.specs.Standing.{Stands}
-use Rattle.hc_command.specs.Audit.{Answers, AnswersFor, Feeds}
+use Rattle.hc_command.specs.Audit.{Feeds}
 
 -- ---- the verdict
 
@@ -39,11 +39,3 @@ module _ {I : Type 0} (seen : I → Seen) (settings : Settings) where
       → ((octets : List ℕ) → Agrees seen a settings octets → IsVerdict octets settings verdict)
       → IfSome old (λ octets. IsVerdict octets settings verdict)
   ended_verdict a old new settled verdict f end is = at_end settings verdict old new f.bytes f.consumed end (is f.bytes f.agrees)
-
--- ---- what is said of an input that isn't known
-
-pub answers_unknown : (settings : Settings) (input left : Option (List ℕ)) (status : ℕ) (old new faults_old faults_new : Option (List ℕ))
-    → AnswersFor settings input left status old new faults_old faults_new → Answers status old new faults_old faults_new
-answers_unknown settings input left status old new faults_old faults_new (inl three) = inl three
-answers_unknown settings input left status old new faults_old faults_new (inr said) =
-    inr (record { verdict = said.0.verdict; says = said.0.says }, said.1)

@@ -17,12 +17,14 @@ use std::convert::AsStr;
 
 const AUDIT_ABOUT: &str = "Says whether every reply in a transcript is right, in one line";
 
-const SLACK_HELP: &str = "By how many seconds an Age, the seconds that are left, a lifetime and what permits \
-    staleness may be off: 0 to 2147483648, and 0 where it isn't given";
+const SLACK_HELP: &str =
+    "The seconds by which an Age, a ttl, a lifetime and what permits staleness may be off: \
+    a decimal from 0 to 2147483648, and 0 without the option";
 
-const IGNORE_HELP: &str = "The names of the fields that aren't compared, with commas between them";
+const IGNORE_HELP: &str = "The names of fields that aren't compared, with commas between them";
 
-const ERRORS_ONLY_HELP: &str = "Takes a reply without a mark as wrong, but for those of status 400 and more";
+const ERRORS_ONLY_HELP: &str =
+    "A reply without a mark is wrong, but for those of status 400 and more";
 
 const STATUSES: &str = "\
 Exit status:
@@ -132,11 +134,11 @@ fn unmarked_by(value: Option<&str>) -> UnmarkedReplies
 
 /// The error of a command line that is not text.
 pub(crate) fn not_text(alloc: Global) -> Result<Error, AllocError>
-    ensures { IfOk result (λ error. kind_of error ≡ ErrorKind.InvalidValue) }
+    ensures { IfOk result (λ error. kind_of error ≡ ErrorKind.ValueValidation) }
 {
     let mut command = command(alloc)?;
     command.error(
-        ErrorKind::InvalidValue,
+        ErrorKind::ValueValidation,
         "invalid UTF-8 was detected in one or more arguments",
     )
 }

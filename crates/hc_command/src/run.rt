@@ -16,6 +16,8 @@ use std::io::Write;
 use std::rt::{Env, Files};
 use std::{env, fs, io};
 
+const USAGE: &str = "\nUsage: hcache audit [OPTIONS] <FILE>\n";
+
 /// Does what the program's own arguments ask, and answers its exit status.
 pub fn status<R, W: Write, E: Write>(rt: &R, output: &mut W, faults: &mut E) -> u8
 where
@@ -67,12 +69,7 @@ where
 }
 
 // Audits the file, or standard input for `-`.
-fn audited<R, W: Write, E: Write>(
-    rt: &R,
-    order: Order<'_>,
-    output: &mut W,
-    faults: &mut E,
-) -> u8
+fn audited<R, W: Write, E: Write>(rt: &R, order: Order<'_>, output: &mut W, faults: &mut E) -> u8
 where
     R: Files + Input + AllocGlobal,
     ensures { Answers result (W.contents output.old) (W.contents output.new)
@@ -108,6 +105,12 @@ pub fn shown<W: Write, E: Write>(error: &Error, output: &mut W, faults: &mut E) 
             Ok(()) => 0,
             Err(error) => Trouble::Output(error).told("", faults),
         },
+        // Of the errors of a parse these alone don't show the usage.
+        ErrorKind::InvalidValue => {
+            let _ = printed(error, faults);
+            let _ = printed(USAGE, faults);
+            64
+        }
         _ => {
             let _ = printed(error, faults);
             64

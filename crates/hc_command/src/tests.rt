@@ -154,7 +154,7 @@ fn reads_of(rt: &(impl Abort + AllocGlobal), octets: &[u8], most: usize, status:
 #[test]
 fn nothing_is_read_behind_a_verdict_that_stands(rt: HostRuntime) {
     assert_eq!(rt; reads_of(&rt, ASKED, 1, 0), 47);
-    assert_eq!(rt; reads_of(&rt, HIT_OF_NOTHING, 1, 1), 117);
+    assert_eq!(rt; reads_of(&rt, HIT_OF_NOTHING, 1, 1), 116);
     assert_eq!(rt; reads_of(&rt, b"HCT2\nq 1 1000 28\n", 5, 2), 1);
 }
 
@@ -241,10 +241,41 @@ fn answers(
 }
 
 const HELP: &str = "\
-HELP_TEXT";
+Audits the transcripts of a cache: whether every reply in them is right
+
+Usage: hcache <COMMAND>
+
+Commands:
+  audit  Says whether every reply in a transcript is right, in one line
+  help   Print this message or the help of the given subcommand(s)
+
+Options:
+  -h, --help     Print help
+  -V, --version  Print version
+";
 
 const AUDIT_HELP: &str = "\
-AUDIT_HELP_TEXT";
+Says whether every reply in a transcript is right, in one line
+
+Usage: hcache audit [OPTIONS] <FILE>
+
+Arguments:
+  <FILE>  The transcript, or - for standard input
+
+Options:
+      --slack <N>         The seconds by which an Age, a ttl, a lifetime and what permits staleness may be off: \
+    a decimal from 0 to 2147483648, and 0 without the option
+      --ignore <NAME,..>  The names of fields that aren't compared, with commas between them
+      --errors-only       A reply without a mark is wrong, but for those of status 400 and more
+  -h, --help              Print help
+
+Exit status:
+  0   yes: the transcript keeps to the format, and every reply in it is right
+  1   no: the reply at this position is wrong, by this reason
+  2   malformed: the transcript breaks at this position, by this fault
+  3   no verdict: standard error says `error: memory` or `error: device`
+  64  the command line is wrong: standard error says how
+";
 
 #[test]
 fn help_and_version_end_well(rt: HostRuntime) {
@@ -309,8 +340,14 @@ fn a_mistake_ends_with_its_own_status(rt: HostRuntime) {
         (["hcache"].as_slice(), NO_COMMAND),
         (["hcache", "watch"].as_slice(), UNKNOWN_COMMAND),
         (["hcache", "audit"].as_slice(), NO_FILE),
-        (["hcache", "audit", "--slack", "+5", "a"].as_slice(), BAD_SLACK),
-        (["hcache", "audit", "--ignore=a,,b", "a"].as_slice(), BAD_IGNORE),
+        (
+            ["hcache", "audit", "--slack", "+5", "a"].as_slice(),
+            BAD_SLACK,
+        ),
+        (
+            ["hcache", "audit", "--ignore=a,,b", "a"].as_slice(),
+            BAD_IGNORE,
+        ),
     ] {
         answers(&rt, words, 64, "", faults);
     }
@@ -320,14 +357,16 @@ fn a_mistake_ends_with_its_own_status(rt: HostRuntime) {
 fn is_refused(rt: &(impl Abort + AllocGlobal + Files + Input), words: &[&str]) {
     let mut said = Vec::new(rt.alloc());
     let mut wrong = Vec::new(rt.alloc());
-    assert_eq!(rt;
-        answered(rt, words, &mut said, &mut wrong),
-        64,
-        "{words:?}"
-    );
+    assert_eq!(rt; answered(rt, words, &mut said, &mut wrong), 64, "{words:?}");
     assert!(rt; said.is_empty(), "{words:?}");
     let usage = b"\nUsage: hcache audit ".as_slice();
-    assert!(rt; wrong.as_slice().windows(usage.len()).any(|text| text == usage), "{words:?}");
+    assert!(rt;
+        wrong
+            .as_slice()
+            .windows(usage.len())
+            .any(|text| text == usage),
+        "{words:?}"
+    );
 }
 
 #[test]
@@ -374,13 +413,30 @@ fn is_ordered(
 fn these_words_are_taken(rt: HostRuntime) {
     for (words, slack, ignored, unmarked) in [
         (
-            ["hcache", "audit", "--slack", "2147483648", "--ignore=X-Two", "a"].as_slice(),
+            [
+                "hcache",
+                "audit",
+                "--slack",
+                "2147483648",
+                "--ignore=X-Two",
+                "a",
+            ]
+            .as_slice(),
             2_147_483_648,
             b"x-two".as_slice(),
             UnmarkedReplies::Allow,
         ),
         (
-            ["hcache", "audit", "a", "--ignore", "one,Two", "--errors-only", "--slack=07"].as_slice(),
+            [
+                "hcache",
+                "audit",
+                "a",
+                "--ignore",
+                "one,Two",
+                "--errors-only",
+                "--slack=07",
+            ]
+            .as_slice(),
             7,
             b"two".as_slice(),
             UnmarkedReplies::ErrorsOnly,

@@ -1,4 +1,4 @@
-use Rattle.std.proofs.Common.{◌≡◌, map}
+use Rattle.std.proofs.Common.{map}
 use Rattle.std.proofs.lemmas.Result.{err_from_is_err_and}
 use Rattle.clap.specs.Words.{subcommand_rows_of}
 use Rattle.hc_command.proofs.ArgumentLemmas.{asks_from, audit_at_err, audit_at_ok, given_from, outside_from, refused_from, taken_from}
