@@ -33,7 +33,7 @@ settled_by Failed = None
 abbrev pub settled : {I : Type 0} → Auditor I → Option Verdict
 settled auditor = settled_by auditor.stage
 
--- how many octets it was fed and has not judged yet: none where a verdict stands, or a fault was answered
+-- how many octets wait to be judged: none where a verdict stands, or a fault was answered
 abbrev pub rest_by : {I : Type 0} → Stage I → ℕ
 rest_by (Open judge) = unread judge.reader
 rest_by (Settled verdict) = 0

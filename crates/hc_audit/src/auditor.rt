@@ -26,8 +26,8 @@ enum Stage<I> {
     Failed,
 }
 
-/// Audits a transcript that comes in pieces. It judges each record once it is whole, and keeps no more
-/// of the octets than those of a record that isn't whole yet.
+/// Audits a transcript that comes in pieces. It judges each record once it is whole, so that
+/// only the octets of a record that isn't whole yet wait.
 #[derive(Drop)]
 pub struct Auditor<I> {
     stage: Stage<I>,
@@ -74,7 +74,7 @@ impl<I: Index + Drop> Auditor<I> {
         }
     }
 
-    /// How many octets were fed and aren't judged yet.
+    /// How many octets wait to be judged, 0 where a verdict stands or a fault was answered.
     pub fn rest(&self) -> usize
         ensures { result ≡ rest self.now }
     {
@@ -90,7 +90,7 @@ impl<I: Index + Drop> Auditor<I> {
         ensures value { option_map (λ verdict. verdict.now) result ≡ settled self.now }
         ensures stands { (settings : Settings) (octets : List ℕ) → Agrees I.seen self.now settings octets
             → IfSome result (λ verdict. Stands verdict.now settings octets) }
-        // Where there is none, other octets behind those that were fed may still give another verdict.
+        // Where there is none, the verdict on the octets so far is a Yes or Torn.
         ensures open { (settings : Settings) (octets : List ℕ) (verdict : Verdict) → Agrees I.seen self.now settings octets
             → result ≡ None → IsVerdict octets settings verdict → MayChange verdict }
         ensures failed { HasFailed self.now → result ≡ None }

@@ -9,5 +9,6 @@ mod kept;
 mod list_index;
 mod lives;
 
+pub use hc_history::{Finding, MarkedReply, Reason, Settings};
 pub use index::Index;
 pub use list_index::ListIndex;
