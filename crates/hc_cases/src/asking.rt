@@ -3,6 +3,7 @@ ghost use Rattle.std.specs.Prelude.{◌≡◌};
 ghost use Rattle.hc_cases.specs.declared.asking.Unanswered.TheVariants.{Memory};
 
 use std::alloc::{AllocError, AllocFailed, Global};
+use std::io;
 
 /// Why a case has no answer.
 #[derive(Clone, Copy, Debug, PartialEq, Eq)]
@@ -42,5 +43,14 @@ impl<T: Drop> From<AllocFailed<T>> for Unanswered {
 
     fn from(_error: AllocFailed<T>) -> Unanswered {
         Unanswered::Memory
+    }
+}
+
+impl From<io::Error> for Unanswered {
+    fn from(error: io::Error) -> Unanswered {
+        match error.kind() {
+            io::ErrorKind::OutOfMemory => Unanswered::Memory,
+            _ => Unanswered::Unreadable,
+        }
     }
 }

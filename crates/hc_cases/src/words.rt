@@ -2,27 +2,19 @@
 
 use crate::asking::Unanswered;
 use crate::escapes::unescaped;
+use std::fs;
 use std::rt::Files;
-use std::{fs, io};
 
 /// The octets that a part stands for: those of a file for `@NAME`, a text so many times for
 /// `*COUNT:TEXT`, with others around it for `*COUNT:TEXT:BEFORE:BEHIND`, and else those of the text.
 pub fn octets_of<R: Files + AllocGlobal>(rt: &R, part: &str) -> Result<Vec<u8>, Unanswered> {
     if let Some(name) = part.strip_prefix('@') {
-        return read(rt, name);
+        return Ok(fs::read(rt, name)?);
     }
     match part.strip_prefix('*') {
         Some(recipe) => repeated(rt, recipe),
         None => unescaped(rt.alloc(), part.as_bytes()),
     }
-}
-
-// The octets of a file.
-fn read<R: Files + AllocGlobal>(rt: &R, name: &str) -> Result<Vec<u8>, Unanswered> {
-    fs::read(rt, name).map_err(|error| match error.kind() {
-        io::ErrorKind::OutOfMemory => Unanswered::Memory,
-        _ => Unanswered::Unreadable,
-    })
 }
 
 // The octets of a recipe: what stands before, the text so many times, and what stands behind.

@@ -15,4 +15,4 @@ mod trouble;
 pub use arguments::{Order, parsed};
 pub use auditing::audit;
 pub use line::verdict_line;
-pub use run::{answered, status};
+pub use run::{answered, shown, status};

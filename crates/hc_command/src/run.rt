@@ -92,8 +92,9 @@ where
     }
 }
 
-// Shows an error of the parse: help and the version on `output`, and a mistake on `faults`.
-fn shown<W: Write, E: Write>(error: &Error, output: &mut W, faults: &mut E) -> u8
+/// Shows an error of the parse: help and the version on `output`, and a mistake on `faults`. Answers the
+/// exit status.
+pub fn shown<W: Write, E: Write>(error: &Error, output: &mut W, faults: &mut E) -> u8
     ensures status { IsErrorStatus (kind_of error.now) result }
     ensures mistake { result ≡ 64 → Keeps (W.contents output.old) (W.contents output.new) }
     ensures asked { result ≡ 0 → Keeps (E.contents faults.old) (E.contents faults.new) }

@@ -3,8 +3,8 @@
 use crate::changes::{say_changed, say_cuts, say_each, say_fronts, say_replaced};
 use crate::marking::say_mark;
 use crate::names::{say_audit_faults, say_faults, say_reasons};
-use crate::settings::{plain, say_ignored, settings_of};
 use crate::tellers::Teller;
+use crate::words::{plain_words, say_ignored, words_of};
 use crate::writing::say_written;
 use hc_cases::{Ask, Unanswered};
 use std::alloc::Global;
@@ -38,38 +38,36 @@ fn answer_of(
     out: &mut String,
 ) -> Result<(), Unanswered> {
     let (octets, parts) = about.split_first().ok_or(Unanswered::Unknown)?;
+    let octets = octets.as_slice();
     match question {
-        "mark" => say_mark(alloc, octets.as_slice(), out),
-        "ignored" => say_ignored(alloc, octets.as_slice(), parts, out),
-        "judge" => {
-            let settings = settings_of(alloc, parts)?;
-            Teller::Judge(&settings).tell(alloc, &[octets.as_slice()], out)
+        "mark" => say_mark(alloc, octets, out),
+        "ignored" => say_ignored(alloc, octets, parts, out),
+        "audit each" => say_each(alloc, octets, parts, out),
+        "audit" => {
+            let words = words_of(alloc, parts)?;
+            Teller::Program(words.as_slice()).tell(alloc, &[octets], out)
         }
-        _ => {
-            let (who, how) = question.split_once(' ').unwrap_or((question, "whole"));
-            let settings = plain(alloc);
-            let teller = Teller::named(who, &settings).ok_or(Unanswered::Unknown)?;
-            tell(alloc, &teller, how, octets.as_slice(), parts, out)
-        }
+        "records" => Teller::Reader.tell(alloc, &[octets], out),
+        _ => tell(alloc, question, octets, parts, out),
     }
 }
 
-// Writes what is told of the octets, or of parts and changes of them.
+// Writes what is told of parts and changes of the octets.
 fn tell(
     alloc: Global,
-    teller: &Teller<'_>,
-    how: &str,
+    question: &str,
     octets: &[u8],
     parts: &[Vec<u8>],
     out: &mut String,
 ) -> Result<(), Unanswered> {
+    let (who, how) = question.split_once(' ').ok_or(Unanswered::Unknown)?;
+    let words = plain_words(alloc)?;
+    let teller = Teller::named(who, words.as_slice()).ok_or(Unanswered::Unknown)?;
     match how {
-        "whole" => teller.tell(alloc, &[octets], out),
-        "cuts" => say_cuts(alloc, teller, octets, out),
-        "each" => say_each(alloc, teller, octets, parts, out),
-        "replaced" => say_replaced(alloc, teller, octets, parts, out),
-        "fronts" => say_fronts(alloc, teller, octets, parts, out),
-        "changed" => say_changed(alloc, teller, octets, parts, out),
+        "cuts" => say_cuts(alloc, &teller, octets, out),
+        "replaced" => say_replaced(alloc, &teller, octets, parts, out),
+        "fronts" => say_fronts(alloc, &teller, octets, parts, out),
+        "changed" => say_changed(alloc, &teller, octets, parts, out),
         _ => Err(Unanswered::Unknown),
     }
 }

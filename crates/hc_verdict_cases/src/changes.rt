@@ -1,7 +1,9 @@
 //! What is told of parts and changes of a transcript.
 
+use crate::program::Audited;
 use crate::runs::Runs;
 use crate::tellers::Teller;
+use crate::words::plain_words;
 use hc_cases::Unanswered;
 use hc_fields::number;
 use std::alloc::{AllocError, Global};
@@ -120,10 +122,10 @@ fn with_octet(
     Ok(changed)
 }
 
-/// Writes how often something is told of the octets where one of them is one of those of the part.
+/// Writes how often the program gives a verdict, and judge the same, on the octets where one of them is
+/// one of those of the part.
 pub fn say_each(
     alloc: Global,
-    teller: &Teller<'_>,
     octets: &[u8],
     parts: &[Vec<u8>],
     out: &mut String,
@@ -131,26 +133,27 @@ pub fn say_each(
     let [others] = parts else {
         return Err(Unanswered::Unknown);
     };
+    let words = plain_words(alloc)?;
     let mut count = 0u64;
     for other in others.as_slice() {
-        count = count.saturating_add(count_told(alloc, teller, octets, *other)?);
+        count = count.saturating_add(count_judged_so(alloc, words.as_slice(), octets, *other)?);
     }
-    write!(out, "{count} told")?;
+    write!(out, "{count} verdicts")?;
     Ok(())
 }
 
-// How often something is told of the octets where one of them is another.
-fn count_told(
+// How often there is a verdict, and judge's is the same, where one of the octets is another.
+fn count_judged_so(
     alloc: Global,
-    teller: &Teller<'_>,
+    words: &[&str],
     octets: &[u8],
     other: u8,
 ) -> Result<u64, Unanswered> {
     let mut count = 0u64;
     for place in 0..octets.len() {
         let changed = with_octet(alloc, octets, place, other)?;
-        let answer = told(alloc, teller, &[changed.as_slice()])?;
-        count = count.saturating_add(u64::from(!answer.is_empty()));
+        let audited = Audited::by(alloc, words, &[changed.as_slice()])?;
+        count = count.saturating_add(u64::from(audited.is_judged_so()));
     }
     Ok(count)
 }

@@ -1,27 +1,38 @@
-//! The cases of transcripts: what is said of each of those that `cases.txt` lists, a line a case.
+//! The cases of transcripts: what is said of each of those that `cases.txt` lists, a line a case; or of those of a
+//! folder, where one is named: a line for each of which the program and judge say different things, or the program
+//! something else than is wanted, and how many agree.
 #![tactic(auto)]
 
 mod answers;
 mod changes;
+mod folder;
 mod marking;
 mod names;
+mod pieces;
+mod program;
 mod records;
 mod runs;
-mod settings;
 mod tellers;
-mod verdict_line;
+mod words;
 mod writing;
 
 use crate::answers::Transcripts;
 use std::process::ExitCode;
+use std::rt::Env;
+use std::{env, io};
 
 fn main(rt: HostRuntime) -> ExitCode {
-    let status = hc_cases::status(
-        &rt,
-        &Transcripts,
-        "cases.txt",
-        &mut rt.stdout(),
-        &mut rt.stderr(),
-    );
+    let mut output = rt.stdout();
+    let mut faults = rt.stderr();
+    let status = match first_argument(&rt) {
+        Ok(Some(folder)) => folder::status(&rt, folder.as_str(), &mut output, &mut faults),
+        Ok(None) => hc_cases::status(&rt, &Transcripts, "cases.txt", &mut output, &mut faults),
+        Err(_) => 1,
+    };
     ExitCode::from(status)
+}
+
+// The program's first argument, if it has one.
+fn first_argument<R: Env + AllocGlobal>(rt: &R) -> io::Result<Option<String>> {
+    Ok(env::args(rt)?.nth(1))
 }

@@ -47,11 +47,7 @@ pub fn say_faults(out: &mut String) -> Result<(), AllocError> {
 
 /// Writes why the auditor gives no verdict.
 pub fn say_audit_faults(out: &mut String) -> Result<(), AllocError> {
-    for fault in [
-        AuditFault::Memory,
-        AuditFault::Failed,
-        AuditFault::Unsupported(6),
-    ] {
+    for fault in [AuditFault::Memory, AuditFault::Failed] {
         say(fault.number(), fault.name(), out)?;
         write!(out, ": {fault}")?;
     }

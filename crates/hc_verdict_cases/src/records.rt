@@ -1,9 +1,11 @@
 //! The records of a transcript.
 
-use crate::verdict_line::say_fault;
+use crate::program::without_line_feed;
 use hc_cases::{Unanswered, show_short};
+use hc_command::verdict_line;
 use hc_framing::Message;
 use hc_head::{ResponseHead, Target};
+use hc_history::Verdict;
 use hc_transcript::{Meaning, OwnedItem, RecordFault, RecordReader};
 use std::alloc::{AllocError, Global};
 use std::fmt::Write;
@@ -15,7 +17,7 @@ pub fn say_records(alloc: Global, pieces: &[&[u8]], out: &mut String) -> Result<
         say_piece(&mut reader, piece, out)?;
     }
     let ended = reader.finish();
-    say_end(&reader, ended, out)
+    say_end(alloc, &reader, ended, out)
 }
 
 // Writes the records that end in the next piece; no more do than it has octets. A fault is met again
@@ -43,6 +45,7 @@ fn say_next(reader: &mut RecordReader, out: &mut String) -> Result<bool, AllocEr
 }
 
 fn say_end(
+    alloc: Global,
     reader: &RecordReader,
     ended: Result<(), RecordFault>,
     out: &mut String,
@@ -52,7 +55,10 @@ fn say_end(
     match ended {
         Ok(()) => write!(out, "records={records} position={position}")?,
         Err(RecordFault::Memory) => return Err(Unanswered::Memory),
-        Err(fault) => say_fault(position, fault, out)?,
+        Err(fault) => {
+            let line = verdict_line(alloc, &Verdict::Malformed(position, fault))?;
+            out.push_str(without_line_feed(line.as_str()))?;
+        }
     }
     Ok(())
 }

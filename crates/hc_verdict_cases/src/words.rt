@@ -1,0 +1,49 @@
+//! The words of command lines.
+
+use hc_cases::Unanswered;
+use hc_command::parsed;
+use std::alloc::{AllocError, Global};
+
+/// What the transcript is called, where the program has to name it.
+const FILE: &str = "transcript";
+
+/// The words that ask for an audit without options.
+pub fn plain_words<'a>(alloc: Global) -> Result<Vec<&'a str>, AllocError> {
+    let mut words = Vec::new(alloc);
+    for word in ["hcache", "audit", FILE] {
+        words.push(word)?;
+    }
+    Ok(words)
+}
+
+/// The words that ask for an audit by the parts of a case, each of them a word.
+pub fn words_of(alloc: Global, parts: &[Vec<u8>]) -> Result<Vec<&str>, Unanswered> {
+    let mut words = plain_words(alloc)?;
+    for part in parts {
+        match str::from_utf8(part.as_slice()) {
+            Ok(word) => words.push(word)?,
+            Err(_) => return Err(Unanswered::Unknown),
+        }
+    }
+    Ok(words)
+}
+
+/// Writes whether a name is among those that the words, the parts, ignore.
+pub fn say_ignored(
+    alloc: Global,
+    name: &[u8],
+    parts: &[Vec<u8>],
+    out: &mut String,
+) -> Result<(), Unanswered> {
+    let words = words_of(alloc, parts)?;
+    let Ok(order) = parsed(alloc, words.as_slice()) else {
+        return Err(Unanswered::Unknown);
+    };
+    let answer = if order.settings.ignored.contains(name) {
+        "yes"
+    } else {
+        "no"
+    };
+    out.push_str(answer)?;
+    Ok(())
+}
