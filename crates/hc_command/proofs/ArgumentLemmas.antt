@@ -2,7 +2,7 @@
 use Rattle.std.proofs.Common.{◌≡◌, ◌∙◌, ℕ, List, [], ◌∷◌, Option, None, Some, ap, inl, inr, refl, rules, sym, subst, true, false, codes, nat_eq, option_and_then, option_map}
 use Rattle.std.specs.Str.{bytes_eq}
 use Rattle.clap.specs.Lexer.{long_of, short_of}
-use Rattle.clap.specs.Words.{App, HasKind, HasMatchesOf, Row, Text, app_of, fault_of, first_of, first_value, is_simple, is_simple_and_free, kind_of}
+use Rattle.clap.specs.Words.{App, HasKind, HasMatchesOf, Kinds, Row, Text, app_of, fault_of, first_of, first_value, is_simple, is_simple_and_free, kind_of}
 use Rattle.clap.specs.Words.{rows_of, subcommand_of, subcommand_rows_of}
 use Rattle.clap.specs.declared.parser.matches.ArgMatches.{ArgMatches}
 use Rattle.clap.specs.declared.parser.matches.Found.{Found}
@@ -53,6 +53,26 @@ pub outside_from : (given : Option (Text × List Row)) (words : List Text) (refu
     → RefusesIn given refusal → refused_kind refusal ≡ Some (kind_of e) → IsRefused words e
 outside_from given words refusal e is refuses kind =
     inr (record { refusal = refusal; refuses = subst (λ g. RefusesIn g refusal) is refuses; kind_is = kind })
+
+-- words that ask something are refused for want of memory alone
+none_is_some : {A : Type 0} (o : Option A) (a : A) → o ≡ None → o ≡ Some a → ⊥
+none_is_some o a none some = cc
+
+pub asked_from : (words : List Text) (file : Text) (settings : Settings) (e : Error) → fault_of hcache words ≡ [] → Asks words file settings
+    → IsRefused words e → kind_of e ≡ OutOfMemory
+asked_from words file settings e none asks refused = elim refused [
+  | inl has ↦ elim (subst (λ (kinds : Kinds). HasKind kinds e) none has) [
+    | inl memory ↦ memory
+    | inr among ↦ absurd among
+  ]
+  | inr outside ↦ absurd (never outside.refusal outside.refuses outside.kind_is)
+]
+  where
+    never : (refusal : Refusal) → RefusesIn (subcommand_of hcache words) refusal → refused_kind refusal ≡ Some (kind_of e) → ⊥
+    never Memory refuses kind = cc
+    never File refuses kind = none_is_some _ _ refuses asks.file_is
+    never Slack refuses kind = none_is_some _ _ refuses asks.slack_is
+    never Ignore refuses kind = none_is_some _ _ refuses asks.ignored_is
 
 -- what is read of the rows alone
 of_rows : (f : List Row → Option Text) (p : Option (Text × List Row))

@@ -1,9 +1,10 @@
 //! What the program does, over any system and any two writers.
 ghost use Rattle.std.specs.Prelude.{◌≡◌, ◌∷◌, [], codes, map};
 ghost use Rattle.std.specs.Io.KnownBytes.{Keeps};
-ghost use Rattle.clap.specs.Words.{Text, kind_of};
+ghost use Rattle.clap.specs.Words.{Text, fault_of, kind_of};
+ghost use Rattle.hc_history.specs.declared.settings.Settings.{Settings};
 ghost use Rattle.hc_command.specs.Audit.{Answers, Ends};
-ghost use Rattle.hc_command.specs.Command.{IsErrorStatus, IsFileWord};
+ghost use Rattle.hc_command.specs.Command.{Asks, IsErrorStatus, IsFileWord, hcache};
 
 use crate::arguments::{Order, not_text, parsed};
 use crate::auditing::audit;
@@ -57,6 +58,12 @@ where
     // `audit FILE` is answered by an audit, and by no usage error.
     ensures audit { (name file : Text) → IsFileWord file
         → map S.text words.now ≡ name ∷ codes "audit" ∷ file ∷ []
+        → Answers result (W.contents output.old) (W.contents output.new)
+        (E.contents faults.old) (E.contents faults.new) }
+
+    // So are other words that ask for one, and have no fault.
+    ensures asked { (file : Text) (settings : Settings) → fault_of hcache (map S.text words.now) ≡ []
+        → Asks (map S.text words.now) file settings
         → Answers result (W.contents output.old) (W.contents output.new)
         (E.contents faults.old) (E.contents faults.new) }
     ensures ends { Ends result (W.contents output.old) (W.contents output.new)
