@@ -1,4 +1,3 @@
-use Rattle.std.proofs.Common.{arith, rules}
 use Rattle.hc_bench.proofs.AuditingLemmas.{not_right, not_right_by_count}
 use Rattle.hc_bench.proofs.auditing.audited.Goals as goal
 
