@@ -8,7 +8,6 @@ use Rattle.std.proofs.Math.Seq.{take-add}
 use Rattle.hc_head.specs.declared.head.Room.{Room}
 use Rattle.hc_framing.specs.declared.fault.FrameFault.{FrameFault}
 use Rattle.hc_framing.specs.declared.fault.FrameFault.TheVariants as faults
-use Rattle.hc_framing.specs.declared.framing.Framing.{Framing}
 use Rattle.hc_framing.specs.declared.kind.Kind.{Kind}
 use Rattle.hc_framing.specs.declared.message.Message.{Message}
 use Rattle.hc_framing.specs.declared.progress.Progress.{Progress}
