@@ -1,11 +1,9 @@
 -- What the lists of an index tell of a reply.
-use Rattle.std.proofs.Common.{◌≡◌, ℕ, ◌+◌, ◌≤◌, ◌<◌, Bool, true, false, ◌||◌, cond, List, [], ◌∷◌, length, get_or, drop, max, Option, Some, refl, sym, ap, subst, ◌∙◌, arith}
+use Rattle.std.proofs.Common.{◌≡◌, ℕ, ◌≤◌, ◌<◌, Bool, true, false, ◌||◌, cond, List, [], ◌∷◌, ◌++◌, length, max, Option, Some, None, Ok, Err, refl, sym, ap, subst, ◌∙◌, arith}
 use Rattle.std.specs.Prelude.{filter, map, Result, IfOk}
-use Rattle.std.specs.Option.{option_map}
 use Rattle.std.specs.declared.alloc.AllocError.{AllocError}
 use Rattle.std.specs.List.{list_any}
 use Rattle.std.proofs.lemmas.Bool.{lt-ltb}
-use Rattle.std.proofs.lemmas.List.{at_drop_more, at_drop_all}
 use Rattle.hc_head.specs.declared.head.Target.{Target}
 use Rattle.hc_head.specs.Targets.{same_target}
 use Rattle.hc_head.specs.declared.head.ResponseHead.{ResponseHead}
@@ -22,16 +20,14 @@ use Rattle.hc_history.specs.Forwarded.{carries, is_forwarded}
 use Rattle.hc_history.specs.Furthest.{passed, passed_later, furthest, furthest_live}
 use Rattle.hc_history.specs.Reused.{anywhere, filter_count}
 use Rattle.hc_history.specs.Right.{IsFoundBy, IsFinding}
-use Rattle.hc_history.specs.Seen.{IsSeenAs, live_of, responses_since, window_responses_of}
+use Rattle.hc_history.specs.Seen.{Seen, IsSeenAs, WindowResponse, live_of, responses_since, window_responses_of}
 use Rattle.hc_history.proofs.TargetLemmas.{same_target_one}
 use Rattle.hc_history.proofs.WindowLemmas.{carried}
 use Rattle.hc_history.proofs.FurthestLemmas.{passed_few}
 use Rattle.hc_history.proofs.LiveLemmas.{passed_other, furthest_is_live, HavePositions, live_positions}
 use Rattle.hc_index.specs.declared.kept.LiveResponse.{LiveResponse}
 use Rattle.hc_index.specs.declared.kept.WindowAnswer.{WindowAnswer}
-use Rattle.hc_index.specs.declared.kept.OpenExchange.{OpenExchange}
-use Rattle.hc_index.specs.declared.list_index.ListIndex.{ListIndex}
-use Rattle.hc_index.specs.Lists.{live_seen, answer_seen, exchange_seen, window_seen, live_in, open_in, window_of, seen_in}
+use Rattle.hc_index.specs.Lists.{live_seen, answer_seen, carried_by, live_in}
 
 -- ---- the most filters that one live response passes
 
@@ -87,28 +83,44 @@ most_is_furthest claim lives h are =
     ∙ ap (furthest_live anywhere claim) are
     ∙ furthest_is_live anywhere claim h
 
-most_at : (claim : Claim) (lives : List LiveResponse) (i : ℕ) (live : LiveResponse) → i < length lives → live ≡ get_or lives i live
-    → most_passed claim (drop i lives) ≡ max (passed_live claim live) (most_passed claim (drop (i + 1) lives))
-most_at claim lives i live lt is =
-    at_drop_more (most_passed claim) lives i live lt
-    ∙ ap (λ (l : LiveResponse). max (passed_live claim l) (most_passed claim (drop (i + 1) lives))) (sym is)
+most_append : (claim : Claim) (xs ys : List LiveResponse) → most_passed claim (xs ++ ys) ≡ max (most_passed claim xs) (most_passed claim ys)
+most_append claim [] ys = omega arith
+most_append claim (x ∷ xs) ys = omega (arith, most_append claim xs ys)
+
+most_last : (claim : Claim) (earlier : List LiveResponse) (live : LiveResponse)
+    → most_passed claim (earlier ++ live ∷ []) ≡ max (most_passed claim earlier) (passed_live claim live)
+most_last claim earlier live = omega (arith, most_append claim earlier (live ∷ []))
+
+-- the most so far and the most of what is left, of all those that are looked at
+abbrev pub IsMost : Claim → List LiveResponse → ℕ → List LiveResponse → Type 0
+IsMost claim lives most left = max most (most_passed claim left) ≡ most_passed claim lives
+
+pub most_at_first : (claim : Claim) (lives left : List LiveResponse) → left ≡ lives → IsMost claim lives 0 left
+most_at_first claim lives left is = omega (arith, ap (most_passed claim) is)
+
+pub most_goes_on : (claim : Claim) (lives left earlier : List LiveResponse) (most here more : ℕ) (live : LiveResponse) → IsMost claim lives most left
+    → left ≡ earlier ++ live ∷ [] → here ≡ passed_live claim live → more ≡ max most here → IsMost claim lives more earlier
+most_goes_on claim lives left earlier most here more live so_far last is greater =
+    omega (arith, so_far, ap (most_passed claim) last, most_last claim earlier live, is, greater)
 
 -- where one passes them all, nobody passes more
-pub full_is_furthest : (claim : Claim) (lives : List LiveResponse) (i most here : ℕ) (live : LiveResponse) (h : List Item)
-    → i < length lives → live ≡ get_or lives i live
-    → max most (most_passed claim (drop i lives)) ≡ most_passed claim lives
-    → here ≡ passed_live claim live → here ≡ filter_count
+pub full_is_furthest : (claim : Claim) (lives left earlier : List LiveResponse) (most here : ℕ) (live : LiveResponse) (h : List Item) → IsMost claim lives most left
+    → left ≡ earlier ++ live ∷ [] → here ≡ passed_live claim live → here ≡ filter_count
     → live_in claim.target lives ≡ live_of claim.target h → here ≡ furthest anywhere claim h
-full_is_furthest claim lives i most here live h lt is so_far here-is full are =
-    let nobody_more : here ≡ most_passed claim lives = omega (arith, so_far, here-is, full, most_at claim lives i live lt is, most_few claim lives) in
+full_is_furthest claim lives left earlier most here live h so_far last is full are =
+    let nobody_more : here ≡ most_passed claim lives =
+    omega (arith, so_far, ap (most_passed claim) last, most_last claim earlier live, is, full, most_few claim lives) in
     nobody_more ∙ most_is_furthest claim lives h are
 
+none_left : (claim : Claim) (left : List LiveResponse) → length left ≡ 0 → most_passed claim left ≡ 0
+none_left claim [] none = refl
+none_left claim (live ∷ lives) none = omega (arith, none)
+
 -- behind the last one, the most so far is the most of all
-pub end_is_furthest : (claim : Claim) (lives : List LiveResponse) (i most : ℕ) (h : List Item) → length lives ≤ i
-    → max most (most_passed claim (drop i lives)) ≡ most_passed claim lives
+pub end_is_furthest : (claim : Claim) (lives left : List LiveResponse) (most : ℕ) (h : List Item) → IsMost claim lives most left → length left ≡ 0
     → live_in claim.target lives ≡ live_of claim.target h → most ≡ furthest anywhere claim h
-end_is_furthest claim lives i most h le so_far are =
-    let nothing_left : most ≡ most_passed claim lives = omega (arith, so_far, at_drop_all (most_passed claim) lives i le) in
+end_is_furthest claim lives left most h so_far none are =
+    let nothing_left : most ≡ most_passed claim lives = omega (arith, so_far, none_left claim left none) in
     nothing_left ∙ most_is_furthest claim lives h are
 
 -- ---- what the window holds
@@ -123,33 +135,45 @@ any_seen claim [] = refl
 any_seen claim (answer ∷ window) = ap (λ (b : Bool). carries_answer claim answer || b) (any_seen claim window)
 
 -- the window tells whether the reply carries a response of it
-pub window_tells : (claim : Claim) (window : List WindowAnswer) (h : List Item) (b : Bool) → map answer_seen window ≡ responses_since claim.target claim.since h
-    → b ≡ list_any (λ answer. carries claim answer.method answer.status answer.body) window → is_forwarded claim h ≡ b
+pub window_tells : (claim : Claim) (mark : Mark) (window : List WindowResponse) (h : List Item) (b : Bool) → window ≡ responses_since claim.target claim.since h
+    → b ≡ carried_by mark (list_any (λ one. carries claim one.method one.status one.body) window) → carried_by mark (is_forwarded claim h) ≡ b
+window_tells claim mark window h b are is =
+    ap (carried_by mark) (carried claim h ∙ ap (list_any (λ one. carries claim one.method one.status one.body)) (sym are)) ∙ sym is
+
+-- the answers tell what is seen of them
+pub answers_tell : (claim : Claim) (mark : Mark) (window : List WindowAnswer) (b : Bool)
+    → b ≡ carried_by mark (list_any (λ answer. carries claim answer.method answer.status answer.body) window)
+    → b ≡ carried_by mark (list_any (λ one. carries claim one.method one.status one.body) (map answer_seen window))
 unfolding carries_answer
-window_tells claim window h b are is =
-    carried claim h
-    ∙ ap (list_any (λ one. carries claim one.method one.status one.body)) (sym are)
-    ∙ any_seen claim window
-    ∙ sym is
+answers_tell claim mark window b is = is ∙ ap (carried_by mark) (sym (any_seen claim window))
 
 -- ---- what is found
 
 -- what is found of a claim that is the reply's, is found of the reply
-pub finding_is : (index : ListIndex) (settings : Settings) (number moment : ℕ) (reply : Message ResponseHead) (h : List Item)
-    (exchange : OpenExchange) (mark : Mark) (claim : Claim) (found : Result Finding AllocError)
-    → IsSeenAs (seen_in index) h → Some exchange ≡ open_in number index.exchanges.items
-    → mark ≡ reply_mark reply → claim ≡ claim_of settings (exchange_seen exchange) moment reply h
-    → (live_in claim.target index.lives.items ≡ live_of claim.target h → window_seen exchange ≡ responses_since claim.target claim.since h
+pub found_of_reply : (seen : Seen) (settings : Settings) (number moment : ℕ) (reply : Message ResponseHead) (h : List Item)
+    (exchange : Exchange) (mark : Mark) (claim : Claim) (found : Result Finding AllocError)
+    → IsSeenAs seen h → Some exchange ≡ seen.exchange number
+    → mark ≡ reply_mark reply → claim ≡ claim_of settings exchange moment reply h
+    → (seen.live claim.target ≡ live_of claim.target h → seen.window number ≡ responses_since claim.target claim.since h
     → IfOk found (IsFoundBy mark claim h))
     → IfOk found (IsFinding settings (exchange_of number h) moment reply h)
-finding_is index settings number moment reply h exchange mark claim found seen is mark-is claim-is by =
-    let its_claim = claim_of settings (exchange_seen exchange) moment reply h in
-    let there : exchange_of number h ≡ Some (exchange_seen exchange) = sym (seen.exchange number) ∙ ap (option_map exchange_seen) (sym is) in
-    let window : window_seen exchange ≡ responses_since exchange.target exchange.position h =
-    ap window_of is ∙ seen.window number ∙ ap (λ (o : Option Exchange). window_responses_of o h) there in
-    let lives : live_in claim.target index.lives.items ≡ live_of claim.target h = seen.live claim.target in
-    let its_window : window_seen exchange ≡ responses_since claim.target claim.since h =
-    subst (λ (k : Claim). window_seen exchange ≡ responses_since k.target k.since h) (sym claim-is) window in
-    let by_claim = subst (λ (k : Claim). IfOk found (IsFoundBy mark k h)) claim-is (by lives its_window) in
+found_of_reply seen settings number moment reply h exchange mark claim found one is mark-is claim-is by =
+    let its_claim = claim_of settings exchange moment reply h in
+    let there : exchange_of number h ≡ Some exchange = sym (one.exchange number) ∙ sym is in
+    let window : seen.window number ≡ responses_since exchange.target exchange.position h =
+    one.window number ∙ ap (λ (o : Option Exchange). window_responses_of o h) there in
+    let its_window : seen.window number ≡ responses_since claim.target claim.since h =
+    subst (λ (k : Claim). seen.window number ≡ responses_since k.target k.since h) (sym claim-is) window in
+    let by_claim = subst (λ (k : Claim). IfOk found (IsFoundBy mark k h)) claim-is (by (one.live claim.target) its_window) in
     let by_mark = subst (λ (m : Mark). IfOk found (IsFoundBy m its_claim h)) mark-is by_claim in
     subst (λ (o : Option Exchange). IfOk found (IsFinding settings o moment reply h)) (sym there) by_mark
+
+-- where no exchange of the number is seen, anything may be found
+pub found_of_none : (seen : Seen) (settings : Settings) (number moment : ℕ) (reply : Message ResponseHead) (h : List Item) (found : Result Finding AllocError)
+    → IsSeenAs seen h → seen.exchange number ≡ None → IfOk found (IsFinding settings (exchange_of number h) moment reply h)
+found_of_none seen settings number moment reply h found one none =
+    subst (λ (o : Option Exchange). IfOk found (IsFinding settings o moment reply h)) (sym none ∙ one.exchange number) (anything found)
+  where
+    anything : (found : Result Finding AllocError) → IfOk found (IsFinding settings None moment reply h)
+    anything (Ok f) = tt
+    anything (Err f) = tt

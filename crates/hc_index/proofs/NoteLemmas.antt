@@ -18,7 +18,7 @@ use Rattle.hc_history.specs.Noting.{live_answered, lives_answered, added_to_wind
 use Rattle.hc_index.specs.declared.kept.LiveResponse.{LiveResponse}
 use Rattle.hc_index.specs.declared.kept.OpenForward.{OpenForward}
 use Rattle.hc_index.specs.declared.list_index.ListIndex.{ListIndex}
-use Rattle.hc_index.specs.Lists.{exchange_seen, forward_seen, live_in, open_in, window_of, position_in, watched, watched_answered, live_response_answered, seen_in}
+use Rattle.hc_index.specs.Lists.{watched_exchange, forward_seen, live_in, open_in, window_of, position_in, watched, watched_answered, live_response_answered, seen_in}
 use Rattle.hc_index.proofs.OpenLemmas.{exchange_answered, window_answered}
 use Rattle.hc_index.proofs.LiveLemmas.{lives_answered_in}
 
@@ -75,7 +75,7 @@ notes_answer old new forward number position moment response mid a =
       exchange = λ e. exchange_answered (forward_seen forward) response e old.exchanges.items new.exchanges.items a.exchanges;
       forward = forward_replaced number None old.forwards new.forwards a.forwards;
       window = λ e. window_answered (forward_seen forward) response e old.exchanges.items new.exchanges.items a.exchanges
-          ∙ ap (λ (o : Option Forward). window_of (open_in e old.exchanges.items) ++ added_to_window (option_map exchange_seen (open_in e old.exchanges.items)) o response) is;
+          ∙ ap (λ (o : Option Forward). window_of (open_in e old.exchanges.items) ++ added_to_window (watched_exchange (open_in e old.exchanges.items)) o response) is;
       error = λ target. a.errors target
           ∙ ap (λ (o : Option Forward). cond (is_error_status response.head.status && is_forward_of target o) position (position_in target old.errors)) is;
       failure = λ target. ap (position_in target) a.failures;

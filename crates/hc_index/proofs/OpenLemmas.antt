@@ -7,30 +7,30 @@ use Rattle.hc_framing.specs.declared.message.Message.{Message}
 use Rattle.hc_transcript.specs.Items.{Exchange, Forward}
 use Rattle.hc_history.specs.Seen.{WindowResponse}
 use Rattle.hc_history.specs.Noting.{added_to_window}
-use Rattle.hc_index.specs.declared.kept.OpenExchange.{OpenExchange}
-use Rattle.hc_index.specs.Lists.{exchange_seen, open_in, window_of, Watched, watched, watched_answered}
+use Rattle.hc_index.specs.declared.kept.WatchedExchange.{WatchedExchange}
+use Rattle.hc_index.specs.Lists.{watched_exchange, open_in, window_of, Watched, watched, watched_answered}
 
 -- ---- closing
 
 -- those of other numbers
-abbrev pub others : ℕ → List OpenExchange → List OpenExchange
-others number exchanges = filter (λ exchange. not (eqb exchange.number number)) exchanges
+abbrev pub others : ℕ → List WatchedExchange → List WatchedExchange
+others number exchanges = filter (λ watched. not (eqb watched.exchange.number number)) exchanges
 
-none_of_it : (number : ℕ) (xs : List OpenExchange) → open_in number (others number xs) ≡ None
+none_of_it : (number : ℕ) (xs : List WatchedExchange) → open_in number (others number xs) ≡ None
 none_of_it number [] = refl
 none_of_it number (x ∷ xs) =
-    elim (cases_Bool (eqb x.number number)) [ inl same ↦ rw same (none_of_it number xs) | inr other ↦ rw (other, other) (none_of_it number xs) ]
+    elim (cases_Bool (eqb x.exchange.number number)) [ inl same ↦ rw same (none_of_it number xs) | inr other ↦ rw (other, other) (none_of_it number xs) ]
 
-other_kept : (x : OpenExchange) (xs kept : List OpenExchange) (number e : ℕ) (b : Bool) → (number ≡ e → ⊥) → eqb x.number number ≡ b
+other_kept : (x : WatchedExchange) (xs kept : List WatchedExchange) (number e : ℕ) (b : Bool) → (number ≡ e → ⊥) → eqb x.exchange.number number ≡ b
     → open_in e kept ≡ open_in e xs → open_in e (cond (not b) (x ∷ kept) kept) ≡ open_in e (x ∷ xs)
-other_kept x xs kept number e true ne is same = rw (ne_eqb x.number e (λ k. ne (sym (eqb-true x.number number is) ∙ k))) same
-other_kept x xs kept number e false ne is same = ap (cond (eqb x.number e) (Some x)) same
+other_kept x xs kept number e true ne is same = rw (ne_eqb x.exchange.number e (λ k. ne (sym (eqb-true x.exchange.number number is) ∙ k))) same
+other_kept x xs kept number e false ne is same = ap (cond (eqb x.exchange.number e) (Some x)) same
 
-others_kept : (number e : ℕ) (xs : List OpenExchange) → (number ≡ e → ⊥) → open_in e (others number xs) ≡ open_in e xs
+others_kept : (number e : ℕ) (xs : List WatchedExchange) → (number ≡ e → ⊥) → open_in e (others number xs) ≡ open_in e xs
 others_kept number e [] ne = refl
-others_kept number e (x ∷ xs) ne = other_kept x xs (others number xs) number e (eqb x.number number) ne refl (others_kept number e xs ne)
+others_kept number e (x ∷ xs) ne = other_kept x xs (others number xs) number e (eqb x.exchange.number number) ne refl (others_kept number e xs ne)
 
-pub closed : (number e : ℕ) (xs : List OpenExchange) → open_in e (others number xs) ≡ cond (eqb number e) None (open_in e xs)
+pub closed : (number e : ℕ) (xs : List WatchedExchange) → open_in e (others number xs) ≡ cond (eqb number e) None (open_in e xs)
 closed number e xs =
     elim (cases_eq number e) [
       | inl same ↦ rw (eq-eqb number e same) (subst (λ (n : ℕ). open_in n (others number xs) ≡ None) same (none_of_it number xs))
@@ -39,32 +39,32 @@ closed number e xs =
 
 -- ---- opening
 
-pushed_first : (p : OpenExchange → Bool) (xs : List OpenExchange) (x : OpenExchange) → find p xs ≡ None → p x ≡ true → find p (xs ++ x ∷ []) ≡ Some x
+pushed_first : (p : WatchedExchange → Bool) (xs : List WatchedExchange) (x : WatchedExchange) → find p xs ≡ None → p x ≡ true → find p (xs ++ x ∷ []) ≡ Some x
 pushed_first p [] x none is = rw is refl
 pushed_first p (y ∷ xs) x none is =
     elim (cases_Bool (p y)) [ inl same ↦ absurd (let e = rw same at none in cc) | inr other ↦ rw other (pushed_first p xs x (rw other at none) is) ]
 
-pushed_other : (p : OpenExchange → Bool) (xs : List OpenExchange) (x : OpenExchange) → p x ≡ false → find p (xs ++ x ∷ []) ≡ find p xs
+pushed_other : (p : WatchedExchange → Bool) (xs : List WatchedExchange) (x : WatchedExchange) → p x ≡ false → find p (xs ++ x ∷ []) ≡ find p xs
 pushed_other p [] x is = rw is refl
 pushed_other p (y ∷ xs) x is = ap (cond (p y) (Some y)) (pushed_other p xs x is)
 
-opened_by : (b : Bool) (e : ℕ) (xs : List OpenExchange) (x : OpenExchange) (before : Option OpenExchange) → eqb x.number e ≡ b
+opened_by : (b : Bool) (e : ℕ) (xs : List WatchedExchange) (x : WatchedExchange) (before : Option WatchedExchange) → eqb x.exchange.number e ≡ b
     → open_in e xs ≡ cond b None before → open_in e (xs ++ x ∷ []) ≡ cond b (Some x) before
-opened_by true e xs x before is left = pushed_first (λ y. eqb y.number e) xs x left is
-opened_by false e xs x before is left = pushed_other (λ y. eqb y.number e) xs x is ∙ left
+opened_by true e xs x before is left = pushed_first (λ y. eqb y.exchange.number e) xs x left is
+opened_by false e xs x before is left = pushed_other (λ y. eqb y.exchange.number e) xs x is ∙ left
 
-pub opened : (e : ℕ) (xs : List OpenExchange) (x : OpenExchange) (before : Option OpenExchange) → open_in e xs ≡ cond (eqb x.number e) None before
-    → open_in e (xs ++ x ∷ []) ≡ cond (eqb x.number e) (Some x) before
-opened e xs x before left = opened_by (eqb x.number e) e xs x before refl left
+pub opened : (e : ℕ) (xs : List WatchedExchange) (x : WatchedExchange) (before : Option WatchedExchange) → open_in e xs ≡ cond (eqb x.exchange.number e) None before
+    → open_in e (xs ++ x ∷ []) ≡ cond (eqb x.exchange.number e) (Some x) before
+opened e xs x before left = opened_by (eqb x.exchange.number e) e xs x before refl left
 
 -- ---- windows
 
 abbrev watched_in : ℕ → List Watched → Option Watched
 watched_in e xs = find (λ (w : Watched). eqb w.exchange.number e) xs
 
-found_watched : (e : ℕ) (xs : List OpenExchange) → watched_in e (map watched xs) ≡ option_map watched (open_in e xs)
+found_watched : (e : ℕ) (xs : List WatchedExchange) → watched_in e (map watched xs) ≡ option_map watched (open_in e xs)
 found_watched e [] = refl
-found_watched e (x ∷ xs) = elim (cases_Bool (eqb x.number e)) [ inl same ↦ rw same refl | inr other ↦ rw other (found_watched e xs) ]
+found_watched e (x ∷ xs) = elim (cases_Bool (eqb x.exchange.number e)) [ inl same ↦ rw same refl | inr other ↦ rw other (found_watched e xs) ]
 
 found_answered : (forward : Forward) (response : Message ResponseHead) (e : ℕ) (ws : List Watched)
     → watched_in e (map (watched_answered forward response) ws) ≡ option_map (watched_answered forward response) (watched_in e ws)
@@ -73,7 +73,7 @@ found_answered forward response e (w ∷ ws) =
     elim (cases_Bool (eqb w.exchange.number e)) [ inl same ↦ rw same refl | inr other ↦ rw other (found_answered forward response e ws) ]
 
 -- what the response makes of the exchange of a number
-found_in : (forward : Forward) (response : Message ResponseHead) (e : ℕ) (old new : List OpenExchange)
+found_in : (forward : Forward) (response : Message ResponseHead) (e : ℕ) (old new : List WatchedExchange)
     → map watched new ≡ map (watched_answered forward response) (map watched old)
     → option_map watched (open_in e new) ≡ option_map (watched_answered forward response) (option_map watched (open_in e old))
 found_in forward response e old new is =
@@ -87,11 +87,11 @@ abbrev window_watched : Option Watched → List WindowResponse
 window_watched None = []
 window_watched (Some w) = w.window
 
-seen_exchange : (o : Option OpenExchange) → option_map exchange_seen o ≡ exchange_watched (option_map watched o)
+seen_exchange : (o : Option WatchedExchange) → watched_exchange o ≡ exchange_watched (option_map watched o)
 seen_exchange None = refl
 seen_exchange (Some x) = refl
 
-seen_window : (o : Option OpenExchange) → window_of o ≡ window_watched (option_map watched o)
+seen_window : (o : Option WatchedExchange) → window_of o ≡ window_watched (option_map watched o)
 seen_window None = refl
 seen_window (Some x) = refl
 
@@ -105,16 +105,16 @@ window_grows forward response None = refl
 window_grows forward response (Some w) = refl
 
 -- the exchange stays, and its window has what the response adds
-pub exchange_answered : (forward : Forward) (response : Message ResponseHead) (e : ℕ) (old new : List OpenExchange)
+pub exchange_answered : (forward : Forward) (response : Message ResponseHead) (e : ℕ) (old new : List WatchedExchange)
     → map watched new ≡ map (watched_answered forward response) (map watched old)
-    → option_map exchange_seen (open_in e new) ≡ option_map exchange_seen (open_in e old)
+    → watched_exchange (open_in e new) ≡ watched_exchange (open_in e old)
 exchange_answered forward response e old new is =
     seen_exchange (open_in e new) ∙ ap exchange_watched (found_in forward response e old new is)
     ∙ exchange_stays forward response (option_map watched (open_in e old)) ∙ sym (seen_exchange (open_in e old))
 
-pub window_answered : (forward : Forward) (response : Message ResponseHead) (e : ℕ) (old new : List OpenExchange)
+pub window_answered : (forward : Forward) (response : Message ResponseHead) (e : ℕ) (old new : List WatchedExchange)
     → map watched new ≡ map (watched_answered forward response) (map watched old)
-    → window_of (open_in e new) ≡ window_of (open_in e old) ++ added_to_window (option_map exchange_seen (open_in e old)) (Some forward) response
+    → window_of (open_in e new) ≡ window_of (open_in e old) ++ added_to_window (watched_exchange (open_in e old)) (Some forward) response
 window_answered forward response e old new is =
     let window = sym (seen_window (open_in e old)) in
     let exchange = sym (seen_exchange (open_in e old)) in

@@ -1,5 +1,5 @@
 -- What plain lists are seen as.
-use Rattle.std.specs.Prelude.{ℕ, ◌==◌, List, [], ◌++◌, filter, find, map, Option, Some, None, if◌then◌else◌}
+use Rattle.std.specs.Prelude.{ℕ, Bool, false, ◌==◌, List, [], ◌++◌, filter, find, map, Option, Some, None, if◌then◌else◌}
 use Rattle.std.specs.Option.{option_map}
 use Rattle.std.specs.Ordering.{nat_cmp}
 use Rattle.std.specs.BTreeMap.{BTreeMap, get}
@@ -8,6 +8,8 @@ use Rattle.hc_head.specs.contracts.head.TargetOrd.TheImpl as target_order
 use Rattle.hc_head.specs.declared.head.ResponseHead.{ResponseHead}
 use Rattle.hc_head.specs.declared.head.Target.{Target}
 use Rattle.hc_head.specs.Targets.{same_target}
+use Rattle.hc_status.specs.declared.marks.Mark.{Mark}
+use Rattle.hc_status.specs.declared.marks.Mark.TheVariants.{Forwarded}
 use Rattle.hc_transcript.specs.Items.{Exchange, Forward}
 use Rattle.hc_framing.specs.declared.message.Message.{Message}
 use Rattle.hc_history.specs.States.{state_answered}
@@ -15,6 +17,7 @@ use Rattle.hc_history.specs.Seen.{Live, remaining, WindowResponse, response_to, 
 use Rattle.hc_index.specs.declared.kept.LiveResponse.{LiveResponse}
 use Rattle.hc_index.specs.declared.kept.WindowAnswer.{WindowAnswer}
 use Rattle.hc_index.specs.declared.kept.OpenExchange.{OpenExchange}
+use Rattle.hc_index.specs.declared.kept.WatchedExchange.{WatchedExchange}
 use Rattle.hc_index.specs.declared.kept.OpenForward.{OpenForward}
 use Rattle.hc_index.specs.declared.list_index.ListIndex.{ListIndex}
 
@@ -29,8 +32,8 @@ answer_seen answer = record { method = answer.method; status = answer.status; bo
 abbrev pub exchange_seen : OpenExchange → Exchange
 exchange_seen exchange = record { number = exchange.number; position = exchange.position; request = exchange.request; target = exchange.target }
 
-abbrev pub window_seen : OpenExchange → List WindowResponse
-window_seen exchange = map answer_seen exchange.window.items
+abbrev pub window_seen : WatchedExchange → List WindowResponse
+window_seen watched = map answer_seen watched.window.items
 
 abbrev pub forward_seen : OpenForward → Forward
 forward_seen forward = record { moment = forward.moment; request = forward.request; target = forward.target }
@@ -42,13 +45,13 @@ abbrev pub live_in : Target → List LiveResponse → List Live
 live_in target lives = map live_seen (filter (λ live. same_target live.target target) lives)
 
 -- the exchange of a number
-abbrev pub open_in : ℕ → List OpenExchange → Option OpenExchange
-open_in e exchanges = find (λ exchange. exchange.number == e) exchanges
+abbrev pub open_in : ℕ → List WatchedExchange → Option WatchedExchange
+open_in e exchanges = find (λ watched. watched.exchange.number == e) exchanges
 
 -- the window of an open exchange
-abbrev pub window_of : Option OpenExchange → List WindowResponse
+abbrev pub window_of : Option WatchedExchange → List WindowResponse
 window_of None = []
-window_of (Some exchange) = window_seen exchange
+window_of (Some watched) = window_seen watched
 
 -- the position that is kept of a target; 0 where none is
 abbrev pub position_or_none : Option ℕ → ℕ
@@ -78,13 +81,24 @@ pub record Watched : Type 0 where
   pub window : List WindowResponse
 
 -- what is seen of an open exchange
-abbrev pub watched : OpenExchange → Watched
-watched exchange = record { exchange = exchange_seen exchange; window = window_seen exchange }
+abbrev pub watched : WatchedExchange → Watched
+watched kept = record { exchange = exchange_seen kept.exchange; window = window_seen kept }
+
+-- the open exchange of one that is watched
+abbrev pub watched_exchange : Option WatchedExchange → Option Exchange
+watched_exchange o = option_map (λ (kept : WatchedExchange). exchange_seen kept.exchange) o
 
 -- its window has the response as well, where that is to a forward of its target
 abbrev pub watched_answered : Forward → Message ResponseHead → Watched → Watched
 watched_answered forward response seen =
     record { exchange = seen.exchange; window = seen.window ++ response_to seen.exchange.target (Some forward) response }
+
+-- ---- what a reply carries
+
+-- whether a reply with that mark went forward and carries a response of its window
+abbrev pub carried_by : Mark → Bool → Bool
+carried_by Forwarded carried = carried
+carried_by mark carried = false
 
 -- ---- all of them
 
@@ -92,7 +106,7 @@ watched_answered forward response seen =
 abbrev pub seen_in : ListIndex → Seen
 seen_in index = record {
   live = λ target. live_in target index.lives.items;
-  exchange = λ e. option_map exchange_seen (open_in e index.exchanges.items);
+  exchange = λ e. watched_exchange (open_in e index.exchanges.items);
   forward = λ f. option_map forward_seen (get nat_cmp index.forwards f);
   window = λ e. window_of (open_in e index.exchanges.items);
   error = λ target. position_in target index.errors;

@@ -3,29 +3,29 @@
 ghost use Rattle.std.specs.Prelude.{◌≡◌, ◌==◌, ℕ, Some, None, map, OnOk, if◌then◌else◌};
 ghost use Rattle.hc_index.specs.Lists.{forward_seen, open_in, watched, watched_answered};
 
-use crate::kept::{OpenExchange, OpenForward, WindowAnswer};
+use crate::kept::{OpenForward, WatchedExchange, WindowAnswer};
 use hc_framing::Message;
 use hc_head::{ResponseHead, same_target};
 use std::alloc::{AllocError, Global};
 
 /// Closes the exchange of that number.
-pub(crate) fn close_exchange(exchanges: &mut Vec<OpenExchange>, number: u64)
+pub(crate) fn close_exchange(exchanges: &mut Vec<WatchedExchange>, number: u64)
     ensures { (e : ℕ) → open_in e exchanges.new.items
         ≡ (if number == e then None else open_in e exchanges.old.items) }
 {
-    exchanges.retain(|exchange| exchange.number != number);
+    exchanges.retain(|watched| watched.exchange.number != number);
 }
 
 /// Opens that exchange in the place of any other of its number.
 pub(crate) fn open_exchange(
-    exchanges: &mut Vec<OpenExchange>,
-    exchange: OpenExchange,
+    exchanges: &mut Vec<WatchedExchange>,
+    watched: WatchedExchange,
 ) -> Result<(), AllocError>
     ensures { OnOk result ((e : ℕ) → open_in e exchanges.new.items
-        ≡ (if exchange.number == e then Some exchange else open_in e exchanges.old.items)) }
+        ≡ (if watched.exchange.number == e then Some watched else open_in e exchanges.old.items)) }
 {
-    close_exchange(exchanges, exchange.number);
-    exchanges.push(exchange)?;
+    close_exchange(exchanges, watched.exchange.number);
+    exchanges.push(watched)?;
     Ok(())
 }
 
@@ -34,11 +34,11 @@ fn add_to_window(
     alloc: Global,
     forward: &OpenForward,
     response: &Message<ResponseHead>,
-    exchange: &mut OpenExchange,
+    exchange: &mut WatchedExchange,
 ) -> Result<(), AllocError>
     ensures { OnOk result (watched exchange.new ≡ watched_answered (forward_seen forward.now) response.now (watched exchange.old)) }
 {
-    if !same_target(&forward.target, &exchange.target) {
+    if !same_target(&forward.target, &exchange.exchange.target) {
         return Ok(());
     }
     exchange.window.push(WindowAnswer {
@@ -55,7 +55,7 @@ pub(crate) fn add_to_windows(
     alloc: Global,
     forward: &OpenForward,
     response: &Message<ResponseHead>,
-    exchanges: &mut Vec<OpenExchange>,
+    exchanges: &mut Vec<WatchedExchange>,
 ) -> Result<(), AllocError>
     ensures { OnOk result (map watched exchanges.new.items
         ≡ map (watched_answered (forward_seen forward.now) response.now) (map watched exchanges.old.items)) }

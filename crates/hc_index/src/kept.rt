@@ -32,8 +32,22 @@ pub(crate) struct OpenExchange {
     pub(crate) position: u64,
     pub(crate) request: RequestHead,
     pub(crate) target: Target,
-    /// What the origin has answered for its target since then, the oldest first.
+}
+
+/// An open exchange with a window of its own.
+#[derive(Debug, Drop)]
+pub(crate) struct WatchedExchange {
+    pub(crate) exchange: OpenExchange,
+    /// What the origin has answered for its target since its request, the oldest first.
     pub(crate) window: Vec<WindowAnswer>,
+}
+
+/// An open exchange whose window is the end of its target's pool.
+#[derive(Debug, Drop)]
+pub(crate) struct PooledExchange {
+    pub(crate) exchange: OpenExchange,
+    /// How many answers the pool had been given before its request.
+    pub(crate) behind: usize,
 }
 
 /// An open forward.

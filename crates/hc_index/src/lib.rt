@@ -6,6 +6,7 @@ mod exchanges;
 mod finding;
 mod index;
 mod kept;
+mod list_finding;
 mod list_index;
 mod lives;
 

@@ -12,9 +12,9 @@ ghost use Rattle.hc_history.specs.Noting.{Notes};
 ghost use Rattle.hc_index.specs.Lists.{by_target, position_in, seen_in};
 
 use crate::exchanges::{add_to_windows, close_exchange, open_exchange};
-use crate::finding::finding;
 use crate::index::Index;
-use crate::kept::{LiveResponse, OpenExchange, OpenForward};
+use crate::kept::{LiveResponse, OpenExchange, OpenForward, WatchedExchange};
+use crate::list_finding::finding;
 use crate::lives::{answer_lives, begin_live};
 use hc_framing::Message;
 use hc_head::{RequestHead, ResponseHead, Target};
@@ -30,7 +30,7 @@ pub struct ListIndex {
     pub(crate) alloc: Global,
     /// The live responses, by rising position.
     pub(crate) lives: Vec<LiveResponse>,
-    pub(crate) exchanges: Vec<OpenExchange>,
+    pub(crate) exchanges: Vec<WatchedExchange>,
     pub(crate) forwards: BTreeMap<u64, OpenForward>,
     /// The position of the latest error of a forward of each target.
     pub(crate) errors: BTreeMap<Target, u64>,
@@ -94,14 +94,16 @@ impl ListIndex {
         ensures { (moment : ℕ) → OnOk result
             (Notes (seen_in self.old) position (ClientRequest number moment request target) (seen_in self.new)) }
     {
-        let exchange = OpenExchange {
-            number,
-            position,
-            request: request.head,
-            target,
+        let watched = WatchedExchange {
+            exchange: OpenExchange {
+                number,
+                position,
+                request: request.head,
+                target,
+            },
             window: Vec::new(self.alloc),
         };
-        open_exchange(&mut self.exchanges, exchange)
+        open_exchange(&mut self.exchanges, watched)
     }
 
     /// Notes a reply to a client.

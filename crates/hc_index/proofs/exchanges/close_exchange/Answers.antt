@@ -6,5 +6,5 @@ use Rattle.hc_index.proofs.exchanges.close_exchange.Goals as goal
 
 pub returns : goal.returns
 returns c = λ e.
-    ap (open_in e) (filter_same _ (λ x. not (eqb x.number c.args.number)) _ (λ x b f h. search rules) _ _ c.retain.ensures.filtered)
+    ap (open_in e) (filter_same _ (λ x. not (eqb x.exchange.number c.args.number)) _ (λ x b f h. search rules) _ _ c.retain.ensures.filtered)
     ∙ closed c.args.number e c.args.exchanges.now.items

@@ -1,12 +1,22 @@
-use Rattle.std.proofs.Common.{arith}
-use Rattle.hc_index.proofs.FindLemmas.{full_is_furthest, end_is_furthest}
+use Rattle.std.proofs.Common.{rules, ap, ◌∙◌}
+use Rattle.hc_index.proofs.FindLemmas.{most_at_first, most_goes_on, full_is_furthest, end_is_furthest}
 use Rattle.hc_index.proofs.finding.furthest.Goals as goal
+
+pub loop-live-init : goal.loop-live-init
+loop-live-init c =
+    most_at_first c.args.claim.now c.args.lives.now _
+    (ap (λ r. r.iter.rest.now) c.into_iter-live-iterator.ensures.into_iter_gives ∙ ap (λ i. i.rest.now) c.rev-live-items.ensures.source ∙ c.iter.ensures.rest)
 
 pub returns-then-here-eq-FILTER_COUNT : goal.returns-then-here-eq-FILTER_COUNT
 returns-then-here-eq-FILTER_COUNT c = λ h are.
-    full_is_furthest c.args.claim.now c.args.lives.now c.loop-live.live-index c.loop-live.most c.in_ok-here.here c.live-item.result h
-    c.loop-live-test.true c.live-item.is c.loop-live.invariant c.in_ok-here.ensures c.if-here-eq-FILTER_COUNT.true are
+    full_is_furthest c.args.claim.now c.args.lives.now c.loop-live.live-iterator.iter.rest.now c.next.new.self.iter.rest.now c.loop-live.most c.in_ok-here.here c.in-Some.live.now h
+    c.loop-live.invariant c.in-Some.ensures.steps c.in_ok-here.ensures c.if-here-eq-FILTER_COUNT.true are
+
+pub loop-live-preserved : goal.loop-live-preserved
+loop-live-preserved c =
+    most_goes_on c.args.claim.now c.args.lives.now c.loop-live.live-iterator.iter.rest.now c.next.new.self.iter.rest.now c.loop-live.most c.in_ok-here.here c.max-most.result c.in-Some.live.now
+    c.loop-live.invariant c.in-Some.ensures.steps c.in_ok-here.ensures (search rules)
 
 pub returns : goal.returns
 returns c = λ h are.
-    end_is_furthest c.args.claim.now c.args.lives.now c.loop-live.live-index c.loop-live.most h (omega (arith, c.loop-live-test.false)) c.loop-live.invariant are
+    end_is_furthest c.args.claim.now c.args.lives.now c.loop-live.live-iterator.iter.rest.now c.loop-live.most h c.loop-live.invariant c.in-None.ensures.steps.0 are

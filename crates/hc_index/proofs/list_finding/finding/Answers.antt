@@ -1,0 +1,17 @@
+use Rattle.std.proofs.Common.{◌≡◌, Some, ap, ◌∙◌}
+use Rattle.hc_index.specs.Lists.{exchange_seen, watched_exchange, open_in, window_of, window_seen, seen_in}
+use Rattle.hc_index.proofs.FindLemmas.{found_of_reply, window_tells, answers_tell}
+use Rattle.hc_index.proofs.list_finding.finding.Goals as goal
+
+pub returns : goal.returns
+returns c = λ h seen.
+    let claim = c.claim_of-claim.result in
+    let mark = c.mark-mark.result in
+    let watched = c.in-Some.watched.now in
+    let is : Some watched ≡ open_in c.args.number c.args.index.now.exchanges.items = rw (← c.as_slice.ensures.value) c.in-Some.ensures in
+    found_of_reply (seen_in c.args.index.now) c.args.settings.now c.args.number c.args.moment c.args.reply.now h (exchange_seen watched.exchange) mark claim
+    c.found_by.result seen (ap watched_exchange is) c.mark-mark.ensures
+    (c.claim_of-claim.ensures (seen_in c.args.index.now) h seen c.position_of.ensures c.position_of-2.ensures)
+    (λ lives window. c.found_by.ensures h (rw c.as_slice-3.ensures.value lives)
+    (window_tells claim mark (window_seen watched) h c.is_carried-carried.result (ap window_of is ∙ window)
+    (answers_tell claim mark watched.window.items c.is_carried-carried.result (rw (← c.as_slice-2.ensures.value) c.is_carried-carried.ensures))))

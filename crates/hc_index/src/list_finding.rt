@@ -1,0 +1,71 @@
+//! What a list index finds of a reply.
+
+ghost use Rattle.std.specs.Prelude.{◌≡◌, List, IfOk, option_copied};
+ghost use Rattle.std.specs.List.{list_any};
+ghost use Rattle.hc_transcript.specs.Items.{Item};
+ghost use Rattle.hc_transcript.specs.History.{exchange_of};
+ghost use Rattle.hc_history.specs.Forwarded.{carries};
+ghost use Rattle.hc_history.specs.Right.{IsFinding};
+ghost use Rattle.hc_history.specs.Seen.{IsSeenAs};
+ghost use Rattle.hc_index.specs.Lists.{carried_by, open_in, position_in, seen_in};
+
+use crate::finding::{Latest, carries_one, claim_of, found_by};
+use crate::kept::{WatchedExchange, WindowAnswer};
+use crate::list_index::ListIndex;
+use hc_head::Target;
+use hc_history::{Finding, Mark, MarkedReply, ReplyClaim, Settings};
+use std::alloc::AllocError;
+use std::collections::BTreeMap;
+
+/// The open exchange of that number.
+fn open_exchange(exchanges: &[WatchedExchange], number: u64) -> Option<&WatchedExchange>
+    ensures { option_copied result ≡ open_in number exchanges.now }
+{
+    exchanges
+        .iter()
+        .find(|watched| watched.exchange.number == number)
+}
+
+/// The position that is kept of a target.
+fn position_of(positions: &BTreeMap<Target, u64>, target: &Target) -> u64
+    ensures { result ≡ position_in target.now positions.now }
+{
+    positions.get(target).copied().unwrap_or(0)
+}
+
+/// Whether the reply went forward and carries one of those answers.
+fn is_carried(mark: Mark, claim: &ReplyClaim<'_>, window: &[WindowAnswer]) -> bool
+    ensures { result ≡ carried_by mark
+        (list_any (λ answer. carries claim.now answer.method answer.status answer.body) window.now) }
+{
+    match mark {
+        Mark::Forwarded => carries_one(claim, window),
+        Mark::Hit { .. } | Mark::Both | Mark::Unmarked => false,
+    }
+}
+
+/// What is found of a reply to the open exchange of that number. Where there is none, the answer says
+/// nothing.
+pub(crate) fn finding(
+    index: &ListIndex,
+    number: u64,
+    reply: &MarkedReply<'_>,
+    moment: u64,
+    settings: &Settings,
+) -> Result<Finding, AllocError>
+    ensures { (h : List Item) → IsSeenAs (seen_in index.now) h
+        → IfOk result (IsFinding settings.now (exchange_of number h) moment reply.now h) }
+{
+    let Some(watched) = open_exchange(index.exchanges.as_slice(), number) else {
+        return Ok(Finding::Right);
+    };
+    let exchange = &watched.exchange;
+    let latest = Latest {
+        error: position_of(&index.errors, &exchange.target),
+        failure: position_of(&index.failures, &exchange.target),
+    };
+    let claim = claim_of(exchange, latest, moment, reply, settings);
+    let mark = reply.mark();
+    let carried = is_carried(mark, &claim, watched.window.as_slice());
+    found_by(index.alloc, mark, &claim, index.lives.as_slice(), carried)
+}
