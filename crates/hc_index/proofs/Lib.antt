@@ -4,3 +4,5 @@ pub mod LiveLemmas
 pub mod NoteLemmas
 pub mod PositionLemmas
 pub mod FindLemmas
+pub mod PoolLemmas
+pub mod TargetsLemmas

@@ -2,6 +2,7 @@
 //! seen as the history of the records that it has noted.
 #![tactic(auto)]
 
+mod at_target;
 mod exchanges;
 mod finding;
 mod index;
@@ -9,7 +10,12 @@ mod kept;
 mod list_finding;
 mod list_index;
 mod lives;
+mod map_finding;
+mod map_index;
+mod pool;
+mod targets;
 
 pub use hc_history::{Finding, MarkedReply, Reason, Settings};
 pub use index::Index;
 pub use list_index::ListIndex;
+pub use map_index::MapIndex;

@@ -1,0 +1,170 @@
+//! An index that keeps maps by target and by number.
+
+ghost use Rattle.std.specs.Prelude.{◌≡◌, ◌<◌, ℕ, [], OnOk};
+ghost use Rattle.hc_fields.specs.Numbers.{end_of_moments};
+ghost use Rattle.hc_transcript.specs.Items.{ClientRequest, OriginRequest, OriginResponse, OriginFailure, ClientReply, item_of};
+ghost use Rattle.hc_history.specs.Seen.{IsSeenAs};
+ghost use Rattle.hc_history.specs.Noting.{Notes};
+ghost use Rattle.hc_index.specs.Maps.{seen_in};
+
+use crate::at_target::AtTarget;
+use crate::index::Index;
+use crate::kept::{OpenExchange, OpenForward, PooledExchange};
+use crate::map_finding::finding;
+use crate::targets::{answer_at, close_at, fail_at, open_at};
+use hc_framing::Message;
+use hc_head::{RequestHead, ResponseHead, Target};
+use hc_history::{Finding, MarkedReply, Settings};
+use hc_transcript::{Meaning, OwnedItem};
+use std::alloc::{AllocError, Global};
+use std::collections::BTreeMap;
+
+/// An index that looks at one target alone: the time for a record doesn't grow with the records of other
+/// targets, and a hit that the newest response passes is found at once.
+#[derive(Debug, Drop)]
+pub struct MapIndex {
+    pub(crate) alloc: Global,
+    pub(crate) targets: BTreeMap<Target, AtTarget>,
+    pub(crate) exchanges: BTreeMap<u64, PooledExchange>,
+    pub(crate) forwards: BTreeMap<u64, OpenForward>,
+}
+
+impl MapIndex {
+    /// An index that has noted nothing.
+    pub fn new(alloc: Global) -> Self
+        ensures { IsSeenAs (⟦<MapIndex as Index>⟧.seen result) [] }
+    {
+        MapIndex {
+            alloc,
+            targets: BTreeMap::new(alloc),
+            exchanges: BTreeMap::new(alloc),
+            forwards: BTreeMap::new(alloc),
+        }
+    }
+
+    /// Notes a request of a client.
+    fn open_exchange(
+        &mut self,
+        number: u64,
+        position: u64,
+        request: Message<RequestHead>,
+        target: Target,
+    ) -> Result<(), AllocError>
+        ensures { (moment : ℕ) → OnOk result
+            (Notes (seen_in self.old) position (ClientRequest number moment request target) (seen_in self.new)) }
+    {
+        let behind = open_at(self.alloc, &mut self.targets, &target, number)?;
+        let pooled = PooledExchange {
+            exchange: OpenExchange {
+                number,
+                position,
+                request: request.head,
+                target,
+            },
+            behind,
+        };
+        self.exchanges.insert(number, pooled)?;
+        Ok(())
+    }
+
+    /// Notes a reply to a client.
+    fn close_exchange(&mut self, number: u64)
+        ensures { (position moment : ℕ) (reply : Message ResponseHead)
+            → Notes (seen_in self.old) position (ClientReply number moment reply) (seen_in self.new) }
+    {
+        if let Some(pooled) = self.exchanges.remove(&number) {
+            let target = &pooled.exchange.target;
+            close_at(&mut self.targets, target, pooled.behind, number);
+        }
+    }
+
+    /// Notes a request to the origin.
+    fn open_forward(
+        &mut self,
+        number: u64,
+        moment: u64,
+        request: Message<RequestHead>,
+        target: Target,
+    ) -> Result<(), AllocError>
+        ensures { (position : ℕ) → OnOk result
+            (Notes (seen_in self.old) position (OriginRequest number moment request target) (seen_in self.new)) }
+    {
+        let forward = OpenForward {
+            moment,
+            request: request.head,
+            target,
+        };
+        self.forwards.insert(number, forward)?;
+        Ok(())
+    }
+
+    /// Notes that the origin gave no answer.
+    fn fail_forward(&mut self, number: u64, position: u64) -> Result<(), AllocError>
+        ensures { (moment : ℕ) → OnOk result
+            (Notes (seen_in self.old) position (OriginFailure number moment) (seen_in self.new)) }
+    {
+        let Some(forward) = self.forwards.remove(&number) else {
+            return Ok(());
+        };
+        fail_at(self.alloc, &mut self.targets, forward.target, position)
+    }
+
+    /// Notes a response of the origin.
+    fn answer_forward(
+        &mut self,
+        number: u64,
+        position: u64,
+        moment: u64,
+        response: Message<ResponseHead>,
+    ) -> Result<(), AllocError>
+        requires { moment < end_of_moments }
+        ensures { OnOk result
+            (Notes (seen_in self.old) position (OriginResponse number moment response) (seen_in self.new)) }
+    {
+        let Some(forward) = self.forwards.remove(&number) else {
+            return Ok(());
+        };
+        let targets = &mut self.targets;
+        answer_at(self.alloc, targets, forward, position, moment, response)
+    }
+
+    /// Notes the next item, which stands at that position.
+    fn take(&mut self, position: u64, item: OwnedItem) -> Result<(), AllocError>
+        ensures { OnOk result (Notes (seen_in self.old) position (item_of item) (seen_in self.new)) }
+    {
+        let number = item.number;
+        let moment = item.moment;
+        let of = item.of;
+        match of {
+            Meaning::ClientRequest { request, target } => {
+                self.open_exchange(number, position, request, target)
+            }
+            Meaning::OriginRequest { request, target } => {
+                self.open_forward(number, moment, request, target)
+            }
+            Meaning::OriginResponse(response) => {
+                self.answer_forward(number, position, moment, response)
+            }
+            Meaning::OriginFailure => self.fail_forward(number, position),
+            Meaning::ClientReply(_) => Ok(self.close_exchange(number)),
+        }
+    }
+}
+
+impl Index for MapIndex {
+    ghost seen = { λ index. seen_in index };
+
+    fn note(&mut self, position: u64, item: OwnedItem) -> Result<(), AllocError> {
+        self.take(position, item)
+    }
+
+    fn find(
+        &self,
+        exchange: u64,
+        reply: &MarkedReply<'_>,
+        moment: u64,
+        settings: &Settings,
+    ) -> Result<Finding, AllocError> {
+        finding(self, exchange, reply, moment, settings)
+    }
+}
