@@ -3,6 +3,8 @@ use Rattle.std.proofs.Common.{◌≡◌, ℕ, ◌≤◌, ◌<◌, Bool, true, fa
 use Rattle.std.specs.Prelude.{filter, map, Result, IfOk}
 use Rattle.std.specs.declared.alloc.AllocError.{AllocError}
 use Rattle.std.specs.List.{list_any}
+use Rattle.std.specs.Ordering.{nat_cmp}
+use Rattle.std.specs.BTreeMap.{get}
 use Rattle.std.proofs.lemmas.Bool.{lt-ltb}
 use Rattle.hc_head.specs.declared.head.Target.{Target}
 use Rattle.hc_head.specs.Targets.{same_target}
@@ -27,7 +29,11 @@ use Rattle.hc_history.proofs.FurthestLemmas.{passed_few}
 use Rattle.hc_history.proofs.LiveLemmas.{passed_other, furthest_is_live, HavePositions, live_positions}
 use Rattle.hc_index.specs.declared.kept.LiveResponse.{LiveResponse}
 use Rattle.hc_index.specs.declared.kept.WindowAnswer.{WindowAnswer}
-use Rattle.hc_index.specs.Lists.{live_seen, answer_seen, carried_by, live_in}
+use Rattle.hc_index.specs.declared.kept.PooledExchange.{PooledExchange}
+use Rattle.hc_index.specs.declared.at_target.AtTarget.{AtTarget}
+use Rattle.hc_index.specs.declared.map_index.MapIndex.{MapIndex}
+use Rattle.hc_index.specs.Lists.{live_seen, answer_seen, exchange_seen, by_target, carried_by, live_in}
+use Rattle.hc_index.specs.Maps.{is_open, answers_behind, live_kept, window_kept, open_kept, known_in, pooled_exchange, window_in, seen_in}
 
 -- ---- the most filters that one live response passes
 
@@ -177,3 +183,34 @@ found_of_none seen settings number moment reply h found one none =
     anything : (found : Result Finding AllocError) → IfOk found (IsFinding settings None moment reply h)
     anything (Ok f) = tt
     anything (Err f) = tt
+
+-- ---- maps
+
+-- what is found by what is kept of the exchange's target
+pub found_at_target : (index : MapIndex) (settings : Settings) (number moment : ℕ) (reply : Message ResponseHead) (h : List Item)
+    (pooled : PooledExchange) (here : AtTarget) (mark : Mark) (claim : Claim) (found : Result Finding AllocError)
+    → IsSeenAs (seen_in index) h → Some pooled ≡ get nat_cmp index.exchanges number → Some here ≡ get by_target index.targets pooled.exchange.target
+    → mark ≡ reply_mark reply → claim ≡ claim_of settings (exchange_seen pooled.exchange) moment reply h
+    → (live_in claim.target here.lives.items ≡ live_of claim.target h → answers_behind pooled.behind here.pool ≡ responses_since claim.target claim.since h
+    → IfOk found (IsFoundBy mark claim h))
+    → IfOk found (IsFinding settings (exchange_of number h) moment reply h)
+found_at_target index settings number moment reply h pooled here mark claim found one is here-is mark-is claim-is by =
+    go (is_open pooled.behind number here.pool) refl
+  where
+    go : (b : Bool) → is_open pooled.behind number here.pool ≡ b → IfOk found (IsFinding settings (exchange_of number h) moment reply h)
+    go true there =
+        let known : Some pooled ≡ known_in index.targets number (get nat_cmp index.exchanges number) =
+        sym (ap (known_in index.targets number) (sym is)
+        ∙ ap (λ (o : Option AtTarget). cond (open_kept pooled.behind number o) (Some pooled) None) (sym here-is)
+        ∙ ap (λ (b : Bool). cond b (Some pooled) None) there) in
+        let at_target : Some here ≡ get by_target index.targets claim.target =
+        here-is ∙ ap (λ (k : Claim). get by_target index.targets k.target) (sym claim-is) in
+        found_of_reply (seen_in index) settings number moment reply h (exchange_seen pooled.exchange) mark claim found one (ap pooled_exchange known) mark-is claim-is
+        (λ live window. by (ap (live_kept claim.target) at_target ∙ live)
+        (ap (window_kept pooled.behind) here-is ∙ ap (window_in index.targets) known ∙ window))
+    go false there =
+        let unknown : known_in index.targets number (get nat_cmp index.exchanges number) ≡ None =
+        ap (known_in index.targets number) (sym is)
+        ∙ ap (λ (o : Option AtTarget). cond (open_kept pooled.behind number o) (Some pooled) None) (sym here-is)
+        ∙ ap (λ (b : Bool). cond b (Some pooled) None) there in
+        found_of_none (seen_in index) settings number moment reply h found one (ap pooled_exchange unknown)

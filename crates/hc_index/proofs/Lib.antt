@@ -6,3 +6,4 @@ pub mod PositionLemmas
 pub mod FindLemmas
 pub mod PoolLemmas
 pub mod TargetsLemmas
+pub mod MapLemmas

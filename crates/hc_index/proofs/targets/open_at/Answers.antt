@@ -7,7 +7,7 @@ use Rattle.hc_index.proofs.targets.open_at.Goals as goal
 pub returns-in-Some : goal.returns-in-Some
 returns-in-Some c =
     let target = c.args.target.now in
-    IfOk-weaker c.open.result
+    IfOk-weaker c.open.result _ _
     (λ behind opens. written_back target c.args.targets.now (c.get_mut.follows.lender c.open.new.self) c.in-Some.here.now c.open.new.self
     (OpensAt target c.args.number behind) c.in-Some.ensures.value (c.get_mut.follows.holds c.open.new.self) opens)
     (c.open.ensures target)

@@ -1,0 +1,14 @@
+use Rattle.std.proofs.Common.{ℕ, subst}
+use Rattle.std.proofs.lemmas.Result.{on_ok_weaker}
+use Rattle.hc_transcript.specs.Items.{item_of}
+use Rattle.hc_history.specs.Noting.{Notes}
+use Rattle.hc_history.proofs.NoteLemmas.{noted}
+use Rattle.hc_index.specs.Maps.{seen_in}
+use Rattle.hc_index.proofs.map_index.MapIndexIndex.note.Goals as goal
+
+pub returns : goal.returns
+returns c = λ h at is.
+    on_ok_weaker c.take.result
+    (λ notes. noted (seen_in c.args.self.now) (seen_in c.take.new.self) h (item_of c.args.item) is
+    (subst (λ (p : ℕ). Notes (seen_in c.args.self.now) p (item_of c.args.item) (seen_in c.take.new.self)) at notes))
+    c.take.ensures
