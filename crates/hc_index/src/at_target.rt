@@ -1,6 +1,6 @@
 //! What is kept of one target.
 
-ghost use Rattle.std.specs.Prelude.{◌≡◌, ◌<◌, ◌≤◌, ℕ, true, Some, None, IfOk, OnOk, if◌then◌else◌};
+ghost use Rattle.std.specs.Prelude.{◌≡◌, ◌<◌, ◌≤◌, ℕ, true, Some, None, Decides, IfOk, OnOk, if◌then◌else◌};
 ghost use Rattle.hc_fields.specs.Numbers.{end_of_moments};
 ghost use Rattle.hc_head.specs.declared.head.Target.{Target};
 ghost use Rattle.hc_history.specs.Windows.{is_error_status};
@@ -10,6 +10,7 @@ ghost use Rattle.hc_index.specs.Maps.{AnswersAt, ClosesAt, FailsAt, KeepsSame, O
 use crate::kept::{LiveResponse, OpenForward};
 use crate::lives::{answer_lives, begin_live};
 use crate::pool::Pool;
+use hc_fields::SharedOctets;
 use hc_framing::Message;
 use hc_head::ResponseHead;
 use hc_history::is_error_status;
@@ -36,6 +37,23 @@ fn error_after(error: u64, status: u16, position: u64) -> u64
         position
     } else {
         error
+    }
+}
+
+/// Whether both have the same octets. Those of different lengths aren't looked at.
+fn same_octets(one: &SharedOctets, other: &SharedOctets) -> bool
+    ensures { Decides result (one.now ≡ other.now) }
+{
+    one.len() == other.len() && one.as_slice() == other.as_slice()
+}
+
+/// The body, in the memory of the latest live response where that has the same.
+fn shared_body(lives: &[LiveResponse], body: SharedOctets) -> Result<SharedOctets, AllocError>
+    ensures { IfOk result (λ shared. shared ≡ body) }
+{
+    match lives.last() {
+        Some(latest) if same_octets(&latest.state.body, &body) => latest.state.body.share(),
+        _ => Ok(body),
     }
 }
 
@@ -80,7 +98,8 @@ impl AtTarget {
         self.failure = position;
     }
 
-    /// Takes in the response to a forward of the target.
+    /// Takes in the response to a forward of the target. A body that the latest live response has as well is
+    /// kept once.
     pub(crate) fn answer(
         &mut self,
         alloc: Global,
@@ -92,6 +111,10 @@ impl AtTarget {
         requires { moment < end_of_moments }
         ensures { OnOk result (AnswersAt (forward_seen forward) position moment response (Some self.old) (Some self.new)) }
     {
+        let response = Message {
+            head: response.head,
+            body: shared_body(self.lives.as_slice(), response.body)?,
+        };
         self.pool.add(alloc, &forward, &response)?;
         self.error = error_after(self.error, response.head.status, position);
         let lives = &mut self.lives;
