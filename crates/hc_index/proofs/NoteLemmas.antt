@@ -18,7 +18,7 @@ use Rattle.hc_history.specs.Noting.{live_answered, lives_answered, added_to_wind
 use Rattle.hc_index.specs.declared.kept.LiveResponse.{LiveResponse}
 use Rattle.hc_index.specs.declared.kept.OpenForward.{OpenForward}
 use Rattle.hc_index.specs.declared.list_index.ListIndex.{ListIndex}
-use Rattle.hc_index.specs.Lists.{watched_exchange, forward_seen, live_in, open_in, window_of, position_in, watched, watched_answered, live_response_answered, seen_in}
+use Rattle.hc_index.specs.Lists.{watched_exchange, forward_seen, live_in, open_in, window_of, position_in, watched, watched_answered, targeted, targeted_answered, seen_in}
 use Rattle.hc_index.proofs.OpenLemmas.{exchange_answered, window_answered}
 use Rattle.hc_index.proofs.LiveLemmas.{lives_answered_in}
 
@@ -58,7 +58,7 @@ pub record Answers (old : ListIndex) (forward : OpenForward) (number position mo
   pub errors : (target : Target) → position_in target new.errors
       ≡ cond (is_error_status response.head.status && same_target forward.target target) position (position_in target old.errors)
   pub exchanges : map watched new.exchanges.items ≡ map (watched_answered (forward_seen forward) response) (map watched old.exchanges.items)
-  pub answered : mid ≡ map (live_response_answered (forward_seen forward) position moment response) old.lives.items
+  pub answered : map targeted mid ≡ map (targeted_answered (forward_seen forward) position moment response) (map targeted old.lives.items)
   pub begun : (target : Target) → live_in target new.lives.items ≡ live_in target mid ++ live_at target position (begun_by (forward_seen forward) moment response)
   pub failures : new.failures ≡ old.failures
 
@@ -69,7 +69,7 @@ notes_answer old new forward number position moment response mid a =
     record {
       live = λ target. a.begun target
           ∙ ap (λ (ls : List Live). ls ++ live_at target position (begun_by (forward_seen forward) moment response))
-          (ap (live_in target) a.answered ∙ lives_answered_in target (forward_seen forward) position moment response old.lives.items)
+          (lives_answered_in target (forward_seen forward) position moment response old.lives.items mid a.answered)
           ∙ answered_and_begun (same_target forward.target target) target (forward_seen forward) position moment response (live_in target old.lives.items) refl
           ∙ ap (λ (o : Option Forward). lives_answered target o position moment response (live_in target old.lives.items)) is;
       exchange = λ e. exchange_answered (forward_seen forward) response e old.exchanges.items new.exchanges.items a.exchanges;

@@ -13,7 +13,7 @@ use Rattle.hc_history.specs.Seen.{Live, live_at, WindowResponse}
 use Rattle.hc_history.proofs.TargetLemmas.{same_target_itself}
 use Rattle.hc_index.specs.declared.kept.LiveResponse.{LiveResponse}
 use Rattle.hc_index.specs.declared.at_target.AtTarget.{AtTarget}
-use Rattle.hc_index.specs.Lists.{by_target, live_in, live_response_answered}
+use Rattle.hc_index.specs.Lists.{by_target, live_in, targeted, targeted_answered}
 use Rattle.hc_index.specs.Maps.{KeepsSame, OpensAt, ClosesAt, FailsAt, AnswersAt, ChangesAt, Targets, answer_to}
 use Rattle.hc_index.proofs.LiveLemmas.{lives_answered_in}
 use Rattle.hc_index.proofs.PositionLemmas.{tied}
@@ -73,13 +73,12 @@ answers_to forward position moment response o m n answers same = record {
 
 -- the live responses of the forward's target, and what the response begins
 pub lives_answered_here : (forward : Forward) (position moment : ℕ) (response : Message ResponseHead) (old mid new : List LiveResponse)
-    → mid ≡ map (live_response_answered forward position moment response) old
+    → map targeted mid ≡ map (targeted_answered forward position moment response) (map targeted old)
     → live_in forward.target new ≡ live_in forward.target mid ++ live_at forward.target position (begun_by forward moment response)
     → live_in forward.target new ≡ map (live_answered forward position moment response) (live_in forward.target old) ++ live_at forward.target position (begun_by forward moment response)
 lives_answered_here forward position moment response old mid new answered begun =
     begun ∙ ap (λ (ls : List Live). ls ++ live_at forward.target position (begun_by forward moment response))
-    (ap (live_in forward.target) answered
-    ∙ lives_answered_in forward.target forward position moment response old
+    (lives_answered_in forward.target forward position moment response old mid answered
     ∙ ap (λ (b : Bool). cond b (map (live_answered forward position moment response) (live_in forward.target old)) (live_in forward.target old))
     (same_target_itself forward.target))
 

@@ -1,5 +1,5 @@
 -- What plain lists are seen as.
-use Rattle.std.specs.Prelude.{ℕ, Bool, false, ◌==◌, List, [], ◌++◌, filter, find, map, Option, Some, None, if◌then◌else◌}
+use Rattle.std.specs.Prelude.{ℕ, Bool, false, ◌==◌, ◌||◌, List, [], ◌++◌, filter, find, map, Option, Some, None, if◌then◌else◌}
 use Rattle.std.specs.Option.{option_map}
 use Rattle.std.specs.Ordering.{nat_cmp}
 use Rattle.std.specs.BTreeMap.{BTreeMap, get}
@@ -8,12 +8,14 @@ use Rattle.hc_head.specs.contracts.head.TargetOrd.TheImpl as target_order
 use Rattle.hc_head.specs.declared.head.ResponseHead.{ResponseHead}
 use Rattle.hc_head.specs.declared.head.Target.{Target}
 use Rattle.hc_head.specs.Targets.{same_target}
+use Rattle.hc_head.specs.Statuses.{not_modified}
+use Rattle.hc_update.specs.States.{invalidates}
 use Rattle.hc_status.specs.declared.marks.Mark.{Mark}
 use Rattle.hc_status.specs.declared.marks.Mark.TheVariants.{Forwarded}
 use Rattle.hc_transcript.specs.Items.{Exchange, Forward}
 use Rattle.hc_framing.specs.declared.message.Message.{Message}
-use Rattle.hc_history.specs.States.{state_answered}
-use Rattle.hc_history.specs.Seen.{Live, remaining, WindowResponse, response_to, Seen}
+use Rattle.hc_history.specs.Noting.{live_answered}
+use Rattle.hc_history.specs.Seen.{Live, WindowResponse, response_to, Seen}
 use Rattle.hc_index.specs.declared.kept.LiveResponse.{LiveResponse}
 use Rattle.hc_index.specs.declared.kept.WindowAnswer.{WindowAnswer}
 use Rattle.hc_index.specs.declared.kept.OpenExchange.{OpenExchange}
@@ -68,12 +70,24 @@ position_in target positions = position_or_none (get by_target positions target)
 
 -- ---- what a response makes of them
 
--- a live response: one of the forward's target as it is then, every other as it was
-abbrev pub live_response_answered : Forward → ℕ → ℕ → Message ResponseHead → LiveResponse → LiveResponse
-live_response_answered forward position moment response live =
-    if same_target forward.target live.target
-    then record { position = live.position; target = live.target; state = remaining (state_answered forward position moment response live.state) }
-    else live
+-- whether a response of that status to that method may freshen or invalidate: others leave all as they are
+abbrev pub may_change : List ℕ → ℕ → Bool
+may_change method status = status == not_modified || invalidates method status
+
+-- a live response with its target
+pub record Targeted : Type 0 where
+  pub target : Target
+  pub live : Live
+
+abbrev pub targeted : LiveResponse → Targeted
+targeted live = record { target = live.target; live = live_seen live }
+
+-- one of the forward's target as it is then, every other as it was
+abbrev pub targeted_answered : Forward → ℕ → ℕ → Message ResponseHead → Targeted → Targeted
+targeted_answered forward position moment response kept =
+    if same_target forward.target kept.target
+    then record { target = kept.target; live = live_answered forward position moment response kept.live }
+    else kept
 
 -- an open exchange with its window
 pub record Watched : Type 0 where

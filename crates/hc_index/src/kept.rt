@@ -1,4 +1,7 @@
-//! What a list index keeps.
+//! What an index keeps.
+
+ghost use Rattle.std.specs.Prelude.{◌≡◌};
+ghost use Rattle.hc_history.specs.Seen.{remaining};
 
 use hc_fields::{Octets, SharedOctets};
 use hc_head::{RequestHead, Target};
@@ -11,8 +14,9 @@ pub(crate) struct LiveResponse {
     pub(crate) position: u64,
     /// The target of the request that it answers.
     pub(crate) target: Target,
-    /// What is kept of it.
+    /// What is kept of it: an invalid one without a validator has no body, and no fields but Vary.
     pub(crate) state: Stored,
+    ghost remains: { remaining state ≡ state },
 }
 
 /// What the origin answered in the window of an exchange.

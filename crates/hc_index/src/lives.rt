@@ -1,18 +1,18 @@
 //! What a response makes of the live responses.
 
-ghost use Rattle.std.specs.Prelude.{◌≡◌, ◌<◌, ◌++◌, map, OnOk};
+ghost use Rattle.std.specs.Prelude.{◌≡◌, ◌<◌, ◌++◌, map, OnOk, OnErr};
 ghost use Rattle.hc_fields.specs.Numbers.{end_of_moments};
 ghost use Rattle.hc_head.specs.declared.head.Target.{Target};
 ghost use Rattle.hc_rules.specs.Validators.{has_validator};
 ghost use Rattle.hc_update.specs.Remnants.{is_lost};
 ghost use Rattle.hc_history.specs.States.{begun_by, state_answered};
 ghost use Rattle.hc_history.specs.Seen.{live_at, remaining};
-ghost use Rattle.hc_index.specs.Lists.{forward_seen, live_response_answered, live_in};
+ghost use Rattle.hc_index.specs.Lists.{forward_seen, live_in, may_change, targeted, targeted_answered};
 
 use crate::kept::{LiveResponse, OpenForward};
 use hc_fields::Fields;
 use hc_framing::Message;
-use hc_head::{ResponseHead, same_target};
+use hc_head::{NOT_MODIFIED, ResponseHead, same_target};
 use hc_rules::{last_modified, may_store, tag};
 use hc_update::{Stored, identifies, initial, invalidates};
 use std::alloc::{AllocError, Global};
@@ -41,7 +41,8 @@ fn forget_lost(state: &mut Stored)
     }
 }
 
-/// Freshens or invalidates it, where the response to a forward of its target does so.
+/// Freshens or invalidates it, where the response to a forward of its target does so. Where memory was
+/// refused, nothing has changed.
 fn answer_state(
     alloc: Global,
     forward: &OpenForward,
@@ -51,7 +52,8 @@ fn answer_state(
     state: &mut Stored,
 ) -> Result<(), AllocError>
     requires { moment < end_of_moments }
-    ensures { OnOk result (state.new ≡ state_answered (forward_seen forward.now) position moment response.now state.old) }
+    ensures ok { OnOk result (state.new ≡ state_answered (forward_seen forward.now) position moment response.now state.old) }
+    ensures err { OnErr result (state.new ≡ state.old) }
 {
     if identifies(alloc, state, &forward.request, &response.head)? {
         state.freshen(&response.head, forward.moment, moment, position)?;
@@ -71,7 +73,7 @@ fn answer_live(
     live: &mut LiveResponse,
 ) -> Result<(), AllocError>
     requires { moment < end_of_moments }
-    ensures { OnOk result (live.new ≡ live_response_answered (forward_seen forward.now) position moment response.now live.old) }
+    ensures { OnOk result (targeted live.new ≡ targeted_answered (forward_seen forward.now) position moment response.now (targeted live.old)) }
 {
     if !same_target(&forward.target, &live.target) {
         return Ok(());
@@ -81,8 +83,16 @@ fn answer_live(
     Ok(())
 }
 
-/// What a response to a forward makes of the live responses.
-#[tactic(auto, using(crate::proofs::LoopLemmas::map_over_at))]
+/// Whether a response to a forward may freshen or invalidate a live response at all.
+fn may_change(forward: &OpenForward, response: &Message<ResponseHead>) -> bool
+    ensures { result ≡ may_change forward.now.request.method response.now.head.status }
+{
+    response.head.status == NOT_MODIFIED
+        || invalidates(forward.request.method.as_slice(), response.head.status)
+}
+
+/// What a response to a forward makes of the live responses. It looks at none that it can't change.
+#[tactic(auto, using(crate::proofs::LoopLemmas::seen_over_at))]
 pub(crate) fn answer_lives(
     alloc: Global,
     forward: &OpenForward,
@@ -92,9 +102,12 @@ pub(crate) fn answer_lives(
     lives: &mut Vec<LiveResponse>,
 ) -> Result<(), AllocError>
     requires { moment < end_of_moments }
-    ensures { OnOk result (lives.new.items
-        ≡ map (live_response_answered (forward_seen forward.now) position moment response.now) lives.old.items) }
+    ensures { OnOk result (map targeted lives.new.items
+        ≡ map (targeted_answered (forward_seen forward.now) position moment response.now) (map targeted lives.old.items)) }
 {
+    if !may_change(forward, response) {
+        return Ok(());
+    }
     for live in lives.iter_mut() {
         answer_live(alloc, forward, position, moment, response, live)?;
     }
