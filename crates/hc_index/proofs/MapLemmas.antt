@@ -1,9 +1,9 @@
 -- What each kind of item makes of maps.
-use Rattle.std.proofs.Common.{◌≡◌, ℕ, Bool, true, false, ◌&&◌, cond, eqb, List, [], ◌∷◌, ◌++◌, Option, Some, None, map, refl, sym, ap, subst, ◌∙◌, inl, inr, eq-eqb, ne_eqb}
+use Rattle.std.proofs.Common.{◌≡◌, ℕ, Bool, true, false, ◌&&◌, cond, eqb, [], ◌∷◌, ◌++◌, Option, Some, None, map, refl, sym, ap, subst, ◌∙◌, inl, inr, eq-eqb, ne_eqb}
 use Rattle.std.specs.Option.{option_map}
 use Rattle.std.specs.Ordering.{nat_cmp}
 use Rattle.std.specs.BTreeMap.{BTreeMap, get}
-use Rattle.std.proofs.lemmas.Bool.{cases_Bool, cases_eq}
+use Rattle.std.proofs.lemmas.Bool.{cases_eq}
 use Rattle.std.proofs.lemmas.List.{append-nil}
 use Rattle.hc_head.specs.declared.head.RequestHead.{RequestHead}
 use Rattle.hc_head.specs.declared.head.ResponseHead.{ResponseHead}
@@ -13,7 +13,7 @@ use Rattle.hc_framing.specs.declared.message.Message.{Message}
 use Rattle.hc_transcript.specs.Items.{ClientRequest, ClientReply, OriginResponse, OriginFailure, Exchange, Forward}
 use Rattle.hc_history.specs.States.{begun_by}
 use Rattle.hc_history.specs.Windows.{is_error_status, is_forward_of}
-use Rattle.hc_history.specs.Seen.{Live, live_at, WindowResponse, response_to}
+use Rattle.hc_history.specs.Seen.{live_at, response_to}
 use Rattle.hc_history.specs.Noting.{live_answered, lives_answered, added_to_window, Notes}
 use Rattle.hc_history.proofs.TargetLemmas.{same_target_one}
 use Rattle.hc_index.specs.declared.kept.OpenForward.{OpenForward}

@@ -1,9 +1,8 @@
 -- What is kept of one target, and what changes of it among all targets.
-use Rattle.std.proofs.Common.{◌≡◌, ℕ, Bool, true, false, cond, List, ◌∷◌, [], ◌++◌, Option, Some, None, IsSome, map, refl, sym, ap, subst, ◌∙◌}
+use Rattle.std.proofs.Common.{◌≡◌, ℕ, Bool, cond, List, ◌∷◌, [], ◌++◌, Option, Some, None, IsSome, map, refl, sym, ap, subst, ◌∙◌}
 use Rattle.std.specs.BTreeMap.{get, Updates, UpdatesBy, WritesThrough}
 use Rattle.hc_head.specs.declared.head.ResponseHead.{ResponseHead}
 use Rattle.hc_head.specs.declared.head.Target.{Target}
-use Rattle.hc_head.specs.Targets.{same_target}
 use Rattle.hc_framing.specs.declared.message.Message.{Message}
 use Rattle.hc_transcript.specs.Items.{Forward}
 use Rattle.hc_history.specs.States.{begun_by}

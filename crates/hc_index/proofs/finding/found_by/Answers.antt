@@ -1,4 +1,4 @@
-use Rattle.std.proofs.Common.{◌∙◌, sym, subst, ap, IfOk}
+use Rattle.std.proofs.Common.{sym, subst, IfOk}
 use Rattle.hc_status.specs.declared.marks.Mark.{Mark}
 use Rattle.hc_history.specs.Right.{IsFoundBy}
 use Rattle.hc_index.proofs.finding.found_by.Goals as goal

@@ -2,7 +2,7 @@ use Rattle.std.proofs.Common.{Some, None}
 use Rattle.std.proofs.lemmas.Result.{on_ok_weaker}
 use Rattle.hc_index.specs.Lists.{forward_seen}
 use Rattle.hc_index.specs.Maps.{AnswersAt}
-use Rattle.hc_index.proofs.TargetsLemmas.{written_back, put_in, left_alone, answers_from, answers_to}
+use Rattle.hc_index.proofs.TargetsLemmas.{written_back, put_in, answers_from}
 use Rattle.hc_index.proofs.targets.answer_at.Goals as goal
 
 pub returns-in-Some : goal.returns-in-Some
