@@ -1,11 +1,11 @@
 -- What the lists of an index tell of a reply.
-use Rattle.std.proofs.Common.{◌≡◌, ℕ, ◌≤◌, ◌<◌, Bool, true, false, ◌||◌, cond, List, [], ◌∷◌, ◌++◌, length, max, Option, Some, None, Ok, Err, refl, sym, ap, subst, ◌∙◌, arith}
+use Rattle.std.proofs.Common.{◌≡◌, ℕ, ◌≤◌, ◌<◌, Bool, true, false, ◌||◌, cond, List, [], ◌∷◌, ◌++◌, length, max, Option, Some, None, Ok, Err, refl, sym, ap, subst, ◌∙◌, arith, inl, inr, ltb, ltb-true, ltb-false}
 use Rattle.std.specs.Prelude.{filter, map, Result, IfOk}
 use Rattle.std.specs.declared.alloc.AllocError.{AllocError}
 use Rattle.std.specs.List.{list_any}
 use Rattle.std.specs.Ordering.{nat_cmp}
 use Rattle.std.specs.BTreeMap.{get}
-use Rattle.std.proofs.lemmas.Bool.{lt-ltb}
+use Rattle.std.proofs.lemmas.Bool.{lt-ltb, cases_Bool}
 use Rattle.hc_head.specs.declared.head.Target.{Target}
 use Rattle.hc_head.specs.Targets.{same_target}
 use Rattle.hc_head.specs.declared.head.ResponseHead.{ResponseHead}
@@ -32,7 +32,7 @@ use Rattle.hc_index.specs.declared.kept.WindowAnswer.{WindowAnswer}
 use Rattle.hc_index.specs.declared.kept.PooledExchange.{PooledExchange}
 use Rattle.hc_index.specs.declared.at_target.AtTarget.{AtTarget}
 use Rattle.hc_index.specs.declared.map_index.MapIndex.{MapIndex}
-use Rattle.hc_index.specs.Lists.{live_seen, answer_seen, exchange_seen, by_target, carried_by, live_in}
+use Rattle.hc_index.specs.Lists.{live_seen, answer_seen, exchange_seen, by_target, carried_by, live_in, IsMostOrEnough}
 use Rattle.hc_index.specs.Maps.{is_open, answers_behind, live_kept, window_kept, open_kept, known_in, pooled_exchange, window_in, seen_in}
 
 -- ---- the most filters that one live response passes
@@ -109,25 +109,43 @@ pub most_goes_on : (claim : Claim) (lives left earlier : List LiveResponse) (mos
 most_goes_on claim lives left earlier most here more live so_far last is greater =
     omega (arith, so_far, ap (most_passed claim) last, most_last claim earlier live, is, greater)
 
--- where one passes them all, nobody passes more
-pub full_is_furthest : (claim : Claim) (lives left earlier : List LiveResponse) (most here : ℕ) (live : LiveResponse) (h : List Item) → IsMost claim lives most left
-    → left ≡ earlier ++ live ∷ [] → here ≡ passed_live claim live → here ≡ filter_count
-    → live_in claim.target lives ≡ live_of claim.target h → here ≡ furthest anywhere claim h
-full_is_furthest claim lives left earlier most here live h so_far last is full are =
-    let nobody_more : here ≡ most_passed claim lives =
-    omega (arith, so_far, ap (most_passed claim) last, most_last claim earlier live, is, full, most_few claim lives) in
-    nobody_more ∙ most_is_furthest claim lives h are
+-- where one passes enough, the most are no less
+pub enough_is_found : (claim : Claim) (lives left earlier : List LiveResponse) (most here enough : ℕ) (live : LiveResponse) (h : List Item) → IsMost claim lives most left
+    → left ≡ earlier ++ live ∷ [] → here ≡ passed_live claim live → enough ≤ here
+    → live_in claim.target lives ≡ live_of claim.target h → IsMostOrEnough enough here (furthest anywhere claim h)
+enough_is_found claim lives left earlier most here enough live h so_far last is full are = record {
+  at_most = omega (arith, so_far, ap (most_passed claim) last, most_last claim earlier live, is, most_is_furthest claim lives h are);
+  less_is_most = λ less. absurd (omega (arith, less, full));
+}
 
 none_left : (claim : Claim) (left : List LiveResponse) → length left ≡ 0 → most_passed claim left ≡ 0
 none_left claim [] none = refl
 none_left claim (live ∷ lives) none = omega (arith, none)
 
 -- behind the last one, the most so far is the most of all
-pub end_is_furthest : (claim : Claim) (lives left : List LiveResponse) (most : ℕ) (h : List Item) → IsMost claim lives most left → length left ≡ 0
+end_is_furthest : (claim : Claim) (lives left : List LiveResponse) (most : ℕ) (h : List Item) → IsMost claim lives most left → length left ≡ 0
     → live_in claim.target lives ≡ live_of claim.target h → most ≡ furthest anywhere claim h
 end_is_furthest claim lives left most h so_far none are =
     let nothing_left : most ≡ most_passed claim lives = omega (arith, so_far, none_left claim left none) in
     nothing_left ∙ most_is_furthest claim lives h are
+
+pub end_is_enough : (claim : Claim) (lives left : List LiveResponse) (most enough : ℕ) (h : List Item) → IsMost claim lives most left → length left ≡ 0
+    → live_in claim.target lives ≡ live_of claim.target h → IsMostOrEnough enough most (furthest anywhere claim h)
+end_is_enough claim lives left most enough h so_far none are =
+    let is = end_is_furthest claim lives left most h so_far none are in
+    record {
+      at_most = omega (arith, is);
+      less_is_most = λ less. is;
+    }
+
+-- nobody passes more than all
+pub all_are_most : (claim : Claim) (lives : List LiveResponse) (n : ℕ) (h : List Item) → live_in claim.target lives ≡ live_of claim.target h
+    → IsMostOrEnough filter_count n (furthest anywhere claim h) → n ≡ furthest anywhere claim h
+all_are_most claim lives n h are most =
+    elim (cases_Bool (ltb n filter_count)) [
+      | inl less ↦ most.less_is_most (ltb-true n filter_count less)
+      | inr all ↦ omega (arith, ltb-false n filter_count all, most.at_most, most_few claim lives, most_is_furthest claim lives h are)
+    ]
 
 -- ---- what the window holds
 

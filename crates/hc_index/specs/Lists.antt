@@ -1,5 +1,5 @@
 -- What plain lists are seen as.
-use Rattle.std.specs.Prelude.{ℕ, Bool, false, ◌==◌, ◌||◌, List, [], ◌++◌, filter, find, map, Option, Some, None, if◌then◌else◌}
+use Rattle.std.specs.Prelude.{◌≡◌, ◌≤◌, ◌<◌, ℕ, Bool, false, ◌==◌, ◌||◌, List, [], ◌++◌, filter, find, map, Option, Some, None, if◌then◌else◌}
 use Rattle.std.specs.Option.{option_map}
 use Rattle.std.specs.Ordering.{nat_cmp}
 use Rattle.std.specs.BTreeMap.{BTreeMap, get}
@@ -108,6 +108,11 @@ watched_answered forward response seen =
     record { exchange = seen.exchange; window = seen.window ++ response_to seen.exchange.target (Some forward) response }
 
 -- ---- what a reply carries
+
+-- so many are the most, or enough of them
+pub record IsMostOrEnough (enough n most : ℕ) : Type 0 where
+  pub at_most : n ≤ most
+  pub less_is_most : n < enough → n ≡ most
 
 -- whether a reply with that mark went forward and carries a response of its window
 abbrev pub carried_by : Mark → Bool → Bool

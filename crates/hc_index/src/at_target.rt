@@ -40,11 +40,11 @@ fn error_after(error: u64, status: u16, position: u64) -> u64
     }
 }
 
-/// Whether both have the same octets. Those of different lengths aren't looked at.
+/// Whether both have the same octets. None is looked at where there are not as many.
 fn same_octets(one: &SharedOctets, other: &SharedOctets) -> bool
     ensures { Decides result (one.now ≡ other.now) }
 {
-    one.len() == other.len() && one.as_slice() == other.as_slice()
+    one.as_slice() == other.as_slice()
 }
 
 /// The body, in the memory of the latest live response where that has the same.

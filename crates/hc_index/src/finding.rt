@@ -9,7 +9,7 @@ ghost use Rattle.hc_history.specs.Furthest.{furthest};
 ghost use Rattle.hc_history.specs.Reused.{anywhere};
 ghost use Rattle.hc_history.specs.Right.{IsFoundBy};
 ghost use Rattle.hc_history.specs.Seen.{Seen, IsSeenAs, live_of};
-ghost use Rattle.hc_index.specs.Lists.{carried_by, exchange_seen, live_in};
+ghost use Rattle.hc_index.specs.Lists.{IsMostOrEnough, carried_by, exchange_seen, live_in};
 
 use crate::kept::{LiveResponse, OpenExchange, WindowAnswer};
 use hc_history::{
@@ -20,6 +20,9 @@ use std::alloc::{AllocError, Global};
 
 /// The number of filters; who passes them all is reused.
 const FILTER_COUNT: u32 = 9;
+
+/// How many filters a reply passes that went forward and carries a stored response.
+const FORWARDED_COUNT: u32 = 7;
 
 /// Where the latest error and the latest failure of a forward of a target stand; 0 where there was none.
 #[derive(Clone, Copy)]
@@ -69,19 +72,20 @@ pub(crate) fn carries_one(claim: &ReplyClaim<'_>, answers: &[WindowAnswer]) -> b
 }
 
 /// The most filters that one of the live responses passes. The newest is looked at first, and behind one
-/// that passes them all none is.
+/// that passes enough of them none is.
 fn furthest(
     alloc: Global,
     claim: &ReplyClaim<'_>,
     lives: &[LiveResponse],
+    enough: u32,
 ) -> Result<u32, AllocError>
     ensures { (h : List Item) → live_in claim.now.target lives.now ≡ live_of claim.now.target h
-        → IfOk result (λ n. n ≡ furthest anywhere claim.now h) }
+        → IfOk result (λ n. IsMostOrEnough enough n (furthest anywhere claim.now h)) }
 {
     let mut most = 0;
     for live in lives.iter().rev() {
         let here = passed(alloc, claim, &live.target, &live.state)?;
-        if here == FILTER_COUNT {
+        if enough <= here {
             return Ok(here);
         }
         most = most.max(here);
@@ -98,7 +102,7 @@ fn found_of_hit_among(
     ensures { (ttl : Option ℤ) (h : List Item) → live_in claim.now.target lives.now ≡ live_of claim.now.target h
         → IfOk result (IsFoundBy (Mark.Hit ttl) claim.now h) }
 {
-    let passed = furthest(alloc, claim, lives)?;
+    let passed = furthest(alloc, claim, lives, FILTER_COUNT)?;
     Ok(found_of_hit(passed))
 }
 
@@ -116,7 +120,10 @@ fn found_of_forwarded_among(
     if carried {
         return Ok(Finding::Right);
     }
-    let passed = furthest(alloc, claim, lives)?;
+    let passed = furthest(alloc, claim, lives, FORWARDED_COUNT)?;
+    if FORWARDED_COUNT <= passed {
+        return Ok(Finding::Right);
+    }
     Ok(found_of_forwarded(passed))
 }
 

@@ -1,5 +1,5 @@
 use Rattle.std.proofs.Common.{rules, ap, ◌∙◌}
-use Rattle.hc_index.proofs.FindLemmas.{most_at_first, most_goes_on, full_is_furthest, end_is_furthest}
+use Rattle.hc_index.proofs.FindLemmas.{most_at_first, most_goes_on, enough_is_found, end_is_enough}
 use Rattle.hc_index.proofs.finding.furthest.Goals as goal
 
 pub loop-live-init : goal.loop-live-init
@@ -7,10 +7,10 @@ loop-live-init c =
     most_at_first c.args.claim.now c.args.lives.now _
     (ap (λ r. r.iter.rest.now) c.into_iter-live-iterator.ensures.into_iter_gives ∙ ap (λ i. i.rest.now) c.rev-live-items.ensures.source ∙ c.iter.ensures.rest)
 
-pub returns-then-here-eq-FILTER_COUNT : goal.returns-then-here-eq-FILTER_COUNT
-returns-then-here-eq-FILTER_COUNT c = λ h are.
-    full_is_furthest c.args.claim.now c.args.lives.now c.loop-live.live-iterator.iter.rest.now c.next.new.self.iter.rest.now c.loop-live.most c.in_ok-here.here c.in-Some.live.now h
-    c.loop-live.invariant c.in-Some.ensures.steps c.in_ok-here.ensures c.if-here-eq-FILTER_COUNT.true are
+pub returns-then-enough-here : goal.returns-then-enough-here
+returns-then-enough-here c = λ h are.
+    enough_is_found c.args.claim.now c.args.lives.now c.loop-live.live-iterator.iter.rest.now c.next.new.self.iter.rest.now c.loop-live.most c.in_ok-here.here c.args.enough
+    c.in-Some.live.now h c.loop-live.invariant c.in-Some.ensures.steps c.in_ok-here.ensures c.if-enough-here.true are
 
 pub loop-live-preserved : goal.loop-live-preserved
 loop-live-preserved c =
@@ -19,4 +19,4 @@ loop-live-preserved c =
 
 pub returns : goal.returns
 returns c = λ h are.
-    end_is_furthest c.args.claim.now c.args.lives.now c.loop-live.live-iterator.iter.rest.now c.loop-live.most h c.loop-live.invariant c.in-None.ensures.steps.0 are
+    end_is_enough c.args.claim.now c.args.lives.now c.loop-live.live-iterator.iter.rest.now c.loop-live.most c.args.enough h c.loop-live.invariant c.in-None.ensures.steps.0 are
