@@ -7,7 +7,7 @@ ghost use Rattle.hc_bench.specs.Auditing.{AuditsTo, plain};
 
 use crate::trouble::Trouble;
 use hc_audit::{AuditFault, Auditor, FieldNames, Index, Settings, UnmarkedReplies, Verdict};
-use hc_index::ListIndex;
+use hc_index::MapIndex;
 use std::alloc::Global;
 
 /// How many octets a piece has.
@@ -36,7 +36,7 @@ fn verdict(alloc: Global, octets: &[u8]) -> Result<Verdict, Trouble>
         ignored: FieldNames::new(alloc),
         unmarked: UnmarkedReplies::Allow,
     };
-    let mut auditor = Auditor::new(alloc, ListIndex::new(alloc), settings);
+    let mut auditor = Auditor::new(alloc, MapIndex::new(alloc), settings);
     feed_all(&mut auditor, octets)?;
     Ok(auditor.finish()?)
 }

@@ -17,7 +17,7 @@ use std::time::Instant;
 const ROUNDS: u32 = 9;
 
 /// What is audited.
-const SAMPLES: [Sample; 4] = [
+const SAMPLES: [Sample; 6] = [
     Sample {
         records: 1_000,
         targets: 1,
@@ -33,6 +33,14 @@ const SAMPLES: [Sample; 4] = [
     Sample {
         records: 10_000,
         targets: 1_000,
+    },
+    Sample {
+        records: 100_000,
+        targets: 1,
+    },
+    Sample {
+        records: 100_000,
+        targets: 10_000,
     },
 ];
 
