@@ -13,7 +13,7 @@ use crate::print::printed;
 use crate::trouble::Trouble;
 use hc_audit::{AuditFault, Auditor};
 use hc_history::{Settings, Verdict};
-use hc_index::{Index, ListIndex};
+use hc_index::{Index, MapIndex};
 use std::alloc::{AllocError, Global};
 use std::io;
 use std::io::{ErrorKind, Read, Write};
@@ -79,7 +79,7 @@ fn judged<R: Read>(alloc: Global, settings: Settings, input: &mut R) -> Result<V
     ensures err { IfErr result (λ trouble. is_of_output trouble ≡ false) }
 {
     let mut piece = buffer(alloc)?;
-    let auditor = Auditor::new(alloc, ListIndex::new(alloc), settings);
+    let auditor = Auditor::new(alloc, MapIndex::new(alloc), settings);
     judged_by(auditor, input, piece.as_mut_slice())
 }
 

@@ -122,7 +122,7 @@ fn with_octet(
     Ok(changed)
 }
 
-/// Writes how often the program gives a verdict, and judge the same, on the octets where one of them is
+/// Writes how often the program gives a verdict, and others the same, on the octets where one of them is
 /// one of those of the part.
 pub fn say_each(
     alloc: Global,
@@ -136,14 +136,14 @@ pub fn say_each(
     let words = plain_words(alloc)?;
     let mut count = 0u64;
     for other in others.as_slice() {
-        count = count.saturating_add(count_judged_so(alloc, words.as_slice(), octets, *other)?);
+        count = count.saturating_add(count_said_by_all(alloc, words.as_slice(), octets, *other)?);
     }
     write!(out, "{count} verdicts")?;
     Ok(())
 }
 
-// How often there is a verdict, and judge's is the same, where one of the octets is another.
-fn count_judged_so(
+// How often there is a verdict, and those of others are the same, where one of the octets is another.
+fn count_said_by_all(
     alloc: Global,
     words: &[&str],
     octets: &[u8],
@@ -153,7 +153,7 @@ fn count_judged_so(
     for place in 0..octets.len() {
         let changed = with_octet(alloc, octets, place, other)?;
         let audited = Audited::by(alloc, words, &[changed.as_slice()])?;
-        count = count.saturating_add(u64::from(audited.is_judged_so()));
+        count = count.saturating_add(u64::from(audited.is_said_by_all()));
     }
     Ok(count)
 }

@@ -9,7 +9,7 @@ use std::rt::Files;
 use std::{fs, io};
 
 /// Audits each transcript `NAME.hct` of the folder, in order of names, by the words of `NAME.args`, and answers the
-/// exit status. A line stands on `output` for each of which judge says something else, or `NAME.want`, and at
+/// exit status. A line stands on `output` for each of which others say something else, or `NAME.want`, and at
 /// the end one says how many there are and how many agree. The status is 1 where not all do, and where a file can't be
 /// read, memory is refused or a line can't be written, of which a line on `faults` tells.
 pub fn status<R, W: Write, E: Write>(rt: &R, folder: &str, output: &mut W, faults: &mut E) -> u8
@@ -61,7 +61,7 @@ where
     Ok(names)
 }
 
-// What is said of a transcript, where judge or what is wanted says something else.
+// What is said of a transcript, where others or what is wanted say something else.
 fn difference<R>(rt: &R, folder: &str, name: &str) -> Result<Option<String>, Unanswered>
 where
     R: Files + AllocGlobal,
@@ -75,7 +75,7 @@ where
     let mut said = String::new(alloc);
     audited.say(&mut said)?;
     let mut others = String::new(alloc);
-    audited.say_judged(&mut others)?;
+    audited.say_others(&mut others)?;
     say_wanted(alloc, wanted.as_str(), said.as_str(), &mut others)?;
     if others.is_empty() {
         return Ok(None);

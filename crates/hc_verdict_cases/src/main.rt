@@ -1,13 +1,15 @@
 //! The cases of transcripts: what is said of each of those that `cases.txt` lists, a line a case; or of those of a
-//! folder, where one is named: a line for each of which the program and judge say different things, or the program
-//! something else than is wanted, and how many agree.
+//! folder, where one is named: a line for each of which the program and others say different things, or the program
+//! something else than is wanted, and how many agree. The others are judge, and an auditor whose index keeps lists.
 #![tactic(auto)]
 
 mod answers;
 mod changes;
 mod folder;
+mod lines;
 mod marking;
 mod names;
+mod others;
 mod pieces;
 mod program;
 mod records;

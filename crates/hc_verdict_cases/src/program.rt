@@ -1,10 +1,10 @@
-//! What the program `hcache` says of a transcript, and judge beside it.
+//! What the program `hcache` says of a transcript, and others beside it.
 
+use crate::lines::without_line_feed;
+use crate::others::Others;
 use crate::pieces::Pieces;
 use hc_cases::Unanswered;
-use hc_command::{audit, parsed, shown, verdict_line};
-use hc_history::Settings;
-use hc_judge::judge;
+use hc_command::{audit, parsed, shown};
 use std::alloc::{AllocError, Global};
 use std::fmt::Write;
 
@@ -15,8 +15,8 @@ pub struct Audited {
     text: String,
     /// The program's exit status.
     status: u8,
-    /// Judge's line by the same settings, where the words aren't refused.
-    judged: Option<String>,
+    /// What others say by the same settings, where the words aren't refused.
+    others: Option<Others>,
 }
 
 impl Audited {
@@ -32,7 +32,7 @@ impl Audited {
                 return Ok(Self::refused(alloc, status)?);
             }
         };
-        let judged = judged_line(alloc, &order.settings, pieces)?;
+        let others = Others::by(alloc, words, pieces)?;
         let status = audit(
             alloc,
             order.settings,
@@ -45,7 +45,7 @@ impl Audited {
         Ok(Audited {
             text: text_of(alloc, output.as_slice())?,
             status,
-            judged: Some(judged),
+            others: Some(others),
         })
     }
 
@@ -53,14 +53,14 @@ impl Audited {
         Ok(Audited {
             text: String::from_str(alloc, "refused")?,
             status,
-            judged: None,
+            others: None,
         })
     }
 
-    /// Whether the program writes a verdict's line, and judge's is the same.
-    pub fn is_judged_so(&self) -> bool {
-        match &self.judged {
-            Some(judged) => judged.as_str() == self.text.as_str(),
+    /// Whether the program writes a verdict's line, and those of all others are the same.
+    pub fn is_said_by_all(&self) -> bool {
+        match &self.others {
+            Some(others) => others.all_say(self.text.as_str()),
             None => false,
         }
     }
@@ -72,33 +72,13 @@ impl Audited {
         write!(out, "{text}, {status}")
     }
 
-    /// Writes what judge says, where that is something else.
-    pub fn say_judged(&self, out: &mut String) -> Result<(), AllocError> {
-        match &self.judged {
-            Some(judged) if judged.as_str() != self.text.as_str() => {
-                let judged = judged.as_str();
-                write!(out, ", but judge says {judged}")
-            }
-            _ => Ok(()),
+    /// Writes what others say, where that is something else.
+    pub fn say_others(&self, out: &mut String) -> Result<(), AllocError> {
+        match &self.others {
+            Some(others) => others.say_unless(self.text.as_str(), out),
+            None => Ok(()),
         }
     }
-}
-
-// The line of judge's verdict on the octets that the pieces make.
-fn judged_line(alloc: Global, settings: &Settings, pieces: &[&[u8]]) -> Result<String, AllocError> {
-    let octets = joined(alloc, pieces)?;
-    let verdict = judge(alloc, octets.as_slice(), settings)?;
-    let line = verdict_line(alloc, &verdict)?;
-    String::from_str(alloc, without_line_feed(line.as_str()))
-}
-
-// The octets that the pieces make.
-fn joined(alloc: Global, pieces: &[&[u8]]) -> Result<Vec<u8>, AllocError> {
-    let mut octets = Vec::new(alloc);
-    for piece in pieces {
-        octets.extend_from_slice(piece)?;
-    }
-    Ok(octets)
 }
 
 // What the program wrote, without the line feed at the end.
@@ -107,9 +87,4 @@ fn text_of(alloc: Global, written: &[u8]) -> Result<String, Unanswered> {
         return Err(Unanswered::Unknown);
     };
     Ok(String::from_str(alloc, without_line_feed(text))?)
-}
-
-/// The text without a line feed at its end.
-pub fn without_line_feed(text: &str) -> &str {
-    text.strip_suffix('\n').unwrap_or(text)
 }

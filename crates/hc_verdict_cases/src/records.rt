@@ -1,8 +1,7 @@
 //! The records of a transcript.
 
-use crate::program::without_line_feed;
+use crate::lines::line_of;
 use hc_cases::{Unanswered, show_short};
-use hc_command::verdict_line;
 use hc_framing::Message;
 use hc_head::{ResponseHead, Target};
 use hc_history::Verdict;
@@ -56,8 +55,8 @@ fn say_end(
         Ok(()) => write!(out, "records={records} position={position}")?,
         Err(RecordFault::Memory) => return Err(Unanswered::Memory),
         Err(fault) => {
-            let line = verdict_line(alloc, &Verdict::Malformed(position, fault))?;
-            out.push_str(without_line_feed(line.as_str()))?;
+            let line = line_of(alloc, &Verdict::Malformed(position, fault))?;
+            out.push_str(line.as_str())?;
         }
     }
     Ok(())

@@ -8,7 +8,7 @@ use std::alloc::Global;
 /// Who tells something of a transcript, which comes in pieces.
 #[derive(Clone, Copy)]
 pub enum Teller<'a> {
-    /// The program, asked by these words, and judge where it says something else.
+    /// The program, asked by these words, and others where they say something else.
     Program(&'a [&'a str]),
     /// The reader of records.
     Reader,
@@ -46,6 +46,6 @@ fn say_audited(
 ) -> Result<(), Unanswered> {
     let audited = Audited::by(alloc, words, pieces)?;
     audited.say(out)?;
-    audited.say_judged(out)?;
+    audited.say_others(out)?;
     Ok(())
 }
