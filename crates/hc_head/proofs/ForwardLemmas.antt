@@ -1,10 +1,10 @@
 -- A request that is written for a target has that target again.
-use Rattle.std.proofs.Common.{◌≡◌, ◌≢◌, ℕ, suc, ◌+◌, ◌-◌, ◌<◌, ◌≤◌, Bool, true, false, cond, ◌&&◌, ◌||◌, ◌==◌, not, leb, nat_lt, ◌⊎◌, List, [], ◌∷◌, ◌++◌, length, get_or, take, drop, map, refl, sym, ap, subst, ◌∙◌, arith, inl, inr, ⊎_elim, append_assoc, length-append}
+use Rattle.std.proofs.Common.{◌≡◌, ◌≢◌, ℕ, suc, ◌+◌, ◌<◌, ◌≤◌, Bool, true, false, cond, ◌==◌, not, leb, nat_lt, ◌⊎◌, List, [], ◌∷◌, ◌++◌, length, get_or, take, drop, refl, sym, ap, subst, ◌∙◌, arith, inl, inr, append_assoc, length-append}
 use Rattle.std.specs.Prelude.{codes, IsUtf8, IfSome, Some, None}
-use Rattle.std.specs.List.{AllPass, list_all, list_any, prefix_len}
+use Rattle.std.specs.List.{AllPass, list_all, list_any}
 use Rattle.std.specs.Char.{to_ascii_lowercase, is_ascii_digit}
 use Rattle.std.specs.Str.{bytes_eq, str_to_ascii_lowercase}
-use Rattle.std.proofs.lemmas.Bool.{and_parts, and_from, or_parts, or_from, eqb-true, leb-true, lt-ltb, false≢true}
+use Rattle.std.proofs.lemmas.Bool.{and_parts, and_from, or_parts, eqb-true, leb-true, lt-ltb, false≢true}
 use Rattle.std.proofs.lemmas.Bool.Decides.{nat_tests}
 use Rattle.std.proofs.lemmas.List.{length-map, length-take-le, map-append, drop_at, get_or_at}
 use Rattle.std.proofs.lemmas.List.Elements.{All-nil, All-cons, All-head, All-tail}
@@ -14,7 +14,7 @@ use Rattle.std.proofs.lemmas.Slice.Eq.{bytes_eq-Decides}
 use Rattle.std.proofs.lemmas.Str.{IsUtf8-append, IsUtf8-from_ascii, IsUtf8-drop, IsCharBoundary-before_ascii}
 use Rattle.std.proofs.lemmas.Str.Ascii.{IsAscii-nil, IsAscii-cons}
 use Rattle.http_uri.specs.ByteClasses.{index_of, is_path_byte, is_query_byte}
-use Rattle.http_uri.specs.Grammar.{IsAuthority, IsPathInput, IsPathAndQuery, without_fragment}
+use Rattle.http_uri.specs.Grammar.{IsPathInput, IsPathAndQuery, without_fragment}
 use Rattle.http_uri.proofs.PathLemmas.{IsPathAndQuery_slash}
 use Rattle.httparse.specs.Grammar.{is_token, is_uri_byte}
 use Rattle.hc_fields.specs.declared.fields.Field.{Field}
@@ -23,9 +23,9 @@ use Rattle.hc_fields.proofs.UpdateLemmas.{values_absent}
 use Rattle.hc_head.specs.declared.head.RequestHead.{RequestHead}
 use Rattle.hc_head.specs.declared.head.Target.{Target}
 use Rattle.hc_head.specs.declared.head.Version.{Version}
-use Rattle.hc_head.specs.Hosts.{is_name_octet, is_address_octet, IsName, IsAddress, IsHost, is_port, Authority, HasAuthority, is_default_port, normal_host}
+use Rattle.hc_head.specs.Hosts.{is_name_octet, is_address_octet, IsHost, is_port, Authority, HasAuthority, is_default_port, normal_host}
 use Rattle.hc_head.specs.Plain.{is_plain_value, is_plain_field, IsPlainTarget, IsPlainRequest}
-use Rattle.hc_head.specs.Targets.{HasHost, is_path_start, IsOriginForm, IsAbsoluteForm, Form, Origin, Absolute, Asterisk, HasForm, MayName, NamesForm, target_authority, absolute_path, target_path, HasTarget, host_field}
+use Rattle.hc_head.specs.Targets.{is_path_start, IsOriginForm, IsAbsoluteForm, Form, Origin, Absolute, Asterisk, HasForm, MayName, NamesForm, target_authority, absolute_path, target_path, HasTarget, host_field}
 use Rattle.hc_head.proofs.PlainLemmas.{visible_plain, host_plain}
 use Rattle.hc_head.proofs.TargetLemmas.{scheme_length}
 use Rattle.hc_head.proofs.WrittenLemmas.{lower_name, no_capital}

@@ -1,9 +1,9 @@
 -- Heads that are passed on are writable in a transcript.
-use Rattle.std.proofs.Common.{◌≡◌, ℕ, ◌+◌, ◌<◌, ◌≤◌, Bool, true, false, cond, not, ◌||◌, List, [], ◌∷◌, ◌++◌, length, Option, Some, refl, sym, ◌∙◌, arith, length-append}
+use Rattle.std.proofs.Common.{◌≡◌, ℕ, ◌+◌, ◌<◌, ◌≤◌, Bool, true, false, cond, not, List, [], ◌∷◌, ◌++◌, length, Some, refl, sym, ◌∙◌, arith, length-append}
 use Rattle.std.specs.Prelude.{codes, filter}
 use Rattle.std.specs.List.{list_all, list_any}
 use Rattle.std.specs.Str.{bytes_eq}
-use Rattle.std.proofs.lemmas.Bool.{and_parts, and_from, or_parts, or_from}
+use Rattle.std.proofs.lemmas.Bool.{and_parts, and_from, or_parts, or_from, false≢true}
 use Rattle.std.proofs.lemmas.List.Folds.{list_all-append, list_any-append}
 use Rattle.httparse.specs.Grammar.{is_token}
 use Rattle.hc_fields.specs.declared.fields.Field.{Field}
@@ -82,6 +82,19 @@ no_name_both name front back one other = none_both (λ f. bytes_eq f.name name) 
 pub no_name_taken : (name : List ℕ) (fields : List Field) → has_name name (without name fields) ≡ false
 no_name_taken name fields = none_taken (λ f. bytes_eq f.name name) fields
 
+none_refused : {X : Type 0} (p test : X → Bool) (xs : List X) → ((x : X) → p x ≡ true → test x ≡ false) → list_any p (filter test xs) ≡ false
+none_refused p test [] refuses = refl
+none_refused p test (x ∷ xs) refuses = by_tests (none_refused p test xs refuses) (test x) (p x) refl refl
+  where
+    by_tests : list_any p (filter test xs) ≡ false → (t s : Bool) → test x ≡ t → p x ≡ s → list_any p (cond t (x ∷ filter test xs) (filter test xs)) ≡ false
+    by_tests later false s passes is = later
+    by_tests later true false passes is = or_from _ _ is later
+    by_tests later true true passes is = absurd (false≢true (sym (refuses x is) ∙ passes))
+
+pub no_name_refused : (name : List ℕ) (test : Field → Bool) (fields : List Field) → ((f : Field) → bytes_eq f.name name ≡ true → test f ≡ false)
+    → has_name name (filter test fields) ≡ false
+no_name_refused name test fields refuses = none_refused (λ f. bytes_eq f.name name) test fields refuses
+
 pub no_framing_fewer : (test : Field → Bool) (fields : List Field) → has_framing fields ≡ false → has_framing (filter test fields) ≡ false
 no_framing_fewer test fields none =
     let parts = or_parts (has_name (codes "content-length") fields) _ none in
@@ -129,6 +142,13 @@ received_fewer test head received = record {
   few = omega (arith, received.few, length_fewer test head.fields);
   light = omega (arith, received.light, weight_fewer test head.fields);
 }
+
+pub received_without_framing : (head : RequestHead) → IsReceivedRequest head
+    → IsReceivedRequest (record head { fields = without (codes "transfer-encoding") (without (codes "content-length") head.fields) })
+received_without_framing head received =
+    let lengths : Field → Bool = λ f. not (bytes_eq f.name (codes "content-length")) in
+    let codings : Field → Bool = λ f. not (bytes_eq f.name (codes "transfer-encoding")) in
+    received_fewer codings (record head { fields = filter lengths head.fields }) (received_fewer lengths head received)
 
 pub received_lines : (head : RequestHead) → IsReceivedRequest head → AreKeptLines head.fields
 received_lines head received = record { plain = received.plain.fields; few = received.few; light = omega (arith, received.light) }

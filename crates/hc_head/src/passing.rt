@@ -1,6 +1,6 @@
 //! Heads that are passed on: they are writable in a transcript.
 
-ghost use Rattle.std.specs.Prelude.{◌≡◌, ◌+◌, ◌<◌, ◌≤◌, ℕ, Bool, true, false, List, ◌++◌, length, filter, codes, Some};
+ghost use Rattle.std.specs.Prelude.{◌≡◌, ◌+◌, ◌<◌, ◌≤◌, ℕ, Bool, true, false, List, ◌++◌, length, filter, codes, bytes_eq, Some};
 ghost use Rattle.std.specs.List.{list_all};
 ghost use Rattle.httparse.specs.Grammar.{is_token};
 ghost use Rattle.hc_fields.specs.declared.fields.Field.{Field};
@@ -54,6 +54,9 @@ pub fn no_name_stays()
     ensures both { (name : List ℕ) (front back : List Field) → has_name name front ≡ false → has_name name back ≡ false
         → has_name name (front ++ back) ≡ false }
     ensures taken_away { (name : List ℕ) (fields : List Field) → has_name name (without name fields) ≡ false }
+    // So it is whatever else is taken away with them.
+    ensures refused { (name : List ℕ) (test : Field → Bool) (fields : List Field)
+        → ((f : Field) → bytes_eq f.name name ≡ true → test f ≡ false) → has_name name (filter test fields) ≡ false }
 {}
 
 /// Heads that were read in the room for connections, whatever lines are then taken away.
@@ -69,6 +72,14 @@ pub fn received_heads()
           target = head.target;
           version = head.version;
           fields = filter test head.fields;
+        }) }
+    // As the head of a message is, without the lines that frame its body.
+    ensures without_framing { (head : RequestHead) → IsReceivedRequest head
+        → IsReceivedRequest (record {
+          method = head.method;
+          target = head.target;
+          version = head.version;
+          fields = without (codes "transfer-encoding") (without (codes "content-length") head.fields);
         }) }
     ensures lines { (head : RequestHead) → IsReceivedRequest head → AreKeptLines head.fields }
 {}

@@ -1,4 +1,4 @@
-use Rattle.hc_head.proofs.PassingLemmas.{received_request, received_response, received_fewer, received_lines}
+use Rattle.hc_head.proofs.PassingLemmas.{received_request, received_response, received_fewer, received_lines, received_without_framing}
 use Rattle.hc_head.proofs.passing.received_heads.Goals as goal
 
 pub returns-clause-request : goal.returns-clause-request
@@ -12,3 +12,6 @@ returns-clause-fewer c = received_fewer
 
 pub returns-clause-lines : goal.returns-clause-lines
 returns-clause-lines c = received_lines
+
+pub returns-clause-without_framing : goal.returns-clause-without_framing
+returns-clause-without_framing c = received_without_framing
