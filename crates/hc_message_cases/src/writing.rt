@@ -1,14 +1,16 @@
 //! Heads and messages that are written.
 
 use crate::describing::{ShownHead, frame_fault, yes_or_no};
+use crate::messages::joined;
 use crate::parts::{kind, length, number, room, version};
 use crate::targets::head;
 use hc_cases::{Unanswered, fields_of_lines, show};
-use hc_fields::Octets;
-use hc_framing::{Kind, write_message};
+use hc_fields::SharedOctets;
+use hc_framing::{Kind, MessageText, write_message};
 use hc_head::{RequestHead, ResponseHead, Version};
 use std::alloc::{AllocError, Global};
 use std::fmt::Write;
+use std::ptr;
 
 /// Writes the text of a request's head: METHOD, TARGET, LENGTH and lines.
 pub fn request(alloc: Global, about: &[Vec<u8>], out: &mut String) -> Result<(), Unanswered> {
@@ -18,7 +20,7 @@ pub fn request(alloc: Global, about: &[Vec<u8>], out: &mut String) -> Result<(),
     let length = self::length(length.as_slice())?;
     let head = head(alloc, method.as_slice(), target.as_slice(), lines)?;
     let text = hc_head::write_request(alloc, &head, length)?;
-    Ok(written(&text, out)?)
+    Ok(written(text.as_slice(), out)?)
 }
 
 /// Writes the text of a response's head: STATUS, VERSION, LENGTH and lines.
@@ -30,7 +32,7 @@ pub fn response(alloc: Global, about: &[Vec<u8>], out: &mut String) -> Result<()
     let version = self::version(version.as_slice())?;
     let head = response_head(alloc, status.as_slice(), version, lines)?;
     let text = hc_head::write_response(alloc, &head, length)?;
-    Ok(written(&text, out)?)
+    Ok(written(text.as_slice(), out)?)
 }
 
 // The head of a response.
@@ -50,8 +52,8 @@ fn response_head(
     })
 }
 
-fn written(text: &Octets, out: &mut String) -> Result<(), AllocError> {
-    show(text.as_slice(), out)?;
+fn written(text: &[u8], out: &mut String) -> Result<(), AllocError> {
+    show(text, out)?;
     let length = text.len();
     write!(out, "; {length} octets")
 }
@@ -84,14 +86,15 @@ pub fn writable_response(
     Ok(yes_or_no(hc_head::writable_response(&head, room), out)?)
 }
 
-/// Writes the text of the message that octets are.
+/// Writes the text of the message that octets are, and how much of it lies where the body does.
 pub fn message(alloc: Global, about: &[Vec<u8>], out: &mut String) -> Result<(), Unanswered> {
-    let [of, octets] = about else {
+    let Some((of, pieces)) = about.split_first() else {
         return Err(Unanswered::Unknown);
     };
+    let octets = joined(alloc, pieces)?;
     match kind(of.as_slice())? {
-        Kind::Request => read_and_written::<RequestHead>(alloc, octets, Kind::Request, out),
-        kind => read_and_written::<ResponseHead>(alloc, octets, kind, out),
+        Kind::Request => read_and_written::<RequestHead>(alloc, &octets, Kind::Request, out),
+        kind => read_and_written::<ResponseHead>(alloc, &octets, kind, out),
     }
 }
 
@@ -102,7 +105,60 @@ fn read_and_written<H: ShownHead>(
     out: &mut String,
 ) -> Result<(), Unanswered> {
     match H::whole(alloc, octets, kind) {
-        Ok(message) => Ok(written(&write_message(alloc, &message, kind)?, out)?),
+        Ok(message) => {
+            let text = write_message(alloc, &message, kind)?;
+            Ok(written_message(alloc, &text, &message.body, out)?)
+        }
         Err(fault) => Ok(frame_fault(fault, out)?),
+    }
+}
+
+fn written_message(
+    alloc: Global,
+    text: &MessageText,
+    body: &SharedOctets,
+    out: &mut String,
+) -> Result<(), AllocError> {
+    let mut octets = Vec::new(alloc);
+    text.append_to(&mut octets)?;
+    written(octets.as_slice(), out)?;
+    if text.len() != octets.len() || text.is_empty() {
+        out.push_str(", miscounted")?;
+    }
+    two_parts(text, body, out)?;
+    if !lies_with(&text.share()?, text) {
+        out.push_str(", copied where it is shared")?;
+    }
+    Ok(())
+}
+
+// Writes how long the second part is, where it has octets, and whether they are the body's own.
+fn two_parts(text: &MessageText, body: &SharedOctets, out: &mut String) -> Result<(), AllocError> {
+    let (_, rest) = text.parts();
+    if rest.is_empty() {
+        return Ok(());
+    }
+    let length = rest.len();
+    let owner = if lie_together(rest, body) {
+        "the body's own"
+    } else {
+        "copied"
+    };
+    write!(out, ", the last {length} of them {owner}")
+}
+
+// Whether both texts are the same octets in memory.
+fn lies_with(one: &MessageText, other: &MessageText) -> bool {
+    let (front, rest) = one.parts();
+    let (other_front, other_rest) = other.parts();
+    lie_together(front, other_front) && lie_together(rest, other_rest)
+}
+
+// Whether both begin at the same place in memory, or have no octets.
+fn lie_together(one: &SharedOctets, other: &SharedOctets) -> bool {
+    match (one.as_slice().first(), other.as_slice().first()) {
+        (Some(one), Some(other)) => ptr::eq(ptr::from_ref(one), ptr::from_ref(other)),
+        (None, None) => true,
+        _ => false,
     }
 }
