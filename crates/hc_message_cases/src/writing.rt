@@ -5,12 +5,10 @@ use crate::messages::joined;
 use crate::parts::{kind, length, number, room, version};
 use crate::targets::head;
 use hc_cases::{Unanswered, fields_of_lines, show};
-use hc_fields::SharedOctets;
 use hc_framing::{Kind, MessageText, write_message};
 use hc_head::{RequestHead, ResponseHead, Version};
 use std::alloc::{AllocError, Global};
 use std::fmt::Write;
-use std::ptr;
 
 /// Writes the text of a request's head: METHOD, TARGET, LENGTH and lines.
 pub fn request(alloc: Global, about: &[Vec<u8>], out: &mut String) -> Result<(), Unanswered> {
@@ -86,7 +84,7 @@ pub fn writable_response(
     Ok(yes_or_no(hc_head::writable_response(&head, room), out)?)
 }
 
-/// Writes the text of the message that octets are, and how much of it lies where the body does.
+/// Writes the text of the message that octets are, and how much of it is the body's own.
 pub fn message(alloc: Global, about: &[Vec<u8>], out: &mut String) -> Result<(), Unanswered> {
     let Some((of, pieces)) = about.split_first() else {
         return Err(Unanswered::Unknown);
@@ -107,58 +105,37 @@ fn read_and_written<H: ShownHead>(
     match H::whole(alloc, octets, kind) {
         Ok(message) => {
             let text = write_message(alloc, &message, kind)?;
-            Ok(written_message(alloc, &text, &message.body, out)?)
+            written_text(alloc, &text, out)?;
+            drop(message);
+            Ok(shared_text(&text, out)?)
         }
         Err(fault) => Ok(frame_fault(fault, out)?),
     }
 }
 
-fn written_message(
-    alloc: Global,
-    text: &MessageText,
-    body: &SharedOctets,
-    out: &mut String,
-) -> Result<(), AllocError> {
+// Writes the text of a message, and how long its second part is, where it has octets.
+fn written_text(alloc: Global, text: &MessageText, out: &mut String) -> Result<(), AllocError> {
     let mut octets = Vec::new(alloc);
     text.append_to(&mut octets)?;
     written(octets.as_slice(), out)?;
     if text.len() != octets.len() || text.is_empty() {
         out.push_str(", miscounted")?;
     }
-    two_parts(text, body, out)?;
-    if !lies_with(&text.share()?, text) {
-        out.push_str(", copied where it is shared")?;
+    let (_, rest) = text.parts();
+    let length = rest.len();
+    match (rest.is_empty(), rest.is_shared()) {
+        (true, _) => Ok(()),
+        (_, true) => write!(out, ", {length} of them the body's own"),
+        (_, false) => write!(out, ", {length} of them copied"),
     }
-    Ok(())
 }
 
-// Writes how long the second part is, where it has octets, and whether they are the body's own.
-fn two_parts(text: &MessageText, body: &SharedOctets, out: &mut String) -> Result<(), AllocError> {
-    let (_, rest) = text.parts();
-    if rest.is_empty() {
+// Writes whether a text that nobody else owns is copied where it is shared.
+fn shared_text(text: &MessageText, out: &mut String) -> Result<(), AllocError> {
+    let other = text.share()?;
+    let (front, rest) = other.parts();
+    if front.is_shared() && rest.is_shared() != rest.is_empty() {
         return Ok(());
     }
-    let length = rest.len();
-    let owner = if lie_together(rest, body) {
-        "the body's own"
-    } else {
-        "copied"
-    };
-    write!(out, ", the last {length} of them {owner}")
-}
-
-// Whether both texts are the same octets in memory.
-fn lies_with(one: &MessageText, other: &MessageText) -> bool {
-    let (front, rest) = one.parts();
-    let (other_front, other_rest) = other.parts();
-    lie_together(front, other_front) && lie_together(rest, other_rest)
-}
-
-// Whether both begin at the same place in memory, or have no octets.
-fn lie_together(one: &SharedOctets, other: &SharedOctets) -> bool {
-    match (one.as_slice().first(), other.as_slice().first()) {
-        (Some(one), Some(other)) => ptr::eq(ptr::from_ref(one), ptr::from_ref(other)),
-        (None, None) => true,
-        _ => false,
-    }
+    out.push_str(", copied where it is shared")
 }
