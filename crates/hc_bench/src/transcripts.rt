@@ -119,7 +119,7 @@ fn get_request(alloc: Global, target: usize) -> Result<MessageText, AllocError>
     ensures { IfOk result (λ text. text ≡ get_request target) }
 {
     let text = format!(in alloc; "GET /{target} HTTP/1.1\r\nhost: h\r\n\r\n")?;
-    MessageText::from_vec(text.into_bytes())
+    Ok(MessageText::from_vec(text.into_bytes())?)
 }
 
 // A response that may be stored, with such lines more.
@@ -130,5 +130,5 @@ fn fresh_response(alloc: Global, lines: &str) -> Result<MessageText, AllocError>
     let text = format!(in alloc;
         "HTTP/1.1 200 \r\ndate: Thu, 01 Jan 1970 00:16:40 GMT\r\ncache-control: max-age=3600\r\ncontent-length: 100\r\n{lines}\r\n{body}"
     )?;
-    MessageText::from_vec(text.into_bytes())
+    Ok(MessageText::from_vec(text.into_bytes())?)
 }
