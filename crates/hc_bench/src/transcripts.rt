@@ -3,6 +3,7 @@ ghost use Rattle.std.specs.Prelude.{◌≡◌, ◌<◌, ◌-◌, ◌^◌, ◌++�
 ghost use Rattle.hc_bench.specs.Transcripts.{exchange, forwarded, fresh_response, get_request, hit, passed_text, transcript};
 
 use hc_fields::Octets;
+use hc_framing::MessageText;
 use hc_transcript::{OPENING, Passed, Record, write_record};
 use std::alloc::{AllocError, Global};
 
@@ -114,20 +115,20 @@ fn push(alloc: Global, text: &mut Octets, number: u64, passed: Passed) -> Result
 }
 
 // A request for the target of that number.
-fn get_request(alloc: Global, target: usize) -> Result<Octets, AllocError>
+fn get_request(alloc: Global, target: usize) -> Result<MessageText, AllocError>
     ensures { IfOk result (λ text. text ≡ get_request target) }
 {
     let text = format!(in alloc; "GET /{target} HTTP/1.1\r\nhost: h\r\n\r\n")?;
-    Ok(Octets::from_vec(text.into_bytes()))
+    Ok(MessageText::from_vec(text.into_bytes())?)
 }
 
 // A response that may be stored, with such lines more.
-fn fresh_response(alloc: Global, lines: &str) -> Result<Octets, AllocError>
+fn fresh_response(alloc: Global, lines: &str) -> Result<MessageText, AllocError>
     ensures { IfOk result (λ text. text ≡ fresh_response lines.now) }
 {
     let body = "x".repeat(alloc, 100)?;
     let text = format!(in alloc;
         "HTTP/1.1 200 \r\ndate: Thu, 01 Jan 1970 00:16:40 GMT\r\ncache-control: max-age=3600\r\ncontent-length: 100\r\n{lines}\r\n{body}"
     )?;
-    Ok(Octets::from_vec(text.into_bytes()))
+    Ok(MessageText::from_vec(text.into_bytes())?)
 }

@@ -58,6 +58,11 @@ impl SharedOctets {
         self.bytes.is_empty()
     }
 
+    /// Whether there is another owner of the octets at this moment; never where there are none.
+    pub fn is_shared(&self) -> bool {
+        !self.is_empty() && !self.bytes.is_unique()
+    }
+
     /// Another owner of the same octets. It takes no memory, and fails only where the count of owners
     /// is full.
     pub fn share(&self) -> Result<Self, AllocError>

@@ -10,6 +10,7 @@ mod kind;
 mod message;
 mod progress;
 mod reader;
+mod text;
 mod trailer;
 mod whole;
 mod writing;
@@ -21,5 +22,8 @@ pub use kind::Kind;
 pub use message::Message;
 pub use progress::Progress;
 pub use reader::MessageReader;
+pub use text::MessageText;
 pub use whole::{one_request, one_response, one_whole_response, whole_request, whole_response};
-pub use writing::{write_message, written_request_read_back, written_response_read_back};
+pub use writing::{
+    LONGEST_COPIED_BODY, write_message, written_request_read_back, written_response_read_back,
+};

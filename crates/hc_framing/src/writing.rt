@@ -13,17 +13,22 @@ ghost use Rattle.hc_framing.specs.Written.{IsReadableRequest, IsReadableResponse
 use crate::head::MessageHead;
 use crate::kind::Kind;
 use crate::message::Message;
-use hc_fields::Octets;
+use crate::text::MessageText;
+use hc_fields::SharedOctets;
 use std::alloc::{AllocError, Global};
+
+/// How many octets a body may have that is copied behind its head, so that one write takes both.
+pub const LONGEST_COPIED_BODY: usize = 1_024;
 
 /// The text of a message: its head, with a last line for the length of the body where that is told,
 /// and the body as it is. A request tells the length of a body that has octets, and any where its
-/// method is unsafe; a response does unless it ends with its head.
+/// method is unsafe; a response does unless it ends with its head. The head is written once, and a
+/// body of more than `LONGEST_COPIED_BODY` octets is shared, not copied.
 pub fn write_message<H: MessageHead>(
     alloc: Global,
     message: &Message<H>,
     kind: Kind,
-) -> Result<Octets, AllocError>
+) -> Result<MessageText, AllocError>
     ensures { IfOk result (λ text. text ≡ message_text H.head_text H.length_told kind message.now) }
 {
     let length = if H::tells_length(message, kind) {
@@ -31,9 +36,13 @@ pub fn write_message<H: MessageHead>(
     } else {
         None
     };
-    let mut text = message.head.write(alloc, length)?;
-    text.extend_from_slice(message.body.as_slice())?;
-    Ok(text)
+    let mut head = message.head.write(alloc, length)?.into_vec();
+    if message.body.len() <= LONGEST_COPIED_BODY {
+        head.extend_from_slice(message.body.as_slice())?;
+        return MessageText::from_vec(head);
+    }
+    let head = SharedOctets::from_vec(head)?;
+    Ok(MessageText::of_parts(head, message.body.share()?))
 }
 
 /// The text of a request is read as the request, whatever follows.

@@ -33,8 +33,8 @@ pub fn message(alloc: Global, about: &[Vec<u8>], out: &mut String) -> Result<(),
     Ok(())
 }
 
-// The octets one behind another.
-fn joined(alloc: Global, pieces: &[Vec<u8>]) -> Result<Vec<u8>, AllocError> {
+/// The octets one behind another.
+pub fn joined(alloc: Global, pieces: &[Vec<u8>]) -> Result<Vec<u8>, AllocError> {
     let mut octets = Vec::new(alloc);
     for piece in pieces {
         octets.extend_from_slice(piece.as_slice())?;

@@ -1,4 +1,9 @@
-use hc_fields::Octets;
+//! Records that are written.
+
+ghost use Rattle.std.specs.Prelude.{◌≡◌, IfOk};
+
+use hc_framing::MessageText;
+use std::alloc::AllocError;
 
 /// A record of a transcript: what passed, the number of its exchange or forward, and the moment.
 #[derive(Debug, Drop)]
@@ -15,13 +20,43 @@ pub struct Record {
 #[derive(Debug, Drop)]
 pub enum Passed {
     /// What a client asked.
-    ClientRequest(Octets),
+    ClientRequest(MessageText),
     /// What the origin was asked.
-    OriginRequest(Octets),
+    OriginRequest(MessageText),
     /// What the origin answered.
-    OriginResponse(Octets),
+    OriginResponse(MessageText),
     /// The origin gave no answer.
     OriginFailure,
     /// What the client was answered.
-    ClientReply(Octets),
+    ClientReply(MessageText),
+}
+
+impl Record {
+    /// The same record, of whose octets there is one owner more. It takes no memory, and fails only
+    /// where the count of owners is full.
+    pub fn share(&self) -> Result<Self, AllocError>
+        ensures { IfOk result (λ same. same ≡ self.now) }
+    {
+        Ok(Record {
+            number: self.number,
+            moment: self.moment,
+            of: self.of.share()?,
+        })
+    }
+}
+
+impl Passed {
+    /// The same, with one owner more of its octets. It takes no memory, and fails only where the
+    /// count of owners is full.
+    pub fn share(&self) -> Result<Self, AllocError>
+        ensures { IfOk result (λ same. same ≡ self.now) }
+    {
+        match self {
+            Passed::ClientRequest(message) => Ok(Passed::ClientRequest(message.share()?)),
+            Passed::OriginRequest(message) => Ok(Passed::OriginRequest(message.share()?)),
+            Passed::OriginResponse(message) => Ok(Passed::OriginResponse(message.share()?)),
+            Passed::OriginFailure => Ok(Passed::OriginFailure),
+            Passed::ClientReply(message) => Ok(Passed::ClientReply(message.share()?)),
+        }
+    }
 }

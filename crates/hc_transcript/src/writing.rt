@@ -1,8 +1,9 @@
 //! Writing transcripts.
 
-ghost use Rattle.std.specs.Prelude.{◌≡◌, [], ◌∷◌, ◌++◌, IfOk, OnOk};
+ghost use Rattle.std.specs.Prelude.{◌≡◌, [], ◌∷◌, ◌++◌, length, take, vec_len, IfOk, OnOk, OnErr};
 ghost use Rattle.hc_transcript.specs.Records.{letter, line_text, line_of, passed_kind, passed_octets, record_text};
 
+use crate::limits::LONGEST_LINE;
 use crate::line::{Kind, Line};
 use crate::record::{Passed, Record};
 use hc_fields::Octets;
@@ -38,16 +39,30 @@ fn passed_kind(passed: &Passed) -> Kind
     }
 }
 
-/// The octets that passed; of a failure none.
-fn passed_octets(passed: &Passed) -> &[u8]
-    ensures { result.now ≡ passed_octets passed.now }
+/// How many octets passed; of a failure none.
+fn passed_len(passed: &Passed) -> usize
+    ensures { result ≡ length (passed_octets passed.now) }
 {
     match passed {
         Passed::ClientRequest(message)
         | Passed::OriginRequest(message)
         | Passed::OriginResponse(message)
-        | Passed::ClientReply(message) => message.as_slice(),
-        Passed::OriginFailure => b"",
+        | Passed::ClientReply(message) => message.len(),
+        Passed::OriginFailure => 0,
+    }
+}
+
+/// Puts the octets that passed at the end; of a failure there are none.
+fn append_passed(text: &mut Vec<u8>, passed: &Passed) -> Result<(), AllocError>
+    ensures ok { OnOk result (text.new.items ≡ text.old.items ++ passed_octets passed.now) }
+    ensures err { OnErr result (text.new.items ≡ text.old.items) }
+{
+    match passed {
+        Passed::ClientRequest(message)
+        | Passed::OriginRequest(message)
+        | Passed::OriginResponse(message)
+        | Passed::ClientReply(message) => message.append_to(text),
+        Passed::OriginFailure => Ok(()),
     }
 }
 
@@ -59,7 +74,7 @@ fn line_of(record: &Record) -> Line
         kind: passed_kind(&record.of),
         number: record.number,
         moment: record.moment,
-        size: passed_octets(&record.of).len() as u64,
+        size: passed_len(&record.of) as u64,
     }
 }
 
@@ -73,14 +88,37 @@ fn write_line(text: &mut Vec<u8>, line: &Line) -> Result<(), AllocError>
     write!(text, "{letter} {number} {moment} {size}\n").map_err(|_| AllocError)
 }
 
-/// The text of a record: its line, the octets of its message as they are, and a line feed behind
-/// each. It says nothing of whether the record may stand in a transcript.
+/// Puts the text of a record at the end. Where memory runs out, some of it may stand there.
+fn append_parts(text: &mut Vec<u8>, record: &Record) -> Result<(), AllocError>
+    ensures ok { OnOk result (text.new.items ≡ text.old.items ++ record_text «record».now) }
+    ensures err { OnErr result (take (vec_len text.old) text.new.items ≡ text.old.items) }
+{
+    let mut line = Vec::with_capacity(*text.allocator(), LONGEST_LINE)?;
+    write_line(&mut line, &line_of(record))?;
+    text.extend_from_slice(line.as_slice())?;
+    append_passed(text, &record.of)?;
+    text.extend_from_slice(b"\n")
+}
+
+/// Puts the text of a record at the end: its line, the octets of its message as they are, and a line
+/// feed behind each. It says nothing of whether the record may stand in a transcript.
+pub fn append_record(text: &mut Vec<u8>, record: &Record) -> Result<(), AllocError>
+    ensures ok { OnOk result (text.new.items ≡ text.old.items ++ record_text «record».now) }
+    ensures err { OnErr result (text.new.items ≡ text.old.items) }
+{
+    let before = text.len();
+    let appended = append_parts(text, record);
+    if appended.is_err() {
+        text.truncate(before);
+    }
+    appended
+}
+
+/// The text of a record, as `append_record` writes it.
 pub fn write_record(alloc: Global, record: &Record) -> Result<Octets, AllocError>
     ensures { IfOk result (λ text. text ≡ record_text «record».now) }
 {
     let mut text = Vec::new(alloc);
-    write_line(&mut text, &line_of(record))?;
-    text.extend_from_slice(passed_octets(&record.of))?;
-    text.extend_from_slice(b"\n")?;
+    append_record(&mut text, record)?;
     Ok(Octets::from_vec(text))
 }
