@@ -1,4 +1,3 @@
 pub mod AuditingLemmas
-pub mod CommandLemmas
 pub mod FeedingLemmas
 pub mod TranscriptLemmas

@@ -1,18 +1,20 @@
 -- The command line of `hc_bench`.
-use Rattle.std.specs.Prelude.{◌≡◌, ◌≤◌, ◌⊎◌, ℕ, List, [], ◌∷◌, length, codes}
+use Rattle.std.specs.Prelude.{ℕ, List, [], ◌∷◌, Option, Some, None, if◌then◌else◌, codes}
+use Rattle.std.specs.Str.{bytes_eq}
+use Rattle.hc_bench.specs.declared.command.Task.{Task}
+use Rattle.hc_bench.specs.declared.command.Task.TheVariants.{Count, Measure, Audit, AuditLong, Transcript}
 
--- the words, of which the first is the program's name, ask for counts
-abbrev pub AsksCounts : List (List ℕ) → Type 0
-AsksCounts words = length words ≤ 1
+-- what a word asks for, if it is a known one
+abbrev pub task_of : List ℕ → Option Task
+task_of word =
+    if bytes_eq word (codes "measure") then Some Measure
+    else (if bytes_eq word (codes "audit") then Some Audit
+    else (if bytes_eq word (codes "audit-long") then Some AuditLong
+    else (if bytes_eq word (codes "transcript") then Some Transcript else None)))
 
--- they ask for measures
-abbrev pub AsksMeasures : List (List ℕ) → Type 0
-AsksMeasures words = (name : List ℕ) × (words ≡ name ∷ codes "measure" ∷ [])
-
--- they ask for audits
-abbrev pub AsksAudits : List (List ℕ) → Type 0
-AsksAudits words = (name : List ℕ) × (words ≡ name ∷ codes "audit" ∷ [])
-
--- they ask for something
-abbrev pub IsKnown : List (List ℕ) → Type 0
-IsKnown words = AsksCounts words ⊎ (AsksMeasures words ⊎ AsksAudits words)
+-- what the words ask for, of which the first is the program's name
+abbrev pub asked : List (List ℕ) → Option Task
+asked [] = Some Count
+asked (name ∷ []) = Some Count
+asked (name ∷ word ∷ []) = task_of word
+asked (name ∷ word ∷ more ∷ rest) = None

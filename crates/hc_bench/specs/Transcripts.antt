@@ -1,21 +1,21 @@
 -- The transcripts that are audited.
-use Rattle.std.specs.Prelude.{ℕ, zero, suc, ◌+◌, ◌%◌, List, [], ◌++◌, nat_lt, if◌then◌else◌, codes, decimal}
+use Rattle.std.specs.Prelude.{ℕ, zero, suc, ◌+◌, ◌%◌, List, [], ◌++◌, length, nat_lt, if◌then◌else◌, codes, decimal}
 use Rattle.hc_transcript.specs.declared.record.Passed.{Passed}
 use Rattle.hc_transcript.specs.declared.record.Passed.TheVariants.{ClientRequest, OriginRequest, OriginResponse, ClientReply}
 use Rattle.hc_transcript.specs.Records.{opening, record_text}
-use Rattle.hc_bench.specs.Messages.{filler, line_end}
+use Rattle.hc_bench.specs.Messages.{line_end}
 
 -- a GET for the target of that number
 abbrev pub get_request : ℕ → List ℕ
 get_request target =
     codes "GET /" ++ (decimal target ++ (codes " HTTP/1.1" ++ line_end ++ codes "host: h" ++ line_end ++ line_end))
 
--- a response that is fresh for an hour and has 100 octets, with such lines more
-abbrev pub fresh_response : List ℕ → List ℕ
-fresh_response lines =
+-- a response that is fresh for an hour and has that body, with such lines more
+abbrev pub fresh_response : List ℕ → List ℕ → List ℕ
+fresh_response lines body =
     codes "HTTP/1.1 200 " ++ line_end ++ codes "date: Thu, 01 Jan 1970 00:16:40 GMT" ++ line_end
-    ++ codes "cache-control: max-age=3600" ++ line_end ++ codes "content-length: 100" ++ line_end
-    ++ (lines ++ (line_end ++ filler 100))
+    ++ codes "cache-control: max-age=3600" ++ line_end
+    ++ (codes "content-length: " ++ (decimal (length body) ++ (line_end ++ (lines ++ (line_end ++ body)))))
 
 -- what says that the response is reused as soon as it has come
 abbrev pub hit_lines : List ℕ
@@ -26,26 +26,26 @@ unfoldable pub passed_text : ℕ → Passed → List ℕ
 passed_text number passed = record_text (record { number = number; moment = 1000; of = passed })
 
 -- an exchange that is forwarded, under its own number
-abbrev pub forwarded : ℕ → ℕ → List ℕ
-forwarded number target =
+abbrev pub forwarded : List ℕ → ℕ → ℕ → List ℕ
+forwarded body number target =
     passed_text number (ClientRequest (get_request target)) ++ (passed_text number (OriginRequest (get_request target))
-    ++ (passed_text number (OriginResponse (fresh_response [])) ++ passed_text number (ClientReply (fresh_response []))))
+    ++ (passed_text number (OriginResponse (fresh_response [] body)) ++ passed_text number (ClientReply (fresh_response [] body))))
 
 -- an exchange that is answered with what is stored
-abbrev pub hit : ℕ → ℕ → List ℕ
-hit number target =
-    passed_text number (ClientRequest (get_request target)) ++ passed_text number (ClientReply (fresh_response hit_lines))
+abbrev pub hit : List ℕ → ℕ → ℕ → List ℕ
+hit body number target =
+    passed_text number (ClientRequest (get_request target)) ++ passed_text number (ClientReply (fresh_response hit_lines body))
 
 -- the exchange behind so many: one for each target is forwarded, and all behind them are hits
-abbrev pub exchange : ℕ → ℕ → List ℕ
-exchange targets before =
-    if nat_lt before targets then forwarded (before + 1) before else hit (before + 1) (before % targets)
+abbrev pub exchange : List ℕ → ℕ → ℕ → List ℕ
+exchange body targets before =
+    if nat_lt before targets then forwarded body (before + 1) before else hit body (before + 1) (before % targets)
 
 -- so many exchanges
-abbrev pub exchanges : ℕ → ℕ → List ℕ
-exchanges targets zero = []
-exchanges targets (suc before) = exchanges targets before ++ exchange targets before
+abbrev pub exchanges : List ℕ → ℕ → ℕ → List ℕ
+exchanges body targets zero = []
+exchanges body targets (suc before) = exchanges body targets before ++ exchange body targets before
 
--- a transcript of so many exchanges for so many targets
-abbrev pub transcript : ℕ → ℕ → List ℕ
-transcript targets count = opening ++ exchanges targets count
+-- a transcript of so many exchanges for so many targets, whose responses have that body
+abbrev pub transcript : List ℕ → ℕ → ℕ → List ℕ
+transcript body targets count = opening ++ exchanges body targets count

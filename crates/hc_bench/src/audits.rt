@@ -1,6 +1,9 @@
 //! Transcripts of many records, and how fast they are audited.
-ghost use Rattle.std.specs.Prelude.{◌<◌, IfOk};
+ghost use Rattle.std.specs.Prelude.{◌≡◌, ◌<◌, ◌-◌, ◌/◌, IfOk, OnOk};
+ghost use Rattle.std.specs.Io.KnownBytes.{Appends};
 ghost use Rattle.hc_bench.specs.Auditing.{IsAuditRateOf};
+ghost use Rattle.hc_bench.specs.Messages.{filler};
+ghost use Rattle.hc_bench.specs.Transcripts.{transcript};
 
 use crate::auditing::audited;
 use crate::lines::audit_line;
@@ -8,57 +11,80 @@ use crate::print::printed;
 use crate::rate::Rate;
 use crate::transcripts::transcript;
 use crate::trouble::Trouble;
-use std::alloc::Global;
+use hc_fields::Octets;
+use std::alloc::{AllocError, Global};
 use std::io::Write;
 use std::rt::Clock;
 use std::time::Instant;
 
-/// How often a transcript is audited. The fastest time counts.
-const ROUNDS: u32 = 9;
+/// How often a transcript is audited at least. The fastest time counts.
+const ROUNDS: usize = 9;
 
-/// What is audited.
-const SAMPLES: [Sample; 6] = [
-    Sample {
-        records: 1_000,
-        targets: 1,
-    },
-    Sample {
-        records: 1_000,
-        targets: 100,
-    },
-    Sample {
-        records: 10_000,
-        targets: 1,
-    },
-    Sample {
-        records: 10_000,
-        targets: 1_000,
-    },
-    Sample {
-        records: 100_000,
-        targets: 1,
-    },
-    Sample {
-        records: 100_000,
-        targets: 10_000,
-    },
-];
+/// A short transcript is audited more often, until so many records were audited in all.
+const RECORDS_IN_ALL: usize = 200_000;
 
-/// A transcript of so many records of so many targets. Four records of each target are an exchange that
-/// is forwarded, and each two of the others a hit: so the number of records is even, and at least four
-/// times that of targets.
+/// How many records the transcripts of short bodies have.
+const LENGTHS: [usize; 3] = [1_000, 10_000, 100_000];
+
+/// How many records the longest transcript has.
+const LONGEST: usize = 1_000_000;
+
+/// How many octets a short body has.
+const SHORT_BODY: usize = 100;
+
+/// A transcript of so many records of so many targets, with bodies of so many octets. Four records of
+/// each target are an exchange that is forwarded, and each two of the others a hit: so the number of
+/// records is even, and at least four times that of targets.
 #[derive(Clone, Copy, Debug)]
 pub struct Sample {
     pub records: usize,
     pub targets: usize,
+    pub body: usize,
 }
 
-/// Audits transcripts, and says how fast that was.
-pub fn audit<C: Clock, W: Write>(alloc: Global, clock: &C, output: &mut W) -> Result<(), Trouble> {
-    for sample in SAMPLES {
-        audit_sample(alloc, clock, &sample, output)?;
+/// Bodies so long that they are most of what is audited.
+pub const LONG_BODIES: Sample = Sample {
+    records: 10_000,
+    targets: 1,
+    body: 16_384,
+};
+
+/// Audits transcripts, also the longest where it is asked for, and says how fast that was.
+pub fn audit<C: Clock, W: Write>(
+    alloc: Global,
+    clock: &C,
+    is_longest_asked: bool,
+    output: &mut W,
+) -> Result<(), Trouble> {
+    for records in LENGTHS {
+        audit_both(alloc, clock, records, SHORT_BODY, output)?;
     }
-    Ok(())
+    if is_longest_asked {
+        audit_both(alloc, clock, LONGEST, SHORT_BODY, output)?;
+    }
+    audit_both(alloc, clock, LONG_BODIES.records, LONG_BODIES.body, output)
+}
+
+// Audits so many records of one target, and as many of a tenth as many targets.
+fn audit_both<C: Clock, W: Write>(
+    alloc: Global,
+    clock: &C,
+    records: usize,
+    body: usize,
+    output: &mut W,
+) -> Result<(), Trouble> {
+    let one = Sample {
+        records,
+        targets: 1,
+        body,
+    };
+    audit_sample(alloc, clock, &one, output)?;
+    let many = Sample {
+        records,
+        targets: (records / 10).max(1),
+        body,
+    };
+    audit_sample(alloc, clock, &many, output)
 }
 
 /// Makes the transcript and audits it, and says how fast that was.
@@ -70,11 +96,38 @@ pub fn audit_sample<C: Clock, W: Write>(
 ) -> Result<(), Trouble>
     requires { 0 < sample.now.targets }
 {
-    let exchanges = (sample.records / 2).saturating_sub(sample.targets);
-    let octets = transcript(alloc, sample.targets, exchanges)?;
+    let octets = sampled(alloc, sample)?;
     let rate = fastest(alloc, clock, octets.as_slice(), sample.records)?;
-    printed(audit_line(alloc, sample.targets, &rate)?.as_str(), output)?;
+    let line = audit_line(alloc, sample.targets, sample.body, &rate)?;
+    printed(line.as_str(), output)?;
     Ok(())
+}
+
+/// Makes the transcript and writes it. After an error some of it may be written.
+pub fn write_sample<W: Write>(alloc: Global, sample: &Sample, output: &mut W) -> Result<(), Trouble>
+    requires { 0 < sample.now.targets }
+    ensures { OnOk result (Appends (W.contents output.old) (W.contents output.new)
+        (transcript (filler sample.now.body) sample.now.targets (sample.now.records / 2 - sample.now.targets))) }
+{
+    let octets = sampled(alloc, sample)?;
+    output.write_all(octets.as_slice())?;
+    output.flush()?;
+    Ok(())
+}
+
+// The transcript of the sample.
+fn sampled(alloc: Global, sample: &Sample) -> Result<Octets, AllocError>
+    requires { 0 < sample.now.targets }
+    ensures { IfOk result (λ text. text ≡ transcript (filler sample.now.body) sample.now.targets
+        (sample.now.records / 2 - sample.now.targets)) }
+{
+    let exchanges = (sample.records / 2).saturating_sub(sample.targets);
+    transcript(alloc, sample.targets, exchanges, sample.body)
+}
+
+// How often a transcript of so many records is audited.
+fn rounds_of(records: usize) -> usize {
+    (RECORDS_IN_ALL / records.max(1)).max(ROUNDS)
 }
 
 // How fast the octets are audited at best.
@@ -87,7 +140,7 @@ fn fastest<C: Clock>(
     ensures { IfOk result (IsAuditRateOf octets.now) }
 {
     let mut rate = timed(alloc, clock, octets, records)?;
-    'rounds: for _ in 1..ROUNDS {
+    'rounds: for _ in 1..rounds_of(records) {
         rate = rate.faster(timed(alloc, clock, octets, records)?);
     }
     Ok(rate)

@@ -1,6 +1,6 @@
 //! The command line of `hc_bench`.
-ghost use Rattle.std.specs.Prelude.{◌≡◌, ◌↔◌, Some, map};
-ghost use Rattle.hc_bench.specs.Command.{AsksAudits, AsksCounts, AsksMeasures};
+ghost use Rattle.std.specs.Prelude.{◌≡◌, map};
+ghost use Rattle.hc_bench.specs.Command.{asked, task_of};
 
 use std::convert::AsStr;
 
@@ -13,21 +13,39 @@ pub enum Task {
     Measure,
     /// To measure what audits cost.
     Audit,
+    /// The same, also that of the longest transcript.
+    AuditLong,
+    /// To write the transcript of long bodies that is audited.
+    Transcript,
 }
 
 /// How the program is called.
-pub const USAGE: &str = "usage: hc_bench [measure|audit]\n";
+pub const USAGE: &str = "usage: hc_bench [measure|audit|audit-long|transcript]\n";
+
+/// What the word asks for, if it is a known one.
+fn task_of(word: &str) -> Option<Task>
+    ensures { result ≡ task_of word.now }
+{
+    if word == "measure" {
+        Some(Task::Measure)
+    } else if word == "audit" {
+        Some(Task::Audit)
+    } else if word == "audit-long" {
+        Some(Task::AuditLong)
+    } else if word == "transcript" {
+        Some(Task::Transcript)
+    } else {
+        None
+    }
+}
 
 /// What the words ask for, of which the first is the program's name, if it is anything known.
 pub fn asked<S: AsStr>(words: &[S]) -> Option<Task>
-    ensures counts { (result ≡ Some Task.Count) ↔ AsksCounts (map S.text words.now) }
-    ensures measures { (result ≡ Some Task.Measure) ↔ AsksMeasures (map S.text words.now) }
-    ensures audits { (result ≡ Some Task.Audit) ↔ AsksAudits (map S.text words.now) }
+    ensures { result ≡ asked (map S.text words.now) }
 {
     match words {
         [] | [_] => Some(Task::Count),
-        [_, word] if word.as_str() == "measure" => Some(Task::Measure),
-        [_, word] if word.as_str() == "audit" => Some(Task::Audit),
+        [_, word] => task_of(word.as_str()),
         _ => None,
     }
 }

@@ -1,6 +1,6 @@
 //! The lines that the program prints.
 ghost use Rattle.std.specs.Prelude.{◌≡◌, IfOk, string_bytes};
-ghost use Rattle.hc_bench.specs.Lines.{audit_line, counts_line, rate_line, cost_line};
+ghost use Rattle.hc_bench.specs.Lines.{audit_line, counts_line, rate_line, cost_line, sample_text};
 
 use crate::feeding::Fed;
 use crate::rate::Rate;
@@ -47,15 +47,32 @@ pub fn cost_line(
     format!(in alloc; "{name} piece={size} cost_percent={percent}\n")
 }
 
-/// How fast a transcript of records of so many targets was audited.
-pub fn audit_line(alloc: Global, targets: usize, rate: &Rate) -> Result<String, AllocError>
-    ensures { IfOk result (λ line. string_bytes line ≡ audit_line targets rate.now) }
+// Which transcript was audited.
+fn sample_text(
+    alloc: Global,
+    records: usize,
+    targets: usize,
+    body: usize,
+) -> Result<String, AllocError>
+    ensures { IfOk result (λ text. string_bytes text ≡ sample_text records targets body) }
 {
-    let records = rate.count;
+    format!(in alloc; "records={records} targets={targets} body={body}")
+}
+
+/// How fast a transcript of records of so many targets was audited, with bodies of so many octets.
+pub fn audit_line(
+    alloc: Global,
+    targets: usize,
+    body: usize,
+    rate: &Rate,
+) -> Result<String, AllocError>
+    ensures { IfOk result (λ line. string_bytes line ≡ audit_line targets body rate.now) }
+{
+    let sample = sample_text(alloc, rate.count, targets, body)?;
     let octets = rate.octets;
     let records_speed = rate.count_per_second();
     let octets_speed = rate.octets_per_second();
     format!(in alloc;
-        "audit records={records} targets={targets} octets={octets} records_per_second={records_speed} octets_per_second={octets_speed}\n"
+        "audit {sample} octets={octets} records_per_second={records_speed} octets_per_second={octets_speed}\n"
     )
 }

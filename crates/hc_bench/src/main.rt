@@ -1,7 +1,9 @@
 //! `hc_bench`: what it costs to read messages in pieces, and to audit transcripts.
 //!
 //! Without an argument it reads two short messages in pieces and says how many calls that took. With
-//! `measure` it reads long ones against the clock, and with `audit` it audits transcripts against it.
+//! `measure` it reads long ones against the clock. With `audit` it audits transcripts against it, and with
+//! `audit-long` also one of a million records. With `transcript` it writes one of those that it audits, so
+//! that other programs can be timed over the same octets.
 #![tactic(auto)]
 
 mod auditing;

@@ -1,9 +1,9 @@
 //! The program, over any system and any two writers.
-ghost use Rattle.std.specs.Prelude.{◌≡◌, ◌↔◌, map};
+ghost use Rattle.std.specs.Prelude.{◌≡◌, ◌↔◌, None, map};
 ghost use Rattle.std.specs.Io.KnownBytes.{Keeps};
-ghost use Rattle.hc_bench.specs.Command.{IsKnown};
+ghost use Rattle.hc_bench.specs.Command.{asked};
 
-use crate::audits::audit;
+use crate::audits::{LONG_BODIES, audit, write_sample};
 use crate::command::{Task, USAGE, asked};
 use crate::counts::count;
 use crate::measures::measure;
@@ -41,14 +41,16 @@ pub fn answered<R, S: AsStr, W: Write, E: Write>(
 ) -> u8
 where
     R: Clock + AllocGlobal,
-    ensures unknown { (result ≡ 64) ↔ ¬ (IsKnown (map S.text words.now)) }
+    ensures unknown { (result ≡ 64) ↔ (asked (map S.text words.now) ≡ None) }
     ensures quiet { result ≡ 64 → Keeps (W.contents output.old) (W.contents output.new) }
     ensures well { result ≡ 0 → Keeps (E.contents faults.old) (E.contents faults.new) }
 {
     let done = match asked(words) {
         Some(Task::Count) => count(rt.alloc(), output),
         Some(Task::Measure) => measure(rt.alloc(), rt, output),
-        Some(Task::Audit) => audit(rt.alloc(), rt, output),
+        Some(Task::Audit) => audit(rt.alloc(), rt, false, output),
+        Some(Task::AuditLong) => audit(rt.alloc(), rt, true, output),
+        Some(Task::Transcript) => write_sample(rt.alloc(), &LONG_BODIES, output),
         None => return refused(faults),
     };
     match done {

@@ -1,5 +1,5 @@
 //! What no clause says: the texts, readers and writers that fail, and that calls succeed.
-use crate::audits::{Sample, audit_sample};
+use crate::audits::{Sample, audit_sample, write_sample};
 use crate::counts::count;
 use crate::feeding::feed;
 use crate::measures::{Pair, compare};
@@ -152,11 +152,12 @@ head piece=7 cost_percent=100
 fn audited(rt: &impl AllocGlobal, records: usize, output: &mut Vec<u8>) -> Result<(), Trouble> {
     let clock = Ticks {
         microseconds: Cell::new(0),
-        last: 18,
+        last: 20_000,
     };
     let sample = Sample {
         records,
         targets: 3,
+        body: 100,
     };
     audit_sample::<Ticks, Vec<u8>>(rt.alloc(), &clock, &sample, output)
 }
@@ -168,8 +169,24 @@ fn audits_are_said(rt: HostRuntime) {
     assert!(rt; said.is_empty());
     assert_eq!(rt; audited(&rt, 20, &mut said), Ok(()));
     let want =
-        "audit records=20 targets=3 octets=2731 records_per_second=20000000 octets_per_second=2731000000\n";
+        "audit records=20 targets=3 body=100 octets=2731 records_per_second=20000000 octets_per_second=2731000000\n";
     assert_eq!(rt; said.as_slice(), want.as_bytes());
+}
+
+#[test]
+fn transcripts_are_written(rt: HostRuntime) {
+    let sample = Sample {
+        records: 20,
+        targets: 3,
+        body: 100,
+    };
+    let mut text = Vec::new(rt.alloc());
+    assert_eq!(rt; write_sample(rt.alloc(), &sample, &mut text), Ok(()));
+    assert_eq!(rt; text.len(), 2731);
+    assert_eq!(rt;
+        write_sample(rt.alloc(), &sample, &mut Full),
+        Err(Trouble::Device)
+    );
 }
 
 #[test]
@@ -215,7 +232,7 @@ fn answers(
 
 #[test]
 fn words_are_answered(rt: HostRuntime) {
-    let usage = "usage: hc_bench [measure|audit]\n";
+    let usage = "usage: hc_bench [measure|audit|audit-long|transcript]\n";
     answers(&rt, &["hc_bench"], 0, COUNTS, "");
     answers(&rt, &[], 0, COUNTS, "");
     answers(&rt, &["hc_bench", "fast"], 64, "", usage);

@@ -1,5 +1,6 @@
 //! Transcripts of any length, made in memory.
 ghost use Rattle.std.specs.Prelude.{◌≡◌, ◌<◌, ◌-◌, ◌^◌, ◌++◌, IfOk, OnOk};
+ghost use Rattle.hc_bench.specs.Messages.{filler};
 ghost use Rattle.hc_bench.specs.Transcripts.{exchange, forwarded, fresh_response, get_request, hit, passed_text, transcript};
 
 use hc_fields::Octets;
@@ -13,15 +14,35 @@ const MOMENT: u64 = 1_000;
 /// The lines that mark a reply as a hit.
 const HIT_LINES: &str = "age: 0\r\ncache-status: hcache;hit\r\n";
 
-/// A transcript of so many exchanges for so many targets, in which every reply is right: the first for
-/// each target is forwarded, and those behind are hits, for one target after another.
-pub fn transcript(alloc: Global, targets: usize, exchanges: usize) -> Result<Octets, AllocError>
+/// A transcript of so many exchanges for so many targets, whose responses have bodies of so many octets.
+/// Every reply in it is right: the first for each target is forwarded, and those behind are hits, for one
+/// target after another.
+pub fn transcript(
+    alloc: Global,
+    targets: usize,
+    exchanges: usize,
+    size: usize,
+) -> Result<Octets, AllocError>
     requires { 0 < targets }
-    ensures { IfOk result (λ text. text ≡ transcript targets exchanges) }
+    ensures { IfOk result (λ text. text ≡ transcript (filler size) targets exchanges) }
+{
+    let body = "x".repeat(alloc, size)?;
+    exchanges_of(alloc, targets, exchanges, body.as_str())
+}
+
+// A transcript of so many exchanges for so many targets, whose responses have that body.
+fn exchanges_of(
+    alloc: Global,
+    targets: usize,
+    exchanges: usize,
+    body: &str,
+) -> Result<Octets, AllocError>
+    requires { 0 < targets }
+    ensures { IfOk result (λ text. text ≡ transcript body.now targets exchanges) }
 {
     let mut text = Octets::from_slice(alloc, OPENING)?;
     'exchanges: for before in 0..exchanges {
-        push_exchange(alloc, &mut text, targets, before)?;
+        push_exchange(alloc, &mut text, targets, before, body)?;
     }
     Ok(text)
 }
@@ -32,16 +53,17 @@ fn push_exchange(
     text: &mut Octets,
     targets: usize,
     before: usize,
+    body: &str,
 ) -> Result<(), AllocError>
     requires some { 0 < targets }
     requires within { before < 2 ^ 64 - 1 }
-    ensures { OnOk result (text.new ≡ text.old ++ exchange targets before) }
+    ensures { OnOk result (text.new ≡ text.old ++ exchange body.now targets before) }
 {
     let number = before as u64 + 1;
     if before < targets {
-        push_forwarded(alloc, text, number, before)
+        push_forwarded(alloc, text, number, before, body)
     } else {
-        push_hit(alloc, text, number, before % targets)
+        push_hit(alloc, text, number, before % targets, body)
     }
 }
 
@@ -51,8 +73,9 @@ fn push_forwarded(
     text: &mut Octets,
     number: u64,
     target: usize,
+    body: &str,
 ) -> Result<(), AllocError>
-    ensures { OnOk result (text.new ≡ text.old ++ forwarded number target) }
+    ensures { OnOk result (text.new ≡ text.old ++ forwarded body.now number target) }
 {
     push(
         alloc,
@@ -70,20 +93,26 @@ fn push_forwarded(
         alloc,
         text,
         number,
-        Passed::OriginResponse(fresh_response(alloc, "")?),
+        Passed::OriginResponse(fresh_response(alloc, "", body)?),
     )?;
     push(
         alloc,
         text,
         number,
-        Passed::ClientReply(fresh_response(alloc, "")?),
+        Passed::ClientReply(fresh_response(alloc, "", body)?),
     )?;
     Ok(())
 }
 
 // Puts an exchange at the end that is answered with what is stored.
-fn push_hit(alloc: Global, text: &mut Octets, number: u64, target: usize) -> Result<(), AllocError>
-    ensures { OnOk result (text.new ≡ text.old ++ hit number target) }
+fn push_hit(
+    alloc: Global,
+    text: &mut Octets,
+    number: u64,
+    target: usize,
+    body: &str,
+) -> Result<(), AllocError>
+    ensures { OnOk result (text.new ≡ text.old ++ hit body.now number target) }
 {
     push(
         alloc,
@@ -95,7 +124,7 @@ fn push_hit(alloc: Global, text: &mut Octets, number: u64, target: usize) -> Res
         alloc,
         text,
         number,
-        Passed::ClientReply(fresh_response(alloc, HIT_LINES)?),
+        Passed::ClientReply(fresh_response(alloc, HIT_LINES, body)?),
     )?;
     Ok(())
 }
@@ -122,13 +151,13 @@ fn get_request(alloc: Global, target: usize) -> Result<MessageText, AllocError>
     Ok(MessageText::from_vec(text.into_bytes())?)
 }
 
-// A response that may be stored, with such lines more.
-fn fresh_response(alloc: Global, lines: &str) -> Result<MessageText, AllocError>
-    ensures { IfOk result (λ text. text ≡ fresh_response lines.now) }
+// A response with that body that may be stored, with such lines more.
+fn fresh_response(alloc: Global, lines: &str, body: &str) -> Result<MessageText, AllocError>
+    ensures { IfOk result (λ text. text ≡ fresh_response lines.now body.now) }
 {
-    let body = "x".repeat(alloc, 100)?;
+    let size = body.len();
     let text = format!(in alloc;
-        "HTTP/1.1 200 \r\ndate: Thu, 01 Jan 1970 00:16:40 GMT\r\ncache-control: max-age=3600\r\ncontent-length: 100\r\n{lines}\r\n{body}"
+        "HTTP/1.1 200 \r\ndate: Thu, 01 Jan 1970 00:16:40 GMT\r\ncache-control: max-age=3600\r\ncontent-length: {size}\r\n{lines}\r\n{body}"
     )?;
     Ok(MessageText::from_vec(text.into_bytes())?)
 }
