@@ -440,6 +440,20 @@ whole_body (Sized size) octets body len is b = subst (BeginsBody (Sized size) oc
 whole_body Chunked octets body len is b = subst (BeginsBody Chunked octets body) is b
 whole_body UntilClose octets body len is b = absurd b
 
+-- what has come of a body, where no more comes
+pub ends_whole : (frame : Framing) (r : BodyReader) (octets : List ℕ) → AgreesBody frame r octets → frame ≡ UntilClose → IsWholeBody frame octets r.octets
+ends_whole frame r octets agrees is =
+    subst (λ (f : Framing). IsWholeBody f octets r.octets) (sym is) (go r.stage (subst (λ (f : Framing). AgreesBody f r octets) is agrees))
+  where
+    go : (stage : Stage) → AgreesAt stage UntilClose r octets → (r.octets ≡ octets) × (length octets ≤ longest_body)
+    go at.Sized a = absurd (search (rules, a.0))
+    go at.Line a = absurd (search (rules, a.0))
+    go at.Data a = absurd (search (rules, a.0))
+    go at.CarriageReturn a = absurd (search (rules, a.0))
+    go at.LineFeed a = absurd (search (rules, a.0))
+    go at.Trailer a = absurd (search (rules, a.0))
+    go at.UntilClose a = (a.2, a.1)
+
 pub one_whole_body : (framing : Framing) (octets a b : List ℕ) → IsWholeBody framing octets a → IsWholeBody framing octets b → a ≡ b
 one_whole_body Nothing octets a b p q = p.0 ∙ sym q.0
 one_whole_body (Sized size) octets a b p q = p.body_is ∙ sym q.body_is

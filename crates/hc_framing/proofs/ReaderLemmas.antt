@@ -39,7 +39,7 @@ use Rattle.hc_head.specs.Writable.{longest_body}
 use Rattle.hc_framing.specs.BodyReading.{AgreesAt as BodyAgreesAt}
 use Rattle.hc_framing.specs.Faults.{head_fault}
 use Rattle.hc_head.proofs.ReadingLemmas.{finds_head}
-use Rattle.hc_framing.proofs.BodyLemmas.{body_is_open, open_has_no_body, broken_has_no_body, body_unique, body-append, whole_body, one_whole_body, broken_is_not_whole, open_is_not_whole, shorter_is_not_whole}
+use Rattle.hc_framing.proofs.BodyLemmas.{body_is_open, open_has_no_body, broken_has_no_body, body_unique, body-append, one_whole_body, ends_whole, broken_is_not_whole, open_is_not_whole, shorter_is_not_whole}
 
 -- how a piece is searched for the end of the head
 pub record Searches (before after : Search) (piece near : List ℕ) (most used : ℕ) : Type 0 where
@@ -607,20 +607,6 @@ module _ {H : Type 0} (form : Form H) (laws : FormLaws form) where
 
   -- ---- the end of the octets
 
-  -- what has come of a body, where no more comes
-  ends_whole : (frame : Framing) (r : BodyReader) (octets : List ℕ) → AgreesBody frame r octets → frame ≡ UntilClose → IsWholeBody frame octets r.octets
-  ends_whole frame r octets agrees is =
-      subst (λ (f : Framing). IsWholeBody f octets r.octets) (sym is) (go r.stage (subst (λ (f : Framing). AgreesBody f r octets) is agrees))
-    where
-      go : (stage : bodies.Stage) → BodyAgreesAt stage UntilClose r octets → (r.octets ≡ octets) × (length octets ≤ longest_body)
-      go stages.Sized a = absurd (search (rules, a.0))
-      go stages.Line a = absurd (search (rules, a.0))
-      go stages.Data a = absurd (search (rules, a.0))
-      go stages.CarriageReturn a = absurd (search (rules, a.0))
-      go stages.LineFeed a = absurd (search (rules, a.0))
-      go stages.Trailer a = absurd (search (rules, a.0))
-      go stages.UntilClose a = (a.2, a.1)
-
   pub closes : (kind : Kind) (room : Room) (r s : MessageReader H) (octets : List ℕ) → r.stage ≡ at.Body → Agrees form kind room r octets
       → ((frame : Framing) (behind : List ℕ) → AgreesBody frame r.body behind → frame ≡ UntilClose)
       → s.stage ≡ at.End → s.head ≡ r.head → s.body.whole ≡ r.body.octets → EndsHere form kind room s octets
@@ -685,59 +671,6 @@ module _ {H : Type 0} (form : Form H) (laws : FormLaws form) where
       no_head_before octets (λ found. k.none_yet (k.search_is ∙ found)) head len (subst (λ (o : List ℕ). form.begins o head len) k.start_is whole.begins)
 
   -- ---- octets that are one message
-
-  -- octets follow the message
-  pub goes_on_behind : (kind : Kind) (room : Room) (r : MessageReader H) (octets : List ℕ) (used : ℕ) → EndsAfter form kind room r [] octets used → used < length octets
-      → GoesOnBehind form kind octets room
-  goes_on_behind kind room r octets used e less =
-      let b = e.begins.begins in
-      let on : form.begins octets b.head b.head_len =
-      subst (λ (o : List ℕ). form.begins o b.head b.head_len) (take-append-drop used octets) (laws.goes_on (take used octets) (drop used octets) b.head b.head_len b.begins) in
-      let same = same_head octets whole.head b.head whole.head_len b.head_len whole.begins on in
-      record {
-        message = e.message;
-        len = used;
-        begins = whole;
-        octets_fit = subst (λ (n : ℕ). n ≤ room.octets) (sym same.1) e.begins.octets_fit;
-        fields_fit = subst (λ (h : H). form.field_count h ≤ room.fields) (sym same.0) e.begins.fields_fit;
-        more = less;
-      }
-    where
-      zero_more : 0 + used ≡ used
-      zero_more = omega arith
-
-      whole : BeginsMessage form kind octets e.message used
-      whole =
-          subst (λ (x : List ℕ × ℕ). BeginsMessage form kind x.0 e.message x.1) (λ i. (take-append-drop used octets i, zero_more i))
-          (message-append kind (take used octets) (drop used octets) e.message (0 + used) e.begins.begins)
-
-  pub ends_with_all : (kind : Kind) (room : Room) (r : MessageReader H) (octets : List ℕ) (used : ℕ) → (e : EndsAfter form kind room r [] octets used) → length octets ≤ used
-      → IsWholeIn form kind octets room e.message
-  ends_with_all kind room r octets used e all =
-      let m = e.begins.begins in
-      let octets-are : take used octets ≡ octets = take_all used octets all in
-      let inside = laws.within (take used octets) m.head m.head_len m.begins in
-      record {
-        is = record {
-          head = m.head;
-          head_len = m.head_len;
-          begins = subst (λ (o : List ℕ). form.begins o m.head m.head_len) octets-are m.begins;
-          frame = m.frame;
-          framed = m.framed;
-          body =
-              whole_body m.frame (drop m.head_len octets) e.message.body m.body_len (omega (arith, m.len_is, e.within, all, length-drop m.head_len octets, inside, ap length octets-are))
-              (subst (λ (o : List ℕ). BeginsBody m.frame (drop m.head_len o) e.message.body m.body_len) octets-are m.body);
-          head_is = m.head_is;
-        };
-        octets_fit = e.begins.octets_fit;
-        fields_fit = e.begins.fields_fit;
-      }
-
-  -- what the end of the octets says where it is no fault
-  pub ended : (kind : Kind) (room : Room) (r : MessageReader H) (octets : List ℕ) (progress : Progress) → EndGives form (Ok progress) kind room r octets
-      → EndsHere form kind room r octets
-  ended kind room r octets More gives = absurd gives
-  ended kind room r octets (Whole used) gives = gives.1
 
   -- the head of a whole message, within the room
   whole_head : (kind : Kind) (octets : List ℕ) (room : Room) (message : Message H) → (w : IsWholeIn form kind octets room message)

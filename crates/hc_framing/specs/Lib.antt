@@ -14,4 +14,5 @@ pub mod BodyReading
 pub mod Faults
 pub mod Reader
 pub mod ReaderParts
+pub mod WholeParts
 pub mod Written

@@ -1,6 +1,7 @@
 //! What framing takes of the heads of requests and of responses.
 
 ghost use Rattle.std.specs.Prelude.{◌≡◌};
+ghost use Rattle.hc_framing.specs.Faults.{head_fault};
 ghost use Rattle.hc_framing.specs.Messages.{answers_head, fields_without_framing};
 
 use crate::fault::FrameFault;
@@ -62,6 +63,16 @@ pub trait MessageHead: Drop {
 
     /// Octets begin with one head at most, which ends with its first empty line, whatever follows.
     ghost laws: { FormLaws form };
+}
+
+/// A fault of a head as one of a message.
+pub(crate) fn head_fault(fault: HeadFault) -> FrameFault
+    ensures { result ≡ head_fault fault }
+{
+    match fault {
+        HeadFault::Memory => FrameFault::Memory,
+        other => FrameFault::Head(other),
+    }
 }
 
 /// Whether what is read answers HEAD.

@@ -1,17 +1,16 @@
 //! Messages that come in pieces.
 
 ghost use Rattle.std.specs.Prelude.{◌≡◌, take};
-ghost use Rattle.hc_framing.specs.Faults.{head_fault};
 
 use crate::body::{BodyReader, has_octets};
 use crate::fault::FrameFault;
 use crate::framing::Framing;
-use crate::head::MessageHead;
+use crate::head::{MessageHead, head_fault};
 use crate::kind::Kind;
 use crate::message::Message;
 use crate::progress::Progress;
 use hc_fields::Octets;
-use hc_head::{HeadFault, Room, Search, Step, find_empty_line};
+use hc_head::{Room, Search, Step, find_empty_line};
 use std::alloc::{AllocError, Global};
 
 /// What a reader waits for.
@@ -54,16 +53,6 @@ fn front_of(piece: &[u8], most: usize) -> &[u8]
     } else {
         let (front, _) = piece.split_at(most);
         front
-    }
-}
-
-/// A fault of a head as one of a message.
-fn head_fault(fault: HeadFault) -> FrameFault
-    ensures { result ≡ head_fault fault }
-{
-    match fault {
-        HeadFault::Memory => FrameFault::Memory,
-        other => FrameFault::Head(other),
     }
 }
 

@@ -1,6 +1,6 @@
 //! The octets that were fed and not yet read.
 
-ghost use Rattle.std.specs.Prelude.{◌≡◌, ◌≤◌, ◌++◌, ◌==◌, List, ℕ, [], length, drop, OnOk, OnErr};
+ghost use Rattle.std.specs.Prelude.{◌≡◌, ◌≤◌, ◌-◌, ◌*◌, ◌++◌, ◌==◌, List, ℕ, [], length, take, drop, OnOk, OnErr};
 
 use std::alloc::{AllocError, Global};
 use std::marker::Model;
@@ -24,6 +24,30 @@ impl Model for Held {
     ghost view = { λ h. drop h.start h.bytes.items };
 
     ghost invariant = { λ h. (h.last ≤ h.start) × (h.start ≤ length h.bytes.items) };
+}
+
+/// Copies the octets behind so many, which are at least half of all, to the front.
+fn copy_to_front(bytes: &mut [u8], gone: usize)
+    requires within { gone ≤ length bytes.old }
+    requires half { length bytes.old ≤ gone * 2 }
+    ensures len { length bytes.new ≡ length bytes.old }
+    ensures front { take (length bytes.old - gone) bytes.new ≡ drop gone bytes.old }
+{
+    let left = bytes.len() - gone;
+    let (read, rest) = bytes.split_at_mut(gone);
+    let (front, _) = read.split_at_mut(left);
+    front.copy_from_slice(rest);
+}
+
+/// Drops the first octets, which are at least half of all.
+fn drop_front(bytes: &mut Vec<u8>, gone: usize)
+    requires within { gone ≤ length bytes.old.items }
+    requires half { length bytes.old.items ≤ gone * 2 }
+    ensures { bytes.new.items ≡ drop gone bytes.old.items }
+{
+    let left = bytes.len() - gone;
+    copy_to_front(bytes.as_mut_slice(), gone);
+    bytes.truncate(left);
 }
 
 impl Held {
@@ -61,9 +85,7 @@ impl Held {
         if gone <= self.bytes.len() / 2 {
             return;
         }
-        let left = self.bytes.len() - gone;
-        self.bytes.as_mut_slice().rotate_left(gone);
-        self.bytes.truncate(left);
+        drop_front(&mut self.bytes, gone);
         self.start -= gone;
         self.last = 0;
     }
