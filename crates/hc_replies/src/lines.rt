@@ -94,6 +94,15 @@ pub(crate) fn push_closing(lines: &mut Fields, closes: bool) -> Result<(), Alloc
     lines.push(close)
 }
 
+/// Adds how the cache handled the request (RFC 9211 section 2).
+fn push_status(lines: &mut Fields, status: &CacheStatus) -> Result<(), AllocError>
+    ensures { OnOk result (lines.new ≡ lines.old ++ own_line status.now.name status.now.handling ∷ []) }
+{
+    let alloc = lines.alloc();
+    let member = write_member(alloc, status)?;
+    lines.push(Field::new(alloc, CACHE_STATUS, member.as_slice())?)
+}
+
 /// Adds how the cache handled the request, and that the connection closes, where it does.
 pub(crate) fn push_lines_behind(
     lines: &mut Fields,
@@ -103,8 +112,6 @@ pub(crate) fn push_lines_behind(
     ensures { OnOk result (lines.new
         ≡ lines.old ++ lines_behind status.now.name status.now.handling closes) }
 {
-    let alloc = lines.alloc();
-    let member = write_member(alloc, status)?;
-    lines.push(Field::new(alloc, CACHE_STATUS, member.as_slice())?)?;
+    push_status(lines, status)?;
     push_closing(lines, closes)
 }

@@ -17,11 +17,7 @@ fn goes_forward(received: &Fields, name: &[u8]) -> bool
 }
 
 /// Host, and behind it the lines that go forward.
-fn front_lines(
-    alloc: Global,
-    target: &Target,
-    received: &Fields,
-) -> Result<Fields, AllocError>
+fn front_lines(alloc: Global, target: &Target, received: &Fields) -> Result<Fields, AllocError>
     ensures { IfOk result (λ lines. lines ≡ front_lines target.now received.now) }
 {
     let mut lines = Fields::new(alloc);
@@ -59,11 +55,7 @@ fn via_value(alloc: Global, version: Version, name: &[u8]) -> Result<Octets, All
     Ok(value)
 }
 
-fn push_via_and_close(
-    lines: &mut Fields,
-    version: Version,
-    name: &[u8],
-) -> Result<(), AllocError>
+fn push_via_and_close(lines: &mut Fields, version: Version, name: &[u8]) -> Result<(), AllocError>
     ensures { OnOk result (lines.new ≡ lines.old ++ via_and_close version name.now) }
 {
     let alloc = lines.alloc();
