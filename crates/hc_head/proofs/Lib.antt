@@ -7,3 +7,7 @@ pub mod UnfinishedLemmas
 pub mod WrittenLemmas
 pub mod HostLemmas
 pub mod TargetLemmas
+pub mod PlainLemmas
+pub mod WeightLemmas
+pub mod PassingLemmas
+pub mod ForwardLemmas

@@ -22,7 +22,7 @@ use Rattle.hc_head.proofs.HostLemmas.{run_is_front, one_authority}
 
 -- ---- the scheme
 
-scheme_length : (text behind : List ℕ) (f : FollowsScheme text behind) → length f.scheme ≡ 7
+pub scheme_length : (text behind : List ℕ) (f : FollowsScheme text behind) → length f.scheme ≡ 7
 scheme_length text behind f = sym (length-map f.scheme to_ascii_lowercase) ∙ ap length f.is_http
 
 pub other_scheme : (text scheme : List ℕ) → scheme ≡ take 7 text → (str_to_ascii_lowercase scheme ≡ codes "http://" → ⊥)

@@ -47,7 +47,7 @@ lower_same b other = grind (arith, nat_tests)
 lower_no_capital : (b : ℕ) → is_ascii_uppercase (to_ascii_lowercase b) ≡ false
 lower_no_capital b = grind (arith, nat_tests)
 
-lower_name : (name : List ℕ) → list_any is_ascii_uppercase name ≡ false → str_to_ascii_lowercase name ≡ name
+pub lower_name : (name : List ℕ) → list_any is_ascii_uppercase name ≡ false → str_to_ascii_lowercase name ≡ name
 lower_name [] none = refl
 lower_name (b ∷ name) none =
     let parts = or_parts (is_ascii_uppercase b) _ none in
@@ -55,7 +55,7 @@ lower_name (b ∷ name) none =
     let later = lower_name name parts.1 in
     λ i. first i ∷ later i
 
-no_capital : (name : List ℕ) → list_any is_ascii_uppercase (str_to_ascii_lowercase name) ≡ false
+pub no_capital : (name : List ℕ) → list_any is_ascii_uppercase (str_to_ascii_lowercase name) ≡ false
 no_capital [] = refl
 no_capital (b ∷ name) = let first = lower_no_capital b in let later = no_capital name in λ i. first i || later i
 
@@ -85,11 +85,11 @@ trim_ows_plain v plain =
 
 -- ---- the longest length
 
-longest_digits : decimal 16777216 ≡ codes "16777216"
+pub longest_digits : decimal 16777216 ≡ codes "16777216"
 unfolding digits
 longest_digits = refl
 
-length-version_text : (v : Version) → length (version_text v) ≡ 8
+pub length-version_text : (v : Version) → length (version_text v) ≡ 8
 length-version_text Http10 = refl
 length-version_text Http11 = refl
 
@@ -97,7 +97,7 @@ length-version_text Http11 = refl
 section-push : (fields : List Field) (f : Field) → section_text (fields ++ f ∷ []) ≡ flat_map field_line fields ++ (field_line f ++ codes "\r\n")
 section-push fields f = simp (flat_map-append, append-nil, append_assoc)
 
-length-field_line : (f : Field) → length (field_line f) ≡ length f.name + length f.value + 4
+pub length-field_line : (f : Field) → length (field_line f) ≡ length f.name + length f.value + 4
 length-field_line f = omega (arith, length-append {A = ℕ})
 
 length-section : (fields : List Field) (n k : ℕ) → length (decimal n) ≡ k
@@ -117,14 +117,14 @@ length-request_text head =
 own : IsNumeralModel (λ ds. list_all is_ascii_digit ds ≡ true) (digits_value 10)
 own = numerals_by_value _ (search rules)
 
-status_digits : (s : ℕ) → 100 ≤ s → s < 1000 → decimal s ≡ (48 + s / 10 / 10) ∷ (48 + s / 10 % 10) ∷ (48 + s % 10) ∷ []
+pub status_digits : (s : ℕ) → 100 ≤ s → s < 1000 → decimal s ≡ (48 + s / 10 / 10) ∷ (48 + s / 10 % 10) ∷ (48 + s % 10) ∷ []
 status_digits s low high =
     let front = decimal_digit (s / 10 / 10) (omega arith) in
     let middle = decimal_step (s / 10) (omega arith) (omega arith) in
     let whole = decimal_step s (omega arith) (omega arith) in
     rw (whole, middle, front) refl
 
-digit_passes : (n : ℕ) → n < 10 → is_ascii_digit (48 + n) ≡ true
+pub digit_passes : (n : ℕ) → n < 10 → is_ascii_digit (48 + n) ≡ true
 digit_passes n small = grind (arith, nat_tests)
 
 status_passes : (s : ℕ) → 100 ≤ s → s < 1000 → list_all is_ascii_digit (decimal s) ≡ true
@@ -363,11 +363,11 @@ visible_digit b digit = grind (arith, nat_tests)
 text_digit : (b : ℕ) → is_ascii_digit b ≡ true → is_value_byte b ≡ true
 text_digit b digit = grind (arith, nat_tests)
 
-starts_with_digit : (ds : List ℕ) → AllPass is_ascii_digit ds → starts_visible ds ≡ true
+pub starts_with_digit : (ds : List ℕ) → AllPass is_ascii_digit ds → starts_visible ds ≡ true
 starts_with_digit [] all = refl
 starts_with_digit (d ∷ ds) all = not_from_false _ (visible_digit d (All-head (λ b. is_ascii_digit b ≡ true) d ds all))
 
-digits_plain : (ds : List ℕ) → AllPass is_ascii_digit ds → is_plain_value ds ≡ true
+pub digits_plain : (ds : List ℕ) → AllPass is_ascii_digit ds → is_plain_value ds ≡ true
 digits_plain ds all =
     let text = All-weaker (λ b. is_ascii_digit b ≡ true) (λ b. is_value_byte b ≡ true) text_digit ds all in
     and_from _ _ (starts_with_digit ds all)

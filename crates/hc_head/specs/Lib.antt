@@ -11,5 +11,7 @@ pub mod Laws
 pub mod Texts
 pub mod Writable
 pub mod Plain
+pub mod Weights
+pub mod Passing
 pub mod Methods
 pub mod Statuses

@@ -1,4 +1,4 @@
--- The parts of heads that are read as they are written, in the classes of the grammar. Private functions alone cite them.
+-- The parts of heads that are read as they are written, in the classes of the grammar. Public laws cite them.
 use Rattle.std.specs.Prelude.{◌≡◌, ℕ, ◌<◌, ◌≤◌, Bool, true, not, ◌&&◌, List, [], ◌∷◌, length, reverse, IsUtf8}
 use Rattle.std.specs.List.{list_all, list_any}
 use Rattle.std.specs.Char.{is_ascii_uppercase}

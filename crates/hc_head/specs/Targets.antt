@@ -3,6 +3,7 @@ use Rattle.std.specs.Prelude.{◌≡◌, ℕ, ◌<◌, ◌≤◌, ◌⊎◌, Boo
 use Rattle.std.specs.List.{list_any}
 use Rattle.std.specs.Str.{bytes_eq, str_to_ascii_lowercase}
 use Rattle.http_uri.specs.Grammar.{IsAuthority, IsPathInput}
+use Rattle.hc_fields.specs.declared.fields.Field.{Field}
 use Rattle.hc_fields.specs.Values.{values_of}
 use Rattle.hc_head.specs.declared.fault.HeadFault.{HeadFault}
 use Rattle.hc_head.specs.declared.fault.HeadFault.TheVariants as fault
@@ -88,6 +89,10 @@ pub record HasTarget (head : RequestHead) (target : Target) : Type 0 where
   pub names : NamesForm head form
   pub host_is : target.host ≡ normal_host (target_authority host form)
   pub path_is : target.path ≡ target_path head form
+
+-- the field that tells the host (RFC 9110 section 7.2)
+abbrev pub host_field : List ℕ → Field
+host_field host = record { name = codes "host"; value = host }
 
 -- each answer stands only where this says so
 abbrev pub GivesTarget : Result Target HeadFault → RequestHead → Type 0

@@ -1,16 +1,21 @@
 //! The target of a request.
 
-ghost use Rattle.std.specs.Prelude.{◌≡◌, ◌≤◌, ◌⊎◌, ◌↔◌, ℕ, true, not, List, [], length, IfOk, IfErr, IfSome, IfNone, IsTrue};
-ghost use Rattle.std.specs.List.{prefix_len};
+ghost use Rattle.std.specs.Prelude.{◌≡◌, ◌≢◌, ◌<◌, ◌≤◌, ◌⊎◌, ◌↔◌, ℕ, true, false, not, List, [], ◌∷◌, length, codes, bytes_eq, IfOk, IfErr, IfSome, IfNone, IsTrue};
+ghost use Rattle.std.specs.List.{list_all, prefix_len};
 ghost use Rattle.std.specs.Ordering.{nat_cmp, ordering_then};
 ghost use Rattle.std.specs.Cmp.Lexicographic.{slice_cmp};
 ghost use Rattle.http_uri.specs.Grammar.{IsAuthority, IsPathInput};
+ghost use Rattle.httparse.specs.Grammar.{is_token};
+ghost use Rattle.hc_fields.specs.declared.fields.Field.{Field};
+ghost use Rattle.hc_fields.specs.Values.{has_name};
 ghost use Rattle.hc_head.specs.declared.head.RequestHead.{RequestHead};
 ghost use Rattle.hc_head.specs.declared.head.Target.{Target};
+ghost use Rattle.hc_head.specs.declared.head.Version.{Version};
 ghost use Rattle.hc_head.specs.declared.fault.HeadFault.TheVariants.{Memory};
 ghost use Rattle.hc_head.specs.HostScan.{authority_of};
 ghost use Rattle.hc_head.specs.Hosts.{Authority, HasAuthority};
-ghost use Rattle.hc_head.specs.Targets.{Asterisk, FindsTarget, FollowsScheme, GivesTarget, HasForm, HasHost, HasTarget, IsAbsoluteForm, IsOriginForm, MayName, absolute_path, is_path_start, same_target};
+ghost use Rattle.hc_head.specs.Plain.{is_plain_value, is_plain_field, IsPlainTarget, IsPlainRequest};
+ghost use Rattle.hc_head.specs.Targets.{Asterisk, FindsTarget, FollowsScheme, GivesTarget, HasForm, HasHost, HasTarget, IsAbsoluteForm, IsOriginForm, MayName, absolute_path, host_field, is_path_start, same_target};
 
 use crate::fault::HeadFault;
 use crate::head::{RequestHead, Target};
@@ -216,6 +221,53 @@ pub fn one_target()
     // A text is a host and a port in one way.
     ensures authority { (text : List ℕ) (one other : Authority)
         → HasAuthority text one → HasAuthority text other → one ≡ other }
+{}
+
+/// The host of a target is a plain value of at most 261 octets, and the path, which is no longer than the
+/// target that was read, is as plain as that.
+pub fn target_parts_are_plain()
+    ensures host { (head : RequestHead) (target : Target) → HasTarget head target
+        → (is_plain_value target.host ≡ true) × (0 < length target.host) × (length target.host ≤ 261) }
+    ensures path { (head : RequestHead) (target : Target) → HasTarget head target → IsPlainTarget head.target
+        → IsPlainTarget target.path }
+    ensures short_path { (head : RequestHead) (target : Target) → HasTarget head target
+        → length target.path ≤ length head.target }
+    // The path is `*` for OPTIONS alone.
+    ensures asterisk { (head : RequestHead) (target : Target) → HasTarget head target → target.path ≡ codes "*"
+        → head.method ≡ codes "OPTIONS" }
+{}
+
+/// A request that asks for the path of a target, and whose Host line is the target's host, has that
+/// target.
+pub fn forwarded_target_is_the_same()
+    ensures same_method { (head : RequestHead) (target : Target) (version : Version) (rest : List Field)
+        → HasTarget head target → has_name (codes "host") rest ≡ false
+        → HasTarget (record {
+          method = head.method;
+          target = target.path;
+          version = version;
+          fields = host_field target.host ∷ rest;
+        }) target }
+    // So it does by another method, but not where the path is `*`.
+    ensures other_method { (head : RequestHead) (target : Target) (method : List ℕ) (version : Version) (rest : List Field)
+        → HasTarget head target → target.path ≢ codes "*" → bytes_eq method (codes "CONNECT") ≡ false
+        → has_name (codes "host") rest ≡ false
+        → HasTarget (record {
+          method = method;
+          target = target.path;
+          version = version;
+          fields = host_field target.host ∷ rest;
+        }) target }
+    // It is plain where the method, the target that was read and the other lines are.
+    ensures plain { (head : RequestHead) (target : Target) (method : List ℕ) (version : Version) (rest : List Field)
+        → HasTarget head target → IsPlainTarget head.target → is_token method ≡ true
+        → list_all is_plain_field rest ≡ true
+        → IsPlainRequest (record {
+          method = method;
+          target = target.path;
+          version = version;
+          fields = host_field target.host ∷ rest;
+        }) }
 {}
 
 /// Targets are equal where they are the same host and the same path, and their order goes by the
