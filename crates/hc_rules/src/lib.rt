@@ -3,6 +3,7 @@
 #![tactic(auto)]
 
 mod conditions;
+mod forward_laws;
 mod forwards;
 mod laws;
 mod selecting;
@@ -11,6 +12,7 @@ mod tags;
 mod validators;
 
 pub use conditions::{REPEATED_NAMES, client_condition};
+pub use forward_laws::{forwards_are_writable, forwards_frame_no_body, forwards_keep_the_target};
 pub use forwards::{conditional_request, plain_request, unconditional_request};
 pub use laws::{
     asterisk_selects_nobody, authorized_needs_permission, field_of_one_request_selects_nobody,
