@@ -4,6 +4,10 @@ use Rattle.std.specs.List.{list_any, join_by}
 use Rattle.std.specs.Str.{bytes_eq}
 use Rattle.hc_fields.specs.declared.fields.Field.{Field}
 
+-- a line of that name and that value
+abbrev pub line : List ℕ → List ℕ → Field
+line name value = record { name = name; value = value }
+
 -- the values of the lines of that name, in order
 abbrev pub values_of : List ℕ → List Field → List (List ℕ)
 values_of name [] = []

@@ -1,7 +1,7 @@
 ghost use Rattle.std.specs.Prelude.{◌≡◌, ◌==◌, ◌++◌, ◌≤◌, not, List, [], ◌∷◌, length, filter, IfOk, OnOk, OnErr};
 ghost use Rattle.std.specs.Vec.{vec_len, vec_capacity};
 ghost use Rattle.std.specs.Iterator.{YieldsFirstRef, item_count};
-ghost use Rattle.hc_fields.specs.Values.{has_name, lines_of, without};
+ghost use Rattle.hc_fields.specs.Values.{has_name, line, lines_of, without};
 
 use crate::octets::Octets;
 use std::alloc::{AllocError, Global};
@@ -18,6 +18,16 @@ pub struct Field {
 }
 
 impl Field {
+    /// A line of that name, which is in lower case, and that value.
+    pub fn new(alloc: Global, name: &[u8], value: &[u8]) -> Result<Field, AllocError>
+        ensures { IfOk result (λ f. f ≡ line name.now value.now) }
+    {
+        Ok(Field {
+            name: Octets::from_slice(alloc, name)?,
+            value: Octets::from_slice(alloc, value)?,
+        })
+    }
+
     /// The same line in memory of its own.
     pub fn copy(&self, alloc: Global) -> Result<Field, AllocError>
         ensures { IfOk result (λ f. f ≡ self.now) }
@@ -81,6 +91,17 @@ impl Fields {
     /// The allocator that the lines were made with.
     pub fn alloc(&self) -> Global {
         *self.lines.allocator()
+    }
+
+    /// The same lines in memory of their own.
+    pub fn copy(&self, alloc: Global) -> Result<Fields, AllocError>
+        ensures { IfOk result (λ f. f ≡ self.now) }
+    {
+        let mut copies = Fields::new(alloc);
+        for line in self.lines() {
+            copies.push(line.copy(alloc)?)?;
+        }
+        Ok(copies)
     }
 
     /// The lines in order.

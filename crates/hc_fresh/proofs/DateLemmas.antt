@@ -207,7 +207,7 @@ counted : (n end : ℕ) → n < end → 1 + n ≤ end
 counted n end h = omega arith
 
 -- the calendar has each day up to the year 9999, and the clock each second
-has_date : (day second : ℕ) → day < 2932897 → second < 86400 → IsValid (parts_at day second)
+pub has_date : (day second : ℕ) → day < 2932897 → second < 86400 → IsValid (parts_at day second)
 has_date day second h k =
     let years = last_begun_max days_of_years 8029 day in
     let months = last_begun_max (days_of_months (1970 + years_at day)) 11 (day_of_year day) in (

@@ -1,3 +1,3 @@
-mod DateLemmas
+pub mod DateLemmas
 pub mod DateLineLemmas
 mod LimitLemmas

@@ -6,7 +6,8 @@ use Rattle.hc_fields.specs.declared.fields.Field.{Field}
 use Rattle.hc_update.specs.declared.stored.Stored.{Stored}
 use Rattle.hc_history.specs.Claims.{Claim}
 use Rattle.hc_head.specs.Statuses.{not_modified}
-use Rattle.hc_history.specs.Filters.{has_its_fields, is_exempt, names_of, repeated_names, same_values}
+use Rattle.hc_rules.specs.Conditions.{repeated_names}
+use Rattle.hc_history.specs.Filters.{has_its_fields, is_exempt, names_of, same_values}
 
 -- whether the reply has the values of that name, or they aren't compared
 abbrev pub has_values : Claim → Stored → List ℕ → Bool

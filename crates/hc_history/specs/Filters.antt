@@ -12,7 +12,7 @@ use Rattle.hc_head.specs.Statuses.{not_modified}
 use Rattle.hc_head.specs.Targets.{same_target}
 use Rattle.hc_fresh.specs.Lifetimes.{explicit}
 use Rattle.hc_rules.specs.Selecting.{selects}
-use Rattle.hc_rules.specs.Conditions.{client_condition}
+use Rattle.hc_rules.specs.Conditions.{client_condition, repeated_names}
 use Rattle.hc_update.specs.declared.stored.Stored.{Stored}
 use Rattle.hc_history.specs.Claims.{Claim, asks_head}
 use Rattle.hc_history.specs.declared.kept.Kept.{Kept}
@@ -61,11 +61,6 @@ is_exempt claim name =
     left_out_of_store name claim.reply.head.fields
     || list_any (λ known. bytes_eq known name) rewritten_names
     || list_any (λ known. bytes_eq known name) claim.settings.ignored
-
--- the names that a 304 has to repeat (RFC 9110 section 15.4.5)
-abbrev pub repeated_names : List (List ℕ)
-repeated_names =
-    codes "cache-control" ∷ codes "content-location" ∷ codes "date" ∷ codes "etag" ∷ codes "expires" ∷ codes "vary" ∷ []
 
 -- the names of lines
 abbrev pub names_of : List Field → List (List ℕ)

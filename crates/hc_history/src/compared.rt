@@ -9,20 +9,11 @@ ghost use Rattle.hc_history.specs.Filters.{has_its_fields, is_exempt, rewritten_
 use crate::claim::ReplyClaim;
 use hc_fields::{Fields, is_among};
 use hc_head::NOT_MODIFIED;
+use hc_rules::REPEATED_NAMES;
 use hc_update::Stored;
 
 /// The fields that each cache writes anew.
 const REWRITTEN: [&[u8]; 4] = [b"content-length", b"via", b"cache-status", b"age"];
-
-/// The fields that a 304 has to repeat (RFC 9110 section 15.4.5).
-const REPEATED: [&[u8]; 6] = [
-    b"cache-control",
-    b"content-location",
-    b"date",
-    b"etag",
-    b"expires",
-    b"vary",
-];
 
 /// Whether the reply says that what the client has still holds.
 pub(crate) fn is_not_modified(claim: &ReplyClaim<'_>) -> bool
@@ -96,7 +87,7 @@ pub(crate) fn has_its_fields(claim: &ReplyClaim<'_>, state: &Stored) -> bool
         return false;
     }
     if is_not_modified(claim) {
-        has_each(claim, state, &REPEATED)
+        has_each(claim, state, &REPEATED_NAMES)
     } else {
         has_its_lines(claim, state, &state.fields)
     }

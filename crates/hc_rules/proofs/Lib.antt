@@ -1,2 +1,4 @@
 mod SelectLemmas
 mod ConditionLemmas
+mod ForwardLemmas
+mod PassedLemmas

@@ -1,5 +1,5 @@
 -- Whether a client that has a response already may be told that it still holds (RFC 9111 section 4.3.2).
-use Rattle.std.specs.Prelude.{ℕ, Bool, false, ◌&&◌, ◌||◌, ◌==◌, List, Option, Some, None, option_and_then, codes, nat_le, if◌then◌else◌}
+use Rattle.std.specs.Prelude.{ℕ, Bool, false, ◌&&◌, ◌||◌, ◌==◌, List, [], ◌∷◌, Option, Some, None, option_and_then, codes, nat_le, if◌then◌else◌}
 use Rattle.std.specs.List.{list_any}
 use Rattle.std.specs.Str.{bytes_eq}
 use Rattle.hc_fields.specs.declared.fields.Field.{Field}
@@ -49,3 +49,10 @@ client_condition presented status fields =
     status == 200
     && (if has_name (codes "if-none-match") presented then has_stored presented fields
     else is_not_later (only_date (codes "last-modified") fields) (only_date (codes "if-modified-since") presented))
+
+-- ---- what the client is told then
+
+-- the names of the fields that a 304 has to repeat (RFC 9110 section 15.4.5)
+abbrev pub repeated_names : List (List ℕ)
+repeated_names =
+    codes "cache-control" ∷ codes "content-location" ∷ codes "date" ∷ codes "etag" ∷ codes "expires" ∷ codes "vary" ∷ []

@@ -2,4 +2,5 @@ pub mod Storing
 pub mod Validators
 pub mod Selecting
 pub mod Conditions
+pub mod Forwards
 pub mod Laws

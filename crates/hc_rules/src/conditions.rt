@@ -7,6 +7,16 @@ use crate::tags::{tag, without_weak_mark};
 use hc_fields::{Fields, trimmed};
 use hc_fresh::read_date;
 
+/// The names of the fields that a 304 has to repeat (RFC 9110 section 15.4.5).
+pub const REPEATED_NAMES: [&[u8]; 6] = [
+    b"cache-control",
+    b"content-location",
+    b"date",
+    b"etag",
+    b"expires",
+    b"vary",
+];
+
 /// The status for which the client's condition counts.
 const OK: u16 = 200;
 

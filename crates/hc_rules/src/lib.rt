@@ -1,15 +1,19 @@
-//! What a shared cache may store, which requests a stored response answers, and what validates it
-//! (RFC 9111 sections 3 and 4).
+//! What a shared cache may store, which requests a stored response answers, what validates it, and
+//! what is sent to the origin (RFC 9111 sections 3 and 4).
 #![tactic(auto)]
 
 mod conditions;
+mod forward_laws;
+mod forwards;
 mod laws;
 mod selecting;
 mod storing;
 mod tags;
 mod validators;
 
-pub use conditions::client_condition;
+pub use conditions::{REPEATED_NAMES, client_condition};
+pub use forward_laws::{forwards_are_writable, forwards_frame_no_body, forwards_keep_the_target};
+pub use forwards::{conditional_request, plain_request, unconditional_request};
 pub use laws::{
     asterisk_selects_nobody, authorized_needs_permission, field_of_one_request_selects_nobody,
     listed_tag_still_holds, no_store_is_never_stored, no_store_of_a_request_holds,

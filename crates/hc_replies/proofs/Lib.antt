@@ -1,0 +1,3 @@
+pub mod ReplyLemmas
+pub mod TextLemmas
+pub mod WritableLemmas
