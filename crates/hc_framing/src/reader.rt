@@ -57,7 +57,7 @@ fn front_of(piece: &[u8], most: usize) -> &[u8]
 }
 
 impl<H: MessageHead> MessageReader<H> {
-    ghost use Rattle.std.specs.Prelude.{◌≡◌, ◌≢◌, ℕ, ◌<◌, ◌≤◌, List, [], ◌++◌, length, take, OnOk, OnErr, IfOk, IfErr};
+    ghost use Rattle.std.specs.Prelude.{◌≡◌, ◌≢◌, ℕ, ◌<◌, ◌≤◌, List, [], ◌++◌, length, take, None, OnOk, OnErr, IfOk, IfErr};
     ghost use Rattle.std.specs.Option.{IsSome, option_copied};
     ghost use Rattle.hc_head.specs.declared.head.Room.{Room};
     ghost use Rattle.hc_framing.specs.declared.kind.Kind.{Kind};
@@ -71,6 +71,7 @@ impl<H: MessageHead> MessageReader<H> {
     pub fn new(alloc: Global, kind: Kind, room: Room) -> Self
         ensures agrees { Agrees H.form kind room result [] }
         ensures can { CanFeed H.form result }
+        ensures head { result.head ≡ None }
     {
         MessageReader {
             alloc,

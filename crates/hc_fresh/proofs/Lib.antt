@@ -1,3 +1,3 @@
 pub mod DateLemmas
 pub mod DateLineLemmas
-mod LimitLemmas
+pub mod LimitLemmas
