@@ -1,0 +1,4 @@
+pub mod ScriptNumeralLemmas
+pub mod ScriptLineLemmas
+pub mod ScriptEventLemmas
+pub mod ScriptOnceLemmas

@@ -1,0 +1,5 @@
+pub mod ScriptNames
+pub mod ScriptLimits
+pub mod Scripts
+pub mod ScriptFaults
+pub mod ScriptParts

@@ -1,0 +1,25 @@
+//! Laws of scripts.
+
+ghost use Rattle.std.specs.Prelude.{◌≡◌, ℕ, List};
+ghost use Rattle.hc_events.specs.declared.Event.{Event};
+ghost use Rattle.hc_drive.specs.declared.fault.ScriptFault.{ScriptFault};
+ghost use Rattle.hc_drive.specs.Scripts.{IsScript};
+ghost use Rattle.hc_drive.specs.ScriptFaults.{ScriptBreaks};
+
+/// Octets are one script at most.
+pub fn one_script()
+    ensures { (octets : List ℕ) (keys bytes k b : ℕ) (events others : List Event)
+        → IsScript octets keys bytes events → IsScript octets k b others
+        → (keys ≡ k) × (bytes ≡ b) × (events ≡ others) }
+{}
+
+/// What breaks octets is one fault at most.
+pub fn breaks_once()
+    ensures { (octets : List ℕ) (f e : ScriptFault) → ScriptBreaks octets f → ScriptBreaks octets e → f ≡ e }
+{}
+
+/// Octets that a fault breaks are no script.
+pub fn broken_is_no_script()
+    ensures { (octets : List ℕ) (f : ScriptFault) (keys bytes : ℕ) (events : List Event)
+        → ScriptBreaks octets f → ¬ (IsScript octets keys bytes events) }
+{}

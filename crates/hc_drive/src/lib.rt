@@ -1,0 +1,23 @@
+//! What drives a cache: scripts of events.
+#![tactic(auto)]
+
+mod event_line;
+mod fault;
+mod first_line;
+mod kind;
+mod laws;
+mod limits;
+mod numeral;
+mod opening;
+mod reading;
+mod script;
+mod settings_line;
+mod splitting;
+
+pub use event_line::EventLine;
+pub use fault::ScriptFault;
+pub use kind::EventKind;
+pub use laws::{breaks_once, broken_is_no_script, one_script};
+pub use limits::{GREATEST_COUNT, GREATEST_KEYS};
+pub use opening::OPENING;
+pub use script::{Script, read_script};
