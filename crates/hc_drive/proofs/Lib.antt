@@ -2,3 +2,4 @@ pub mod ScriptNumeralLemmas
 pub mod ScriptLineLemmas
 pub mod ScriptEventLemmas
 pub mod ScriptOnceLemmas
+pub mod ScriptFrontLemmas

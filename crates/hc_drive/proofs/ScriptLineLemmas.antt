@@ -1,5 +1,5 @@
 -- The lines of events and settings, and what is none.
-use Rattle.std.proofs.Common.{◌≡◌, ◌≢◌, ℕ, ◌+◌, ◌^◌, ◌<◌, ◌≤◌, Bool, true, false, cond, ◌||◌, List, [], ◌∷◌, ◌++◌, length, drop, take, get_or, refl, sym, ap, subst, ◌∙◌, arith, lit<, inl, inr, length-append}
+use Rattle.std.proofs.Common.{◌≡◌, ◌≢◌, ℕ, ◌+◌, ◌^◌, ◌<◌, ◌≤◌, Bool, true, false, cond, List, ◌∷◌, ◌++◌, length, get_or, refl, sym, ap, subst, ◌∙◌, arith, lit<, length-append}
 use Rattle.std.specs.Prelude.{◌==◌, codes, nat_eq, not}
 use Rattle.std.specs.Cmp.Lexicographic.{pointwise}
 use Rattle.std.specs.Fmt.{decimal}
@@ -16,7 +16,7 @@ use Rattle.hc_drive.specs.ScriptLimits.{greatest_count, greatest_keys}
 use Rattle.hc_drive.specs.Scripts.{word, has_octets, tail_text, line_text, most_octets, LineFits, IsEventLine, settings_text, IsSettingsLine}
 use Rattle.hc_drive.specs.ScriptFaults.{BeginsLine, HasLine}
 use Rattle.hc_drive.specs.ScriptParts.{SplitsAt, IsNumeral, IsNumeralThen, IsTail, BeginsSettings}
-use Rattle.hc_drive.proofs.ScriptNumeralLemmas.{mark_there, unsplit, decimal_lacks_space, decimal_lacks_feed, decimal_injective, one_numeral_then}
+use Rattle.hc_drive.proofs.ScriptNumeralLemmas.{decimal_lacks_feed, decimal_injective, one_numeral_then}
 
 -- a number of a script has at most twelve digits
 count_low : (n : ℕ) → n ≤ greatest_count → n < 10 ^ 18
@@ -78,41 +78,17 @@ tail_with kind moment size is = ap (λ (b : Bool). cond b (decimal moment ++ 32 
 tail_without : (kind : EventKind) (moment size : ℕ) → has_octets kind ≡ false → tail_text kind moment size ≡ decimal moment
 tail_without kind moment size is = ap (λ (b : Bool). cond b (decimal moment ++ 32 ∷ decimal size) (decimal moment)) is
 
-most_with : (kind : EventKind) → has_octets kind ≡ true → most_octets kind ≡ longest_message
-most_with kind is = ap (λ (b : Bool). cond b longest_message 0) is
-
 most_without : (kind : EventKind) → has_octets kind ≡ false → most_octets kind ≡ 0
 most_without kind is = ap (λ (b : Bool). cond b longest_message 0) is
 
--- a moment, a space and a size are such a tail
-pub tail_of_both : (kind : EventKind) (text : List ℕ) (moment : ℕ) (rest : List ℕ) (size : ℕ) → has_octets kind ≡ true → IsNumeralThen text greatest_count moment rest
-    → IsNumeral rest longest_message size → IsTail kind text moment size
-tail_of_both kind text moment rest size is first second = record {
-  text_is = first.text_is ∙ ap (λ (t : List ℕ). decimal moment ++ 32 ∷ t) second.text_is ∙ sym (tail_with kind moment size is);
-  moment_fits = first.fits;
-  size_fits = omega (arith, second.fits, most_with kind is);
-}
-
 then_of_tail : (kind : EventKind) (text : List ℕ) (moment size : ℕ) → has_octets kind ≡ true → IsTail kind text moment size → IsNumeralThen text greatest_count moment (decimal size)
 then_of_tail kind text moment size is tail = record { text_is = tail.text_is ∙ tail_with kind moment size is; fits = tail.moment_fits }
-
-pub no_moment_no_tail : (kind : EventKind) (text : List ℕ) → has_octets kind ≡ true → ((n : ℕ) (rest : List ℕ) → ¬ (IsNumeralThen text greatest_count n rest))
-    → (moment size : ℕ) → ¬ (IsTail kind text moment size)
-no_moment_no_tail kind text is none moment size tail = none moment (decimal size) (then_of_tail kind text moment size is tail)
 
 pub no_size_no_tail : (kind : EventKind) (text : List ℕ) (n : ℕ) (rest : List ℕ) → has_octets kind ≡ true → IsNumeralThen text greatest_count n rest
     → ((m : ℕ) → ¬ (IsNumeral rest longest_message m)) → (moment size : ℕ) → ¬ (IsTail kind text moment size)
 no_size_no_tail kind text n rest is found none moment size tail =
     let same = one_numeral_then text greatest_count n moment rest (decimal size) (omega arith) found (then_of_tail kind text moment size is tail) in
     none size (record { text_is = same.1; fits = size_low kind size tail.size_fits })
-
--- a moment alone is one where no octets follow
-pub tail_of_moment : (kind : EventKind) (text : List ℕ) (moment : ℕ) → has_octets kind ≡ false → IsNumeral text greatest_count moment → IsTail kind text moment 0
-tail_of_moment kind text moment is first =
-    record { text_is = first.text_is ∙ sym (tail_without kind moment 0 is); moment_fits = first.fits; size_fits = omega arith }
-
-pub no_numeral_no_tail : (kind : EventKind) (text : List ℕ) → has_octets kind ≡ false → ((n : ℕ) → ¬ (IsNumeral text greatest_count n)) → (moment size : ℕ) → ¬ (IsTail kind text moment size)
-no_numeral_no_tail kind text is none moment size tail = none moment (record { text_is = tail.text_is ∙ tail_without kind moment size is; fits = tail.moment_fits })
 
 -- a tail is read in one way
 one_tail : (kind : EventKind) (text : List ℕ) (m n r s : ℕ) → IsTail kind text m r → IsTail kind text n s → (m ≡ n) × (r ≡ s)
@@ -137,9 +113,6 @@ one_tail kind text m n r s a b = go (has_octets kind) refl
 line_splits : (text : List ℕ) (l : EventLine) → IsEventLine text l → SplitsAt 32 text (word l.kind) (decimal l.number ++ 32 ∷ tail_text l.kind l.moment l.size)
 line_splits text l is = record { octets_are = is.text_is; none_before = word_lacks_space l.kind }
 
-pub no_space_no_line : (text : List ℕ) → list_any is_space text ≡ false → (l : EventLine) → ¬ (IsEventLine text l)
-no_space_no_line text lacks l is = unsplit is_space text (word l.kind) 32 (decimal l.number ++ 32 ∷ tail_text l.kind l.moment l.size) refl lacks is.text_is
-
 -- two splits at the first mark are the same
 pub one_split : (mark : ℕ) (text front behind other rest : List ℕ) → (mark == mark) ≡ true → SplitsAt mark text front behind → SplitsAt mark text other rest → (front ≡ other) × (behind ≡ rest)
 one_split mark text front behind other rest own a b =
@@ -154,10 +127,6 @@ line_number : (text front behind : List ℕ) (l : EventLine) → SplitsAt 32 tex
 line_number text front behind l splits is =
     record { text_is = (one_split 32 text front behind _ _ refl splits (line_splits text l is)).1; fits = is.fits.number }
 
-pub no_number_no_line : (text front behind : List ℕ) → SplitsAt 32 text front behind → ((n : ℕ) (rest : List ℕ) → ¬ (IsNumeralThen behind greatest_count n rest))
-    → (l : EventLine) → ¬ (IsEventLine text l)
-no_number_no_line text front behind splits none l is = none l.number _ (line_number text front behind l splits is)
-
 pub no_tail_no_line : (text front behind : List ℕ) (kind : EventKind) (n : ℕ) (rest : List ℕ) → SplitsAt 32 text front behind → front ≡ word kind
     → IsNumeralThen behind greatest_count n rest → ((moment size : ℕ) → ¬ (IsTail kind rest moment size)) → (l : EventLine) → ¬ (IsEventLine text l)
 no_tail_no_line text front behind kind n rest splits word-is found none l is =
@@ -165,16 +134,6 @@ no_tail_no_line text front behind kind n rest splits word-is found none l is =
     let same-rest = (one_numeral_then behind greatest_count n l.number rest _ (omega arith) found (line_number text front behind l splits is)).1 in
     let tail : IsTail l.kind rest l.moment l.size = record { text_is = same-rest; moment_fits = is.fits.moment; size_fits = is.fits.size } in
     none l.moment l.size (subst (λ (k : EventKind). IsTail k rest l.moment l.size) (sym same-kind) tail)
-
--- a word, a number and a tail are a line
-pub line_read : (text front behind : List ℕ) (kind : EventKind) (n : ℕ) (rest : List ℕ) (moment size : ℕ) → SplitsAt 32 text front behind → front ≡ word kind
-    → IsNumeralThen behind greatest_count n rest → IsTail kind rest moment size → IsEventLine text (record { kind = kind; number = n; moment = moment; size = size })
-line_read text front behind kind n rest moment size splits word-is number tail = record {
-  text_is =
-      splits.octets_are ∙ ap (λ (t : List ℕ). t ++ 32 ∷ behind) word-is ∙ ap (λ (t : List ℕ). word kind ++ 32 ∷ t) number.text_is
-      ∙ ap (λ (t : List ℕ). word kind ++ 32 ∷ (decimal n ++ 32 ∷ t)) tail.text_is;
-  fits = record { number = number.fits; moment = tail.moment_fits; size = tail.size_fits };
-}
 
 -- a text is one line at most
 pub one_line : (text : List ℕ) (l k : EventLine) → IsEventLine text l → IsEventLine text k → l ≡ k
@@ -201,9 +160,6 @@ settings_numbers : (text front behind : List ℕ) (keys bytes : ℕ) → SplitsA
 settings_numbers text front behind keys bytes splits is =
     record { text_is = (one_split 32 text front behind _ _ refl splits (settings_splits text keys bytes is)).1; fits = is.keys_fit }
 
-pub no_space_no_settings : (text : List ℕ) → list_any is_space text ≡ false → (keys bytes : ℕ) → ¬ (IsSettingsLine text keys bytes)
-no_space_no_settings text lacks keys bytes is = unsplit is_space text (codes "settings") 32 (decimal keys ++ 32 ∷ decimal bytes) refl lacks is.text_is
-
 pub no_word_no_settings : (text front behind : List ℕ) → SplitsAt 32 text front behind → front ≢ codes "settings" → (keys bytes : ℕ) → ¬ (IsSettingsLine text keys bytes)
 no_word_no_settings text front behind splits none keys bytes is = none (one_split 32 text front behind _ _ refl splits (settings_splits text keys bytes is)).0
 
@@ -214,25 +170,11 @@ false_is_no_true e = cc
 pub other_word : (front : List ℕ) → not (pointwise nat_eq front (codes "settings")) ≡ true → front ≢ codes "settings"
 other_word front test same = false_is_no_true (sym test ∙ ap (λ (t : List ℕ). not (pointwise nat_eq t (codes "settings"))) same)
 
-pub no_keys_no_settings : (text front behind : List ℕ) → SplitsAt 32 text front behind → ((n : ℕ) (rest : List ℕ) → ¬ (IsNumeralThen behind greatest_keys n rest))
-    → (keys bytes : ℕ) → ¬ (IsSettingsLine text keys bytes)
-no_keys_no_settings text front behind splits none keys bytes is = none keys _ (settings_numbers text front behind keys bytes splits is)
-
 pub no_bytes_no_settings : (text front behind : List ℕ) (n : ℕ) (rest : List ℕ) → SplitsAt 32 text front behind → IsNumeralThen behind greatest_keys n rest
     → ((m : ℕ) → ¬ (IsNumeral rest greatest_count m)) → (keys bytes : ℕ) → ¬ (IsSettingsLine text keys bytes)
 no_bytes_no_settings text front behind n rest splits found none keys bytes is =
     let same = one_numeral_then behind greatest_keys n keys rest (decimal bytes) (omega arith) found (settings_numbers text front behind keys bytes splits is) in
     none bytes (record { text_is = same.1; fits = is.bytes_fit })
-
-pub settings_read : (text front behind : List ℕ) (keys : ℕ) (rest : List ℕ) (bytes : ℕ) → SplitsAt 32 text front behind → front ≡ codes "settings" → IsNumeralThen behind greatest_keys keys rest
-    → IsNumeral rest greatest_count bytes → IsSettingsLine text keys bytes
-settings_read text front behind keys rest bytes splits word-is first second = record {
-  text_is =
-      splits.octets_are ∙ ap (λ (t : List ℕ). t ++ 32 ∷ behind) word-is ∙ ap (λ (t : List ℕ). codes "settings" ++ 32 ∷ t) first.text_is
-      ∙ ap (λ (t : List ℕ). codes "settings" ++ 32 ∷ (decimal keys ++ 32 ∷ t)) second.text_is;
-  keys_fit = first.fits;
-  bytes_fit = second.fits;
-}
 
 -- a text is one line of settings at most
 pub one_settings : (text : List ℕ) (keys bytes k b : ℕ) → IsSettingsLine text keys bytes → IsSettingsLine text k b → (keys ≡ k) × (bytes ≡ b)
@@ -246,9 +188,6 @@ one_settings text keys bytes k b is too =
 
 -- ---- lines have no line feed, and are short
 
-either_false : (a b : Bool) → a ≡ false → b ≡ false → (a || b) ≡ false
-either_false a b e f = rw (e, f) refl
-
 joined_lack : (p : ℕ → Bool) (front rest : List ℕ) → list_any p front ≡ false → p 32 ≡ false → list_any p rest ≡ false → list_any p (front ++ 32 ∷ rest) ≡ false
 joined_lack p front rest a space b = list_any-append p front (32 ∷ rest) ∙ rw (a, space, b) refl
 
@@ -260,14 +199,14 @@ tail_lacks_feed kind moment size m s = go (has_octets kind) refl
         ap (list_any is_feed) (tail_with kind moment size is) ∙ joined_lack is_feed (decimal moment) (decimal size) (decimal_lacks_feed moment m) refl (decimal_lacks_feed size s)
     go false is = ap (list_any is_feed) (tail_without kind moment size is) ∙ decimal_lacks_feed moment m
 
-line_lacks_feed : (l : EventLine) → LineFits l → list_any is_feed (line_text l) ≡ false
+pub line_lacks_feed : (l : EventLine) → LineFits l → list_any is_feed (line_text l) ≡ false
 line_lacks_feed l fits =
     let size : l.size ≤ longest_message = size_low l.kind l.size fits.size in
     let tail = tail_lacks_feed l.kind l.moment l.size (count_low l.moment fits.moment) (omega (arith, size)) in
     joined_lack is_feed (word l.kind) _ (word_lacks_feed l.kind) refl
     (joined_lack is_feed (decimal l.number) _ (decimal_lacks_feed l.number (count_low l.number fits.number)) refl tail)
 
-settings_lack_feed : (keys bytes : ℕ) → keys ≤ greatest_keys → bytes ≤ greatest_count → list_any is_feed (settings_text keys bytes) ≡ false
+pub settings_lack_feed : (keys bytes : ℕ) → keys ≤ greatest_keys → bytes ≤ greatest_count → list_any is_feed (settings_text keys bytes) ≡ false
 settings_lack_feed keys bytes k b =
     joined_lack is_feed (codes "settings") (decimal keys ++ 32 ∷ decimal bytes) refl refl
     (joined_lack is_feed (decimal keys) (decimal bytes) (decimal_lacks_feed keys (omega (arith, k))) refl (decimal_lacks_feed bytes (omega (arith, b))))
@@ -288,7 +227,7 @@ tail_short kind moment size m s = go (has_octets kind) refl
     go true is = omega (arith, first, second, ap length (tail_with kind moment size is), length-append (decimal moment) (32 ∷ decimal size))
     go false is = omega (arith, first, ap length (tail_without kind moment size is))
 
-line_short : (l : EventLine) → LineFits l → length (line_text l) < longest_line
+pub line_short : (l : EventLine) → LineFits l → length (line_text l) < longest_line
 line_short l fits =
     let tail = tail_short l.kind l.moment l.size fits.moment (size_low l.kind l.size fits.size) in
     omega (
@@ -300,7 +239,7 @@ line_short l fits =
       length-append (decimal l.number) (32 ∷ tail_text l.kind l.moment l.size),
     )
 
-settings_short : (keys bytes : ℕ) → keys ≤ greatest_keys → bytes ≤ greatest_count → length (settings_text keys bytes) < longest_line
+pub settings_short : (keys bytes : ℕ) → keys ≤ greatest_keys → bytes ≤ greatest_count → length (settings_text keys bytes) < longest_line
 settings_short keys bytes k b =
     omega (
       arith,

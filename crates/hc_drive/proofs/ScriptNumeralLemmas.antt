@@ -1,12 +1,10 @@
 -- Decimals up to a greatest number, and what stands before a mark.
-use Rattle.std.proofs.Common.{◌≡◌, ℕ, ◌^◌, ◌<◌, ◌≤◌, Bool, true, false, ◌||◌, List, [], ◌∷◌, ◌++◌, length, drop, take, get_or, refl, sym, ap, subst, ◌∙◌, arith}
-use Rattle.std.specs.Prelude.{◌==◌}
+use Rattle.std.proofs.Common.{◌≡◌, ℕ, ◌^◌, ◌<◌, ◌≤◌, Bool, true, false, ◌||◌, List, [], ◌∷◌, ◌++◌, refl, sym, ap, subst, ◌∙◌, arith}
 use Rattle.std.specs.Fmt.{decimal}
 use Rattle.std.specs.List.{list_any}
-use Rattle.std.proofs.lemmas.List.Folds.{list_any-append}
 use Rattle.hc_transcript.specs.Lines.{Writes, is_feed}
 use Rattle.hc_transcript.proofs.LineLaws.{Writes_decimal, decimal_written, Writes_unique}
-use Rattle.hc_transcript.proofs.MarkLemmas.{is_space, first_mark_unique, split_at_octet}
+use Rattle.hc_transcript.proofs.MarkLemmas.{is_space, first_mark_unique}
 use Rattle.hc_transcript.proofs.NumeralLemmas.{written_lacks_space, written_lacks_feed}
 use Rattle.hc_drive.specs.ScriptParts.{SplitsAt, IsNumeral, IsNumeralThen}
 
@@ -66,17 +64,10 @@ pub numeral_parts : (text : List ℕ) (greatest n : ℕ) (rest front behind : Li
 numeral_parts text greatest n rest front behind low is splits =
     first_mark_unique is_space front (decimal n) behind rest 32 32 refl refl splits.none_before (decimal_lacks_space n (omega (arith, is.fits, low))) (sym splits.octets_are ∙ is.text_is)
 
-pub no_space_no_numeral : (text : List ℕ) (greatest : ℕ) → list_any is_space text ≡ false → (n : ℕ) (rest : List ℕ) → ¬ (IsNumeralThen text greatest n rest)
-no_space_no_numeral text greatest lacks n rest is = unsplit is_space text (decimal n) 32 rest refl lacks is.text_is
-
 pub no_numeral_before : (text : List ℕ) (greatest : ℕ) (front behind : List ℕ) → greatest < 10 ^ 18 → SplitsAt 32 text front behind → ((n : ℕ) → ¬ (IsNumeral front greatest n))
     → (n : ℕ) (rest : List ℕ) → ¬ (IsNumeralThen text greatest n rest)
 no_numeral_before text greatest front behind low splits none n rest is =
     none n (record { text_is = (numeral_parts text greatest n rest front behind low is splits).0; fits = is.fits })
-
-pub numeral_then : (text : List ℕ) (greatest n : ℕ) (front behind : List ℕ) → SplitsAt 32 text front behind → IsNumeral front greatest n → IsNumeralThen text greatest n behind
-numeral_then text greatest n front behind splits is =
-    record { text_is = splits.octets_are ∙ ap (λ (t : List ℕ). t ++ 32 ∷ behind) is.text_is; fits = is.fits }
 
 -- a numeral and a space are read in one way
 pub one_numeral_then : (text : List ℕ) (greatest m n : ℕ) (rest tail : List ℕ) → greatest < 10 ^ 18 → IsNumeralThen text greatest m rest → IsNumeralThen text greatest n tail

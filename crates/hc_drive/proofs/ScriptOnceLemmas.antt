@@ -1,5 +1,5 @@
 -- Octets are read as a script in one way, and break in one.
-use Rattle.std.proofs.Common.{◌≡◌, ◌≢◌, ℕ, ◌+◌, ◌<◌, ◌≤◌, ◌⊎◌, Bool, true, false, cond, List, [], ◌∷◌, ◌++◌, length, get_or, drop, take, Result, Ok, Err, refl, sym, ap, subst, ◌∙◌, arith, inl, inr, append_assoc, append-nil, length-append}
+use Rattle.std.proofs.Common.{◌≡◌, ◌≢◌, ℕ, ◌⊎◌, Bool, true, false, cond, List, [], ◌∷◌, ◌++◌, length, get_or, drop, take, Result, Ok, Err, refl, sym, ap, subst, ◌∙◌, arith, inl, inr, append_assoc, append-nil, length-append}
 use Rattle.std.specs.Prelude.{MatchResult, IfOk, IfErr}
 use Rattle.std.specs.List.{list_any, AllByRecursion}
 use Rattle.std.proofs.Math.Seq.{take-append_seam, drop-append_seam, get_or-append_seam}
@@ -14,10 +14,9 @@ use Rattle.hc_drive.specs.declared.event_line.EventLine.{EventLine}
 use Rattle.hc_drive.specs.declared.fault.ScriptFault.{ScriptFault}
 use Rattle.hc_drive.specs.declared.fault.ScriptFault.TheVariants as fault
 use Rattle.hc_drive.specs.declared.kind.EventKind.{EventKind}
-use Rattle.hc_drive.specs.declared.kind.EventKind.TheVariants as kind
 use Rattle.hc_drive.specs.declared.script.Script.{Script}
 use Rattle.hc_drive.specs.Scripts.{has_octets, line_text, IsEventLine, IsSettingsLine, kind_of, number_of, octets_of, line_of, octets_text, event_text, events_text, EventFits, opening, settings_text, Splits, IsScript}
-use Rattle.hc_drive.specs.ScriptFaults.{OpeningBreaks, BeginsLine, LineBreaks, IsLineOfEvent, IsLineOfSettings, HasLine, OctetsBreak, BringsBroken, EventBreaks, ScriptBreaks}
+use Rattle.hc_drive.specs.ScriptFaults.{OpeningBreaks, BeginsLine, LineBreaks, IsLineOfEvent, IsLineOfSettings, HasLine, OctetsBreak, EventBreaks, ScriptBreaks}
 use Rattle.hc_drive.specs.ScriptParts.{BeginsSettings, happening_with}
 use Rattle.hc_drive.proofs.ScriptNumeralLemmas.{unsplit}
 use Rattle.hc_drive.proofs.ScriptLineLemmas.{one_line, one_settings, begun, settings_begun}
@@ -312,6 +311,25 @@ one_fault octets f e (inr (inr a)) (inr (inr b)) =
     let same =
     one_split octets a.keys a.bytes b.keys b.bytes a.events b.events a.rest b.rest (no_event_broken f a.rest a.breaks) (no_event_broken e b.rest b.breaks) a.splits b.splits in
     one_event_fault f e a.rest a.breaks (subst (λ (o : List ℕ). EventBreaks e o) (sym same.rest_is) b.breaks)
+
+-- no octets break by a fault that isn't theirs
+pub no_memory : (octets : List ℕ) → ¬ (ScriptBreaks octets fault.Memory)
+no_memory octets (inl b) = b
+no_memory octets (inr (inl b)) = b.breaks
+no_memory octets (inr (inr b)) = go b.breaks
+  where
+    go : EventBreaks fault.Memory b.rest → ⊥
+    go (inl none) = none
+    go (inr octets) = octets.breaks
+
+pub no_settings : (octets : List ℕ) → ¬ (ScriptBreaks octets fault.Settings)
+no_settings octets (inl b) = b
+no_settings octets (inr (inl b)) = b.breaks
+no_settings octets (inr (inr b)) = go b.breaks
+  where
+    go : EventBreaks fault.Settings b.rest → ⊥
+    go (inl none) = none
+    go (inr octets) = octets.breaks
 
 -- ---- what is read
 

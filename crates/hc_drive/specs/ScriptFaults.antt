@@ -7,7 +7,7 @@ use Rattle.hc_transcript.specs.Lines.{is_feed, HasLongLine}
 use Rattle.hc_drive.specs.declared.event_line.EventLine.{EventLine}
 use Rattle.hc_drive.specs.declared.fault.ScriptFault.{ScriptFault}
 use Rattle.hc_drive.specs.declared.fault.ScriptFault.TheVariants as fault
-use Rattle.hc_drive.specs.Scripts.{has_octets, line_text, LineFits, IsEventLine, IsSettingsLine, opening, settings_text, Splits}
+use Rattle.hc_drive.specs.Scripts.{has_octets, line_text, LineFits, IsEventLine, IsSettingsLine, opening, Splits, IsScript}
 
 -- ---- the opening
 
@@ -105,3 +105,10 @@ pub record BreaksInEvents (octets : List ℕ) (f : ScriptFault) : Type 0 where
 -- the fault breaks the octets
 abbrev pub ScriptBreaks : List ℕ → ScriptFault → Type 0
 ScriptBreaks octets f = OpeningBreaks f octets ⊎ (BreaksInSettings octets f ⊎ BreaksInEvents octets f)
+
+-- the octets are a script of those settings and of the first of the events
+pub record IsScriptOfFirst (octets : List ℕ) (keys bytes : ℕ) (events : List Event) : Type 0 where
+  pub first : List Event
+  pub others : List Event
+  pub events_are : events ≡ first ++ others
+  pub is : IsScript octets keys bytes first

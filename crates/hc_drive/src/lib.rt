@@ -17,7 +17,10 @@ mod splitting;
 pub use event_line::EventLine;
 pub use fault::ScriptFault;
 pub use kind::EventKind;
-pub use laws::{breaks_once, broken_is_no_script, one_script};
+pub use laws::{breaks_once, broken_is_no_script, fronts_are_torn, octets_alone_break, one_script};
 pub use limits::{GREATEST_COUNT, GREATEST_KEYS};
 pub use opening::OPENING;
 pub use script::{Script, read_script};
+
+#[cfg(test)]
+mod tests;
