@@ -7,7 +7,6 @@ use Rattle.hc_events.specs.declared.Event.{Event}
 use Rattle.hc_transcript.specs.Limits.{longest_line}
 use Rattle.hc_transcript.specs.Lines.{is_feed}
 use Rattle.hc_drive.specs.declared.fault.ScriptFault.TheVariants as fault
-use Rattle.hc_drive.specs.declared.kind.EventKind.{EventKind}
 use Rattle.hc_drive.specs.Scripts.{has_octets, line_text, kind_of, octets_of, line_of, octets_text, event_text, events_text, EventFits, opening, settings_text, IsScript}
 use Rattle.hc_drive.specs.ScriptFaults.{IsUnfinishedLine, EventBreaks, ScriptBreaks, IsScriptOfFirst}
 use Rattle.hc_drive.proofs.ScriptEventLemmas.{take_lacks}
