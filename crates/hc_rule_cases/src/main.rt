@@ -8,6 +8,7 @@ mod fields;
 mod fresh;
 mod lists;
 mod marks;
+mod messages;
 mod parts;
 mod questions;
 mod rules;
@@ -37,6 +38,7 @@ impl Ask for RuleCases {
             Question::Fresh(question) => fresh::answer(alloc, question, about, out),
             Question::Rules(question) => rules::answer(alloc, question, about, out),
             Question::Updates(question) => updates::answer(alloc, question, about, out),
+            Question::Messages(question) => messages::answer(alloc, question, about, out),
         }
     }
 }

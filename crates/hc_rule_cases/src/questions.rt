@@ -11,6 +11,7 @@ pub enum Question {
     Fresh(OfFreshness),
     Rules(OfRules),
     Updates(OfUpdates),
+    Messages(OfMessages),
 }
 
 /// What is asked of fields.
@@ -121,8 +122,27 @@ pub enum OfUpdates {
     Invalidates,
 }
 
+/// What is asked of messages that the cache writes.
+#[derive(Clone, Copy)]
+pub enum OfMessages {
+    /// TEXT: what goes to the origin for that request.
+    Asked,
+    /// TEXT: the same without the client's conditions.
+    AskedAnew,
+    /// TEXT and LINES: what asks whether the stored response still holds.
+    AskedWhether,
+    /// MOMENT, `close` or `stay`, and TEXT: the reply that hands on that response.
+    HandedOn,
+    /// METHOD, MOMENT, `close` or `stay`, and LINES: the reply by the stored response.
+    Given,
+    /// MOMENT, `close` or `stay`, and LINES: the reply that the stored response still holds.
+    StillHolds,
+    /// STATUS, MOMENT, and `close` or `stay`: the reply that the cache makes itself.
+    Made,
+}
+
 /// The words that ask.
-const WORDS: [(&str, Question); 39] = [
+const WORDS: [(&str, Question); 46] = [
     ("values", Question::Fields(OfFields::Values)),
     ("joined", Question::Fields(OfFields::Joined)),
     ("only", Question::Fields(OfFields::Only)),
@@ -165,6 +185,16 @@ const WORDS: [(&str, Question); 39] = [
     ),
     ("at", Question::Updates(OfUpdates::At)),
     ("invalidates", Question::Updates(OfUpdates::Invalidates)),
+    ("asked", Question::Messages(OfMessages::Asked)),
+    ("asked-anew", Question::Messages(OfMessages::AskedAnew)),
+    (
+        "asked-whether",
+        Question::Messages(OfMessages::AskedWhether),
+    ),
+    ("handed-on", Question::Messages(OfMessages::HandedOn)),
+    ("given", Question::Messages(OfMessages::Given)),
+    ("still-holds", Question::Messages(OfMessages::StillHolds)),
+    ("made", Question::Messages(OfMessages::Made)),
 ];
 
 impl Question {

@@ -20,7 +20,8 @@ fn joined(alloc: Global, texts: &[&[u8]]) -> Result<Octets, AllocError> {
     Ok(joined)
 }
 
-fn unread(fault: FrameFault) -> Unanswered {
+/// Why a text isn't read.
+pub fn unread(fault: FrameFault) -> Unanswered {
     match fault {
         FrameFault::Memory => Unanswered::Memory,
         _ => Unanswered::Unknown,
