@@ -1,6 +1,7 @@
 pub mod Requests
 pub mod Responses
 pub mod HeadParts
+pub mod Arrivals
 pub mod RequestReading
 pub mod RequestParts
 pub mod ResponseReading

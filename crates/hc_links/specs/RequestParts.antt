@@ -1,5 +1,5 @@
 -- For the reader's own functions: what each part of a call does.
-use Rattle.std.specs.Prelude.{◌≡◌, ℕ, ◌≤◌, List, ◌++◌, length, take, Option, Some, None, Result, Ok, Err}
+use Rattle.std.specs.Prelude.{◌≡◌, ℕ, List, ◌++◌, Option, Some, None, Result, Ok, Err}
 use Rattle.std.specs.declared.alloc.AllocError.{AllocError}
 use Rattle.hc_head.specs.declared.head.RequestHead.{RequestHead}
 use Rattle.hc_head.specs.declared.head.Target.{Target}
@@ -11,7 +11,6 @@ use Rattle.hc_framing.specs.Messages.{request_form}
 use Rattle.hc_framing.specs.Reader as framing
 use Rattle.hc_links.specs.declared.requests.RequestReader.{RequestReader}
 use Rattle.hc_links.specs.Requests.{IsServed, IsUnserved}
-use Rattle.hc_links.specs.RequestReading.{Agrees, HasPassed}
 
 -- a target is kept of a head that has passed its tests alone; a head that has come may still have to be tested
 abbrev pub MayPass : Option RequestHead → Option Target → Type 0
@@ -53,8 +52,6 @@ pub record HasMet (r : RequestReader) (fault : FrameFault) (octets : List ℕ) :
 -- the octets go on, and all of them were read
 pub record HasGoneOn (r : RequestReader) (octets : List ℕ) : Type 0 where
   pub reads : framing.Agrees request_form Request RECEIVED r.reader octets
-  pub in_time : framing.IsInTime request_form Request RECEIVED octets
-  pub shows : framing.ShowsHead request_form Request RECEIVED octets r.reader.head
   pub may_pass : MayPass r.reader.head r.target
 
 -- a message ends with so many of the octets that waited
@@ -62,5 +59,4 @@ pub record HasEnded (r : RequestReader) (used : ℕ) (octets : List ℕ) : Type 
   pub read : List ℕ
   pub all : octets ≡ read ++ r.waits
   pub ends : framing.EndsAfter request_form Request RECEIVED r.reader read r.waits used
-  pub shows : framing.ShowsHead request_form Request RECEIVED octets r.reader.head
   pub may_pass : MayPass r.reader.head r.target

@@ -1,11 +1,10 @@
 -- What arrives on a forward's connection to the origin: interim responses, and then a final one or a failure (RFC 9110 section 15.2, RFC 9112).
-use Rattle.std.specs.Prelude.{◌≡◌, ◌≢◌, ℕ, ◌≤◌, ◌⊎◌, Bool, true, false, zero, suc, List, drop}
+use Rattle.std.specs.Prelude.{◌≡◌, ◌≢◌, ℕ, ◌≤◌, ◌⊎◌, Bool, true, zero, suc, List, drop}
 use Rattle.hc_head.specs.declared.head.ResponseHead.{ResponseHead}
 use Rattle.hc_head.specs.declared.head.TheConstants.Room.{RECEIVED}
 use Rattle.hc_head.specs.Statuses.{is_interim}
 use Rattle.hc_framing.specs.declared.fault.FrameFault.{FrameFault}
 use Rattle.hc_framing.specs.declared.fault.FrameFault.TheVariants as faults
-use Rattle.hc_framing.specs.declared.kind.Kind.{Kind}
 use Rattle.hc_framing.specs.declared.kind.Kind.TheVariants.{Response}
 use Rattle.hc_framing.specs.declared.message.Message.{Message}
 use Rattle.hc_framing.specs.Faults.{StandsIn, StandsAtEnd, IsWholeResponse}

@@ -5,7 +5,7 @@ ghost use Rattle.hc_head.specs.declared.head.RequestHead.{RequestHead};
 ghost use Rattle.hc_head.specs.Targets.{GivesTarget};
 ghost use Rattle.hc_framing.specs.declared.fault.FrameFault.TheVariants.{Memory};
 ghost use Rattle.hc_links.specs.Requests.{expects, fault_status};
-ghost use Rattle.hc_links.specs.HeadParts.{GivesTested};
+ghost use Rattle.hc_links.specs.HeadParts.{GivesTested, last_status};
 
 use hc_framing::FrameFault;
 use hc_head::{HeadFault, RequestHead, Target, Version, target};
@@ -76,6 +76,16 @@ pub(crate) fn fault_status(fault: FrameFault) -> u16
         FrameFault::BodyTooLong => CONTENT_TOO_LARGE,
         FrameFault::BadCoding => NOT_IMPLEMENTED,
         _ => BAD_REQUEST,
+    }
+}
+
+/// The status that answers a fault at the client's end, where what is merely cut off has no reply.
+pub(crate) fn last_status(fault: FrameFault) -> Option<u16>
+    ensures { result ≡ last_status fault }
+{
+    match fault {
+        FrameFault::Truncated => None,
+        other => Some(fault_status(other)),
     }
 }
 

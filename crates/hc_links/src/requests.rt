@@ -3,7 +3,7 @@
 ghost use Rattle.std.specs.Prelude.{◌≡◌};
 
 use crate::arrival::Arrival;
-use crate::heads::{Tested, fault_status, test_head, unless_memory};
+use crate::heads::{Tested, fault_status, last_status, test_head, unless_memory};
 use crate::waiting::Waiting;
 use hc_framing::{FrameFault, Kind, MessageReader, Progress};
 use hc_head::{RequestHead, Room, Target};
@@ -111,8 +111,10 @@ impl RequestReader {
         ensures can { ReadsOn result self.new }
     {
         let fault = unless_memory(fault)?;
-        let status = self.test()?.unwrap_or(fault_status(fault));
-        Ok(Arrival::Refused(status))
+        match self.test()? {
+            Some(status) => Ok(Arrival::Refused(status)),
+            None => Ok(Arrival::Refused(fault_status(fault))),
+        }
     }
 
     /// Goes on, unless the head fails a test.
@@ -136,29 +138,30 @@ impl RequestReader {
         ensures gives { (octets : List ℕ) → HasEnded self.old used octets → GivesNext result self.new octets }
         ensures can { ReadsOn result self.new }
     {
-        if let Some(status) = self.test()? {
-            return Ok(Arrival::Refused(status));
+        match self.test()? {
+            Some(status) => Ok(Arrival::Refused(status)),
+            None => {
+                self.waits.skip(used);
+                let target = self.target.take().unwrap();
+                let next = MessageReader::new(self.alloc, Kind::Request, Room::RECEIVED);
+                let reader = mem::replace(&mut self.reader, next);
+                Ok(Arrival::Request(reader.take(), target))
+            }
         }
-        self.waits.skip(used);
-        let target = self.target.take().unwrap();
-        let next = MessageReader::new(self.alloc, Kind::Request, Room::RECEIVED);
-        let reader = mem::replace(&mut self.reader, next);
-        Ok(Arrival::Request(reader.take(), target))
     }
 
     /// Says that the client sends no more: the status of a last reply, or none. A request that waits
     /// whole is given up.
-    pub fn end(self) -> Result<Option<u16>, AllocError>
-        requires { CanRead self }
+    pub fn end(&mut self) -> Result<Option<u16>, AllocError>
+        requires { CanRead self.old }
         // Each answer stands only where it says so.
-        ensures gives { (octets : List ℕ) → Agrees self octets → GivesEnd result octets }
+        ensures gives { (octets : List ℕ) → Agrees self.old octets → GivesEnd result octets }
     {
-        let mut rest = self;
-        match rest.next()? {
-            Arrival::Request(_, _) => Ok(None),
-            Arrival::Refused(status) => Ok(Some(status)),
-            Arrival::More => rest.close(),
+        let arrival = self.next()?;
+        if arrival.is_more() {
+            return self.close();
         }
+        Ok(arrival.refusal())
     }
 
     /// Gives up what has begun, or refuses it where no head can come of it.
@@ -168,8 +171,7 @@ impl RequestReader {
     {
         match self.reader.end() {
             Ok(_) => Ok(None),
-            Err(FrameFault::Truncated) => Ok(None),
-            Err(fault) => Ok(Some(fault_status(unless_memory(fault)?))),
+            Err(fault) => Ok(last_status(unless_memory(fault)?)),
         }
     }
 }

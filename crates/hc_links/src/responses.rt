@@ -39,12 +39,12 @@ pub struct ResponseReader {
 
 impl ResponseReader {
     ghost use Rattle.std.specs.Prelude.{◌≡◌, ℕ, Bool, List, [], ◌++◌, Ok};
-    ghost use Rattle.hc_framing.specs.Reader.{HasMessage};
+    ghost use Rattle.hc_framing.specs.Reader.{HasMessage, Holds};
     ghost use Rattle.hc_head.specs.declared.head.ResponseHead.{ResponseHead};
     ghost use Rattle.hc_framing.specs.declared.message.Message.{Message};
     ghost use Rattle.hc_links.specs.Responses.{IsResponse};
     ghost use Rattle.hc_links.specs.ResponseReading.{Agrees, CanRead, FindsResponse, GivesEnd, GivesHeard, ReadsOn};
-    ghost use Rattle.hc_links.specs.ResponseParts.{GivesPart, HasEnded, PartReadsOn};
+    ghost use Rattle.hc_links.specs.ResponseParts.{BeginsNext, GivesPart, HasEnded, PartReadsOn, TakesSome, TakesThose};
 
     /// A reader of a connection that has just opened; `to_head` tells whether the forward's method is
     /// HEAD.
@@ -84,6 +84,7 @@ impl ResponseReader {
         requires { CanRead self.old }
         ensures gives { (to_head : Bool) (octets : List ℕ) → Agrees to_head self.old octets
             → GivesPart result to_head self.new octets piece.now }
+        ensures some { TakesSome result piece.now }
         ensures can { PartReadsOn result self.new }
     {
         match self.reader.feed(piece) {
@@ -96,25 +97,34 @@ impl ResponseReader {
         }
     }
 
-    /// Tells what a response is that ends with so many octets of the piece, and begins the next.
-    fn sort(&mut self, used: usize) -> Part
+    /// Takes out the response that was found, and begins the next.
+    fn take_message(&mut self) -> Message<ResponseHead>
         requires { HasMessage self.old.reader }
-        ensures gives { (to_head : Bool) (octets piece : List ℕ) → HasEnded to_head self.old octets piece used
-            → GivesPart (Ok result) to_head self.new octets piece }
-        ensures can { PartReadsOn (Ok result) self.new }
+        ensures taken { (message : Message ResponseHead) → Holds self.old.reader message → result ≡ message }
+        ensures begins { BeginsNext self.old self.new }
+        ensures can { CanRead self.new }
     {
         let kind = Kind::Response {
             to_head: self.to_head,
         };
         let next = MessageReader::new(self.alloc, kind, Room::RECEIVED);
-        let message = mem::replace(&mut self.reader, next).take();
-        if !is_interim(message.head.status) {
+        mem::replace(&mut self.reader, next).take()
+    }
+
+    /// Tells what a response is that ends with so many octets of the piece, and begins the next.
+    fn sort(&mut self, used: usize) -> Part
+        requires { HasMessage self.old.reader }
+        ensures gives { (to_head : Bool) (octets piece : List ℕ) → HasEnded to_head self.old octets piece used
+            → GivesPart (Ok result) to_head self.new octets piece }
+        ensures taken { TakesThose result used }
+        ensures can { PartReadsOn (Ok result) self.new }
+    {
+        let message = self.take_message();
+        let status = message.head.status;
+        if !is_interim(status) {
             return Part::Last(Heard::Response(message));
         }
-        if message.head.status == SWITCHING_PROTOCOLS {
-            return Part::Last(Heard::Failed);
-        }
-        if self.interim >= MOST_INTERIM {
+        if status == SWITCHING_PROTOCOLS || self.interim >= MOST_INTERIM {
             return Part::Last(Heard::Failed);
         }
         self.interim += 1;
@@ -122,19 +132,18 @@ impl ResponseReader {
     }
 
     /// Says that no more octets come: the response, which may last until then, or none.
-    pub fn end(self) -> Result<Option<Message<ResponseHead>>, AllocError>
-        requires { CanRead self }
+    pub fn end(&mut self) -> Result<Option<Message<ResponseHead>>, AllocError>
+        requires { CanRead self.old }
         // Each answer stands only where it says so.
-        ensures gives { (to_head : Bool) (octets : List ℕ) → Agrees to_head self octets
+        ensures gives { (to_head : Bool) (octets : List ℕ) → Agrees to_head self.old octets
             → GivesEnd result to_head octets }
     {
-        let mut reader = self.reader;
-        match reader.end() {
+        match self.reader.end() {
             Err(fault) => {
                 unless_memory(fault)?;
                 Ok(None)
             }
-            Ok(_) => Ok(Some(reader.take())),
+            Ok(_) => Ok(Some(self.take_message())),
         }
     }
 }

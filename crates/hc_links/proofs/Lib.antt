@@ -1,0 +1,4 @@
+pub mod HeadLemmas
+pub mod BeginningLemmas
+pub mod RequestLemmas
+pub mod ResponseLemmas
