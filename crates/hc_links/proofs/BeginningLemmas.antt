@@ -1,5 +1,5 @@
 -- Messages at the front of octets.
-use Rattle.std.proofs.Common.{◌≡◌, ◌≢◌, ℕ, ◌≤◌, Bool, true, false, ◌&&◌, List, [], ◌∷◌, ◌++◌, length, drop, Result, Ok, Err, sym, ap, subst, ◌∙◌, arith, length-drop}
+use Rattle.std.proofs.Common.{◌≡◌, ◌≢◌, ℕ, ◌≤◌, Bool, true, false, ◌&&◌, List, [], ◌∷◌, ◌++◌, length, drop, Result, Ok, Err, rules, sym, ap, subst, ◌∙◌, arith, append-nil, length-drop, inl, inr}
 use Rattle.std.specs.Prelude.{if◌then◌else◌, codes}
 use Rattle.std.specs.Bool.{⊤}
 use Rattle.std.specs.List.{flat_map}
@@ -20,8 +20,9 @@ use Rattle.hc_framing.specs.declared.message.Message.{Message}
 use Rattle.hc_framing.specs.Forms.{Form, FormLaws}
 use Rattle.hc_framing.specs.Framing.{◌>>=◌, refuse, members_of, common_length, sized_by, sized, coded_by, coded, is_http10, request_framing}
 use Rattle.hc_framing.specs.Messages.{BeginsBody}
-use Rattle.hc_framing.specs.Reader.{BeginsIn}
-use Rattle.hc_framing.proofs.BodyLemmas.{body-append, body_within}
+use Rattle.hc_framing.specs.Reader.{BeginsIn, IsInTime}
+use Rattle.hc_framing.proofs.BodyLemmas.{body-append, body_within, open_has_no_body}
+use Rattle.hc_framing.proofs.ReaderLemmas.{message_unique}
 
 module _ {H : Type 0} (form : Form H) (laws : FormLaws form) where
   -- a message that begins octets begins them whatever follows
@@ -50,6 +51,30 @@ module _ {H : Type 0} (form : Form H) (laws : FormLaws form) where
   begins_within kind room octets message len b =
       let p = b.begins in
       omega (arith, p.len_is, body_within p.frame (drop p.head_len octets) message.body p.body_len p.body, length-drop p.head_len octets, laws.within octets p.head p.head_len p.begins)
+
+  -- one message begins octets, whatever follows
+  pub one_begins : (kind : Kind) (room : Room) (octets more : List ℕ) (message other : Message H) (m n : ℕ) → BeginsIn form kind octets room message m → BeginsIn form kind (octets ++ more) room other n
+      → (message ≡ other) × (m ≡ n)
+  one_begins kind room octets more message other m n p q = message_unique form laws kind octets more message other m n p.begins q.begins
+
+  -- and so of the same octets
+  pub same_begins : (kind : Kind) (room : Room) (octets : List ℕ) (message other : Message H) (m n : ℕ) → BeginsIn form kind octets room message m → BeginsIn form kind octets room other n
+      → (message ≡ other) × (m ≡ n)
+  same_begins kind room octets message other m n p q =
+      one_begins kind room octets [] message other m n p (subst (λ (o : List ℕ). BeginsIn form kind o room other n) (sym (append-nil octets)) q)
+
+  -- no message begins octets that are awaited
+  pub in_time_has_none : (kind : Kind) (room : Room) (octets : List ℕ) (message : Message H) (len : ℕ) → IsInTime form kind room octets → BeginsIn form kind octets room message len → ⊥
+  in_time_has_none kind room octets message len (inl none) b = none.0 b.begins.head b.begins.head_len b.octets_fit b.begins.begins
+  in_time_has_none kind room octets message len (inr a) b =
+      let p = b.begins in
+      let same = laws.one_head octets [] p.head a.head p.head_len a.len p.begins (subst (λ (o : List ℕ). form.begins o a.head a.len) (sym (append-nil octets)) a.begins.begins) in
+      let one : p.frame ≡ a.frame = one_ok p.frame a.frame (sym p.framed ∙ ap (form.framing_of kind) same.0 ∙ a.framed) in
+      open_has_no_body a.frame (drop a.len octets) message.body p.body_len a.is_open
+      (subst (λ (x : Framing × List ℕ). BeginsBody x.0 x.1 message.body p.body_len) (λ i. (one i, drop (same.1 i) octets)) p.body)
+    where
+      one_ok : (f g : Framing) → ◌≡◌ {A = Result Framing FrameFault} (Ok f) (Ok g) → f ≡ g
+      one_ok f g is = search (rules, is)
 
 -- ---- the body of a request ends by itself
 

@@ -4,10 +4,12 @@
 
 mod arrival;
 mod heads;
+mod laws;
 mod requests;
 mod responses;
 mod waiting;
 
 pub use arrival::{Arrival, Heard};
+pub use laws::{one_request_arrives, one_response_arrives};
 pub use requests::RequestReader;
 pub use responses::ResponseReader;

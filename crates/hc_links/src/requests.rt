@@ -35,7 +35,8 @@ impl RequestReader {
 
     /// A reader of a connection that has just opened.
     pub fn new(alloc: Global) -> Self
-        ensures { HasUnread result [] }
+        ensures unread { HasUnread result [] }
+        ensures can { CanRead result }
     {
         RequestReader {
             alloc,
@@ -50,6 +51,7 @@ impl RequestReader {
         ensures agrees { (octets : List ℕ) → Agrees self.old octets
             → OnOk result (Agrees self.new (octets ++ piece.now)) }
         ensures waiting { OnOk result (waiting self.new ≡ waiting self.old ++ piece.now) }
+        ensures can { CanRead self.old → CanRead self.new }
         ensures err { OnErr result (self.new ≡ self.old) }
     {
         self.waits.push(piece)
@@ -66,6 +68,7 @@ impl RequestReader {
     pub fn drop_waiting(&mut self)
         ensures agrees { (octets : List ℕ) → HasUnread self.old octets → HasUnread self.new [] }
         ensures waiting { waiting self.new ≡ [] }
+        ensures can { CanRead self.old → CanRead self.new }
     {
         self.waits.clear();
     }
@@ -76,6 +79,9 @@ impl RequestReader {
         requires { CanRead self.old }
         // Each answer stands only where it says so, whatever the pieces before were.
         ensures gives { (octets : List ℕ) → Agrees self.old octets → GivesNext result self.new octets }
+        // A whole request that is there is found, unless memory runs out.
+        ensures found { (octets : List ℕ) (message : Message RequestHead) (target : Target) (len : ℕ)
+            → Agrees self.old octets → IsRequest octets message target len → FindsRequest result message target }
         // It can be asked again, unless it refused the octets or memory ran out.
         ensures can { ReadsOn result self.new }
     {

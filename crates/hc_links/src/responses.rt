@@ -66,6 +66,9 @@ impl ResponseReader {
         // Each answer stands only where it says so, whatever the pieces before were.
         ensures gives { (to_head : Bool) (octets : List ℕ) → Agrees to_head self.old octets
             → GivesHeard result to_head self.new (octets ++ piece.now) }
+        // A response that is there is found, unless memory runs out.
+        ensures found { (to_head : Bool) (octets : List ℕ) (message : Message ResponseHead) → Agrees to_head self.old octets
+            → IsResponse to_head (octets ++ piece.now) message → FindsResponse result message }
         // It takes octets until it has found a response or a failure.
         ensures can { ReadsOn result self.new }
     {

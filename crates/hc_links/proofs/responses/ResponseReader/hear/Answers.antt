@@ -1,6 +1,7 @@
-use Rattle.std.proofs.Common.{rules, ◌+◌, ◌<◌, ◌≤◌, ◌++◌, length, take, subst, arith, Ok}
+use Rattle.std.proofs.Common.{Bool, List, ℕ, rules, ◌+◌, ◌<◌, ◌≤◌, ◌++◌, length, take, subst, arith, Ok}
 use Rattle.hc_links.specs.ResponseReading.{Agrees, GivesHeard}
 use Rattle.hc_links.proofs.ResponseLemmas.{taken_of_rest, front_of_rest, all_of_rest}
+use Rattle.hc_links.proofs.ResponseLaws.{finds_response}
 use Rattle.hc_links.proofs.responses.ResponseReader.hear.Goals as goal
 
 -- an interim response takes some of the rest
@@ -26,8 +27,16 @@ loop-taken-preserved c = record {
       subst (Agrees to_head c.read.new.self) (front_of_rest octets c.args.piece.now c.split_at.result.1.now c.loop-taken.used c.in-Interim.taken c.split_at.ensures.back) dropped.agrees;
 }
 
-pub returns-in-Last-clause-gives : goal.returns-in-Last-clause-gives
-returns-in-Last-clause-gives c = λ to_head octets a.
+-- what was heard is that of all octets
+heard : (c : goal.In-Last) → (to_head : Bool) (octets : List ℕ) → Agrees to_head c.args.self.now octets → GivesHeard (Ok c.in-Last.heard) to_head c.read.new.self (octets ++ c.args.piece.now)
+heard c = λ to_head octets a.
     let before = octets ++ take c.loop-taken.used c.args.piece.now in
-    let heard = (rw c.in-Last.is at (c.in_ok-taken.ensures.gives to_head before (c.loop-taken.invariant.agrees to_head octets a))) in
-    subst (GivesHeard (Ok c.in-Last.heard) to_head c.read.new.self) (all_of_rest octets c.args.piece.now c.split_at.result.1.now c.loop-taken.used c.split_at.ensures.back) heard
+    let rest = (rw c.in-Last.is at (c.in_ok-taken.ensures.gives to_head before (c.loop-taken.invariant.agrees to_head octets a))) in
+    subst (GivesHeard (Ok c.in-Last.heard) to_head c.read.new.self) (all_of_rest octets c.args.piece.now c.split_at.result.1.now c.loop-taken.used c.split_at.ensures.back) rest
+
+pub returns-in-Last-clause-gives : goal.returns-in-Last-clause-gives
+returns-in-Last-clause-gives c = heard c
+
+pub returns-in-Last-clause-found : goal.returns-in-Last-clause-found
+returns-in-Last-clause-found c = λ to_head octets message a response.
+    finds_response to_head (Ok c.in-Last.heard) c.read.new.self (octets ++ c.args.piece.now) message (heard c to_head octets a) response
