@@ -1,5 +1,5 @@
 -- Messages at the front of octets.
-use Rattle.std.proofs.Common.{◌≡◌, ◌≢◌, ℕ, ◌≤◌, Bool, true, false, ◌&&◌, List, [], ◌∷◌, ◌++◌, length, drop, Result, Ok, Err, rules, sym, ap, subst, ◌∙◌, arith, append-nil, length-drop, inl, inr}
+use Rattle.std.proofs.Common.{◌≡◌, ◌≢◌, ℕ, zero, suc, ◌+◌, ◌<◌, ◌≤◌, Bool, true, false, ◌&&◌, List, [], ◌∷◌, ◌++◌, length, drop, Result, Ok, Err, rules, sym, ap, subst, ◌∙◌, arith, append-nil, length-drop, inl, inr}
 use Rattle.std.specs.Prelude.{if◌then◌else◌, codes}
 use Rattle.std.specs.Bool.{⊤}
 use Rattle.std.specs.List.{flat_map}
@@ -12,17 +12,20 @@ use Rattle.hc_head.specs.declared.head.RequestHead.{RequestHead}
 use Rattle.hc_head.specs.declared.head.Room.{Room}
 use Rattle.hc_head.specs.declared.head.Version.{Version}
 use Rattle.hc_framing.specs.declared.fault.FrameFault.{FrameFault}
-use Rattle.hc_framing.specs.declared.fault.FrameFault.TheVariants.{BothLengths, BadLength, BadCoding}
+use Rattle.hc_framing.specs.declared.fault.FrameFault.TheVariants.{BothLengths, BadLength, BadCoding, Failed}
 use Rattle.hc_framing.specs.declared.framing.Framing.{Framing}
 use Rattle.hc_framing.specs.declared.framing.Framing.TheVariants.{Nothing, Sized, Chunked, UntilClose}
 use Rattle.hc_framing.specs.declared.kind.Kind.{Kind}
 use Rattle.hc_framing.specs.declared.message.Message.{Message}
 use Rattle.hc_framing.specs.Forms.{Form, FormLaws}
 use Rattle.hc_framing.specs.Framing.{◌>>=◌, refuse, members_of, common_length, sized_by, sized, coded_by, coded, is_http10, request_framing}
-use Rattle.hc_framing.specs.Messages.{BeginsBody}
-use Rattle.hc_framing.specs.Reader.{BeginsIn, IsInTime}
+use Rattle.hc_framing.specs.Messages.{BeginsBody, BeginsMessage}
+use Rattle.hc_framing.specs.Reader.{Agrees, BeginsIn, CanFeed, EndsAfter, HasFailed, IsInTime}
+use Rattle.hc_framing.specs.declared.progress.Progress.{Progress}
+use Rattle.hc_framing.specs.declared.progress.Progress.TheVariants.{Whole}
+use Rattle.hc_framing.specs.declared.reader.MessageReader.{MessageReader}
 use Rattle.hc_framing.proofs.BodyLemmas.{body-append, body_within, open_has_no_body}
-use Rattle.hc_framing.proofs.ReaderLemmas.{message_unique}
+use Rattle.hc_framing.proofs.ReaderLemmas.{agreeing_has_none, message_unique}
 
 module _ {H : Type 0} (form : Form H) (laws : FormLaws form) where
   -- a message that begins octets begins them whatever follows
@@ -75,6 +78,25 @@ module _ {H : Type 0} (form : Form H) (laws : FormLaws form) where
     where
       one_ok : (f g : Framing) → ◌≡◌ {A = Result Framing FrameFault} (Ok f) (Ok g) → f ≡ g
       one_ok f g is = search (rules, is)
+
+  -- a message that ends with a piece takes some of it
+  pub takes_some : (kind : Kind) (room : Room) (r m : MessageReader H) (octets piece : List ℕ) (used : ℕ) → Agrees form kind room r octets → EndsAfter form kind room m octets piece used → 0 < used
+  takes_some kind room r m octets piece zero agrees ends =
+      absurd (agreeing_has_none form laws kind room r octets agrees ends.message (length octets + 0)
+      (subst (λ (o : List ℕ). BeginsMessage form kind o ends.message (length octets + 0)) (append-nil octets) ends.begins.begins))
+  takes_some kind room r m octets piece (suc used) agrees ends = omega arith
+
+  -- so it does where the reader could be fed
+  pub takes_of_piece : (r m : MessageReader H) (piece : List ℕ) (used : ℕ) → CanFeed form r
+      → ((kind : Kind) (room : Room) (octets : List ℕ) → Agrees form kind room r octets → EndsAfter form kind room m octets piece used)
+      → (HasFailed r → ◌≡◌ {A = Result Progress FrameFault} (Ok (Whole used)) (Err Failed)) → (0 < used) × (used ≤ length piece)
+  takes_of_piece r m piece used (inl a) gives failed =
+      let ends = gives a.kind a.room a.octets a.agrees in
+      (takes_some a.kind a.room r m a.octets piece used a.agrees ends, ends.within)
+  takes_of_piece r m piece used (inr is) gives failed = absurd (never (failed is))
+    where
+      never : ◌≡◌ {A = Result Progress FrameFault} (Ok (Whole used)) (Err Failed) → ⊥
+      never whole = search (rules, whole)
 
 -- ---- the body of a request ends by itself
 

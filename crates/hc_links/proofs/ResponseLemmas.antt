@@ -1,5 +1,5 @@
 -- What is read of a forward's connection.
-use Rattle.std.proofs.Common.{◌≡◌, ◌≢◌, ℕ, zero, suc, ◌+◌, ◌≤◌, ◌<◌, Bool, true, false, List, [], ◌++◌, length, take, drop, Result, Ok, Err, rules, refl, sym, ap, subst, ◌∙◌, arith, append_assoc, append-nil, length-append, length-drop, length-take, inl, inr}
+use Rattle.std.proofs.Common.{◌≡◌, ◌≢◌, ℕ, zero, suc, ◌+◌, ◌≤◌, ◌<◌, Bool, true, false, List, [], ◌++◌, length, take, drop, Result, Ok, Err, rules, refl, sym, ap, subst, ◌∙◌, arith, append_assoc, length-append, length-drop, length-take, inl, inr}
 use Rattle.std.proofs.lemmas.Bool.Decides.{nat_tests}
 use Rattle.std.proofs.lemmas.List.{drop-append-le, drop_all, take-append-drop}
 use Rattle.std.proofs.Math.Seq.{take-add}
@@ -22,10 +22,10 @@ use Rattle.hc_framing.specs.declared.reader.MessageReader.{MessageReader}
 use Rattle.hc_framing.specs.Faults.{StandsIn, IsWholeResponse}
 use Rattle.hc_framing.specs.Framing.{response_framing}
 use Rattle.hc_framing.specs.FramingLaws.{response_laws}
-use Rattle.hc_framing.specs.Messages.{BeginsMessage, IsWholeBody, response_form}
+use Rattle.hc_framing.specs.Messages.{IsWholeBody, response_form}
 use Rattle.hc_framing.specs.Reader as framing
 use Rattle.hc_framing.proofs.ReaderLemmas.{agreeing_has_none, agreeing_in_time}
-use Rattle.hc_links.proofs.BeginningLemmas.{begins_on, begins_within}
+use Rattle.hc_links.proofs.BeginningLemmas.{begins_on, begins_within, takes_some}
 use Rattle.hc_links.specs.declared.responses.ResponseReader.{ResponseReader}
 use Rattle.hc_links.specs.Responses.{most_interim, switching_protocols, Begins, BeginsInterim, AreInterimThen, Leaves, IsResponse, HasFailed, IsUnfinished, IsResponseAtEnd, HasFailedAtEnd}
 use Rattle.hc_links.specs.ResponseReading.{Agrees}
@@ -84,25 +84,9 @@ goes_on to_head r m octets piece a reads =
       record { to_head_is = a.to_head_is; rest = a.rest ++ piece; leaves = leaves; reads = reads },
     )
 
--- a response that ends with a piece takes some of it
-takes_some : (kind : Kind) (room : Room) (r m : MessageReader ResponseHead) (octets piece : List ℕ) (used : ℕ) → framing.Agrees response_form kind room r octets
-    → framing.EndsAfter response_form kind room m octets piece used → 0 < used
-takes_some kind room r m octets piece zero agrees ends =
-    absurd (agreeing_has_none response_form response_laws kind room r octets agrees ends.message (length octets + 0)
-    (subst (λ (o : List ℕ). BeginsMessage response_form kind o ends.message (length octets + 0)) (append-nil octets) ends.begins.begins))
-takes_some kind room r m octets piece (suc used) agrees ends = omega arith
-
-pub takes_of_piece : (r m : MessageReader ResponseHead) (piece : List ℕ) (used : ℕ) (part : Part) → framing.CanFeed response_form r
-    → ((kind : Kind) (room : Room) (octets : List ℕ) → framing.Agrees response_form kind room r octets → framing.EndsAfter response_form kind room m octets piece used)
-    → (framing.HasFailed r → ◌≡◌ {A = Result Progress FrameFault} (Ok (Whole used)) (Err faults.Failed)) → TakesThose part used → TakesSome (Ok part) piece
-takes_of_piece r m piece used (Interim taken) (inl a) gives failed same =
-    let ends = gives a.kind a.room a.octets a.agrees in
-    (omega (arith, same, takes_some a.kind a.room r m a.octets piece used a.agrees ends), omega (arith, same, ends.within))
-takes_of_piece r m piece used (Interim taken) (inr is) gives failed same = absurd (never (failed is))
-  where
-    never : ◌≡◌ {A = Result Progress FrameFault} (Ok (Whole used)) (Err faults.Failed) → ⊥
-    never whole = search (rules, whole)
-takes_of_piece r m piece used (Last heard) can gives failed same = tt
+pub takes_those : (part : Part) (used : ℕ) (piece : List ℕ) → (0 < used) × (used ≤ length piece) → TakesThose part used → TakesSome (Ok part) piece
+takes_those (Interim taken) used piece some same = (omega (arith, same, some.0), omega (arith, same, some.1))
+takes_those (Last heard) used piece some same = tt
 
 pub has_ended : (to_head : Bool) (r : ResponseReader) (m : MessageReader ResponseHead) (octets piece : List ℕ) (used : ℕ) (a : Agrees to_head r octets)
     → framing.EndsAfter response_form (Response to_head) RECEIVED m a.rest piece used → HasEnded to_head (record r { reader = m }) octets piece used
@@ -110,7 +94,7 @@ has_ended to_head r m octets piece used a ends = record {
   to_head_is = a.to_head_is;
   rest = a.rest;
   leaves = a.leaves;
-  some = takes_some (Response to_head) RECEIVED r.reader m a.rest piece used a.reads ends;
+  some = takes_some response_form response_laws (Response to_head) RECEIVED r.reader m a.rest piece used a.reads ends;
   ends = ends;
 }
 

@@ -1,5 +1,5 @@
 -- A reader of requests, and the octets behind the last whole request that it was given.
-use Rattle.std.specs.Prelude.{◌≡◌, ℕ, List, [], ◌++◌, drop, Option, Some, None, Result, Ok, Err}
+use Rattle.std.specs.Prelude.{◌≡◌, ℕ, ◌<◌, List, [], ◌++◌, length, drop, Option, Some, None, Result, Ok, Err}
 use Rattle.std.specs.declared.alloc.AllocError.{AllocError}
 use Rattle.hc_head.specs.declared.head.RequestHead.{RequestHead}
 use Rattle.hc_head.specs.declared.head.Target.{Target}
@@ -71,6 +71,13 @@ ReadsOn (Ok (Request message target)) r = CanRead r
 ReadsOn (Ok (Refused status)) r = Unit {0}
 ReadsOn (Ok More) r = CanRead r
 ReadsOn (Err e) r = Unit {0}
+
+-- a request takes some of the octets that wait
+abbrev pub TakesSome : Result Arrival AllocError → RequestReader → RequestReader → Type 0
+TakesSome (Ok (Request message target)) r s = length (waiting s) < length (waiting r)
+TakesSome (Ok (Refused status)) r s = Unit {0}
+TakesSome (Ok More) r s = Unit {0}
+TakesSome (Err e) r s = Unit {0}
 
 -- each answer to the client's end stands only where this says so: the status of a last reply, or none
 abbrev pub GivesEnd : Result (Option ℕ) AllocError → List ℕ → Type 0

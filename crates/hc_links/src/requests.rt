@@ -24,13 +24,13 @@ pub struct RequestReader {
 }
 
 impl RequestReader {
-    ghost use Rattle.std.specs.Prelude.{◌≡◌, ℕ, List, [], ◌++◌, ◌≤◌, length, OnOk, OnErr};
+    ghost use Rattle.std.specs.Prelude.{◌≡◌, ℕ, List, [], ◌++◌, ◌<◌, ◌≤◌, length, OnOk, OnErr};
     ghost use Rattle.hc_framing.specs.Reader.{HasMessage};
     ghost use Rattle.hc_head.specs.declared.head.RequestHead.{RequestHead};
     ghost use Rattle.hc_head.specs.declared.head.Target.{Target};
     ghost use Rattle.hc_framing.specs.declared.message.Message.{Message};
     ghost use Rattle.hc_links.specs.Requests.{IsRequest, IsUnfinished};
-    ghost use Rattle.hc_links.specs.RequestReading.{Agrees, CanRead, FindsRequest, GivesEnd, GivesNext, HasRead, HasUnread, ReadsOn, waiting};
+    ghost use Rattle.hc_links.specs.RequestReading.{Agrees, CanRead, FindsRequest, GivesEnd, GivesNext, HasRead, HasUnread, ReadsOn, TakesSome, waiting};
     ghost use Rattle.hc_links.specs.RequestParts.{GivesTest, HasEnded, HasGoneOn, HasMet};
 
     /// A reader of a connection that has just opened.
@@ -82,6 +82,8 @@ impl RequestReader {
         // A whole request that is there is found, unless memory runs out.
         ensures found { (octets : List ℕ) (message : Message RequestHead) (target : Target) (len : ℕ)
             → Agrees self.old octets → IsRequest octets message target len → FindsRequest result message target }
+        // A request takes some of the octets that wait.
+        ensures shrinks { TakesSome result self.old self.new }
         // It can be asked again, unless it refused the octets or memory ran out.
         ensures can { ReadsOn result self.new }
     {
@@ -114,6 +116,7 @@ impl RequestReader {
     /// Tells the status of a fault; the tests of the head come before the faults of the body.
     fn refuse(&mut self, fault: FrameFault) -> Result<Arrival, AllocError>
         ensures gives { (octets : List ℕ) → HasMet self.old fault octets → GivesNext result self.new octets }
+        ensures shrinks { TakesSome result self.old self.new }
         ensures can { ReadsOn result self.new }
     {
         let fault = unless_memory(fault)?;
@@ -127,6 +130,7 @@ impl RequestReader {
     fn go_on(&mut self) -> Result<Arrival, AllocError>
         requires { CanRead self.old }
         ensures gives { (octets : List ℕ) → HasGoneOn self.old octets → GivesNext result self.new octets }
+        ensures shrinks { TakesSome result self.old self.new }
         ensures can { ReadsOn result self.new }
     {
         self.waits.clear();
@@ -140,8 +144,10 @@ impl RequestReader {
     /// test.
     fn take_request(&mut self, used: usize) -> Result<Arrival, AllocError>
         requires has { HasMessage self.old.reader }
+        requires some { 0 < used }
         requires within { used ≤ length (waiting self.old) }
         ensures gives { (octets : List ℕ) → HasEnded self.old used octets → GivesNext result self.new octets }
+        ensures shrinks { TakesSome result self.old self.new }
         ensures can { ReadsOn result self.new }
     {
         match self.test()? {

@@ -1,6 +1,9 @@
 use Rattle.hc_head.specs.declared.head.TheConstants.Room.{RECEIVED}
 use Rattle.hc_framing.specs.declared.kind.Kind.TheVariants.{Request}
 use Rattle.hc_links.proofs.RequestLemmas.{went_on, has_met, has_ended}
+use Rattle.hc_framing.specs.FramingLaws.{request_laws}
+use Rattle.hc_framing.specs.Messages.{request_form}
+use Rattle.hc_links.proofs.BeginningLemmas.{takes_of_piece}
 use Rattle.hc_links.proofs.RequestLaws.{finds_request}
 use Rattle.hc_links.proofs.requests.RequestReader.next.Goals as goal
 
@@ -33,3 +36,8 @@ pub returns-in-Ok-Whole-clause-found : goal.returns-in-Ok-Whole-clause-found
 returns-in-Ok-Whole-clause-found c = λ octets message target len a request.
     finds_request c.take_request.result c.take_request.new.self octets message target len (c.take_request.ensures.gives octets (has_ended c.args.self.now c.feed.new.self c.in-Ok-Whole.used c.as_slice.result.now octets a c.as_slice.ensures c.in-Ok-Whole.ensures.keeps
     (rw c.in-Ok-Whole.field-0-is at (c.in-Ok-Whole.ensures.gives Request RECEIVED a.read a.reads)))) request
+
+pub take_request-requires-clause-some : goal.take_request-requires-clause-some
+take_request-requires-clause-some c =
+    (takes_of_piece request_form request_laws c.args.self.now.reader c.feed.new.self c.as_slice.result.now c.in-Ok-Whole.used c.requires
+    (λ kind room octets agrees. rw c.in-Ok-Whole.field-0-is at (c.in-Ok-Whole.ensures.gives kind room octets agrees)) (λ failed. rw c.in-Ok-Whole.field-0-is at (c.in-Ok-Whole.ensures.failed failed))).0

@@ -1,6 +1,9 @@
 use Rattle.hc_head.specs.declared.head.TheConstants.Room.{RECEIVED}
 use Rattle.hc_framing.specs.declared.kind.Kind.TheVariants.{Response}
-use Rattle.hc_links.proofs.ResponseLemmas.{fails, goes_on, has_ended, takes_of_piece}
+use Rattle.hc_links.proofs.ResponseLemmas.{fails, goes_on, has_ended, takes_those}
+use Rattle.hc_framing.specs.FramingLaws.{response_laws}
+use Rattle.hc_framing.specs.Messages.{response_form}
+use Rattle.hc_links.proofs.BeginningLemmas.{takes_of_piece}
 use Rattle.hc_links.proofs.responses.ResponseReader.read.Goals as goal
 
 pub returns-in_ok-unless_memory-in-Err-clause-gives : goal.returns-in_ok-unless_memory-in-Err-clause-gives
@@ -18,5 +21,6 @@ returns-in-Ok-Whole-clause-gives c = λ to_head octets a.
 
 pub returns-in-Ok-Whole-clause-some : goal.returns-in-Ok-Whole-clause-some
 returns-in-Ok-Whole-clause-some c =
-    takes_of_piece c.args.self.now.reader c.feed.new.self c.args.piece.now c.in-Ok-Whole.used c.sort.result c.requires
-    (λ kind room octets agrees. rw c.in-Ok-Whole.field-0-is at (c.in-Ok-Whole.ensures.gives kind room octets agrees)) (λ failed. rw c.in-Ok-Whole.field-0-is at (c.in-Ok-Whole.ensures.failed failed)) c.sort.ensures.taken
+    takes_those c.sort.result c.in-Ok-Whole.used c.args.piece.now
+    (takes_of_piece response_form response_laws c.args.self.now.reader c.feed.new.self c.args.piece.now c.in-Ok-Whole.used c.requires
+    (λ kind room octets agrees. rw c.in-Ok-Whole.field-0-is at (c.in-Ok-Whole.ensures.gives kind room octets agrees)) (λ failed. rw c.in-Ok-Whole.field-0-is at (c.in-Ok-Whole.ensures.failed failed))) c.sort.ensures.taken
