@@ -6,6 +6,7 @@
 mod describing;
 mod faults;
 mod heads;
+mod links;
 mod messages;
 mod parts;
 mod questions;
@@ -41,6 +42,9 @@ impl Ask for MessageCases {
             Question::Fronts => messages::fronts(alloc, about, out),
             Question::Octets => messages::octet_by_octet(alloc, about, out),
             Question::AfterFault => messages::after_a_fault(alloc, about, out),
+            Question::Arrivals => links::arrivals(alloc, about, out),
+            Question::Waiting => links::waiting(alloc, about, out),
+            Question::Heard => links::heard(alloc, about, out),
             Question::WriteRequest => writing::request(alloc, about, out),
             Question::WriteResponse => writing::response(alloc, about, out),
             Question::WriteMessage => writing::message(alloc, about, out),

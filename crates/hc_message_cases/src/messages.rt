@@ -88,8 +88,8 @@ fn every_cut<H: ShownHead>(
     Ok(())
 }
 
-// Writes a text that is another one.
-fn other(found: String, way: &str, text: &str, out: &mut String) -> Result<(), AllocError> {
+/// Writes a text that is another one.
+pub fn other(found: String, way: &str, text: &str, out: &mut String) -> Result<(), AllocError> {
     if found.as_str() == text {
         return Ok(());
     }

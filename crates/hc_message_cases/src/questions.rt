@@ -28,6 +28,12 @@ pub enum Question {
     Octets,
     /// What a reader answers that has failed.
     AfterFault,
+    /// What arrives on a client connection.
+    Arrivals,
+    /// How many octets wait behind a request.
+    Waiting,
+    /// What a forward's connection gives.
+    Heard,
     /// The text of a head or a message.
     WriteRequest,
     WriteResponse,
@@ -38,7 +44,7 @@ pub enum Question {
 }
 
 /// The words that ask.
-const WORDS: [(&str, Question); 17] = [
+const WORDS: [(&str, Question); 20] = [
     ("faults", Question::Faults),
     ("text", Question::Text),
     ("request-head", Question::RequestHead),
@@ -51,6 +57,9 @@ const WORDS: [(&str, Question); 17] = [
     ("fronts", Question::Fronts),
     ("octet-by-octet", Question::Octets),
     ("after-a-fault", Question::AfterFault),
+    ("arrivals", Question::Arrivals),
+    ("waiting", Question::Waiting),
+    ("heard", Question::Heard),
     ("write-request", Question::WriteRequest),
     ("write-response", Question::WriteResponse),
     ("write-message", Question::WriteMessage),

@@ -1,0 +1,8 @@
+pub mod Requests
+pub mod Responses
+pub mod HeadParts
+pub mod Arrivals
+pub mod RequestReading
+pub mod RequestParts
+pub mod ResponseReading
+pub mod ResponseParts

@@ -1,0 +1,53 @@
+//! What is read off a link.
+
+use hc_framing::Message;
+use hc_head::{RequestHead, ResponseHead, Target};
+
+/// What the octets of a client connection are.
+#[derive(Debug, Drop)]
+pub enum Arrival {
+    /// A whole request, and what it asks for.
+    Request(Message<RequestHead>, Target),
+    /// Nothing that is served: the status of the reply, behind which the connection closes.
+    Refused(u16),
+    /// Nothing yet.
+    More,
+}
+
+impl Arrival {
+    ghost use Rattle.std.specs.Prelude.{◌≡◌};
+    ghost use Rattle.hc_links.specs.Arrivals.{is_more, refusal_of};
+
+    /// Whether nothing has come yet.
+    pub(crate) fn is_more(&self) -> bool
+        ensures { result ≡ is_more self.now }
+    {
+        match self {
+            Arrival::Request(_, _) => false,
+            Arrival::Refused(_) => false,
+            Arrival::More => true,
+        }
+    }
+
+    /// The status of a refusal, if it is one.
+    pub(crate) fn refusal(&self) -> Option<u16>
+        ensures { result ≡ refusal_of self.now }
+    {
+        match self {
+            Arrival::Request(_, _) => None,
+            Arrival::Refused(status) => Some(*status),
+            Arrival::More => None,
+        }
+    }
+}
+
+/// What the octets of an origin's connection are.
+#[derive(Debug, Drop)]
+pub enum Heard {
+    /// The final response.
+    Response(Message<ResponseHead>),
+    /// No response, whatever follows.
+    Failed,
+    /// Nothing yet.
+    More,
+}

@@ -1,0 +1,10 @@
+use Rattle.std.proofs.Common.{ℕ, length}
+use Rattle.hc_links.specs.RequestReading.{CanRead, waiting}
+use Rattle.hc_message_cases.proofs.links.refused.Given as goal
+
+-- the reader can read on
+abbrev pub invariant-requests : goal.invariant-requests
+invariant-requests l = CanRead l.reader
+
+abbrev pub decreases-requests : goal.decreases-requests
+decreases-requests l = length (waiting l.reader)
