@@ -1,0 +1,4 @@
+pub mod Entries
+pub mod Choosing
+pub mod Changes
+pub mod Calls

@@ -1,0 +1,8 @@
+//! The bounded store of a cache: targets with their variants, which variant a request is answered from,
+//! and what is dropped where there are too many or they are too heavy.
+#![tactic(auto)]
+
+mod laws;
+mod putting;
+
+pub use putting::Put;
