@@ -2,7 +2,9 @@
 //! and what is dropped where there are too many or they are too heavy.
 #![tactic(auto)]
 
+mod choosing;
 mod laws;
 mod putting;
+mod weights;
 
 pub use putting::Put;
