@@ -1,1 +1,3 @@
 pub mod ChoiceLemmas
+pub mod MarkLemmas
+pub mod AddLemmas

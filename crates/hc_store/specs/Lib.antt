@@ -2,3 +2,4 @@ pub mod Entries
 pub mod Choosing
 pub mod Changes
 pub mod Calls
+pub mod Marks

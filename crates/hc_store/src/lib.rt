@@ -2,9 +2,13 @@
 //! and what is dropped where there are too many or they are too heavy.
 #![tactic(auto)]
 
+mod adding;
 mod choosing;
 mod laws;
 mod putting;
+mod variants;
 mod weights;
 
+pub use adding::MOST_VARIANTS;
 pub use putting::Put;
+pub use variants::Variants;
