@@ -1,3 +1,4 @@
 pub mod ChoiceLemmas
 pub mod MarkLemmas
 pub mod AddLemmas
+pub mod FreshenLemmas

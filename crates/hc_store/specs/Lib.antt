@@ -3,3 +3,5 @@ pub mod Choosing
 pub mod Changes
 pub mod Calls
 pub mod Marks
+pub mod Views
+pub mod Fates

@@ -4,6 +4,7 @@
 
 mod adding;
 mod choosing;
+mod freshening;
 mod laws;
 mod putting;
 mod variants;
