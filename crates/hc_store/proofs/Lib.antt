@@ -2,3 +2,4 @@ pub mod ChoiceLemmas
 pub mod MarkLemmas
 pub mod AddLemmas
 pub mod FreshenLemmas
+pub mod TrimLemmas

@@ -5,3 +5,4 @@ pub mod Calls
 pub mod Marks
 pub mod Views
 pub mod Fates
+pub mod Trims

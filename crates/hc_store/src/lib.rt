@@ -7,6 +7,7 @@ mod choosing;
 mod freshening;
 mod laws;
 mod putting;
+mod trimming;
 mod variants;
 mod weights;
 

@@ -1,6 +1,9 @@
 ghost use Rattle.std.specs.Prelude.{◌≡◌};
 
 use crate::adding::add_to;
+use crate::freshening::{NotModified, freshen_all};
+use crate::trimming::drop_first;
+use crate::weights::room_behind_all;
 use hc_update::Stored;
 use std::alloc::{AllocError, Global};
 use std::marker::Model;
@@ -22,9 +25,13 @@ impl Model for Variants {
 }
 
 impl Variants {
-    ghost use Rattle.std.specs.Prelude.{[], ◌∷◌, ◌<◌, ◌≤◌, ◌==◌, false, length, IfOk, IsOk, OnOk, OnErr};
-    ghost use Rattle.hc_store.specs.Entries.{most_variants};
-    ghost use Rattle.hc_store.specs.Changes.{added};
+    ghost use Rattle.std.specs.Prelude.{[], ◌∷◌, ◌-◌, ◌<◌, ◌≤◌, ◌==◌, false, length, IfOk, IsOk, OnOk, OnErr};
+    ghost use Rattle.std.specs.Option.{SomeIff};
+    ghost use Rattle.hc_fields.specs.Numbers.{end_of_moments};
+    ghost use Rattle.hc_store.specs.Entries.{most_variants, variants_weight};
+    ghost use Rattle.hc_store.specs.Changes.{added, last_variants};
+    ghost use Rattle.hc_store.specs.Fates.{IsLeft};
+    ghost use Rattle.hc_store.specs.Views.{validation_seen};
     ghost use Rattle.hc_store.specs.Calls.{has_vary};
 
     /// The variants themselves.
@@ -41,6 +48,26 @@ impl Variants {
         let mut list = Vec::new(alloc);
         list.push(stored)?;
         Ok(Variants { list })
+    }
+
+    /// Drops the first variants while they weigh more than that together. Answers what room they leave
+    /// behind them, where none had to go.
+    pub(crate) fn settle(&mut self, bytes: usize) -> Option<usize>
+        ensures room { SomeIff result (variants_weight self.old ≤ bytes) (bytes - variants_weight self.old) }
+        ensures variants { self.new ≡ last_variants bytes self.old }
+    {
+        let room = room_behind_all(bytes, self.list.as_slice());
+        drop_first(&mut self.list, bytes);
+        room
+    }
+
+    /// Freshens those that the 304 is about, and removes those that found no memory or no longer fit.
+    /// Answers whether one was freshened.
+    pub(crate) fn freshen(&mut self, validation: NotModified<'_>) -> bool
+        requires { validation.response_time < end_of_moments }
+        ensures { IsLeft (validation_seen validation.entry) self.old result self.new }
+    {
+        freshen_all(&mut self.list, validation)
     }
 
     /// Whether there is none.
