@@ -3,3 +3,4 @@ pub mod MarkLemmas
 pub mod AddLemmas
 pub mod FreshenLemmas
 pub mod TrimLemmas
+pub mod KeyLemmas

@@ -9,8 +9,8 @@ use Rattle.std.proofs.lemmas.List.Sums.{sum_by-cons}
 use Rattle.hc_head.specs.declared.head.Target.{Target}
 use Rattle.hc_update.specs.declared.stored.Stored.{Stored}
 use Rattle.hc_store.specs.Entries.{Entries, weight, variants_weight, entries_weight}
-use Rattle.hc_store.specs.Changes.{first_keys, last_variants}
-use Rattle.hc_store.specs.Trims.{kept_beside, is_too_heavy}
+use Rattle.hc_store.specs.Changes.{first_keys, last_variants, keyed, trimmed}
+use Rattle.hc_store.specs.Trims.{kept_beside, is_too_heavy, room_beside}
 
 -- ---- weights of keys
 
@@ -194,3 +194,79 @@ last_is_there (f ∷ x ∷ xs) b drops none =
 
     some_is_none : {X : Type 0} {a : X} → Some a ≡ None → ⊥
     some_is_none same = cc
+
+-- ---- how much stays
+
+pub first_keys_light : (room : ℕ) (es : Entries) → entries_weight (first_keys room es) ≤ room
+first_keys_light room [] = omega arith
+first_keys_light room (e ∷ es) = by_test (nat_le (variants_weight e.1) room) refl (first_keys_light (room - variants_weight e.1) es)
+  where
+    by_test : (b : Bool) → nat_le (variants_weight e.1) room ≡ b → entries_weight (first_keys (room - variants_weight e.1) es) ≤ room - variants_weight e.1
+        → entries_weight (first_keys room (e ∷ es)) ≤ room
+    by_test true is rest =
+        omega (arith, rest, leb-true (variants_weight e.1) room is, ap entries_weight (first_by room e es true is), entries_weight-cons e (first_keys (room - variants_weight e.1) es))
+    by_test false is rest = omega (arith, ap entries_weight (first_by room e es false is))
+
+pub last_variants_light : (room : ℕ) (vs : List Stored) → variants_weight (last_variants room vs) ≤ room
+last_variants_light room [] = omega arith
+last_variants_light room (v ∷ vs) = by_test (nat_le (variants_weight (v ∷ vs)) room) refl (last_variants_light room vs)
+  where
+    by_test : (b : Bool) → nat_le (variants_weight (v ∷ vs)) room ≡ b → variants_weight (last_variants room vs) ≤ room → variants_weight (last_variants room (v ∷ vs)) ≤ room
+    by_test true is rest = omega (arith, leb-true (variants_weight (v ∷ vs)) room is, ap variants_weight (last_by room v vs true is))
+    by_test false is rest = omega (arith, rest, ap variants_weight (last_by room v vs false is))
+
+room_by : (bytes first : ℕ) (b : Bool) → nat_le first bytes ≡ b → room_beside bytes first ≡ cond b (Some (bytes - first)) None
+room_by bytes first b is = ap (λ (t : Bool). cond t (Some (bytes - first)) None) is
+
+-- what stays of the most recent key and what stays beside it are light enough together
+pub settled_light : (bytes : ℕ) (vs : List Stored) (others : Entries)
+    → variants_weight (last_variants bytes vs) + entries_weight (kept_beside (room_beside bytes (variants_weight vs)) others) ≤ bytes
+settled_light bytes vs others = by_test (nat_le (variants_weight vs) bytes) refl
+  where
+    by_test : (b : Bool) → nat_le (variants_weight vs) bytes ≡ b
+        → variants_weight (last_variants bytes vs) + entries_weight (kept_beside (room_beside bytes (variants_weight vs)) others) ≤ bytes
+    by_test true is =
+        let small = leb-true (variants_weight vs) bytes is in
+        omega (
+          arith,
+          small,
+          ap variants_weight (last_variants_all bytes vs small),
+          first_keys_light (bytes - variants_weight vs) others,
+          ap (λ (r : Option ℕ). entries_weight (kept_beside r others)) (room_by bytes (variants_weight vs) true is),
+        )
+    by_test false is =
+        omega (arith, last_variants_light bytes vs, ap (λ (r : Option ℕ). entries_weight (kept_beside r others)) (room_by bytes (variants_weight vs) false is))
+
+-- trimming, in two steps
+pub trimmed_is : (bytes : ℕ) (target : Target) (vs : List Stored) (others : Entries) → 0 < length vs
+    → trimmed bytes ((target, vs) ∷ others) ≡ keyed target (last_variants bytes vs) ++ kept_beside (room_beside bytes (variants_weight vs)) others
+trimmed_is bytes target [] others some = absurd (omega (arith, some))
+trimmed_is bytes target (v ∷ vs) others some = by_test (nat_le (variants_weight (v ∷ vs)) bytes) refl
+  where
+    opened : (b : Bool) → nat_le (variants_weight (v ∷ vs)) bytes ≡ b
+        → trimmed bytes ((target, v ∷ vs) ∷ others)
+        ≡ cond b ((target, v ∷ vs) ∷ first_keys (bytes - variants_weight (v ∷ vs)) others) (keyed target (last_variants bytes (v ∷ vs)))
+    opened b is = ap (λ (t : Bool). cond t ((target, v ∷ vs) ∷ first_keys (bytes - variants_weight (v ∷ vs)) others) (keyed target (last_variants bytes (v ∷ vs)))) is
+
+    by_test : (b : Bool) → nat_le (variants_weight (v ∷ vs)) bytes ≡ b
+        → trimmed bytes ((target, v ∷ vs) ∷ others)
+        ≡ keyed target (last_variants bytes (v ∷ vs)) ++ kept_beside (room_beside bytes (variants_weight (v ∷ vs))) others
+    by_test true is =
+        opened true is
+        ∙ sym (ap (λ (l : List Stored). keyed target l ++ first_keys (bytes - variants_weight (v ∷ vs)) others) (last_by bytes v vs true is))
+        ∙ sym (ap (λ (r : Option ℕ). keyed target (last_variants bytes (v ∷ vs)) ++ kept_beside r others) (room_by bytes (variants_weight (v ∷ vs)) true is))
+    by_test false is =
+        opened false is
+        ∙ sym (append-nil (keyed target (last_variants bytes (v ∷ vs))))
+        ∙ sym (ap (λ (r : Option ℕ). keyed target (last_variants bytes (v ∷ vs)) ++ kept_beside r others) (room_by bytes (variants_weight (v ∷ vs)) false is))
+
+-- what was added last stays where it is light enough itself
+pub last_added_stays : (bytes : ℕ) (vs : List Stored) (stored : Stored) → weight stored ≤ bytes → 0 < length (last_variants bytes (vs ++ stored ∷ []))
+last_added_stays bytes [] stored light =
+    omega (arith, ap length (last_variants_all bytes (stored ∷ []) (omega (arith, light, sum_by-cons weight stored []))))
+last_added_stays bytes (v ∷ vs) stored light = by_test (nat_le (variants_weight (v ∷ vs ++ stored ∷ [])) bytes) refl (last_added_stays bytes vs stored light)
+  where
+    by_test : (b : Bool) → nat_le (variants_weight (v ∷ vs ++ stored ∷ [])) bytes ≡ b → 0 < length (last_variants bytes (vs ++ stored ∷ []))
+        → 0 < length (last_variants bytes (v ∷ vs ++ stored ∷ []))
+    by_test true is rest = omega (arith, ap length (last_by bytes v (vs ++ stored ∷ []) true is))
+    by_test false is rest = omega (arith, rest, ap length (last_by bytes v (vs ++ stored ∷ []) false is))

@@ -1,5 +1,5 @@
 -- What trimming leaves beside the most recent key.
-use Rattle.std.specs.Prelude.{ℕ, Bool, true, nat_lt, List, [], Option, Some, None}
+use Rattle.std.specs.Prelude.{ℕ, ◌-◌, Bool, true, nat_le, nat_lt, if◌then◌else◌, List, [], Option, Some, None}
 use Rattle.hc_store.specs.Entries.{Entries}
 use Rattle.hc_store.specs.Changes.{first_keys}
 
@@ -7,6 +7,10 @@ use Rattle.hc_store.specs.Changes.{first_keys}
 abbrev pub kept_beside : Option ℕ → Entries → Entries
 kept_beside None others = []
 kept_beside (Some room) others = first_keys room others
+
+-- the room that the most recent key leaves for others, or none where it is too heavy itself
+abbrev pub room_beside : ℕ → ℕ → Option ℕ
+room_beside bytes first = if nat_le first bytes then Some (bytes - first) else None
 
 -- whether keys of that weight are too heavy there
 abbrev pub is_too_heavy : ℕ → Option ℕ → Bool

@@ -5,6 +5,7 @@
 mod adding;
 mod choosing;
 mod freshening;
+mod keys;
 mod laws;
 mod putting;
 mod trimming;

@@ -3,7 +3,7 @@ ghost use Rattle.std.specs.Prelude.{◌≡◌};
 use crate::adding::add_to;
 use crate::freshening::{NotModified, freshen_all};
 use crate::trimming::drop_first;
-use crate::weights::room_behind_all;
+use crate::weights::{room_behind_all, weight_within};
 use hc_update::Stored;
 use std::alloc::{AllocError, Global};
 use std::marker::Model;
@@ -13,6 +13,15 @@ use std::marker::Model;
 #[derive(Debug, Drop)]
 pub struct Variants {
     pub(crate) list: Vec<Stored>,
+}
+
+/// What comes of trimming the variants of the most recent key.
+#[derive(Clone, Copy)]
+pub(crate) struct Settled {
+    /// What those weigh that stay.
+    pub(crate) weight: usize,
+    /// What room they leave for other keys; none where some had to go.
+    pub(crate) room: Option<usize>,
 }
 
 impl Model for Variants {
@@ -26,11 +35,11 @@ impl Model for Variants {
 
 impl Variants {
     ghost use Rattle.std.specs.Prelude.{[], ◌∷◌, ◌-◌, ◌<◌, ◌≤◌, ◌==◌, false, length, IfOk, IsOk, OnOk, OnErr};
-    ghost use Rattle.std.specs.Option.{SomeIff};
     ghost use Rattle.hc_fields.specs.Numbers.{end_of_moments};
     ghost use Rattle.hc_store.specs.Entries.{most_variants, variants_weight};
     ghost use Rattle.hc_store.specs.Changes.{added, last_variants};
     ghost use Rattle.hc_store.specs.Fates.{IsLeft};
+    ghost use Rattle.hc_store.specs.Trims.{room_beside};
     ghost use Rattle.hc_store.specs.Views.{validation_seen};
     ghost use Rattle.hc_store.specs.Calls.{has_vary};
 
@@ -50,15 +59,23 @@ impl Variants {
         Ok(Variants { list })
     }
 
-    /// Drops the first variants while they weigh more than that together. Answers what room they leave
-    /// behind them, where none had to go.
-    pub(crate) fn settle(&mut self, bytes: usize) -> Option<usize>
-        ensures room { SomeIff result (variants_weight self.old ≤ bytes) (bytes - variants_weight self.old) }
+    /// Drops the first variants while they weigh more than that together.
+    pub(crate) fn settle(&mut self, bytes: usize) -> Settled
         ensures variants { self.new ≡ last_variants bytes self.old }
+        ensures weight { result.weight ≡ variants_weight self.new }
+        ensures room { result.room ≡ room_beside bytes (variants_weight self.old) }
     {
-        let room = room_behind_all(bytes, self.list.as_slice());
+        if let Some(room) = room_behind_all(bytes, self.list.as_slice()) {
+            return Settled {
+                weight: bytes - room,
+                room: Some(room),
+            };
+        }
         drop_first(&mut self.list, bytes);
-        room
+        Settled {
+            weight: weight_within(bytes, self.list.as_slice()),
+            room: None,
+        }
     }
 
     /// Freshens those that the 304 is about, and removes those that found no memory or no longer fit.

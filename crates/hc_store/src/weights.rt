@@ -52,3 +52,11 @@ pub(crate) fn weight_without(total: usize, variants: &[Stored]) -> usize
 {
     room_behind_all(total, variants).unwrap_or(0)
 }
+
+/// What variants weigh that weigh no more than that together.
+pub(crate) fn weight_within(bytes: usize, variants: &[Stored]) -> usize
+    requires { variants_weight variants.now ≤ bytes }
+    ensures { result ≡ variants_weight variants.now }
+{
+    bytes - weight_without(bytes, variants)
+}
