@@ -1,13 +1,11 @@
 -- The first in the order of choice, one variant after the other.
-use Rattle.std.proofs.Common.{◌≡◌, ℕ, ◌+◌, ◌<◌, Bool, true, false, cond, List, [], ◌∷◌, ◌++◌, length, take, get_or, Option, Some, None, refl, sym, ap, ◌∙◌, append-nil}
+use Rattle.std.proofs.Common.{◌≡◌, ℕ, ◌+◌, ◌<◌, Bool, true, false, cond, List, [], ◌∷◌, ◌++◌, length, take, get_or, Option, Some, refl, sym, ap, ◌∙◌, append-nil}
 use Rattle.std.specs.Prelude.{filter}
-use Rattle.std.specs.List.{best_of}
 use Rattle.std.proofs.lemmas.List.{take_more}
 use Rattle.std.proofs.lemmas.List.Elements.{filter-append}
 use Rattle.std.proofs.lemmas.List.Sums.{fold-append}
-use Rattle.hc_fields.specs.declared.fields.Field.{Field}
 use Rattle.hc_update.specs.declared.stored.Stored.{Stored}
-use Rattle.hc_store.specs.Choosing.{is_selected, goes_before, preferred, first_choice, chosen}
+use Rattle.hc_store.specs.Choosing.{goes_before, preferred, first_choice}
 
 first_choice_push : (xs : List Stored) (x : Stored) → first_choice (xs ++ x ∷ []) ≡ Some (preferred (first_choice xs) x)
 first_choice_push [] x = refl

@@ -4,8 +4,8 @@ use Rattle.std.specs.List.{list_any}
 use Rattle.hc_update.specs.declared.stored.Stored.{Stored}
 use Rattle.hc_update.specs.Sizes.{fits}
 use Rattle.hc_store.specs.declared.freshening.Fate.TheVariants as fate
-use Rattle.hc_store.specs.Changes.{Validation, Leaves, after_validation, is_validated, renewed, may_stay, may_go}
-use Rattle.hc_store.specs.Fates.{HasFate, IsLeft}
+use Rattle.hc_store.specs.Changes.{Validation, Leaves, after_validation, is_validated, renewed, may_stay}
+use Rattle.hc_store.specs.Fates.{HasFate}
 use Rattle.std.proofs.lemmas.List.{take_at, drop_at, length-take-le}
 
 -- ---- a place of a list whose rest was changed

@@ -1,11 +1,11 @@
 -- What changes of one key make of all.
-use Rattle.std.proofs.Common.{map, ◌||◌, inl, inr, ne_eqb, ◌≡◌, ℕ, zero, suc, ◌+◌, ◌-◌, ◌<◌, ◌≤◌, Bool, true, false, cond, ◌&&◌, List, [], ◌∷◌, ◌++◌, length, take, drop, Option, Some, None, refl, sym, ap, ◌∙◌, subst, arith, length-append}
+use Rattle.std.proofs.Common.{map, ◌||◌, inl, inr, ne_eqb, ◌≡◌, ℕ, zero, suc, ◌+◌, ◌-◌, ◌<◌, ◌≤◌, Bool, true, false, cond, ◌&&◌, List, [], ◌∷◌, ◌++◌, length, take, Option, Some, None, refl, sym, ap, ◌∙◌, subst, arith, length-append}
 use Rattle.std.specs.Prelude.{unwrap_or, slice_get, ◌==◌, not, filter, Result, Ok, Err, OnErr}
 use Rattle.std.specs.Option.{is_some, option_map_or}
 use Rattle.std.specs.List.{list_any, AllByRecursion}
 use Rattle.std.specs.Str.{bytes_eq}
-use Rattle.std.specs.Map.{lookup, lookup_entry, remove_entry, set_value, values_of}
-use Rattle.std.proofs.lemmas.List.{take_all, length-map}
+use Rattle.std.specs.Map.{lookup, lookup_entry, remove_entry, set_value}
+use Rattle.std.proofs.lemmas.List.{take_all}
 use Rattle.std.proofs.lemmas.Map.Entries.{sum_by-set_value}
 use Rattle.std.proofs.lemmas.List.Sums.{sum_by-cons}
 use Rattle.std.proofs.lemmas.Slice.Eq.{bytes_eq-Decides}
@@ -17,7 +17,7 @@ use Rattle.hc_store.specs.Entries.{Entries, Holdings, knows, variants_of, varian
 use Rattle.hc_store.specs.Changes.{without, keyed, trimmed, last_variants, last_ones, added, after_put, with_variants, Validation, Leaves, after_validation, is_validated, renewed}
 use Rattle.hc_store.specs.Choosing.{is_selected}
 use Rattle.hc_store.specs.Trims.{kept_beside, room_beside, dropped_weight, without_empty}
-use Rattle.hc_store.proofs.TrimLemmas.{entries_weight-cons, settled_light, trimmed_is, last_added_stays}
+use Rattle.hc_store.proofs.TrimLemmas.{entries_weight-cons, trimmed_is, last_added_stays}
 
 -- ---- targets
 
@@ -198,7 +198,7 @@ taken_weighs zero (e ∷ f ∷ es) few = absurd (omega (arith, few))
 taken_weighs (suc n) (e ∷ es) few =
     omega (arith, entries_weight-cons e (take n es), entries_weight-cons e es, taken_weighs n es (omega (arith, few)))
 
-cons_taken : (keys : ℕ) (e : Target × List Stored) (es : Entries) → 0 < keys → take keys (e ∷ es) ≡ e ∷ take (keys - 1) es
+pub cons_taken : (keys : ℕ) (e : Target × List Stored) (es : Entries) → 0 < keys → take keys (e ∷ es) ≡ e ∷ take (keys - 1) es
 cons_taken zero e es some = absurd (omega (arith, some))
 cons_taken (suc n) e es some = ap (λ (k : ℕ). e ∷ take k es) (one_less n)
   where
@@ -282,6 +282,10 @@ bytes_same text = (bytes_eq-Decides text text).1 refl
 
 same_target_itself : (target : Target) → same_target target target ≡ true
 same_target_itself target = ap (λ (b : Bool). b && bytes_eq target.path target.path) (bytes_same target.host) ∙ bytes_same target.path
+
+pub first_variants : (target : Target) (vs : List Stored) (others : Entries) → variants_of target ((target, vs) ∷ others) ≡ vs
+first_variants target vs others =
+    ap (λ (t : Bool). unwrap_or (cond t (Some vs) (lookup (same_target target) others)) []) (same_target_itself target)
 
 pub first_emptied : (target : Target) (vs : List Stored) (others : Entries) → without_empty target ((target, vs) ∷ others) ≡ keyed target vs ++ others
 first_emptied target [] others =

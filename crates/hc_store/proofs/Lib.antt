@@ -4,3 +4,4 @@ pub mod AddLemmas
 pub mod FreshenLemmas
 pub mod TrimLemmas
 pub mod KeyLemmas
+pub mod WithinLemmas

@@ -1,5 +1,5 @@
 -- What each call answers, and what it makes of a store: memory leaves open no more than is said here.
-use Rattle.std.specs.Prelude.{◌≡◌, ℕ, Bool, true, false, not, ◌&&◌, ◌||◌, nat_le, List, Option, Some, None, codes}
+use Rattle.std.specs.Prelude.{◌≡◌, Bool, true, false, not, ◌&&◌, ◌||◌, nat_le, List, Option, Some, None, codes}
 use Rattle.std.specs.List.{list_any}
 use Rattle.hc_fields.specs.declared.fields.Field.{Field}
 use Rattle.hc_fields.specs.Values.{has_name}

@@ -1,5 +1,5 @@
 -- What each call makes of the entries, where it finds the memory that it needs.
-use Rattle.std.specs.Prelude.{◌≡◌, ℕ, ◌-◌, Bool, true, not, ◌&&◌, ◌||◌, nat_le, if◌then◌else◌, ◌⊎◌, List, [], ◌∷◌, ◌++◌, length, take, drop, filter, map, codes}
+use Rattle.std.specs.Prelude.{◌≡◌, ℕ, ◌-◌, Bool, true, not, ◌||◌, nat_le, if◌then◌else◌, ◌⊎◌, List, [], ◌∷◌, ◌++◌, length, take, drop, filter, map, codes}
 use Rattle.std.specs.List.{list_any}
 use Rattle.std.specs.Map.{remove_entry, set_value}
 use Rattle.hc_fields.specs.Values.{has_name}

@@ -47,6 +47,10 @@ pub record Holdings : Type 0 where
   pub keys : ℕ
   pub bytes : ℕ
 
+-- a store that holds nothing
+abbrev pub empty : ℕ → ℕ → Holdings
+empty keys bytes = record { entries = []; keys = keys; bytes = bytes }
+
 -- the most variants of a key
 abbrev pub most_variants : ℕ
 most_variants = 16
@@ -55,11 +59,14 @@ most_variants = 16
 abbrev pub HasFewVariants : Target × List Stored → Type 0
 HasFewVariants entry = (0 < length entry.1) × (length entry.1 ≤ most_variants)
 
--- what holds of every store
+-- the bounds of every store
 pub record IsWithin (store : Holdings) : Type 0 where
   pub some_keys : 0 < store.keys
   pub no_more_keys : store.keys ≤ 65536
   pub few_keys : length store.entries ≤ store.keys
-  pub distinct_keys : IsDistinct same_target (keys_of store.entries)
   pub few_variants : AllByRecursion HasFewVariants store.entries
   pub light : entries_weight store.entries ≤ store.bytes
+
+-- no key stands twice
+abbrev pub HasDistinctKeys : Entries → Type 0
+HasDistinctKeys entries = IsDistinct same_target (keys_of entries)

@@ -6,3 +6,4 @@ pub mod Marks
 pub mod Views
 pub mod Fates
 pub mod Trims
+pub mod Lends

@@ -78,7 +78,8 @@ fn is_selected_validated(
     presented: &Fields,
     position: u64,
 ) -> Result<bool, AllocError>
-    ensures { IfOk result (λ is. is ≡ is_selected_validated presented.now position variant.now) }
+    ensures answer { IfOk result (λ is. is ≡ is_selected_validated presented.now position variant.now) }
+    ensures no_vary { has_name (codes "vary") variant.now.fields ≡ false → IsOk result }
 {
     if variant.validated_at != Some(position) {
         return Ok(false);
@@ -94,7 +95,8 @@ pub(crate) fn chosen_validated_place(
     presented: &Fields,
     position: u64,
 ) -> Result<Option<usize>, AllocError>
-    ensures { IfOk result (λ place. option_and_then (slice_get variants.now) place ≡ chosen_validated presented.now position variants.now) }
+    ensures answer { IfOk result (λ place. option_and_then (slice_get variants.now) place ≡ chosen_validated presented.now position variants.now) }
+    ensures no_vary { has_vary variants.now ≡ false → IsOk result }
 {
     let mut best = None;
     for (place, variant) in variants.iter().enumerate() {

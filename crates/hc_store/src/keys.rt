@@ -1,9 +1,9 @@
 //! What each call makes of the keys.
 
-ghost use Rattle.std.specs.Prelude.{◌≡◌, ◌<◌, ◌≤◌, ◌-◌, true, false, length, IfOk, IsOk, OnOk, OnErr};
+ghost use Rattle.std.specs.Prelude.{◌≡◌, ◌<◌, ◌≤◌, ◌-◌, true, false, length, option_and_then, option_copied, slice_get, IfOk, IsOk, OnOk, OnErr};
 ghost use Rattle.lru.specs.LruCache.{lru_cache};
 ghost use Rattle.hc_store.specs.Entries.{HasFewVariants, entries_weight, knows, most_variants, variants_of, weight};
-ghost use Rattle.hc_store.specs.Changes.{after_put};
+ghost use Rattle.hc_store.specs.Changes.{after_put, without};
 ghost use Rattle.hc_store.specs.Calls.{Freshens, grows, has_vary};
 ghost use Rattle.hc_store.specs.Trims.{dropped_weight, without_empty};
 ghost use Rattle.hc_store.specs.Views.{held, validation_seen};
@@ -155,4 +155,33 @@ pub(crate) fn freshen_key<S: BuildHasher>(
     let others = drop_others(keys, others, settled.room);
     remove_if_empty(keys, target);
     settled.weight + others
+}
+
+/// Removes a key, where all that is held weighs so much. Answers what it weighs then.
+pub(crate) fn remove_key<S: BuildHasher>(
+    keys: &mut LruCache<Target, Variants, S>,
+    total: usize,
+    target: &Target,
+) -> usize
+    requires { total ≡ entries_weight keys.old.entries }
+    ensures keys { keys.new ≡ lru_cache (without target.now keys.old.entries) keys.old.cap }
+    ensures total { result ≡ entries_weight keys.new.entries }
+{
+    match keys.pop(target) {
+        Some(variants) => weight_without(total, variants.as_slice()),
+        None => total,
+    }
+}
+
+/// The variant of a key at a place.
+pub(crate) fn lend<'a, S: BuildHasher>(
+    keys: &'a LruCache<Target, Variants, S>,
+    target: &Target,
+    place: Option<usize>,
+) -> Option<&'a Stored>
+    ensures { option_copied result ≡ option_and_then (slice_get (variants_of target.now keys.now.entries)) place }
+{
+    let place = place?;
+    let variants = keys.peek(target)?;
+    variants.as_slice().get(place)
 }

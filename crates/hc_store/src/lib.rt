@@ -8,10 +8,12 @@ mod freshening;
 mod keys;
 mod laws;
 mod putting;
+mod store;
 mod trimming;
 mod variants;
 mod weights;
 
 pub use adding::MOST_VARIANTS;
 pub use putting::Put;
+pub use store::Store;
 pub use variants::Variants;

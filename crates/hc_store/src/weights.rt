@@ -1,12 +1,13 @@
 //! How much stored responses weigh: their bodies, and the names and values of their heads. What is
 //! frame in a message weighs nothing.
 
-ghost use Rattle.std.specs.Prelude.{◌≡◌, ◌+◌, ◌-◌, ◌≤◌, length};
+ghost use Rattle.std.specs.Prelude.{◌≡◌, ◌+◌, ◌-◌, ◌≤◌, ◌&&◌, nat_le, length};
+ghost use Rattle.hc_update.specs.Sizes.{fits};
 ghost use Rattle.std.specs.Option.{SomeIff};
 ghost use Rattle.hc_store.specs.Entries.{lines_weight, variants_weight, weight};
 
 use hc_fields::Field;
-use hc_update::Stored;
+use hc_update::{Stored, fits};
 
 /// What of the room lies behind a line.
 fn room_behind_line(room: usize, line: &Field) -> Option<usize>
@@ -59,4 +60,11 @@ pub(crate) fn weight_within(bytes: usize, variants: &[Stored]) -> usize
     ensures { result ≡ variants_weight variants.now }
 {
     bytes - weight_without(bytes, variants)
+}
+
+/// Whether a response may be put into a store of so many octets.
+pub(crate) fn is_small_enough(stored: &Stored, bytes: usize) -> bool
+    ensures { result ≡ (fits stored.now && nat_le (weight stored.now) bytes) }
+{
+    fits(stored) && room_behind(bytes, stored).is_some()
 }

@@ -1,5 +1,5 @@
-use Rattle.std.proofs.Common.{rules, arith, ◌≡◌, ◌≤◌, ◌<◌, ◌++◌, length, map, ap, sym, ◌∙◌, length-drop}
-use Rattle.std.specs.Prelude.{◌-◌, [], ◌∷◌, true, false, Bool, List}
+use Rattle.std.proofs.Common.{arith, ◌++◌, length, ap, ◌∙◌, length-drop}
+use Rattle.std.specs.Prelude.{◌-◌, [], ◌∷◌, List}
 use Rattle.std.specs.List.{list_any}
 use Rattle.std.specs.Vec.{vec_capacity}
 use Rattle.hc_store.specs.Choosing.{is_selected}

@@ -1,4 +1,4 @@
-use Rattle.std.proofs.Common.{rules, arith, refl, ◌-◌}
+use Rattle.std.proofs.Common.{arith, refl, ◌-◌}
 use Rattle.hc_store.specs.Views.{validation_seen}
 use Rattle.hc_store.proofs.FreshenLemmas.{stays_left, freshened_left, goes_left}
 use Rattle.hc_store.proofs.freshening.freshen_all.Goals as goal

@@ -1,4 +1,4 @@
-use Rattle.std.proofs.Common.{◌≡◌, ◌≤◌, length, take, drop}
+use Rattle.std.proofs.Common.{◌≤◌, length}
 use Rattle.hc_store.specs.Views.{validation_seen}
 use Rattle.hc_store.proofs.FreshenLemmas.{IsLeftFrom}
 use Rattle.hc_store.proofs.freshening.freshen_all.Given as goal

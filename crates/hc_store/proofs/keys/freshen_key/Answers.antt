@@ -1,10 +1,8 @@
-use Rattle.std.proofs.Common.{arith, ◌≡◌, ◌∷◌, ◌+◌, ◌-◌, ◌<◌, ap, sym, refl, ◌∙◌, subst, take, drop, ◌++◌, cond, true, false, Bool, List, [], map, Option, Some, ℕ, length}
+use Rattle.std.proofs.Common.{arith, ◌≡◌, ◌∷◌, ap, sym, refl, ◌∙◌, subst, take, drop, ◌++◌, cond, true, false, Bool, List, [], map, Option, ℕ}
 use Rattle.std.specs.List.{list_any}
-use Rattle.std.specs.Map.{set_value}
 use Rattle.std.specs.Prelude.{unwrap_or}
-use Rattle.hc_head.specs.Targets.{same_target}
 use Rattle.hc_update.specs.declared.stored.Stored.{Stored}
-use Rattle.hc_store.specs.Entries.{Entries, Holdings, entries_weight, variants_weight, variants_of}
+use Rattle.hc_store.specs.Entries.{Entries, entries_weight, variants_weight}
 use Rattle.hc_store.specs.Changes.{Leaves, after_freshen, after_validation, is_validated, keyed, last_variants, trimmed, with_variants, without}
 use Rattle.hc_store.specs.Trims.{kept_beside, room_beside, without_empty}
 use Rattle.hc_store.specs.Views.{validation_seen}

@@ -1,9 +1,9 @@
-use Rattle.std.proofs.Common.{arith, ◌≡◌, ◌∷◌, ◌+◌, ◌<◌, ap, sym, refl, ◌∙◌, take, drop, ◌++◌, List, Option, ℕ}
+use Rattle.std.proofs.Common.{arith, ◌∷◌, ap, sym, refl, ◌∙◌, take, drop, ◌++◌, List, Option, ℕ}
 use Rattle.std.specs.Map.{set_value}
 use Rattle.hc_head.specs.Targets.{same_target}
 use Rattle.hc_update.specs.declared.stored.Stored.{Stored}
 use Rattle.hc_store.specs.Entries.{Entries, entries_weight, variants_weight}
-use Rattle.hc_store.specs.Changes.{added, last_variants, without}
+use Rattle.hc_store.specs.Changes.{last_variants, without}
 use Rattle.hc_store.specs.Trims.{kept_beside, room_beside}
 use Rattle.hc_store.proofs.TrimLemmas.{entries_weight-cons, settled_light}
 use Rattle.hc_store.proofs.KeyLemmas.{known, cache_is, on_err, put_known}

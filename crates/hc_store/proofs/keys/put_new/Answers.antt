@@ -1,4 +1,4 @@
-use Rattle.std.proofs.Common.{arith, ◌≡◌, ◌∷◌, ◌+◌, ◌-◌, ◌<◌, ap, sym, refl, ◌∙◌, take, drop, ◌++◌, List, [], Option, Some, ℕ, length}
+use Rattle.std.proofs.Common.{arith, ◌≡◌, ◌∷◌, ◌-◌, ap, sym, ◌∙◌, take, drop, ◌++◌, List, Option, Some, ℕ}
 use Rattle.std.specs.Prelude.{slice_get}
 use Rattle.std.specs.Option.{option_map_or}
 use Rattle.hc_head.specs.declared.head.Target.{Target}

@@ -1,4 +1,4 @@
-use Rattle.std.proofs.Common.{rules, arith, ◌≤◌, ◌∙◌, sym}
+use Rattle.std.proofs.Common.{rules, ◌≤◌, ◌∙◌, sym}
 use Rattle.hc_store.specs.Entries.{variants_weight}
 use Rattle.hc_store.proofs.TrimLemmas.{last_variants_all}
 use Rattle.hc_store.proofs.trimming.drop_first.Goals as goal

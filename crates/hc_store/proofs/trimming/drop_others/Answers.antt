@@ -1,7 +1,5 @@
-use Rattle.std.proofs.Common.{◌≡◌, ◌≤◌, arith, sym, ◌∙◌, subst, ap, List}
-use Rattle.hc_update.specs.declared.stored.Stored.{Stored}
-use Rattle.hc_store.specs.Entries.{Entries, variants_weight}
-use Rattle.hc_store.proofs.TrimLemmas.{Trims, dropped_is_part, one_dropped, all_dropped, last_is_there}
+use Rattle.std.proofs.Common.{sym, ◌∙◌, ap}
+use Rattle.hc_store.proofs.TrimLemmas.{dropped_is_part, one_dropped, all_dropped, last_is_there}
 use Rattle.hc_store.proofs.trimming.drop_others.Goals as goal
 
 pub weight_without-others-requires : goal.weight_without-others-requires
