@@ -153,7 +153,7 @@ settled bytes target vs others some left =
     keyed_some target [] some = absurd (omega (arith, some))
     keyed_some target (v ∷ vs) some = refl
 
-added_some : (stored : Stored) (vs : List Stored) → 0 < length (added stored vs)
+pub added_some : (stored : Stored) (vs : List Stored) → 0 < length (added stored vs)
 added_some stored vs =
     omega (arith, length-append (last_ones (most_variants - 1) (filter (λ variant. not (is_selected stored.request.fields variant)) vs)) (stored ∷ []))
 

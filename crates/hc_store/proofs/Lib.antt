@@ -5,3 +5,4 @@ pub mod FreshenLemmas
 pub mod TrimLemmas
 pub mod KeyLemmas
 pub mod WithinLemmas
+pub mod LawLemmas

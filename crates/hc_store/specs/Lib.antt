@@ -7,3 +7,4 @@ pub mod Views
 pub mod Fates
 pub mod Trims
 pub mod Lends
+pub mod Laws

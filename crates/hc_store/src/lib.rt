@@ -14,6 +14,7 @@ mod variants;
 mod weights;
 
 pub use adding::MOST_VARIANTS;
+pub use laws::{the_chosen_is_the_latest, trimming_keeps_what_fits, what_is_put_is_there};
 pub use putting::Put;
 pub use store::Store;
 pub use variants::Variants;
