@@ -1,3 +1,4 @@
 pub mod States
 pub mod Identifying
 pub mod Remnants
+pub mod Sizes

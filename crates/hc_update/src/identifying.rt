@@ -1,7 +1,7 @@
 //! Which stored response a 304 is about (after RFC 9111 section 4.3.4).
 
-ghost use Rattle.std.specs.Prelude.{◌≡◌, IfOk, option_copied};
-ghost use Rattle.hc_fields.specs.Values.{only};
+ghost use Rattle.std.specs.Prelude.{◌≡◌, false, codes, IfOk, IsOk, option_copied};
+ghost use Rattle.hc_fields.specs.Values.{has_name, only};
 ghost use Rattle.hc_fields.specs.Lists.{list_members};
 ghost use Rattle.hc_update.specs.Identifying.{are_same, identifies, may_freshen, only_member_asked, validators_agree};
 
@@ -66,14 +66,16 @@ fn may_freshen(response: &ResponseHead) -> bool
 }
 
 /// Whether the response to that request, which was sent to the origin for the stored response's own
-/// target, is a 304 that is about the stored response, so that it freshens it.
+/// target, is a 304 that is about the stored response, so that it freshens it. Without a Vary line no
+/// memory is taken.
 pub fn identifies(
     alloc: Global,
     state: &Stored,
     forward: &RequestHead,
     response: &ResponseHead,
 ) -> Result<bool, AllocError>
-    ensures { IfOk result (λ is. is ≡ identifies state.now forward.now response.now) }
+    ensures answer { IfOk result (λ is. is ≡ identifies state.now forward.now response.now) }
+    ensures no_vary { has_name (codes "vary") state.now.fields ≡ false → IsOk result }
 {
     if !may_freshen(response) || !asks_for_storable(forward) {
         return Ok(false);

@@ -5,6 +5,7 @@
 mod identifying;
 mod keeping;
 mod laws;
+mod sizes;
 mod stored;
 
 pub use identifying::identifies;
@@ -12,4 +13,5 @@ pub use laws::{
     freshened_fields_state_their_date, initial_fields_state_their_date,
     without_validator_never_identified,
 };
+pub use sizes::fits;
 pub use stored::{Stored, initial, invalidates};

@@ -1,0 +1,16 @@
+use Rattle.std.proofs.Common.{refl, ap, ◌∙◌}
+use Rattle.std.specs.Prelude.{option_and_then, slice_get}
+use Rattle.hc_store.specs.Entries.{Holdings, variants_of}
+use Rattle.hc_store.proofs.store.Store.choose.Goals as goal
+
+pub returns : goal.returns
+returns g c = (
+  (refl, (λ _. tt), c.self.view_is ∙ c.in_ok-place.ensures.ok),
+  record {
+    leaves = tt;
+    answer = c.lend.ensures
+        ∙ ap (λ (h : Holdings). option_and_then (slice_get (variants_of c.args.target.now h.entries)) c.in_ok-place.place) c.self.view_is
+        ∙ c.in_ok-place.ensures.answer;
+    no_vary = λ _. refl;
+  },
+)

@@ -1,0 +1,10 @@
+pub mod Entries
+pub mod Choosing
+pub mod Changes
+pub mod Calls
+pub mod Marks
+pub mod Views
+pub mod Fates
+pub mod Trims
+pub mod Lends
+pub mod Laws

@@ -1,0 +1,20 @@
+//! The bounded store of a cache: targets with their variants, which variant a request is answered from,
+//! and what is dropped where there are too many or they are too heavy.
+#![tactic(auto)]
+
+mod adding;
+mod choosing;
+mod freshening;
+mod keys;
+mod laws;
+mod putting;
+mod store;
+mod trimming;
+mod variants;
+mod weights;
+
+pub use adding::MOST_VARIANTS;
+pub use laws::{the_chosen_is_the_latest, trimming_keeps_what_fits, what_is_put_is_there};
+pub use putting::Put;
+pub use store::Store;
+pub use variants::Variants;

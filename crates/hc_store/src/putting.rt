@@ -1,0 +1,12 @@
+//! What comes of putting a response into a store.
+
+/// What came of it.
+#[derive(Clone, Copy, Debug, PartialEq, Eq)]
+pub enum Put {
+    /// It is stored.
+    Stored,
+    /// It is larger than a store keeps.
+    TooLarge,
+    /// Memory was refused.
+    NoMemory,
+}

@@ -1,0 +1,237 @@
+ghost use Rattle.std.specs.Prelude.{◌≡◌, ◌<◌, ◌≤◌, [], IfOk};
+ghost use Rattle.hc_store.specs.Entries.{IsWithin, entries_weight};
+ghost use Rattle.hc_store.specs.Views.{held};
+
+use crate::choosing::{chosen_place, chosen_validated_place};
+use crate::freshening::NotModified;
+use crate::keys::{freshen_key, lend, put_in, remove_key};
+use crate::putting::Put;
+use crate::variants::Variants;
+use crate::weights::is_small_enough;
+use hc_fields::Fields;
+use hc_head::{RequestHead, ResponseHead, Target};
+use hc_update::Stored;
+use lru::{DefaultHasher, Iter, LruCache};
+use std::alloc::{AllocError, Global};
+use std::hash::{BuildHasher, BuildHasherDefault};
+use std::marker::Model;
+use std::num::NonZeroUsize;
+
+/// What a cache keeps: the responses of targets, within bounds. Contracts see it as the list of its keys, the
+/// most recently used first, each with its variants in the order in which they were added.
+#[derive(Drop)]
+pub struct Store<S: BuildHasher = DefaultHasher> {
+    keys: LruCache<Target, Variants, S>,
+    /// What all that is held weighs.
+    weight: usize,
+    /// The most that it may weigh.
+    bytes: usize,
+}
+
+impl<S: BuildHasher> Model for Store<S> {
+    ghost use Rattle.std.specs.Prelude.{◌≡◌};
+    ghost use Rattle.hc_store.specs.Entries.{Holdings, IsWithin, entries_weight};
+    ghost use Rattle.hc_store.specs.Views.{held};
+
+    ghost Value = { Holdings };
+
+    ghost view = { λ s. held s.bytes s.keys };
+
+    ghost invariant = { λ s. (s.weight ≡ entries_weight s.keys.entries) × IsWithin (held s.bytes s.keys) };
+}
+
+impl Store<DefaultHasher> {
+    ghost use Rattle.hc_store.specs.Entries.{empty};
+
+    /// An empty store of at most so many keys, from 1 to 65,536, and so many octets, counted as weights are.
+    ///
+    /// Keys are hashed with a fixed seed. For targets that an attacker picks, use `with_hasher` with a
+    /// `RandomState`.
+    pub fn new(alloc: Global, keys: usize, bytes: usize) -> Result<Self, AllocError>
+        requires some { 0 < keys }
+        requires few { keys ≤ 65536 }
+        ensures { IfOk result (λ store. store ≡ empty keys bytes) }
+    {
+        Store::with_hasher(alloc, keys, bytes, BuildHasherDefault::new())
+    }
+}
+
+impl<S: BuildHasher + Drop> Store<S> {
+    ghost use Rattle.hc_store.specs.Entries.{empty};
+
+    /// The same, where keys are hashed with that.
+    pub fn with_hasher(
+        alloc: Global,
+        keys: usize,
+        bytes: usize,
+        hasher: S,
+    ) -> Result<Self, AllocError>
+        requires some { 0 < keys }
+        requires few { keys ≤ 65536 }
+        ensures { IfOk result (λ store. store ≡ empty keys bytes) }
+    {
+        let keys = NonZeroUsize::new(keys).unwrap();
+        Ok(Store {
+            keys: LruCache::with_hasher(alloc, keys, hasher)?,
+            weight: 0,
+            bytes,
+        })
+    }
+}
+
+impl<S: BuildHasher> Store<S> {
+    ghost use Rattle.std.specs.Prelude.{List, false, MatchResult, option_copied, IsOk, OnOk, OnErr, length, option_and_then, slice_get};
+    ghost use Rattle.std.specs.Map.Iter.{ShowsInOrder, deref_pair};
+    ghost use Rattle.hc_head.specs.declared.head.Target.{Target};
+    ghost use Rattle.hc_update.specs.declared.stored.Stored.{Stored};
+    ghost use Rattle.hc_store.specs.Entries.{HasDistinctKeys, knows, variants_of};
+    ghost use Rattle.hc_store.specs.Choosing.{chosen, chosen_validated};
+    ghost use Rattle.hc_store.specs.Changes.{after_choose};
+    ghost use Rattle.hc_store.specs.Calls.{Freshens, Puts, has_vary, holding, invalidated};
+    ghost use Rattle.hc_store.specs.Lends.{ends_so};
+    ghost use Rattle.std.specs.Borrow.{sem};
+    ghost use Rattle.hc_fields.specs.Numbers.{end_of_moments};
+
+    /// How many keys there are.
+    pub fn len(&self) -> usize
+        ensures len { result ≡ length self.now.entries }
+        ensures within { IsWithin self.now }
+        ensures distinct { HasDistinctKeys self.now.entries }
+    {
+        self.keys.len()
+    }
+
+    /// The keys, the most recently used first, each with its variants in the order in which they were
+    /// added.
+    pub fn entries(&self) -> Iter<'_, Target, Variants>
+        ensures rest { result ≡ self.now.entries }
+        ensures runs { ShowsInOrder (deref_pair {K = Target} {X = List Stored}) }
+    {
+        self.keys.iter()
+    }
+
+    /// Whether something is stored of the target.
+    pub fn knows(&self, target: &Target) -> bool
+        ensures { result ≡ knows target.now self.now.entries }
+    {
+        self.keys.contains(target)
+    }
+
+    /// The place of the variant that is chosen; the key is the most recent then. Where memory was refused,
+    /// nothing has changed.
+    fn choose_place(
+        &mut self,
+        target: &Target,
+        presented: &Fields,
+    ) -> Result<Option<usize>, AllocError>
+        ensures answer { IfOk result (λ place. option_and_then (slice_get (variants_of target.now self.new.entries)) place
+            ≡ chosen presented.now (variants_of target.now self.old.entries)) }
+        ensures ok { OnOk result (self.new ≡ holding (after_choose target.now self.old.entries) self.old) }
+        ensures err { OnErr result (self.new ≡ self.old) }
+        ensures no_vary { has_vary (variants_of target.now self.old.entries) ≡ false → IsOk result }
+    {
+        let alloc = *self.keys.allocator();
+        let Some(variants) = self.keys.peek(target) else {
+            return Ok(None);
+        };
+        let place = chosen_place(alloc, variants.as_slice(), presented)?;
+        self.keys.promote(target);
+        Ok(place)
+    }
+
+    /// The variant of the target that a request with those fields is answered from. The key is the most
+    /// recent then, if it is there. Where memory was refused, nothing has changed; without a Vary line none is
+    /// taken.
+    pub fn choose(
+        &mut self,
+        target: &Target,
+        presented: &Fields,
+    ) -> Result<Option<&Stored>, AllocError>
+        ensures* leaves { sem 𝓛 (ends_so S.row S.Hasher.row S.BuildHasher S.Hasher.Hasher self.entry
+            (λ n. MatchResult result (λ _. n ≡ holding (after_choose target.now self.old.entries) self.old) (λ _. n ≡ self.old))) }
+        ensures answer { IfOk result (λ answer. option_copied answer ≡ chosen presented.now (variants_of target.now self.old.entries)) }
+        ensures no_vary { has_vary (variants_of target.now self.old.entries) ≡ false → IsOk result }
+    {
+        let place = self.choose_place(target, presented)?;
+        Ok(lend(&self.keys, target, place))
+    }
+
+    /// The variant of the target that a request with those fields is answered from among those that the
+    /// record at that position validated last. Nothing changes; without a Vary line no memory is taken.
+    pub fn choose_validated(
+        &self,
+        target: &Target,
+        presented: &Fields,
+        position: u64,
+    ) -> Result<Option<&Stored>, AllocError>
+        ensures answer { IfOk result (λ answer. option_copied answer ≡ chosen_validated presented.now position (variants_of target.now self.now.entries)) }
+        ensures no_vary { has_vary (variants_of target.now self.now.entries) ≡ false → IsOk result }
+    {
+        let alloc = *self.keys.allocator();
+        let Some(variants) = self.keys.peek(target) else {
+            return Ok(None);
+        };
+        let place = chosen_validated_place(alloc, variants.as_slice(), presented, position)?;
+        Ok(lend(&self.keys, target, place))
+    }
+
+    /// Stores a response of the target, in place of the variants that select its request. The key is the
+    /// most recent then; others go where there are too many or they are too heavy. Where the answer isn't
+    /// `Stored`, nothing has changed, and the response is dropped.
+    pub fn put(&mut self, target: Target, stored: Stored) -> Put
+        ensures puts { Puts target stored self.old result self.new }
+        ensures within { IsWithin self.new }
+    {
+        if !is_small_enough(&stored, self.bytes) {
+            return Put::TooLarge;
+        }
+        match put_in(&mut self.keys, self.weight, self.bytes, target, stored) {
+            Ok(weight) => {
+                self.weight = weight;
+                Put::Stored
+            }
+            Err(_) => Put::NoMemory,
+        }
+    }
+
+    /// Freshens the variants of the target that a 304 is about (RFC 9111 section 4.3.4). It answers the
+    /// forward, which was sent at that moment, came at the other, both in seconds since 1970, and stands at
+    /// that position. A variant that finds no memory, or would no longer fit, is removed. Where one was
+    /// freshened, the key is the most recent then.
+    pub fn freshen(
+        &mut self,
+        target: &Target,
+        forward: &RequestHead,
+        not_modified: &ResponseHead,
+        request_time: u64,
+        response_time: u64,
+        position: u64,
+    )
+        requires { response_time < end_of_moments }
+        ensures freshens { Freshens (record {
+          forward = forward.now;
+          not_modified = not_modified.now;
+          request_time = request_time;
+          response_time = response_time;
+          position = position;
+        }) target.now self.old self.new }
+        ensures within { IsWithin self.new }
+    {
+        let validation = NotModified {
+            forward,
+            head: not_modified,
+            request_time,
+            response_time,
+            position,
+        };
+        self.weight = freshen_key(&mut self.keys, self.weight, self.bytes, target, validation);
+    }
+
+    /// Removes all variants of the target (RFC 9111 section 4.4).
+    pub fn invalidate(&mut self, target: &Target)
+        ensures invalidated { self.new ≡ invalidated target.now self.old }
+        ensures within { IsWithin self.new }
+    {
+        self.weight = remove_key(&mut self.keys, self.weight, target);
+    }
+}
