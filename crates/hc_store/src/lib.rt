@@ -9,6 +9,8 @@ mod keys;
 mod laws;
 mod putting;
 mod store;
+#[cfg(test)]
+mod tests;
 mod trimming;
 mod variants;
 mod weights;
