@@ -1,0 +1,38 @@
+-- For the reader's own functions: what each part of a call does.
+use Rattle.std.specs.Prelude.{◌≡◌, ℕ, ◌<◌, ◌≤◌, Bool, List, ◌++◌, length, take, Result, Ok, Err}
+use Rattle.std.specs.declared.alloc.AllocError.{AllocError}
+use Rattle.hc_head.specs.declared.head.TheConstants.Room.{RECEIVED}
+use Rattle.hc_framing.specs.declared.kind.Kind.TheVariants.{Response}
+use Rattle.hc_framing.specs.Messages.{response_form}
+use Rattle.hc_framing.specs.Reader as framing
+use Rattle.hc_links.specs.Responses.{Leaves}
+use Rattle.hc_links.specs.declared.responses.Part.{Part}
+use Rattle.hc_links.specs.declared.responses.Part.TheVariants.{Interim, Last}
+use Rattle.hc_links.specs.declared.responses.ResponseReader.{ResponseReader}
+use Rattle.hc_links.specs.ResponseReading.{CanRead, Agrees, GivesHeard, ReadsOn}
+
+-- a response has ended with so many octets of the piece
+pub record HasEnded (to_head : Bool) (r : ResponseReader) (octets piece : List ℕ) (used : ℕ) : Type 0 where
+  pub to_head_is : r.to_head ≡ to_head
+  pub rest : List ℕ
+  pub leaves : Leaves to_head octets r.interim rest
+  pub some : 0 < used
+  pub ends : framing.EndsAfter response_form (Response to_head) RECEIVED r.reader rest piece used
+
+-- an interim response ends with so many octets of the piece
+pub record IsDropped (to_head : Bool) (r : ResponseReader) (octets piece : List ℕ) (used : ℕ) : Type 0 where
+  pub some : 0 < used
+  pub within : used ≤ length piece
+  pub agrees : Agrees to_head r (octets ++ take used piece)
+
+-- each answer on one response stands only where this says so
+abbrev pub GivesPart : Result Part AllocError → Bool → ResponseReader → List ℕ → List ℕ → Type 0
+GivesPart (Ok (Interim used)) to_head r octets piece = IsDropped to_head r octets piece used
+GivesPart (Ok (Last heard)) to_head r octets piece = GivesHeard (Ok heard) to_head r (octets ++ piece)
+GivesPart (Err e) to_head r octets piece = Unit {0}
+
+-- the reader can read on, where a response was dropped or nothing was found yet
+abbrev pub PartReadsOn : Result Part AllocError → ResponseReader → Type 0
+PartReadsOn (Ok (Interim used)) r = CanRead r
+PartReadsOn (Ok (Last heard)) r = ReadsOn (Ok heard) r
+PartReadsOn (Err e) r = Unit {0}

@@ -1,0 +1,51 @@
+-- A reader of the response to a forward, and the octets that it was given.
+use Rattle.std.specs.Prelude.{◌≡◌, ℕ, ◌+◌, ◌<◌, ◌≤◌, Bool, List, [], ◌++◌, length, take, Option, Some, None, Result, Ok, Err}
+use Rattle.std.specs.declared.alloc.AllocError.{AllocError}
+use Rattle.hc_head.specs.declared.head.ResponseHead.{ResponseHead}
+use Rattle.hc_head.specs.declared.head.TheConstants.Room.{RECEIVED}
+use Rattle.hc_framing.specs.declared.kind.Kind.TheVariants as kinds
+use Rattle.hc_framing.specs.declared.message.Message.{Message}
+use Rattle.hc_framing.specs.Messages.{response_form}
+use Rattle.hc_framing.specs.Reader as framing
+use Rattle.hc_links.specs.declared.arrival.Heard.{Heard}
+use Rattle.hc_links.specs.declared.arrival.Heard.TheVariants.{Response, Failed, More}
+use Rattle.hc_links.specs.declared.responses.ResponseReader.{ResponseReader}
+use Rattle.hc_links.specs.Responses.{Leaves, IsResponse, HasFailed, IsUnfinished, IsResponseAtEnd, HasFailedAtEnd}
+
+-- it can be given more: it has found neither a response nor a failure
+abbrev pub CanRead : ResponseReader → Type 0
+CanRead r = framing.CanFeed response_form r.reader
+
+-- the reader of a response, to HEAD or another method, was given these octets, in whatever pieces
+pub record Agrees (to_head : Bool) (r : ResponseReader) (octets : List ℕ) : Type 0 where
+  pub to_head_is : r.to_head ≡ to_head
+  pub rest : List ℕ
+  pub leaves : Leaves to_head octets r.interim rest
+  pub reads : framing.Agrees response_form (kinds.Response to_head) RECEIVED r.reader rest
+
+-- each answer on the octets stands only where this says so
+abbrev pub GivesHeard : Result Heard AllocError → Bool → ResponseReader → List ℕ → Type 0
+GivesHeard (Ok (Response message)) to_head r octets = IsResponse to_head octets message
+GivesHeard (Ok Failed) to_head r octets = HasFailed to_head octets
+GivesHeard (Ok More) to_head r octets = IsUnfinished to_head octets × Agrees to_head r octets
+GivesHeard (Err e) to_head r octets = Unit {0}
+
+-- the reader can read on, where nothing was found yet
+abbrev pub ReadsOn : Result Heard AllocError → ResponseReader → Type 0
+ReadsOn (Ok (Response message)) r = Unit {0}
+ReadsOn (Ok Failed) r = Unit {0}
+ReadsOn (Ok More) r = CanRead r
+ReadsOn (Err e) r = Unit {0}
+
+-- the answer is that response, unless memory ran out
+abbrev pub FindsResponse : Result Heard AllocError → Message ResponseHead → Type 0
+FindsResponse (Ok (Response found)) message = found ≡ message
+FindsResponse (Ok Failed) message = ⊥
+FindsResponse (Ok More) message = ⊥
+FindsResponse (Err e) message = Unit {0}
+
+-- each answer at the origin's end stands only where this says so: the response, or that there is none
+abbrev pub GivesEnd : Result (Option (Message ResponseHead)) AllocError → Bool → List ℕ → Type 0
+GivesEnd (Ok (Some message)) to_head octets = IsResponseAtEnd to_head octets message
+GivesEnd (Ok None) to_head octets = HasFailedAtEnd to_head octets
+GivesEnd (Err e) to_head octets = Unit {0}

@@ -1,0 +1,90 @@
+//! The tests of a request's head, and the statuses that refuse requests.
+
+ghost use Rattle.std.specs.Prelude.{◌≡◌, ◌≢◌, Err, IfOk};
+ghost use Rattle.hc_head.specs.declared.head.RequestHead.{RequestHead};
+ghost use Rattle.hc_head.specs.Targets.{GivesTarget};
+ghost use Rattle.hc_framing.specs.declared.fault.FrameFault.TheVariants.{Memory};
+ghost use Rattle.hc_links.specs.Requests.{expects, fault_status};
+ghost use Rattle.hc_links.specs.HeadParts.{GivesTested};
+
+use hc_framing::FrameFault;
+use hc_head::{HeadFault, RequestHead, Target, Version, target};
+use std::alloc::{AllocError, Global};
+
+/// Bad Request (RFC 9110 section 15.5.1).
+const BAD_REQUEST: u16 = 400;
+
+/// Content Too Large (RFC 9110 section 15.5.14).
+const CONTENT_TOO_LARGE: u16 = 413;
+
+/// Expectation Failed (RFC 9110 section 15.5.18).
+const EXPECTATION_FAILED: u16 = 417;
+
+/// Request Header Fields Too Large (RFC 6585 section 5).
+const FIELDS_TOO_LARGE: u16 = 431;
+
+/// Not Implemented (RFC 9110 section 15.6.2).
+const NOT_IMPLEMENTED: u16 = 501;
+
+/// What the tests of a head say.
+#[derive(Debug, Drop)]
+pub(crate) enum Tested {
+    /// It asks for the target.
+    Served(Target),
+    /// It is refused with the status.
+    Refused(u16),
+}
+
+/// Whether the client waits for an interim response before it sends the body.
+fn expects(head: &RequestHead) -> bool
+    ensures { result ≡ expects head.now }
+{
+    head.version == Version::Http11 && head.fields.contains(b"expect")
+}
+
+/// What a fault of the target says of the head.
+fn without_target(fault: HeadFault) -> Result<Tested, AllocError>
+    ensures { (head : RequestHead) → GivesTarget (Err fault) head → GivesTested result head }
+{
+    if fault == HeadFault::Memory {
+        return Err(AllocError);
+    }
+    Ok(Tested::Refused(BAD_REQUEST))
+}
+
+/// Tests a head: first its Host line, then its target, then whether it expects something.
+pub(crate) fn test_head(alloc: Global, head: &RequestHead) -> Result<Tested, AllocError>
+    ensures { GivesTested result head.now }
+{
+    match target(alloc, head) {
+        Err(fault) => without_target(fault),
+        Ok(target) => {
+            if expects(head) {
+                return Ok(Tested::Refused(EXPECTATION_FAILED));
+            }
+            Ok(Tested::Served(target))
+        }
+    }
+}
+
+/// The status that answers a fault.
+pub(crate) fn fault_status(fault: FrameFault) -> u16
+    ensures { result ≡ fault_status fault }
+{
+    match fault {
+        FrameFault::Head(HeadFault::TooManyFields | HeadFault::TooLong) => FIELDS_TOO_LARGE,
+        FrameFault::BodyTooLong => CONTENT_TOO_LARGE,
+        FrameFault::BadCoding => NOT_IMPLEMENTED,
+        _ => BAD_REQUEST,
+    }
+}
+
+/// Tells refused memory from what is wrong with a message.
+pub(crate) fn unless_memory(fault: FrameFault) -> Result<FrameFault, AllocError>
+    ensures { IfOk result (λ met. (met ≡ fault) × (fault ≢ Memory)) }
+{
+    if fault == FrameFault::Memory {
+        return Err(AllocError);
+    }
+    Ok(fault)
+}

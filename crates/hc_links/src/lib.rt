@@ -1,0 +1,13 @@
+//! What arrives on links: how the octets of a client connection become requests or refusals, and how
+//! those of a forward's connection to the origin become one response or a failure.
+#![tactic(auto)]
+
+mod arrival;
+mod heads;
+mod requests;
+mod responses;
+mod waiting;
+
+pub use arrival::{Arrival, Heard};
+pub use requests::RequestReader;
+pub use responses::ResponseReader;

@@ -1,0 +1,175 @@
+//! The requests of a client connection.
+
+ghost use Rattle.std.specs.Prelude.{◌≡◌};
+
+use crate::arrival::Arrival;
+use crate::heads::{Tested, fault_status, test_head, unless_memory};
+use crate::waiting::Waiting;
+use hc_framing::{FrameFault, Kind, MessageReader, Progress};
+use hc_head::{RequestHead, Room, Target};
+use std::alloc::{AllocError, Global};
+use std::mem;
+
+/// Reads the requests of a client connection, one after the other. What is behind a whole request
+/// waits until the next is asked for. Heads are read in the room `RECEIVED`.
+#[derive(Debug, Drop)]
+pub struct RequestReader {
+    alloc: Global,
+    /// The request that has begun.
+    reader: MessageReader<RequestHead>,
+    /// What it asks for, once its head has come and passed its tests.
+    target: Option<Target>,
+    /// The octets that were heard and not yet read.
+    waits: Waiting,
+}
+
+impl RequestReader {
+    ghost use Rattle.std.specs.Prelude.{◌≡◌, ℕ, List, [], ◌++◌, ◌≤◌, length, OnOk, OnErr};
+    ghost use Rattle.hc_framing.specs.Reader.{HasMessage};
+    ghost use Rattle.hc_head.specs.declared.head.RequestHead.{RequestHead};
+    ghost use Rattle.hc_head.specs.declared.head.Target.{Target};
+    ghost use Rattle.hc_framing.specs.declared.message.Message.{Message};
+    ghost use Rattle.hc_links.specs.Requests.{IsRequest, IsUnfinished};
+    ghost use Rattle.hc_links.specs.RequestReading.{Agrees, CanRead, FindsRequest, GivesEnd, GivesNext, HasRead, HasUnread, ReadsOn, waiting};
+    ghost use Rattle.hc_links.specs.RequestParts.{GivesTest, HasEnded, HasGoneOn, HasMet};
+
+    /// A reader of a connection that has just opened.
+    pub fn new(alloc: Global) -> Self
+        ensures { HasUnread result [] }
+    {
+        RequestReader {
+            alloc,
+            reader: MessageReader::new(alloc, Kind::Request, Room::RECEIVED),
+            target: None,
+            waits: Waiting::new(alloc),
+        }
+    }
+
+    /// Takes in the next octets, which wait until they are read.
+    pub fn hear(&mut self, piece: &[u8]) -> Result<(), AllocError>
+        ensures agrees { (octets : List ℕ) → Agrees self.old octets
+            → OnOk result (Agrees self.new (octets ++ piece.now)) }
+        ensures waiting { OnOk result (waiting self.new ≡ waiting self.old ++ piece.now) }
+        ensures err { OnErr result (self.new ≡ self.old) }
+    {
+        self.waits.push(piece)
+    }
+
+    /// How many octets were heard and not yet read.
+    pub fn waiting(&self) -> usize
+        ensures { result ≡ length (waiting self.now) }
+    {
+        self.waits.as_slice().len()
+    }
+
+    /// Drops the octets that wait.
+    pub fn drop_waiting(&mut self)
+        ensures agrees { (octets : List ℕ) → HasUnread self.old octets → HasUnread self.new [] }
+        ensures waiting { waiting self.new ≡ [] }
+    {
+        self.waits.clear();
+    }
+
+    /// Reads the next request of the octets that wait. `More` leaves none of them unread; behind a
+    /// request the rest waits.
+    pub fn next(&mut self) -> Result<Arrival, AllocError>
+        requires { CanRead self.old }
+        // Each answer stands only where it says so, whatever the pieces before were.
+        ensures gives { (octets : List ℕ) → Agrees self.old octets → GivesNext result self.new octets }
+        // It can be asked again, unless it refused the octets or memory ran out.
+        ensures can { ReadsOn result self.new }
+    {
+        match self.reader.feed(self.waits.as_slice()) {
+            Err(fault) => self.refuse(fault),
+            Ok(Progress::More) => self.go_on(),
+            Ok(Progress::Whole(used)) => self.take_request(used),
+        }
+    }
+
+    /// Tests the head, once it has come: the status that refuses it, if it fails a test.
+    fn test(&mut self) -> Result<Option<u16>, AllocError>
+        ensures { GivesTest result self.old self.new }
+    {
+        if self.target.is_some() {
+            return Ok(None);
+        }
+        let Some(head) = self.reader.head() else {
+            return Ok(None);
+        };
+        match test_head(self.alloc, head)? {
+            Tested::Refused(status) => Ok(Some(status)),
+            Tested::Served(target) => {
+                self.target = Some(target);
+                Ok(None)
+            }
+        }
+    }
+
+    /// Tells the status of a fault; the tests of the head come before the faults of the body.
+    fn refuse(&mut self, fault: FrameFault) -> Result<Arrival, AllocError>
+        ensures gives { (octets : List ℕ) → HasMet self.old fault octets → GivesNext result self.new octets }
+        ensures can { ReadsOn result self.new }
+    {
+        let fault = unless_memory(fault)?;
+        let status = self.test()?.unwrap_or(fault_status(fault));
+        Ok(Arrival::Refused(status))
+    }
+
+    /// Goes on, unless the head fails a test.
+    fn go_on(&mut self) -> Result<Arrival, AllocError>
+        requires { CanRead self.old }
+        ensures gives { (octets : List ℕ) → HasGoneOn self.old octets → GivesNext result self.new octets }
+        ensures can { ReadsOn result self.new }
+    {
+        self.waits.clear();
+        match self.test()? {
+            Some(status) => Ok(Arrival::Refused(status)),
+            None => Ok(Arrival::More),
+        }
+    }
+
+    /// Takes out the request that ends with so many of the octets that wait, unless its head fails a
+    /// test.
+    fn take_request(&mut self, used: usize) -> Result<Arrival, AllocError>
+        requires has { HasMessage self.old.reader }
+        requires within { used ≤ length (waiting self.old) }
+        ensures gives { (octets : List ℕ) → HasEnded self.old used octets → GivesNext result self.new octets }
+        ensures can { ReadsOn result self.new }
+    {
+        if let Some(status) = self.test()? {
+            return Ok(Arrival::Refused(status));
+        }
+        self.waits.skip(used);
+        let target = self.target.take().unwrap();
+        let next = MessageReader::new(self.alloc, Kind::Request, Room::RECEIVED);
+        let reader = mem::replace(&mut self.reader, next);
+        Ok(Arrival::Request(reader.take(), target))
+    }
+
+    /// Says that the client sends no more: the status of a last reply, or none. A request that waits
+    /// whole is given up.
+    pub fn end(self) -> Result<Option<u16>, AllocError>
+        requires { CanRead self }
+        // Each answer stands only where it says so.
+        ensures gives { (octets : List ℕ) → Agrees self octets → GivesEnd result octets }
+    {
+        let mut rest = self;
+        match rest.next()? {
+            Arrival::Request(_, _) => Ok(None),
+            Arrival::Refused(status) => Ok(Some(status)),
+            Arrival::More => rest.close(),
+        }
+    }
+
+    /// Gives up what has begun, or refuses it where no head can come of it.
+    fn close(&mut self) -> Result<Option<u16>, AllocError>
+        requires { CanRead self.old }
+        ensures gives { (octets : List ℕ) → IsUnfinished octets → HasRead self.old octets → GivesEnd result octets }
+    {
+        match self.reader.end() {
+            Ok(_) => Ok(None),
+            Err(FrameFault::Truncated) => Ok(None),
+            Err(fault) => Ok(Some(fault_status(unless_memory(fault)?))),
+        }
+    }
+}

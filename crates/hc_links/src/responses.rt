@@ -1,0 +1,140 @@
+//! The response to a forward.
+
+ghost use Rattle.std.specs.Prelude.{◌≡◌};
+
+use crate::arrival::Heard;
+use crate::heads::unless_memory;
+use hc_framing::{Kind, Message, MessageReader, Progress};
+use hc_head::{ResponseHead, Room, is_interim};
+use std::alloc::{AllocError, Global};
+use std::mem;
+
+/// The most interim responses before the final one.
+const MOST_INTERIM: u8 = 16;
+
+/// Switching Protocols (RFC 9110 section 15.2.2).
+const SWITCHING_PROTOCOLS: u16 = 101;
+
+/// What one response of a piece is.
+#[derive(Drop)]
+enum Part {
+    /// An interim one, which takes so many octets of the piece.
+    Interim(usize),
+    /// The last that is read.
+    Last(Heard),
+}
+
+/// Reads the response to a forward. Interim responses before it are dropped, at most 16; 101, which
+/// changes the protocol, is none of them. Heads are read in the room `RECEIVED`.
+#[derive(Debug, Drop)]
+pub struct ResponseReader {
+    alloc: Global,
+    /// Whether the forward's method is HEAD.
+    to_head: bool,
+    /// How many interim responses have come.
+    interim: u8,
+    /// The response that has begun.
+    reader: MessageReader<ResponseHead>,
+}
+
+impl ResponseReader {
+    ghost use Rattle.std.specs.Prelude.{◌≡◌, ℕ, Bool, List, [], ◌++◌, Ok};
+    ghost use Rattle.hc_framing.specs.Reader.{HasMessage};
+    ghost use Rattle.hc_head.specs.declared.head.ResponseHead.{ResponseHead};
+    ghost use Rattle.hc_framing.specs.declared.message.Message.{Message};
+    ghost use Rattle.hc_links.specs.Responses.{IsResponse};
+    ghost use Rattle.hc_links.specs.ResponseReading.{Agrees, CanRead, FindsResponse, GivesEnd, GivesHeard, ReadsOn};
+    ghost use Rattle.hc_links.specs.ResponseParts.{GivesPart, HasEnded, PartReadsOn};
+
+    /// A reader of a connection that has just opened; `to_head` tells whether the forward's method is
+    /// HEAD.
+    pub fn new(alloc: Global, to_head: bool) -> Self
+        ensures agrees { Agrees to_head result [] }
+        ensures can { CanRead result }
+    {
+        ResponseReader {
+            alloc,
+            to_head,
+            interim: 0,
+            reader: MessageReader::new(alloc, Kind::Response { to_head }, Room::RECEIVED),
+        }
+    }
+
+    /// Takes in the next octets. Those behind a final response are dropped.
+    pub fn hear(&mut self, piece: &[u8]) -> Result<Heard, AllocError>
+        requires { CanRead self.old }
+        // Each answer stands only where it says so, whatever the pieces before were.
+        ensures gives { (to_head : Bool) (octets : List ℕ) → Agrees to_head self.old octets
+            → GivesHeard result to_head self.new (octets ++ piece.now) }
+        // It takes octets until it has found a response or a failure.
+        ensures can { ReadsOn result self.new }
+    {
+        let mut used = 0;
+        loop {
+            let (_, rest) = piece.split_at(used);
+            match self.read(rest)? {
+                Part::Interim(taken) => used += taken,
+                Part::Last(heard) => return Ok(heard),
+            }
+        }
+    }
+
+    /// Reads one response.
+    fn read(&mut self, piece: &[u8]) -> Result<Part, AllocError>
+        requires { CanRead self.old }
+        ensures gives { (to_head : Bool) (octets : List ℕ) → Agrees to_head self.old octets
+            → GivesPart result to_head self.new octets piece.now }
+        ensures can { PartReadsOn result self.new }
+    {
+        match self.reader.feed(piece) {
+            Err(fault) => {
+                unless_memory(fault)?;
+                Ok(Part::Last(Heard::Failed))
+            }
+            Ok(Progress::More) => Ok(Part::Last(Heard::More)),
+            Ok(Progress::Whole(used)) => Ok(self.sort(used)),
+        }
+    }
+
+    /// Tells what a response is that ends with so many octets of the piece, and begins the next.
+    fn sort(&mut self, used: usize) -> Part
+        requires { HasMessage self.old.reader }
+        ensures gives { (to_head : Bool) (octets piece : List ℕ) → HasEnded to_head self.old octets piece used
+            → GivesPart (Ok result) to_head self.new octets piece }
+        ensures can { PartReadsOn (Ok result) self.new }
+    {
+        let kind = Kind::Response {
+            to_head: self.to_head,
+        };
+        let next = MessageReader::new(self.alloc, kind, Room::RECEIVED);
+        let message = mem::replace(&mut self.reader, next).take();
+        if !is_interim(message.head.status) {
+            return Part::Last(Heard::Response(message));
+        }
+        if message.head.status == SWITCHING_PROTOCOLS {
+            return Part::Last(Heard::Failed);
+        }
+        if self.interim >= MOST_INTERIM {
+            return Part::Last(Heard::Failed);
+        }
+        self.interim += 1;
+        Part::Interim(used)
+    }
+
+    /// Says that no more octets come: the response, which may last until then, or none.
+    pub fn end(self) -> Result<Option<Message<ResponseHead>>, AllocError>
+        requires { CanRead self }
+        // Each answer stands only where it says so.
+        ensures gives { (to_head : Bool) (octets : List ℕ) → Agrees to_head self octets
+            → GivesEnd result to_head octets }
+    {
+        let mut reader = self.reader;
+        match reader.end() {
+            Err(fault) => {
+                unless_memory(fault)?;
+                Ok(None)
+            }
+            Ok(_) => Ok(Some(reader.take())),
+        }
+    }
+}
