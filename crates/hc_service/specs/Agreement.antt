@@ -1,0 +1,187 @@
+-- What a cache has to do with what has happened so far, which it doesn't keep.
+use Rattle.std.specs.Prelude.{◌≡◌, ℕ, zero, suc, ◌+◌, ◌<◌, ◌≤◌, Bool, true, false, List, [], ◌∷◌, ◌++◌, length, drop, Option, Some, None, option_map, codes, ◌==◌, if◌then◌else◌}
+use Rattle.std.specs.FinMap.{get, len}
+use Rattle.std.specs.List.{AllByRecursion}
+use Rattle.hc_fields.specs.Values.{has_name}
+use Rattle.hc_head.specs.declared.head.RequestHead.{RequestHead}
+use Rattle.hc_head.specs.declared.head.ResponseHead.{ResponseHead}
+use Rattle.hc_head.specs.declared.head.Target.{Target}
+use Rattle.hc_head.specs.Methods.{is_get, is_head}
+use Rattle.hc_head.specs.Passing.{AreKeptLines}
+use Rattle.hc_head.specs.Writable.{has_framing, longest_body}
+use Rattle.hc_framing.specs.declared.message.Message.{Message}
+use Rattle.hc_rules.specs.Laws.{IsForwardable}
+use Rattle.hc_update.specs.declared.stored.Stored.{Stored}
+use Rattle.hc_transcript.specs.declared.record.Record.{Record}
+use Rattle.hc_transcript.specs.Limits.{greatest_number, greatest_moment}
+use Rattle.hc_transcript.specs.Items.{Item, Exchange, Forward}
+use Rattle.hc_transcript.specs.History.{exchange_of, forward_of, last_moment, last_exchange, last_forward}
+use Rattle.hc_transcript.specs.Transcript.{AreReadAs}
+use Rattle.hc_history.specs.declared.kept.Kept.{Kept}
+use Rattle.hc_history.specs.States.{state_at}
+use Rattle.hc_links.specs.Requests.{IsRequest}
+use Rattle.hc_store.specs.Entries.{Entries, IsWithin}
+use Rattle.hc_service.specs.declared.cases.Cause.{Cause}
+use Rattle.hc_service.specs.declared.numbers.Numbers.{Numbers}
+use Rattle.hc_service.specs.declared.open.OpenExchange.{OpenExchange}
+use Rattle.hc_service.specs.declared.open.OpenForward.{OpenForward}
+use Rattle.hc_service.specs.declared.open.Purpose.{Purpose}
+use Rattle.hc_service.specs.declared.open.Purpose.TheVariants as purpose
+use Rattle.hc_service.specs.Asking.{is_answered_by_store}
+use Rattle.hc_service.specs.Cases.{asks_store}
+use Rattle.hc_service.specs.Numbers.{is_later}
+use Rattle.hc_service.specs.State.{State, Table, Connection, Awaited}
+use Rattle.hc_service.specs.Choices.{OnTest}
+use Rattle.hc_service.specs.Serves.{IsQuietAt}
+use Rattle.hc_service.specs.Turns.{most_connections}
+
+-- what has happened so far: the records, the newest first, and what they mean; and the octets that came on each connection and from the origin on each forward
+pub record History : Type 0 where
+  pub records : List Record
+  pub items : List Item
+  pub heard : ℕ → List ℕ
+  pub told : ℕ → List ℕ
+
+-- ---- 1: records and numbers
+
+-- the records are a transcript, and what is counted is theirs
+pub record AreCounted (n : Numbers) (h : History) : Type 0 where
+  pub are_read : AreReadAs h.records h.items
+  pub records : n.records ≡ length h.items
+  pub exchange : n.exchange ≡ last_exchange h.items
+  pub forward : n.forward ≡ last_forward h.items
+  pub moment : last_moment h.items ≤ n.moment
+  -- each exchange and each forward has a record, all of which can be numbered
+  pub exchanges : n.exchange ≤ n.records
+  pub forwards : n.forward ≤ n.records
+  pub in_range : n.records ≤ greatest_number
+  pub in_time : n.moment ≤ greatest_moment
+
+-- ---- 2: entries
+
+-- all that is held of a target is so
+abbrev pub AllHeld : (Target → Stored → Type 0) → Entries → Type 0
+AllHeld P entries = AllByRecursion (λ entry. AllByRecursion (P entry.0) entry.1) entries
+
+-- it is a response of that target that may be stored, as the records have left it, and is valid
+pub record HasSource (items : List Item) (target : Target) (stored : Stored) : Type 0 where
+  pub position : ℕ
+  pub is_its_state : state_at position items ≡ Some (record { target = target; state = stored })
+  pub is_valid : stored.invalid ≡ false
+
+-- it can be a reply that is read back: few and plain lines, without Age and without what frames a body, a final status, and a body within the limit
+pub record CanReply (stored : Stored) : Type 0 where
+  pub lines : AreKeptLines stored.fields
+  pub no_framing : has_framing stored.fields ≡ false
+  pub no_age : has_name (codes "age") stored.fields ≡ false
+  pub is_final : 200 ≤ stored.status
+  pub has_digits : stored.status < 1000
+  pub short : length stored.body ≤ longest_body
+
+abbrev pub IsSound : List Item → Target → Stored → Type 0
+IsSound items target stored = HasSource items target stored × CanReply stored
+
+-- ---- 3: what came on links, and what of it is unread
+
+-- whole requests, so many, and then the rest
+abbrev pub AreRequestsThen : ℕ → List ℕ → List ℕ → Type 0
+AreRequestsThen zero octets rest = octets ≡ rest
+AreRequestsThen (suc count) octets rest =
+    (message : Message RequestHead) × (target : Target) × (size : ℕ) × IsRequest octets message target size × AreRequestsThen count (drop size octets) rest
+
+-- nothing is unread of a connection of which nothing more is read, and which closes behind the reply that is waited for
+pub record HasLeft (k : Connection) : Type 0 where
+  pub none_unread : k.unread ≡ []
+  pub exchange : ℕ
+  pub waits : k.exchange ≡ Some exchange
+
+-- what is unread of a connection is what came behind its last whole request
+abbrev pub IsReadOf : List ℕ → Connection → Type 0
+IsReadOf octets k = OnTest k.leaves (HasLeft k) ((count : ℕ) × AreRequestsThen count octets k.unread)
+
+pub record AreHeard (s : State) (h : History) : Type 0 where
+  pub connections : (c : ℕ) (k : Connection) → get s.connections c ≡ Some k → IsReadOf (h.heard c) k
+  pub forwards : (f : ℕ) (a : Awaited) → get s.forwards f ≡ Some a → a.heard ≡ h.told f
+  -- nothing has come where nothing was open
+  pub later_connections : (c : ℕ) → is_later c s.numbers.connection ≡ true → h.heard c ≡ []
+  pub later_forwards : (f : ℕ) → s.numbers.forward < f → h.told f ≡ []
+
+-- ---- 4: what is open
+
+-- an exchange is that of the records
+abbrev pub IsSeenExchange : ℕ → Option OpenExchange → Option Exchange → Type 0
+IsSeenExchange e None seen = seen ≡ None
+IsSeenExchange e (Some x) seen =
+    (position : ℕ) × (seen ≡ Some (record { number = e; position = position; request = x.request; target = x.target }))
+
+-- a forward as the records have it
+abbrev pub seen_forward : Awaited → Forward
+seen_forward a = record { moment = a.forward.moment; request = a.forward.request; target = a.forward.target }
+
+-- the forward asks for what the request asks for, and the store was asked for methods that it answers alone
+pub record AsksFor (x : OpenExchange) (why : Cause) (forward : OpenForward) : Type 0 where
+  pub method : forward.request.method ≡ x.request.method
+  pub target : forward.target ≡ x.target
+  pub by_store : asks_store why ≡ true → is_answered_by_store x.request.method ≡ true
+
+-- the request that the forward is for waits for it
+pub record IsFor (s : State) (e : ℕ) (why : Cause) (forward : OpenForward) : Type 0 where
+  pub exchange : OpenExchange
+  pub waits : get s.exchanges e ≡ Some exchange
+  pub asks_for : AsksFor exchange why forward
+
+abbrev pub KeepsPurpose : State → Purpose → OpenForward → Type 0
+KeepsPurpose s purpose.Background forward = forward.request.method ≡ codes "GET"
+KeepsPurpose s (purpose.Reply e why conditional) forward = IsFor s e why forward
+
+-- the request waits on its connection
+pub record WaitsOn (s : State) (e : ℕ) (x : OpenExchange) : Type 0 where
+  pub connection : Connection
+  pub is_open : get s.connections x.connection ≡ Some connection
+  pub waits : connection.exchange ≡ Some e
+  pub forwardable : IsForwardable x.request x.target
+
+-- the connection's request waits there
+pub record HasWaiting (s : State) (c e : ℕ) : Type 0 where
+  pub exchange : OpenExchange
+  pub is_open : get s.exchanges e ≡ Some exchange
+  pub is_its : exchange.connection ≡ c
+
+-- the exchange that a forward is for
+abbrev pub exchange_for : Purpose → Option ℕ
+exchange_for purpose.Background = None
+exchange_for (purpose.Reply e why conditional) = Some e
+
+pub record AreOpen (s : State) (items : List Item) : Type 0 where
+  pub exchanges : (e : ℕ) → IsSeenExchange e (get s.exchanges e) (exchange_of e items)
+  pub forwards : (f : ℕ) → forward_of f items ≡ option_map seen_forward (get s.forwards f)
+  pub purposes : (f : ℕ) (a : Awaited) → get s.forwards f ≡ Some a → KeepsPurpose s a.forward.purpose a.forward
+  -- no two forwards are for the same request
+  pub alone : (f g e : ℕ) (a b : Awaited) → get s.forwards f ≡ Some a → get s.forwards g ≡ Some b
+      → exchange_for a.forward.purpose ≡ Some e → exchange_for b.forward.purpose ≡ Some e → f ≡ g
+  pub waiting : (e : ℕ) (x : OpenExchange) → get s.exchanges e ≡ Some x → WaitsOn s e x
+  pub busy : (c e : ℕ) (k : Connection) → get s.connections c ≡ Some k → k.exchange ≡ Some e → HasWaiting s c e
+  -- numbers that weren't given yet
+  pub later_connections : (c : ℕ) → is_later c s.numbers.connection ≡ true → get s.connections c ≡ None
+  pub later_exchanges : (e : ℕ) → s.numbers.exchange < e → get s.exchanges e ≡ None
+  pub later_forwards : (f : ℕ) → s.numbers.forward < f → get s.forwards f ≡ None
+
+-- ---- all
+
+-- the parts, in the middle of a step
+pub record Stands (s : State) (h : History) : Type 0 where
+  pub counted : AreCounted s.numbers h
+  pub entries : AllHeld (IsSound h.items) s.store.entries
+  pub within : IsWithin s.store
+  pub heard : AreHeard s h
+  pub open_now : AreOpen s h.items
+  pub few : len s.connections ≤ most_connections
+
+-- 5: nothing that has come can be read yet, and while a request waits for its reply no more octets wait than may
+abbrev pub IsQuiet : State → Type 0
+IsQuiet s = (c : ℕ) → IsQuietAt c s
+
+-- the cache agrees with what has happened
+pub record Agrees (s : State) (h : History) : Type 0 where
+  pub stands : Stands s h
+  pub quiet : IsQuiet s

@@ -1,0 +1,17 @@
+pub mod Settings
+pub mod Names
+pub mod Numbers
+pub mod NotYet
+pub mod Asking
+pub mod Serving
+pub mod Cases
+pub mod State
+pub mod Sending
+pub mod Replying
+pub mod Choices
+pub mod Answers
+pub mod Reactions
+pub mod Turns
+pub mod Serves
+pub mod Agreement
+pub mod Runs
