@@ -1,13 +1,13 @@
 -- What a cache has to do with what has happened so far, which it doesn't keep.
-use Rattle.std.specs.Prelude.{◌≡◌, ℕ, zero, suc, ◌+◌, ◌<◌, ◌≤◌, Bool, true, false, List, [], ◌∷◌, ◌++◌, length, drop, Option, Some, None, option_map, codes, ◌==◌, if◌then◌else◌}
+use Rattle.std.specs.Prelude.{◌≡◌, ℕ, zero, suc, ◌<◌, ◌≤◌, true, false, List, [], length, drop, Option, Some, None, option_map, codes}
 use Rattle.std.specs.FinMap.{get, len}
-use Rattle.std.specs.List.{AllByRecursion}
+use Rattle.std.specs.List.{AllByRecursion, IsDistinct}
+use Rattle.std.specs.Map.{keys_of}
 use Rattle.hc_fields.specs.Values.{has_name}
 use Rattle.hc_head.specs.declared.head.RequestHead.{RequestHead}
-use Rattle.hc_head.specs.declared.head.ResponseHead.{ResponseHead}
 use Rattle.hc_head.specs.declared.head.Target.{Target}
-use Rattle.hc_head.specs.Methods.{is_get, is_head}
 use Rattle.hc_head.specs.Passing.{AreKeptLines}
+use Rattle.hc_head.specs.Targets.{same_target}
 use Rattle.hc_head.specs.Writable.{has_framing, longest_body}
 use Rattle.hc_framing.specs.declared.message.Message.{Message}
 use Rattle.hc_rules.specs.Laws.{IsForwardable}
@@ -17,10 +17,9 @@ use Rattle.hc_transcript.specs.Limits.{greatest_number, greatest_moment}
 use Rattle.hc_transcript.specs.Items.{Item, Exchange, Forward}
 use Rattle.hc_transcript.specs.History.{exchange_of, forward_of, last_moment, last_exchange, last_forward}
 use Rattle.hc_transcript.specs.Transcript.{AreReadAs}
-use Rattle.hc_history.specs.declared.kept.Kept.{Kept}
 use Rattle.hc_history.specs.States.{state_at}
 use Rattle.hc_links.specs.Requests.{IsRequest}
-use Rattle.hc_store.specs.Entries.{Entries, IsWithin}
+use Rattle.hc_store.specs.Entries.{Entries}
 use Rattle.hc_service.specs.declared.cases.Cause.{Cause}
 use Rattle.hc_service.specs.declared.numbers.Numbers.{Numbers}
 use Rattle.hc_service.specs.declared.open.OpenExchange.{OpenExchange}
@@ -30,7 +29,7 @@ use Rattle.hc_service.specs.declared.open.Purpose.TheVariants as purpose
 use Rattle.hc_service.specs.Asking.{is_answered_by_store}
 use Rattle.hc_service.specs.Cases.{asks_store}
 use Rattle.hc_service.specs.Numbers.{is_later}
-use Rattle.hc_service.specs.State.{State, Table, Connection, Awaited}
+use Rattle.hc_service.specs.State.{State, Connection, Awaited}
 use Rattle.hc_service.specs.Choices.{OnTest}
 use Rattle.hc_service.specs.Serves.{IsQuietAt}
 use Rattle.hc_service.specs.Turns.{most_connections}
@@ -172,7 +171,7 @@ pub record AreOpen (s : State) (items : List Item) : Type 0 where
 pub record Stands (s : State) (h : History) : Type 0 where
   pub counted : AreCounted s.numbers h
   pub entries : AllHeld (IsSound h.items) s.store.entries
-  pub within : IsWithin s.store
+  pub keys : IsDistinct same_target (keys_of s.store.entries)
   pub heard : AreHeard s h
   pub open_now : AreOpen s h.items
   pub few : len s.connections ≤ most_connections

@@ -1,7 +1,6 @@
 -- What a client's request asks of a cache, whatever is stored.
-use Rattle.std.specs.Prelude.{ℕ, Bool, true, false, ◌&&◌, ◌||◌, ◌==◌, not, nat_le, List, [], ◌∷◌, length, codes}
+use Rattle.std.specs.Prelude.{ℕ, Bool, true, false, ◌||◌, ◌==◌, not, nat_le, List, [], ◌∷◌, length, codes}
 use Rattle.std.specs.List.{list_any}
-use Rattle.hc_fields.specs.declared.fields.Field.{Field}
 use Rattle.hc_fields.specs.Values.{has_name}
 use Rattle.hc_fields.specs.Connection.{is_named_by_connection}
 use Rattle.hc_directives.specs.declared.cache_control.Seconds.{Seconds}

@@ -1,5 +1,5 @@
 -- What a whole request gets at once: a reply, or a forward.
-use Rattle.std.specs.Prelude.{◌≡◌, ℕ, Bool, true, false, ◌&&◌, ◌||◌, ◌==◌, not, nat_lt, List, [], ◌∷◌, Option, Some, None, codes, if◌then◌else◌}
+use Rattle.std.specs.Prelude.{◌≡◌, ℕ, Bool, true, false, ◌&&◌, not, nat_lt, List, [], Option, Some, None, codes, if◌then◌else◌}
 use Rattle.std.specs.FinMap.{values}
 use Rattle.std.specs.List.{list_any, count_by}
 use Rattle.hc_head.specs.declared.head.RequestHead.{RequestHead}
@@ -17,7 +17,6 @@ use Rattle.hc_service.specs.declared.cases.Cause.{Cause}
 use Rattle.hc_service.specs.declared.cases.Cause.TheVariants as cause
 use Rattle.hc_service.specs.declared.cases.Case.{Case}
 use Rattle.hc_service.specs.declared.cases.Case.TheVariants as case
-use Rattle.hc_service.specs.declared.open.OpenForward.{OpenForward}
 use Rattle.hc_service.specs.declared.open.Purpose.{Purpose}
 use Rattle.hc_service.specs.declared.open.Purpose.TheVariants as purpose
 use Rattle.hc_service.specs.NotYet.{serves_stale, validates}

@@ -2,13 +2,13 @@
 use Rattle.std.specs.Prelude.{ℕ, Bool, true, false, ◌&&◌, ◌||◌, ◌-◌, not, nat_le, List, ℤ, pos, ◌-ℤ◌, codes}
 use Rattle.hc_fields.specs.declared.fields.Field.{Field}
 use Rattle.hc_directives.specs.declared.cache_control.Seconds.{Seconds}
-use Rattle.hc_directives.specs.declared.cache_control.Seconds.TheVariants.{Absent, Bare, Value, Unreadable}
+use Rattle.hc_directives.specs.declared.cache_control.Seconds.TheVariants.{Bare, Value}
 use Rattle.hc_fresh.specs.Ages.{current_age, fresh, staleness}
 use Rattle.hc_fresh.specs.Lifetimes.{says, stale_forbidden}
 use Rattle.hc_rules.specs.Conditions.{client_condition}
 use Rattle.hc_update.specs.declared.stored.Stored.{Stored}
 use Rattle.hc_history.specs.Usable.{lifetime_of, seconds_said}
-use Rattle.hc_service.specs.NotYet.{serves_stale, answers_condition, replaces_errors}
+use Rattle.hc_service.specs.NotYet.{serves_stale, answers_condition}
 use Rattle.hc_service.specs.Asking.{allows_age, allows_left, asks_for_fresh}
 
 -- ---- lifetime and age

@@ -1,5 +1,5 @@
 -- What a cache knows, as contracts see it.
-use Rattle.std.specs.Prelude.{ℕ, Bool, false, List, [], Option, Some, None}
+use Rattle.std.specs.Prelude.{ℕ, Bool, false, List, [], Option, None}
 use Rattle.std.specs.FinMap.{FinMap, empty}
 use Rattle.std.specs.Ordering.{nat_cmp}
 use Rattle.hc_store.specs.Entries.{Holdings}

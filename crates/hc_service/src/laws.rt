@@ -4,14 +4,13 @@ ghost use Rattle.std.specs.Prelude.{List, ◌∷◌, Option};
 ghost use Rattle.hc_events.specs.declared.Event.{Event};
 ghost use Rattle.hc_transcript.specs.declared.record.Record.{Record};
 ghost use Rattle.hc_service.specs.declared.settings.CoreSettings.{CoreSettings};
-ghost use Rattle.hc_service.specs.Settings.{AreGood};
 ghost use Rattle.hc_service.specs.State.{State, new_state};
 ghost use Rattle.hc_service.specs.Agreement.{Agrees, History};
 ghost use Rattle.hc_service.specs.Runs.{Runs, nothing_yet, StepResult};
 
 /// A new cache agrees with nothing having happened.
 pub fn new_cache_agrees()
-    ensures { (settings : CoreSettings) → AreGood settings → Agrees (new_state settings) nothing_yet }
+    ensures { (settings : CoreSettings) → Agrees (new_state settings) nothing_yet }
 {}
 
 /// A run begins with a cache that agrees with what has happened.
