@@ -1,2 +1,4 @@
 pub mod TableLemmas
 pub mod BeginLemmas
+pub mod StoreLemmas
+pub mod SourceLemmas

@@ -15,3 +15,4 @@ pub mod Turns
 pub mod Serves
 pub mod Agreement
 pub mod Runs
+pub mod Laws

@@ -1,6 +1,18 @@
 //! What holds of every cache that does what it owes.
 
-ghost use Rattle.std.specs.Prelude.{List, ◌∷◌, Option};
+ghost use Rattle.std.specs.Prelude.{◌≡◌, ℕ, Bool, false, List, ◌∷◌, Option, Some};
+ghost use Rattle.hc_fields.specs.declared.fields.Field.{Field};
+ghost use Rattle.hc_head.specs.declared.head.ResponseHead.{ResponseHead};
+ghost use Rattle.hc_head.specs.declared.head.Target.{Target};
+ghost use Rattle.hc_framing.specs.declared.message.Message.{Message};
+ghost use Rattle.hc_update.specs.declared.stored.Stored.{Stored};
+ghost use Rattle.hc_transcript.specs.Items.{Item, OriginResponse};
+ghost use Rattle.hc_transcript.specs.History.{forward_of};
+ghost use Rattle.hc_store.specs.Entries.{Holdings};
+ghost use Rattle.hc_service.specs.declared.open.OpenForward.{OpenForward};
+ghost use Rattle.hc_service.specs.Answers.{Renews};
+ghost use Rattle.hc_service.specs.Choices.{Finds, Stores};
+ghost use Rattle.hc_service.specs.Laws.{HasSources, is_response, recorded_forward};
 ghost use Rattle.hc_events.specs.declared.Event.{Event};
 ghost use Rattle.hc_transcript.specs.declared.record.Record.{Record};
 ghost use Rattle.hc_service.specs.declared.settings.CoreSettings.{CoreSettings};
@@ -18,4 +30,26 @@ pub fn runs_begin_with_agreement()
     ensures { (settings : CoreSettings) (s : State) (h : History) (event : Event) (events : List Event)
         (result : StepResult) (results : List StepResult) (records : List Record) (end : Option State)
         → Runs settings s h (event ∷ events) (result ∷ results) records end → Agrees s h }
+{}
+
+/// What is stored stays what the records say of it: valid responses of their target that may be stored,
+/// as the records have left them, whatever the next record is and whatever the store is asked.
+pub fn stored_responses_are_those_of_the_records()
+    ensures other { (items : List Item) (item : Item) (store : Holdings) → is_response item ≡ false
+        → HasSources items store → HasSources (item ∷ items) store }
+    ensures chosen { (items : List Item) (target : Target) (asked : List Field) (old : Holdings)
+        (chosen : Option Stored) (new : Holdings) → HasSources items old → Finds target asked old chosen new
+        → HasSources items new }
+    // A response that invalidates, and a 304, leave nothing that the records see otherwise.
+    ensures renewed { (items : List Item) (number moment position : ℕ) (response : Message ResponseHead)
+        (forward : OpenForward) (old new : Holdings)
+        → forward_of number items ≡ Some (recorded_forward forward) → HasSources items old
+        → Renews forward moment position response.head old new
+        → HasSources (OriginResponse number moment response ∷ items) new }
+    ensures put { (items : List Item) (number moment : ℕ) (response : Message ResponseHead)
+        (forward : OpenForward) (old new : Holdings) (stored : Bool)
+        → forward_of number items ≡ Some (recorded_forward forward)
+        → HasSources (OriginResponse number moment response ∷ items) old
+        → Stores forward moment response old stored new
+        → HasSources (OriginResponse number moment response ∷ items) new }
 {}

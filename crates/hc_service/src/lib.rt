@@ -17,7 +17,9 @@ pub use action::Action;
 pub use asking::{ends_connection, is_answered_by_store, is_bypass};
 pub use cases::{Case, Cause, case_before_store, case_by_store};
 pub use fault::StepFault;
-pub use laws::{new_cache_agrees, runs_begin_with_agreement};
+pub use laws::{
+    new_cache_agrees, runs_begin_with_agreement, stored_responses_are_those_of_the_records,
+};
 pub use numbers::Numbers;
 pub use open::{OpenExchange, OpenForward, Purpose};
 pub use replying::{
