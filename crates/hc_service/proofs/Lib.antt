@@ -2,3 +2,5 @@ pub mod TableLemmas
 pub mod BeginLemmas
 pub mod StoreLemmas
 pub mod SourceLemmas
+pub mod NameLemmas
+pub mod RightLemmas

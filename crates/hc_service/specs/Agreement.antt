@@ -1,5 +1,5 @@
 -- What a cache has to do with what has happened so far, which it doesn't keep.
-use Rattle.std.specs.Prelude.{◌≡◌, ℕ, zero, suc, ◌<◌, ◌≤◌, true, false, List, [], length, drop, Option, Some, None, option_map, codes}
+use Rattle.std.specs.Prelude.{◌≡◌, ℕ, zero, suc, ◌<◌, ◌≤◌, ◌==◌, true, false, List, [], length, drop, Option, Some, None, option_map, codes}
 use Rattle.std.specs.FinMap.{get, len}
 use Rattle.std.specs.List.{AllByRecursion, IsDistinct}
 use Rattle.std.specs.Map.{keys_of}
@@ -7,6 +7,7 @@ use Rattle.hc_fields.specs.Values.{has_name}
 use Rattle.hc_head.specs.declared.head.RequestHead.{RequestHead}
 use Rattle.hc_head.specs.declared.head.Target.{Target}
 use Rattle.hc_head.specs.Passing.{AreKeptLines}
+use Rattle.hc_head.specs.Statuses.{partial_content}
 use Rattle.hc_head.specs.Targets.{same_target}
 use Rattle.hc_head.specs.Writable.{has_framing, longest_body}
 use Rattle.hc_framing.specs.declared.message.Message.{Message}
@@ -68,13 +69,15 @@ pub record HasSource (items : List Item) (target : Target) (stored : Stored) : T
   pub is_its_state : state_at position items ≡ Some (record { target = target; state = stored })
   pub is_valid : stored.invalid ≡ false
 
--- it can be a reply that is read back: few and plain lines, without Age and without what frames a body, a final status, and a body within the limit
+-- it can be a reply that is read back: few and plain lines, without Age and without what frames a body, a final status that is of no part, and a body within
+-- the limit
 pub record CanReply (stored : Stored) : Type 0 where
   pub lines : AreKeptLines stored.fields
   pub no_framing : has_framing stored.fields ≡ false
   pub no_age : has_name (codes "age") stored.fields ≡ false
   pub is_final : 200 ≤ stored.status
   pub has_digits : stored.status < 1000
+  pub is_whole : (stored.status == partial_content) ≡ false
   pub short : length stored.body ≤ longest_body
 
 abbrev pub IsSound : List Item → Target → Stored → Type 0

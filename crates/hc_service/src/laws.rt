@@ -1,13 +1,15 @@
 //! What holds of every cache that does what it owes.
 
-ghost use Rattle.std.specs.Prelude.{◌≡◌, ℕ, Bool, false, List, ◌∷◌, Option, Some};
+ghost use Rattle.std.specs.Prelude.{◌≡◌, ℕ, Bool, true, false, List, ◌∷◌, Option, Some};
 ghost use Rattle.hc_fields.specs.declared.fields.Field.{Field};
 ghost use Rattle.hc_head.specs.declared.head.ResponseHead.{ResponseHead};
 ghost use Rattle.hc_head.specs.declared.head.Target.{Target};
 ghost use Rattle.hc_framing.specs.declared.message.Message.{Message};
 ghost use Rattle.hc_update.specs.declared.stored.Stored.{Stored};
-ghost use Rattle.hc_transcript.specs.Items.{Item, OriginResponse};
-ghost use Rattle.hc_transcript.specs.History.{forward_of};
+ghost use Rattle.hc_transcript.specs.Items.{ClientReply, Exchange, Item, OriginResponse};
+ghost use Rattle.hc_transcript.specs.History.{exchange_of, forward_of};
+ghost use Rattle.hc_history.specs.Right.{IsRight};
+ghost use Rattle.hc_store.specs.Choosing.{is_selected};
 ghost use Rattle.hc_store.specs.Entries.{Holdings};
 ghost use Rattle.hc_service.specs.declared.open.OpenForward.{OpenForward};
 ghost use Rattle.hc_service.specs.Answers.{Renews};
@@ -17,8 +19,12 @@ ghost use Rattle.hc_events.specs.declared.Event.{Event};
 ghost use Rattle.hc_transcript.specs.declared.record.Record.{Record};
 ghost use Rattle.hc_service.specs.declared.settings.CoreSettings.{CoreSettings};
 ghost use Rattle.hc_service.specs.State.{State, new_state};
-ghost use Rattle.hc_service.specs.Agreement.{Agrees, History};
-ghost use Rattle.hc_service.specs.Runs.{Runs, nothing_yet, StepResult};
+ghost use Rattle.hc_service.specs.Agreement.{Agrees, History, IsSound};
+ghost use Rattle.hc_service.specs.Runs.{Runs, nothing_yet, StepResult, strict};
+ghost use Rattle.hc_service.specs.Asking.{is_answered_by_store};
+ghost use Rattle.hc_service.specs.Replying.{Wanted, hit_reply};
+ghost use Rattle.hc_service.specs.Serving.{may_be_served};
+ghost use Rattle.hc_service.specs.Settings.{is_name};
 
 /// A new cache agrees with nothing having happened.
 pub fn new_cache_agrees()
@@ -52,4 +58,14 @@ pub fn stored_responses_are_those_of_the_records()
         → HasSources (OriginResponse number moment response ∷ items) old
         → Stores forward moment response old stored new
         → HasSources (OriginResponse number moment response ∷ items) new }
+{}
+
+/// A hit is right in the strictest audit: a stored response that the request selects and that may be
+/// served is reused, whatever has happened besides.
+pub fn hits_are_right()
+    ensures { (items : List Item) (x : Exchange) (wanted : Wanted) (stored : Stored) → is_name wanted.name ≡ true
+        → exchange_of x.number items ≡ Some x → wanted.asked ≡ x.request → IsSound items x.target stored
+        → is_answered_by_store x.request.method ≡ true → is_selected x.request.fields stored ≡ true
+        → may_be_served x.request.fields stored wanted.moment ≡ true
+        → IsRight strict items (ClientReply x.number wanted.moment (hit_reply wanted stored)) }
 {}
