@@ -4,3 +4,4 @@ pub mod StoreLemmas
 pub mod SourceLemmas
 pub mod NameLemmas
 pub mod RightLemmas
+pub mod PassedLemmas

@@ -1,9 +1,10 @@
 //! What holds of every cache that does what it owes.
 
-ghost use Rattle.std.specs.Prelude.{◌≡◌, ℕ, Bool, true, false, List, ◌∷◌, Option, Some};
+ghost use Rattle.std.specs.Prelude.{◌≡◌, ℕ, Bool, ◌≤◌, true, false, List, [], ◌∷◌, Option, Some};
 ghost use Rattle.hc_fields.specs.declared.fields.Field.{Field};
 ghost use Rattle.hc_head.specs.declared.head.ResponseHead.{ResponseHead};
 ghost use Rattle.hc_head.specs.declared.head.Target.{Target};
+ghost use Rattle.hc_head.specs.Methods.{is_head};
 ghost use Rattle.hc_framing.specs.declared.message.Message.{Message};
 ghost use Rattle.hc_update.specs.declared.stored.Stored.{Stored};
 ghost use Rattle.hc_transcript.specs.Items.{ClientReply, Exchange, Item, OriginResponse};
@@ -11,6 +12,7 @@ ghost use Rattle.hc_transcript.specs.History.{exchange_of, forward_of};
 ghost use Rattle.hc_history.specs.Right.{IsRight};
 ghost use Rattle.hc_store.specs.Choosing.{is_selected};
 ghost use Rattle.hc_store.specs.Entries.{Holdings};
+ghost use Rattle.hc_service.specs.declared.cases.Cause.{Cause};
 ghost use Rattle.hc_service.specs.declared.open.OpenForward.{OpenForward};
 ghost use Rattle.hc_service.specs.Answers.{Renews};
 ghost use Rattle.hc_service.specs.Choices.{Finds, Stores};
@@ -22,7 +24,7 @@ ghost use Rattle.hc_service.specs.State.{State, new_state};
 ghost use Rattle.hc_service.specs.Agreement.{Agrees, History, IsSound};
 ghost use Rattle.hc_service.specs.Runs.{Runs, nothing_yet, StepResult, strict};
 ghost use Rattle.hc_service.specs.Asking.{is_answered_by_store};
-ghost use Rattle.hc_service.specs.Replying.{Wanted, hit_reply};
+ghost use Rattle.hc_service.specs.Replying.{Wanted, hit_reply, made_reply, passed_reply};
 ghost use Rattle.hc_service.specs.Serving.{may_be_served};
 ghost use Rattle.hc_service.specs.Settings.{is_name};
 
@@ -68,4 +70,19 @@ pub fn hits_are_right()
         → is_answered_by_store x.request.method ≡ true → is_selected x.request.fields stored ≡ true
         → may_be_served x.request.fields stored wanted.moment ≡ true
         → IsRight strict items (ClientReply x.number wanted.moment (hit_reply wanted stored)) }
+{}
+
+/// What the origin answered to a forward of the request is a right reply, and so is one of status 400
+/// or more that the cache makes itself.
+pub fn other_replies_are_right()
+    ensures passed { (items : List Item) (f moment : ℕ) (response : Message ResponseHead) (forward : OpenForward)
+        (x : Exchange) (wanted : Wanted) (why : Cause) (stored : Bool) → is_name wanted.name ≡ true
+        → forward_of f items ≡ Some (recorded_forward forward) → exchange_of x.number items ≡ Some x
+        → forward.request.method ≡ x.request.method → forward.target ≡ x.target
+        → (is_head x.request.method ≡ true → response.body ≡ [])
+        → IsRight strict (OriginResponse f moment response ∷ items)
+        (ClientReply x.number wanted.moment (passed_reply wanted why stored response)) }
+    ensures made { (items : List Item) (x : Exchange) (wanted : Wanted) (status : ℕ)
+        → exchange_of x.number items ≡ Some x → 400 ≤ status
+        → IsRight strict items (ClientReply x.number wanted.moment (made_reply wanted status)) }
 {}
