@@ -5,3 +5,4 @@ pub mod SourceLemmas
 pub mod NameLemmas
 pub mod RightLemmas
 pub mod PassedLemmas
+pub mod ReceivedLemmas

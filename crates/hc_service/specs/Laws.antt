@@ -1,8 +1,19 @@
 -- What the laws of a cache speak of.
-use Rattle.std.specs.Prelude.{◌≡◌, ℕ, Bool, true, false, List, Some}
+use Rattle.std.specs.Prelude.{◌≡◌, ◌≤◌, Bool, true, false, List, [], length}
 use Rattle.std.specs.List.{IsDistinct}
 use Rattle.std.specs.Map.{keys_of}
+use Rattle.hc_head.specs.declared.head.RequestHead.{RequestHead}
+use Rattle.hc_head.specs.declared.head.ResponseHead.{ResponseHead}
+use Rattle.hc_head.specs.declared.head.Target.{Target}
+use Rattle.hc_head.specs.declared.head.TheConstants.Room.{RECORDED}
+use Rattle.hc_head.specs.Passing.{AreKeptLines}
+use Rattle.hc_head.specs.Plain.{IsPlainResponse}
 use Rattle.hc_head.specs.Targets.{same_target}
+use Rattle.hc_head.specs.Writable.{has_framing, longest_body}
+use Rattle.hc_framing.specs.declared.message.Message.{Message}
+use Rattle.hc_framing.specs.Framing.{ends_with_head}
+use Rattle.hc_framing.specs.Written.{IsReadableRequest}
+use Rattle.hc_rules.specs.Laws.{IsForwardable}
 use Rattle.hc_transcript.specs.Items.{Item, ClientRequest, OriginRequest, OriginResponse, OriginFailure, ClientReply, Forward}
 use Rattle.hc_store.specs.Entries.{Holdings}
 use Rattle.hc_service.specs.declared.open.OpenForward.{OpenForward}
@@ -21,3 +32,17 @@ recorded_forward forward = record { moment = forward.moment; request = forward.r
 pub record HasSources (items : List Item) (store : Holdings) : Type 0 where
   pub keys : IsDistinct same_target (keys_of store.entries)
   pub sources : AllHeld (HasSource items) store.entries
+
+-- an answer of the origin as it was received: its lines are few and plain and frame no body, its body is within the limit, and none where it ends with its head
+pub record IsReceivedAnswer (to_head : Bool) (response : Message ResponseHead) : Type 0 where
+  pub plain : IsPlainResponse response.head
+  pub lines : AreKeptLines response.head.fields
+  pub no_framing : has_framing response.head.fields ≡ false
+  pub short : length response.body ≤ longest_body
+  pub bare : ends_with_head to_head response.head.status ≡ true → response.body ≡ []
+  pub is_final : 200 ≤ response.head.status
+
+-- a request as it was received, of that target: it can be recorded, and passed on
+pub record IsReceivedAsk (request : Message RequestHead) (target : Target) : Type 0 where
+  pub forwardable : IsForwardable request.head target
+  pub readable : IsReadableRequest request RECORDED

@@ -2,6 +2,7 @@
 
 ghost use Rattle.std.specs.Prelude.{◌≡◌, ℕ, Bool, ◌≤◌, true, false, List, [], ◌∷◌, Option, Some};
 ghost use Rattle.hc_fields.specs.declared.fields.Field.{Field};
+ghost use Rattle.hc_head.specs.declared.head.RequestHead.{RequestHead};
 ghost use Rattle.hc_head.specs.declared.head.ResponseHead.{ResponseHead};
 ghost use Rattle.hc_head.specs.declared.head.Target.{Target};
 ghost use Rattle.hc_head.specs.Methods.{is_head};
@@ -11,12 +12,13 @@ ghost use Rattle.hc_transcript.specs.Items.{ClientReply, Exchange, Item, OriginR
 ghost use Rattle.hc_transcript.specs.History.{exchange_of, forward_of};
 ghost use Rattle.hc_history.specs.Right.{IsRight};
 ghost use Rattle.hc_store.specs.Choosing.{is_selected};
+ghost use Rattle.hc_links.specs.Requests.{IsRequest};
 ghost use Rattle.hc_store.specs.Entries.{Holdings};
 ghost use Rattle.hc_service.specs.declared.cases.Cause.{Cause};
 ghost use Rattle.hc_service.specs.declared.open.OpenForward.{OpenForward};
 ghost use Rattle.hc_service.specs.Answers.{Renews};
 ghost use Rattle.hc_service.specs.Choices.{Finds, Stores};
-ghost use Rattle.hc_service.specs.Laws.{HasSources, is_response, recorded_forward};
+ghost use Rattle.hc_service.specs.Laws.{HasSources, IsReceivedAnswer, IsReceivedAsk, is_response, recorded_forward};
 ghost use Rattle.hc_events.specs.declared.Event.{Event};
 ghost use Rattle.hc_transcript.specs.declared.record.Record.{Record};
 ghost use Rattle.hc_service.specs.declared.settings.CoreSettings.{CoreSettings};
@@ -26,6 +28,7 @@ ghost use Rattle.hc_service.specs.Runs.{Runs, nothing_yet, StepResult, strict};
 ghost use Rattle.hc_service.specs.Asking.{is_answered_by_store};
 ghost use Rattle.hc_service.specs.Replying.{Wanted, hit_reply, made_reply, passed_reply};
 ghost use Rattle.hc_service.specs.Serving.{may_be_served};
+ghost use Rattle.hc_service.specs.Turns.{IsAnswer};
 ghost use Rattle.hc_service.specs.Settings.{is_name};
 
 /// A new cache agrees with nothing having happened.
@@ -85,4 +88,12 @@ pub fn other_replies_are_right()
     ensures made { (items : List Item) (x : Exchange) (wanted : Wanted) (status : ℕ)
         → exchange_of x.number items ≡ Some x → 400 ≤ status
         → IsRight strict items (ClientReply x.number wanted.moment (made_reply wanted status)) }
+{}
+
+/// What is read off a connection can be recorded and passed on.
+pub fn received_messages_can_be_recorded()
+    ensures request { (octets : List ℕ) (request : Message RequestHead) (target : Target) (size : ℕ)
+        → IsRequest octets request target size → IsReceivedAsk request target }
+    ensures response { (ended to_head : Bool) (octets : List ℕ) (response : Message ResponseHead)
+        → IsAnswer ended to_head octets response → IsReceivedAnswer to_head response }
 {}
