@@ -6,3 +6,4 @@ pub mod NameLemmas
 pub mod RightLemmas
 pub mod PassedLemmas
 pub mod ReceivedLemmas
+pub mod RecordLemmas

@@ -1,5 +1,5 @@
 -- What the laws of a cache speak of.
-use Rattle.std.specs.Prelude.{◌≡◌, ◌≤◌, Bool, true, false, List, [], length}
+use Rattle.std.specs.Prelude.{◌≡◌, ◌≤◌, Bool, true, false, List, [], ◌∷◌, length}
 use Rattle.std.specs.List.{IsDistinct}
 use Rattle.std.specs.Map.{keys_of}
 use Rattle.hc_head.specs.declared.head.RequestHead.{RequestHead}
@@ -14,10 +14,11 @@ use Rattle.hc_framing.specs.declared.message.Message.{Message}
 use Rattle.hc_framing.specs.Framing.{ends_with_head}
 use Rattle.hc_framing.specs.Written.{IsReadableRequest}
 use Rattle.hc_rules.specs.Laws.{IsForwardable}
+use Rattle.hc_transcript.specs.declared.record.Record.{Record}
 use Rattle.hc_transcript.specs.Items.{Item, ClientRequest, OriginRequest, OriginResponse, OriginFailure, ClientReply, Forward}
 use Rattle.hc_store.specs.Entries.{Holdings}
 use Rattle.hc_service.specs.declared.open.OpenForward.{OpenForward}
-use Rattle.hc_service.specs.Agreement.{AllHeld, HasSource}
+use Rattle.hc_service.specs.Agreement.{AllHeld, HasSource, History}
 
 -- whether an item is a response of the origin
 abbrev pub is_response : Item → Bool
@@ -46,3 +47,7 @@ pub record IsReceivedAnswer (to_head : Bool) (response : Message ResponseHead) :
 pub record IsReceivedAsk (request : Message RequestHead) (target : Target) : Type 0 where
   pub forwardable : IsForwardable request.head target
   pub readable : IsReadableRequest request RECORDED
+
+-- a history with a record more, and what it means
+abbrev pub with_record : Record → Item → History → History
+with_record r item h = record { records = r ∷ h.records; items = item ∷ h.items; heard = h.heard; told = h.told }

@@ -1,6 +1,6 @@
 //! What holds of every cache that does what it owes.
 
-ghost use Rattle.std.specs.Prelude.{◌≡◌, ℕ, Bool, ◌≤◌, true, false, List, [], ◌∷◌, Option, Some};
+ghost use Rattle.std.specs.Prelude.{◌≡◌, ℕ, Bool, ◌≤◌, ◌<◌, true, false, List, [], ◌∷◌, Option, Some};
 ghost use Rattle.hc_fields.specs.declared.fields.Field.{Field};
 ghost use Rattle.hc_head.specs.declared.head.RequestHead.{RequestHead};
 ghost use Rattle.hc_head.specs.declared.head.ResponseHead.{ResponseHead};
@@ -8,9 +8,14 @@ ghost use Rattle.hc_head.specs.declared.head.Target.{Target};
 ghost use Rattle.hc_head.specs.Methods.{is_head};
 ghost use Rattle.hc_framing.specs.declared.message.Message.{Message};
 ghost use Rattle.hc_update.specs.declared.stored.Stored.{Stored};
-ghost use Rattle.hc_transcript.specs.Items.{ClientReply, Exchange, Item, OriginResponse};
+ghost use Rattle.hc_transcript.specs.Items.{ClientReply, ClientRequest, Exchange, Forward, Item, OriginFailure, OriginRequest, OriginResponse};
 ghost use Rattle.hc_transcript.specs.History.{exchange_of, forward_of};
+ghost use Rattle.hc_transcript.specs.Limits.{greatest_number};
+ghost use Rattle.hc_transcript.specs.Written.{IsWritableAnswer, IsWritableAsk};
 ghost use Rattle.hc_history.specs.Right.{IsRight};
+ghost use Rattle.hc_service.specs.declared.numbers.Numbers.{Numbers};
+ghost use Rattle.hc_service.specs.Numbers.{asked, noted, one_more, sent};
+ghost use Rattle.hc_service.specs.Sending.{failure_record, forward_record, reply_record, request_record, response_record};
 ghost use Rattle.hc_store.specs.Choosing.{is_selected};
 ghost use Rattle.hc_links.specs.Requests.{IsRequest};
 ghost use Rattle.hc_store.specs.Entries.{Holdings};
@@ -18,12 +23,12 @@ ghost use Rattle.hc_service.specs.declared.cases.Cause.{Cause};
 ghost use Rattle.hc_service.specs.declared.open.OpenForward.{OpenForward};
 ghost use Rattle.hc_service.specs.Answers.{Renews};
 ghost use Rattle.hc_service.specs.Choices.{Finds, Stores};
-ghost use Rattle.hc_service.specs.Laws.{HasSources, IsReceivedAnswer, IsReceivedAsk, is_response, recorded_forward};
+ghost use Rattle.hc_service.specs.Laws.{HasSources, IsReceivedAnswer, IsReceivedAsk, is_response, recorded_forward, with_record};
 ghost use Rattle.hc_events.specs.declared.Event.{Event};
 ghost use Rattle.hc_transcript.specs.declared.record.Record.{Record};
 ghost use Rattle.hc_service.specs.declared.settings.CoreSettings.{CoreSettings};
 ghost use Rattle.hc_service.specs.State.{State, new_state};
-ghost use Rattle.hc_service.specs.Agreement.{Agrees, History, IsSound};
+ghost use Rattle.hc_service.specs.Agreement.{AreCounted, Agrees, History, IsSound};
 ghost use Rattle.hc_service.specs.Runs.{Runs, nothing_yet, StepResult, strict};
 ghost use Rattle.hc_service.specs.Asking.{is_answered_by_store};
 ghost use Rattle.hc_service.specs.Replying.{Wanted, hit_reply, made_reply, passed_reply};
@@ -96,4 +101,32 @@ pub fn received_messages_can_be_recorded()
         → IsRequest octets request target size → IsReceivedAsk request target }
     ensures response { (ended to_head : Bool) (octets : List ℕ) (response : Message ResponseHead)
         → IsAnswer ended to_head octets response → IsReceivedAnswer to_head response }
+{}
+
+/// What is recorded keeps to the format of a transcript, as far as records can be numbered, and the counts
+/// stay those of the records.
+pub fn records_keep_to_the_format()
+    ensures ask { (n : Numbers) (h : History) (request : Message RequestHead) (target : Target) → AreCounted n h
+        → IsWritableAsk request target → one_more n.records ≤ greatest_number
+        → AreCounted (asked n) (with_record (request_record (one_more n.exchange) n.moment request)
+        (ClientRequest (one_more n.exchange) n.moment request target) h) }
+    ensures send { (n : Numbers) (h : History) (request : Message RequestHead) (target : Target) → AreCounted n h
+        → IsWritableAsk request target → one_more n.records ≤ greatest_number
+        → AreCounted (sent n) (with_record (forward_record (one_more n.forward) n.moment request)
+        (OriginRequest (one_more n.forward) n.moment request target) h) }
+    ensures response { (n : Numbers) (h : History) → AreCounted n h → one_more n.records ≤ greatest_number
+        → (f : ℕ) (forward : Forward) (response : Message ResponseHead) → 1 ≤ f → f ≤ greatest_number
+        → forward_of f h.items ≡ Some forward → IsWritableAnswer (is_head forward.request.method) response
+        → response.head.status < 1000
+        → AreCounted (noted n) (with_record (response_record f n.moment (is_head forward.request.method) response)
+        (OriginResponse f n.moment response) h) }
+    ensures failure { (n : Numbers) (h : History) → AreCounted n h → one_more n.records ≤ greatest_number
+        → (f : ℕ) (forward : Forward) → 1 ≤ f → f ≤ greatest_number → forward_of f h.items ≡ Some forward
+        → AreCounted (noted n) (with_record (failure_record f n.moment) (OriginFailure f n.moment) h) }
+    ensures reply { (n : Numbers) (h : History) → AreCounted n h → one_more n.records ≤ greatest_number
+        → (e : ℕ) (exchange : Exchange) (reply : Message ResponseHead) → 1 ≤ e → e ≤ greatest_number
+        → exchange_of e h.items ≡ Some exchange → IsWritableAnswer (is_head exchange.request.method) reply
+        → reply.head.status < 1000
+        → AreCounted (noted n) (with_record (reply_record e n.moment (is_head exchange.request.method) reply)
+        (ClientReply e n.moment reply) h) }
 {}

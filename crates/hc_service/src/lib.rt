@@ -19,7 +19,7 @@ pub use cases::{Case, Cause, case_before_store, case_by_store};
 pub use fault::StepFault;
 pub use laws::{
     hits_are_right, new_cache_agrees, other_replies_are_right,
-    received_messages_can_be_recorded, runs_begin_with_agreement,
+    received_messages_can_be_recorded, records_keep_to_the_format, runs_begin_with_agreement,
     stored_responses_are_those_of_the_records,
 };
 pub use numbers::Numbers;
