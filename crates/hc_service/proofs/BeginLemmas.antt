@@ -41,21 +41,25 @@ new_agrees settings = record {
     entries = tt;
     keys = no_keys;
     heard = record {
-      connections = λ c k is. nothing_there c k is;
-      forwards = λ f a is. nothing_there f a is;
+      connections_are = λ c k is. nothing_there c k is;
+      forwards_are = λ f a is. nothing_there f a is;
       later_connections = λ c later. refl;
       later_forwards = λ f later. refl;
     };
-    open_now = record {
-      exchanges = λ e. rw get_none refl;
-      forwards = λ f. rw get_none refl;
+    asked = record {
+      exchanges_are = λ e. rw get_none refl;
+      forwards_are = λ f. rw get_none refl;
       purposes = λ f a is. nothing_there f a is;
       alone = λ f g e a b is. nothing_there f a is;
-      waiting = λ e x is. nothing_there e x is;
-      busy = λ c e k is. nothing_there c k is;
-      later_connections = λ c later. get_none c;
       later_exchanges = λ e later. get_none e;
       later_forwards = λ f later. get_none f;
+      no_exchange = get_none 0;
+      no_forward = get_none 0;
+    };
+    linked = record {
+      waiting = λ e x is. nothing_there e x is;
+      busy = λ c e k is. nothing_there c k is;
+      later = λ c later. get_none c;
     };
     few = rw len-empty (omega arith);
   };

@@ -7,3 +7,4 @@ pub mod RightLemmas
 pub mod PassedLemmas
 pub mod ReceivedLemmas
 pub mod RecordLemmas
+pub mod LinkLemmas

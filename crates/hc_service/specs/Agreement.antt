@@ -11,6 +11,7 @@ use Rattle.hc_head.specs.Statuses.{partial_content}
 use Rattle.hc_head.specs.Targets.{same_target}
 use Rattle.hc_head.specs.Writable.{has_framing, longest_body}
 use Rattle.hc_framing.specs.declared.message.Message.{Message}
+use Rattle.hc_framing.specs.Framing.{ends_with_head}
 use Rattle.hc_rules.specs.Laws.{IsForwardable}
 use Rattle.hc_update.specs.declared.stored.Stored.{Stored}
 use Rattle.hc_transcript.specs.declared.record.Record.{Record}
@@ -30,7 +31,7 @@ use Rattle.hc_service.specs.declared.open.Purpose.TheVariants as purpose
 use Rattle.hc_service.specs.Asking.{is_answered_by_store}
 use Rattle.hc_service.specs.Cases.{asks_store}
 use Rattle.hc_service.specs.Numbers.{is_later}
-use Rattle.hc_service.specs.State.{State, Connection, Awaited}
+use Rattle.hc_service.specs.State.{State, Table, Connection, Awaited}
 use Rattle.hc_service.specs.Choices.{OnTest}
 use Rattle.hc_service.specs.Serves.{IsQuietAt}
 use Rattle.hc_service.specs.Turns.{most_connections}
@@ -70,7 +71,7 @@ pub record HasSource (items : List Item) (target : Target) (stored : Stored) : T
   pub is_valid : stored.invalid ≡ false
 
 -- it can be a reply that is read back: few and plain lines, without Age and without what frames a body, a final status that is of no part, and a body within
--- the limit
+-- the limit, and none where the status has none
 pub record CanReply (stored : Stored) : Type 0 where
   pub lines : AreKeptLines stored.fields
   pub no_framing : has_framing stored.fields ≡ false
@@ -79,6 +80,7 @@ pub record CanReply (stored : Stored) : Type 0 where
   pub has_digits : stored.status < 1000
   pub is_whole : (stored.status == partial_content) ≡ false
   pub short : length stored.body ≤ longest_body
+  pub bare : ends_with_head false stored.status ≡ true → stored.body ≡ []
 
 abbrev pub IsSound : List Item → Target → Stored → Type 0
 IsSound items target stored = HasSource items target stored × CanReply stored
@@ -101,12 +103,13 @@ pub record HasLeft (k : Connection) : Type 0 where
 abbrev pub IsReadOf : List ℕ → Connection → Type 0
 IsReadOf octets k = OnTest k.leaves (HasLeft k) ((count : ℕ) × AreRequestsThen count octets k.unread)
 
-pub record AreHeard (s : State) (h : History) : Type 0 where
-  pub connections : (c : ℕ) (k : Connection) → get s.connections c ≡ Some k → IsReadOf (h.heard c) k
-  pub forwards : (f : ℕ) (a : Awaited) → get s.forwards f ≡ Some a → a.heard ≡ h.told f
+-- by the numbers of the last connection and the last forward
+pub record AreHeard (last : Option ℕ) (forward : ℕ) (connections : Table Connection) (forwards : Table Awaited) (heard told : ℕ → List ℕ) : Type 0 where
+  pub connections_are : (c : ℕ) (k : Connection) → get connections c ≡ Some k → IsReadOf (heard c) k
+  pub forwards_are : (f : ℕ) (a : Awaited) → get forwards f ≡ Some a → a.heard ≡ told f
   -- nothing has come where nothing was open
-  pub later_connections : (c : ℕ) → is_later c s.numbers.connection ≡ true → h.heard c ≡ []
-  pub later_forwards : (f : ℕ) → s.numbers.forward < f → h.told f ≡ []
+  pub later_connections : (c : ℕ) → is_later c last ≡ true → heard c ≡ []
+  pub later_forwards : (f : ℕ) → forward < f → told f ≡ []
 
 -- ---- 4: what is open
 
@@ -127,46 +130,52 @@ pub record AsksFor (x : OpenExchange) (why : Cause) (forward : OpenForward) : Ty
   pub by_store : asks_store why ≡ true → is_answered_by_store x.request.method ≡ true
 
 -- the request that the forward is for waits for it
-pub record IsFor (s : State) (e : ℕ) (why : Cause) (forward : OpenForward) : Type 0 where
+pub record IsFor (exchanges : Table OpenExchange) (e : ℕ) (why : Cause) (forward : OpenForward) : Type 0 where
   pub exchange : OpenExchange
-  pub waits : get s.exchanges e ≡ Some exchange
+  pub waits : get exchanges e ≡ Some exchange
   pub asks_for : AsksFor exchange why forward
 
-abbrev pub KeepsPurpose : State → Purpose → OpenForward → Type 0
-KeepsPurpose s purpose.Background forward = forward.request.method ≡ codes "GET"
-KeepsPurpose s (purpose.Reply e why conditional) forward = IsFor s e why forward
-
--- the request waits on its connection
-pub record WaitsOn (s : State) (e : ℕ) (x : OpenExchange) : Type 0 where
-  pub connection : Connection
-  pub is_open : get s.connections x.connection ≡ Some connection
-  pub waits : connection.exchange ≡ Some e
-  pub forwardable : IsForwardable x.request x.target
-
--- the connection's request waits there
-pub record HasWaiting (s : State) (c e : ℕ) : Type 0 where
-  pub exchange : OpenExchange
-  pub is_open : get s.exchanges e ≡ Some exchange
-  pub is_its : exchange.connection ≡ c
+abbrev pub KeepsPurpose : Table OpenExchange → Purpose → OpenForward → Type 0
+KeepsPurpose exchanges purpose.Background forward = forward.request.method ≡ codes "GET"
+KeepsPurpose exchanges (purpose.Reply e why conditional) forward = IsFor exchanges e why forward
 
 -- the exchange that a forward is for
 abbrev pub exchange_for : Purpose → Option ℕ
 exchange_for purpose.Background = None
 exchange_for (purpose.Reply e why conditional) = Some e
 
-pub record AreOpen (s : State) (items : List Item) : Type 0 where
-  pub exchanges : (e : ℕ) → IsSeenExchange e (get s.exchanges e) (exchange_of e items)
-  pub forwards : (f : ℕ) → forward_of f items ≡ option_map seen_forward (get s.forwards f)
-  pub purposes : (f : ℕ) (a : Awaited) → get s.forwards f ≡ Some a → KeepsPurpose s a.forward.purpose a.forward
+-- what is open is what the records leave open, by the numbers of the last exchange and the last forward
+pub record AreAsked (exchange forward : ℕ) (exchanges : Table OpenExchange) (forwards : Table Awaited) (items : List Item) : Type 0 where
+  pub exchanges_are : (e : ℕ) → IsSeenExchange e (get exchanges e) (exchange_of e items)
+  pub forwards_are : (f : ℕ) → forward_of f items ≡ option_map seen_forward (get forwards f)
+  pub purposes : (f : ℕ) (a : Awaited) → get forwards f ≡ Some a → KeepsPurpose exchanges a.forward.purpose a.forward
   -- no two forwards are for the same request
-  pub alone : (f g e : ℕ) (a b : Awaited) → get s.forwards f ≡ Some a → get s.forwards g ≡ Some b
+  pub alone : (f g e : ℕ) (a b : Awaited) → get forwards f ≡ Some a → get forwards g ≡ Some b
       → exchange_for a.forward.purpose ≡ Some e → exchange_for b.forward.purpose ≡ Some e → f ≡ g
-  pub waiting : (e : ℕ) (x : OpenExchange) → get s.exchanges e ≡ Some x → WaitsOn s e x
-  pub busy : (c e : ℕ) (k : Connection) → get s.connections c ≡ Some k → k.exchange ≡ Some e → HasWaiting s c e
   -- numbers that weren't given yet
-  pub later_connections : (c : ℕ) → is_later c s.numbers.connection ≡ true → get s.connections c ≡ None
-  pub later_exchanges : (e : ℕ) → s.numbers.exchange < e → get s.exchanges e ≡ None
-  pub later_forwards : (f : ℕ) → s.numbers.forward < f → get s.forwards f ≡ None
+  pub later_exchanges : (e : ℕ) → exchange < e → get exchanges e ≡ None
+  pub later_forwards : (f : ℕ) → forward < f → get forwards f ≡ None
+  pub no_exchange : get exchanges 0 ≡ None
+  pub no_forward : get forwards 0 ≡ None
+
+-- the request waits on its connection, and can be passed on
+pub record WaitsOn (connections : Table Connection) (e : ℕ) (x : OpenExchange) : Type 0 where
+  pub connection : Connection
+  pub is_open : get connections x.connection ≡ Some connection
+  pub waits : connection.exchange ≡ Some e
+  pub forwardable : IsForwardable x.request x.target
+
+-- the connection's request waits there
+pub record HasWaiting (exchanges : Table OpenExchange) (c e : ℕ) : Type 0 where
+  pub exchange : OpenExchange
+  pub is_open : get exchanges e ≡ Some exchange
+  pub is_its : exchange.connection ≡ c
+
+-- the requests that wait are those of the connections, by the number of the last connection
+pub record AreLinked (last : Option ℕ) (connections : Table Connection) (exchanges : Table OpenExchange) : Type 0 where
+  pub waiting : (e : ℕ) (x : OpenExchange) → get exchanges e ≡ Some x → WaitsOn connections e x
+  pub busy : (c e : ℕ) (k : Connection) → get connections c ≡ Some k → k.exchange ≡ Some e → HasWaiting exchanges c e
+  pub later : (c : ℕ) → is_later c last ≡ true → get connections c ≡ None
 
 -- ---- all
 
@@ -175,8 +184,9 @@ pub record Stands (s : State) (h : History) : Type 0 where
   pub counted : AreCounted s.numbers h
   pub entries : AllHeld (IsSound h.items) s.store.entries
   pub keys : IsDistinct same_target (keys_of s.store.entries)
-  pub heard : AreHeard s h
-  pub open_now : AreOpen s h.items
+  pub heard : AreHeard s.numbers.connection s.numbers.forward s.connections s.forwards h.heard h.told
+  pub asked : AreAsked s.numbers.exchange s.numbers.forward s.exchanges s.forwards h.items
+  pub linked : AreLinked s.numbers.connection s.connections s.exchanges
   pub few : len s.connections ≤ most_connections
 
 -- 5: nothing that has come can be read yet, and while a request waits for its reply no more octets wait than may

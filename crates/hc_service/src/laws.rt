@@ -1,6 +1,6 @@
 //! What holds of every cache that does what it owes.
 
-ghost use Rattle.std.specs.Prelude.{◌≡◌, ℕ, Bool, ◌≤◌, ◌<◌, true, false, List, [], ◌∷◌, Option, Some};
+ghost use Rattle.std.specs.Prelude.{◌≡◌, ℕ, Bool, ◌≤◌, ◌<◌, true, false, List, [], ◌∷◌, Option, Some, None};
 ghost use Rattle.hc_fields.specs.declared.fields.Field.{Field};
 ghost use Rattle.hc_head.specs.declared.head.RequestHead.{RequestHead};
 ghost use Rattle.hc_head.specs.declared.head.ResponseHead.{ResponseHead};
@@ -14,7 +14,7 @@ ghost use Rattle.hc_transcript.specs.Limits.{greatest_number};
 ghost use Rattle.hc_transcript.specs.Written.{IsWritableAnswer, IsWritableAsk};
 ghost use Rattle.hc_history.specs.Right.{IsRight};
 ghost use Rattle.hc_service.specs.declared.numbers.Numbers.{Numbers};
-ghost use Rattle.hc_service.specs.Numbers.{asked, noted, one_more, sent};
+ghost use Rattle.hc_service.specs.Numbers.{asked, is_later, noted, one_more, sent};
 ghost use Rattle.hc_service.specs.Sending.{failure_record, forward_record, reply_record, request_record, response_record};
 ghost use Rattle.hc_store.specs.Choosing.{is_selected};
 ghost use Rattle.hc_links.specs.Requests.{IsRequest};
@@ -27,13 +27,16 @@ ghost use Rattle.hc_service.specs.Laws.{HasSources, IsReceivedAnswer, IsReceived
 ghost use Rattle.hc_events.specs.declared.Event.{Event};
 ghost use Rattle.hc_transcript.specs.declared.record.Record.{Record};
 ghost use Rattle.hc_service.specs.declared.settings.CoreSettings.{CoreSettings};
-ghost use Rattle.hc_service.specs.State.{State, new_state};
-ghost use Rattle.hc_service.specs.Agreement.{AreCounted, Agrees, History, IsSound};
+ghost use Rattle.std.specs.FinMap.{get, insert, remove};
+ghost use Rattle.hc_rules.specs.Laws.{IsForwardable};
+ghost use Rattle.hc_service.specs.declared.open.OpenExchange.{OpenExchange};
+ghost use Rattle.hc_service.specs.State.{Connection, State, Table, new_connection, new_state};
+ghost use Rattle.hc_service.specs.Agreement.{AreCounted, AreLinked, Agrees, History, IsSound};
 ghost use Rattle.hc_service.specs.Runs.{Runs, nothing_yet, StepResult, strict};
 ghost use Rattle.hc_service.specs.Asking.{is_answered_by_store};
 ghost use Rattle.hc_service.specs.Replying.{Wanted, hit_reply, made_reply, passed_reply};
 ghost use Rattle.hc_service.specs.Serving.{may_be_served};
-ghost use Rattle.hc_service.specs.Turns.{IsAnswer};
+ghost use Rattle.hc_service.specs.Turns.{IsAnswer, after_request, replied};
 ghost use Rattle.hc_service.specs.Settings.{is_name};
 
 /// A new cache agrees with nothing having happened.
@@ -129,4 +132,23 @@ pub fn records_keep_to_the_format()
         → reply.head.status < 1000
         → AreCounted (noted n) (with_record (reply_record e n.moment (is_head exchange.request.method) reply)
         (ClientReply e n.moment reply) h) }
+{}
+
+/// The requests that wait stay those of the connections, whatever opens, closes, waits or is answered.
+pub fn waiting_requests_are_those_of_the_connections()
+    ensures opened { (last : Option ℕ) (ks : Table Connection) (xs : Table OpenExchange) → AreLinked last ks xs
+        → (c : ℕ) → is_later c last ≡ true → AreLinked (Some c) (insert ks c new_connection) xs }
+    ensures same { (last : Option ℕ) (ks : Table Connection) (xs : Table OpenExchange) → AreLinked last ks xs
+        → (c : ℕ) (k other : Connection) → get ks c ≡ Some k → other.exchange ≡ k.exchange
+        → AreLinked last (insert ks c other) xs }
+    ensures closed { (last : Option ℕ) (ks : Table Connection) (xs : Table OpenExchange) → AreLinked last ks xs
+        → (c : ℕ) (k : Connection) → get ks c ≡ Some k → k.exchange ≡ None → AreLinked last (remove ks c) xs }
+    ensures asked { (last : Option ℕ) (ks : Table Connection) (xs : Table OpenExchange) → AreLinked last ks xs
+        → (c e : ℕ) (behind : List ℕ) (k : Connection) (x : OpenExchange) → get ks c ≡ Some k → k.exchange ≡ None
+        → get xs e ≡ None → x.connection ≡ c → IsForwardable x.request x.target
+        → AreLinked last (insert ks c (after_request e behind k)) (insert xs e x) }
+    ensures answered { (last : Option ℕ) (ks : Table Connection) (xs : Table OpenExchange) → AreLinked last ks xs
+        → (e : ℕ) (x : OpenExchange) (k : Connection) → get xs e ≡ Some x → get ks x.connection ≡ Some k
+        → (closes : Bool) (behind : List ℕ)
+        → AreLinked last (replied closes x.connection behind k ks) (remove xs e) }
 {}
