@@ -8,3 +8,4 @@ pub mod PassedLemmas
 pub mod ReceivedLemmas
 pub mod RecordLemmas
 pub mod LinkLemmas
+pub mod AskedLemmas

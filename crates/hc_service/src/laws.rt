@@ -30,13 +30,13 @@ ghost use Rattle.hc_service.specs.declared.settings.CoreSettings.{CoreSettings};
 ghost use Rattle.std.specs.FinMap.{get, insert, remove};
 ghost use Rattle.hc_rules.specs.Laws.{IsForwardable};
 ghost use Rattle.hc_service.specs.declared.open.OpenExchange.{OpenExchange};
-ghost use Rattle.hc_service.specs.State.{Connection, State, Table, new_connection, new_state};
-ghost use Rattle.hc_service.specs.Agreement.{AreCounted, AreLinked, Agrees, History, IsSound};
+ghost use Rattle.hc_service.specs.State.{Awaited, Connection, State, Table, new_connection, new_state};
+ghost use Rattle.hc_service.specs.Agreement.{AreAsked, AreCounted, AreLinked, Agrees, History, IsSound, exchange_for};
 ghost use Rattle.hc_service.specs.Runs.{Runs, nothing_yet, StepResult, strict};
 ghost use Rattle.hc_service.specs.Asking.{is_answered_by_store};
 ghost use Rattle.hc_service.specs.Replying.{Wanted, hit_reply, made_reply, passed_reply};
 ghost use Rattle.hc_service.specs.Serving.{may_be_served};
-ghost use Rattle.hc_service.specs.Turns.{IsAnswer, after_request, replied};
+ghost use Rattle.hc_service.specs.Turns.{IsAnswer, after_hearing, after_request, replied};
 ghost use Rattle.hc_service.specs.Settings.{is_name};
 
 /// A new cache agrees with nothing having happened.
@@ -151,4 +151,25 @@ pub fn waiting_requests_are_those_of_the_connections()
         → (e : ℕ) (x : OpenExchange) (k : Connection) → get xs e ≡ Some x → get ks x.connection ≡ Some k
         → (closes : Bool) (behind : List ℕ)
         → AreLinked last (replied closes x.connection behind k ks) (remove xs e) }
+{}
+
+/// What is open stays what the records leave open, whatever is asked, sent, told and answered.
+pub fn what_is_open_is_that_of_the_records()
+    ensures alone { (last other : ℕ) (xs : Table OpenExchange) (fs : Table Awaited) (items : List Item)
+        → AreAsked last other xs fs items → (e t u : ℕ) (request : Message RequestHead) (target : Target)
+        (reply : Message ResponseHead) → last < e
+        → AreAsked e other xs fs (ClientReply e u reply ∷ ClientRequest e t request target ∷ items) }
+    ensures told { (last other : ℕ) (xs : Table OpenExchange) (fs : Table Awaited) (items : List Item)
+        → AreAsked last other xs fs items → (f : ℕ) (octets : List ℕ) (a : Awaited) → get fs f ≡ Some a
+        → AreAsked last other xs (insert fs f (after_hearing octets a)) items }
+    ensures answered { (last other : ℕ) (xs : Table OpenExchange) (fs : Table Awaited) (items : List Item)
+        → AreAsked last other xs fs items → (f moment : ℕ) (response : Message ResponseHead) (a : Awaited)
+        → get fs f ≡ Some a → (e t : ℕ) (reply : Message ResponseHead) → exchange_for a.forward.purpose ≡ Some e
+        → AreAsked last other (remove xs e) (remove fs f)
+        (ClientReply e t reply ∷ OriginResponse f moment response ∷ items) }
+    ensures failed { (last other : ℕ) (xs : Table OpenExchange) (fs : Table Awaited) (items : List Item)
+        → AreAsked last other xs fs items → (f moment : ℕ) (a : Awaited)
+        → get fs f ≡ Some a → (e t : ℕ) (reply : Message ResponseHead) → exchange_for a.forward.purpose ≡ Some e
+        → AreAsked last other (remove xs e) (remove fs f)
+        (ClientReply e t reply ∷ OriginFailure f moment ∷ items) }
 {}
