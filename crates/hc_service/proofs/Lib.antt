@@ -9,3 +9,4 @@ pub mod ReceivedLemmas
 pub mod RecordLemmas
 pub mod LinkLemmas
 pub mod AskedLemmas
+pub mod HeardLemmas

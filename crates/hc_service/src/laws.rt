@@ -1,6 +1,6 @@
 //! What holds of every cache that does what it owes.
 
-ghost use Rattle.std.specs.Prelude.{◌≡◌, ℕ, Bool, ◌≤◌, ◌<◌, true, false, List, [], ◌∷◌, Option, Some, None};
+ghost use Rattle.std.specs.Prelude.{◌≡◌, ℕ, Bool, ◌≤◌, ◌<◌, true, false, List, [], ◌∷◌, drop, Option, Some, None};
 ghost use Rattle.hc_fields.specs.declared.fields.Field.{Field};
 ghost use Rattle.hc_head.specs.declared.head.RequestHead.{RequestHead};
 ghost use Rattle.hc_head.specs.declared.head.ResponseHead.{ResponseHead};
@@ -31,12 +31,12 @@ ghost use Rattle.std.specs.FinMap.{get, insert, remove};
 ghost use Rattle.hc_rules.specs.Laws.{IsForwardable};
 ghost use Rattle.hc_service.specs.declared.open.OpenExchange.{OpenExchange};
 ghost use Rattle.hc_service.specs.State.{Awaited, Connection, State, Table, new_connection, new_state};
-ghost use Rattle.hc_service.specs.Agreement.{AreAsked, AreCounted, AreLinked, Agrees, History, IsSound, exchange_for};
-ghost use Rattle.hc_service.specs.Runs.{Runs, nothing_yet, StepResult, strict};
+ghost use Rattle.hc_service.specs.Agreement.{AreAsked, AreCounted, AreHeard, AreLinked, Agrees, History, IsReadOf, IsSound, exchange_for};
+ghost use Rattle.hc_service.specs.Runs.{Runs, nothing_yet, StepResult, strict, with_octets};
 ghost use Rattle.hc_service.specs.Asking.{is_answered_by_store};
 ghost use Rattle.hc_service.specs.Replying.{Wanted, hit_reply, made_reply, passed_reply};
 ghost use Rattle.hc_service.specs.Serving.{may_be_served};
-ghost use Rattle.hc_service.specs.Turns.{IsAnswer, after_hearing, after_request, replied};
+ghost use Rattle.hc_service.specs.Turns.{IsAnswer, after_hearing, after_octets, after_request, replied};
 ghost use Rattle.hc_service.specs.Settings.{is_name};
 
 /// A new cache agrees with nothing having happened.
@@ -172,4 +172,20 @@ pub fn what_is_open_is_that_of_the_records()
         → get fs f ≡ Some a → (e t : ℕ) (reply : Message ResponseHead) → exchange_for a.forward.purpose ≡ Some e
         → AreAsked last other (remove xs e) (remove fs f)
         (ClientReply e t reply ∷ OriginFailure f moment ∷ items) }
+{}
+
+/// What is unread of a connection stays what came behind its last whole request, and what came of the
+/// origin on a forward is kept.
+pub fn unread_octets_are_those_that_came()
+    ensures octets { (last : Option ℕ) (forward : ℕ) (ks : Table Connection) (fs : Table Awaited)
+        (heard told : ℕ → List ℕ) → AreHeard last forward ks fs heard told
+        → (c : ℕ) (octets : List ℕ) (k : Connection) → IsReadOf (heard c) k → (is_later c last ≡ true → ⊥)
+        → AreHeard last forward (insert ks c (after_octets octets k)) fs (with_octets c octets heard) told }
+    ensures request { (octets : List ℕ) (k : Connection) → k.exchange ≡ None → IsReadOf octets k
+        → (e : ℕ) (request : Message RequestHead) (target : Target) (size : ℕ)
+        → IsRequest k.unread request target size → IsReadOf octets (after_request e (drop size k.unread) k) }
+    ensures told { (last : Option ℕ) (forward : ℕ) (ks : Table Connection) (fs : Table Awaited)
+        (heard told : ℕ → List ℕ) → AreHeard last forward ks fs heard told
+        → (f : ℕ) (octets : List ℕ) (a : Awaited) → get fs f ≡ Some a → (forward < f → ⊥)
+        → AreHeard last forward ks (insert fs f (after_hearing octets a)) heard (with_octets f octets told) }
 {}

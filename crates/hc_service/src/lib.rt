@@ -21,7 +21,7 @@ pub use laws::{
     hits_are_right, new_cache_agrees, other_replies_are_right,
     received_messages_can_be_recorded, records_keep_to_the_format, runs_begin_with_agreement,
     stored_responses_are_those_of_the_records, waiting_requests_are_those_of_the_connections,
-    what_is_open_is_that_of_the_records,
+    unread_octets_are_those_that_came, what_is_open_is_that_of_the_records,
 };
 pub use numbers::Numbers;
 pub use open::{OpenExchange, OpenForward, Purpose};
