@@ -10,3 +10,4 @@ pub mod RecordLemmas
 pub mod LinkLemmas
 pub mod AskedLemmas
 pub mod HeardLemmas
+pub mod EntryLemmas

@@ -2,6 +2,7 @@
 
 ghost use Rattle.std.specs.Prelude.{◌≡◌, ℕ, Bool, ◌≤◌, ◌<◌, true, false, List, [], ◌∷◌, drop, Option, Some, None};
 ghost use Rattle.hc_fields.specs.declared.fields.Field.{Field};
+ghost use Rattle.hc_fields.specs.Numbers.{end_of_moments};
 ghost use Rattle.hc_head.specs.declared.head.RequestHead.{RequestHead};
 ghost use Rattle.hc_head.specs.declared.head.ResponseHead.{ResponseHead};
 ghost use Rattle.hc_head.specs.declared.head.Target.{Target};
@@ -31,7 +32,7 @@ ghost use Rattle.std.specs.FinMap.{get, insert, remove};
 ghost use Rattle.hc_rules.specs.Laws.{IsForwardable};
 ghost use Rattle.hc_service.specs.declared.open.OpenExchange.{OpenExchange};
 ghost use Rattle.hc_service.specs.State.{Awaited, Connection, State, Table, new_connection, new_state};
-ghost use Rattle.hc_service.specs.Agreement.{AreAsked, AreCounted, AreHeard, AreLinked, Agrees, History, IsReadOf, IsSound, exchange_for};
+ghost use Rattle.hc_service.specs.Agreement.{AllHeld, CanReply, AreAsked, AreCounted, AreHeard, AreLinked, Agrees, History, IsReadOf, IsSound, exchange_for};
 ghost use Rattle.hc_service.specs.Runs.{Runs, nothing_yet, StepResult, strict, with_octets};
 ghost use Rattle.hc_service.specs.Asking.{is_answered_by_store};
 ghost use Rattle.hc_service.specs.Replying.{Wanted, hit_reply, made_reply, passed_reply};
@@ -188,4 +189,14 @@ pub fn unread_octets_are_those_that_came()
         (heard told : ℕ → List ℕ) → AreHeard last forward ks fs heard told
         → (f : ℕ) (octets : List ℕ) (a : Awaited) → get fs f ≡ Some a → (forward < f → ⊥)
         → AreHeard last forward ks (insert fs f (after_hearing octets a)) heard (with_octets f octets told) }
+{}
+
+/// What is stored can be a reply that is recorded and read back, whatever the store is asked.
+pub fn what_is_stored_can_be_a_reply()
+    ensures put { (forward : OpenForward) (moment : ℕ) (response : Message ResponseHead) (old : Holdings) (stored : Bool)
+        (new : Holdings) → IsReceivedAnswer false response → moment < end_of_moments
+        → AllHeld (λ target state. CanReply state) old.entries → Stores forward moment response old stored new
+        → AllHeld (λ target state. CanReply state) new.entries }
+    ensures hit { (wanted : Wanted) (stored : Stored) → is_name wanted.name ≡ true → CanReply stored
+        → IsWritableAnswer (is_head wanted.asked.method) (hit_reply wanted stored) }
 {}

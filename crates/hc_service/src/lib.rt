@@ -22,6 +22,7 @@ pub use laws::{
     received_messages_can_be_recorded, records_keep_to_the_format, runs_begin_with_agreement,
     stored_responses_are_those_of_the_records, waiting_requests_are_those_of_the_connections,
     unread_octets_are_those_that_came, what_is_open_is_that_of_the_records,
+    what_is_stored_can_be_a_reply,
 };
 pub use numbers::Numbers;
 pub use open::{OpenExchange, OpenForward, Purpose};
