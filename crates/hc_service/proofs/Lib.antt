@@ -11,3 +11,5 @@ pub mod LinkLemmas
 pub mod AskedLemmas
 pub mod HeardLemmas
 pub mod EntryLemmas
+pub mod OutcomeLemmas
+pub mod TurnLemmas

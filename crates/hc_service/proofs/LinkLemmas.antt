@@ -23,7 +23,7 @@ pub one_of : {X : Type 0} (o : Option X) (x y : X) → o ≡ Some x → o ≡ So
 one_of o x y a b = cc
 
 -- a number behind the last connection is behind all before
-later_behind : (c d : ℕ) (last : Option ℕ) → is_later c last ≡ true → is_later d (Some c) ≡ true → is_later d last ≡ true
+pub later_behind : (c d : ℕ) (last : Option ℕ) → is_later c last ≡ true → is_later d (Some c) ≡ true → is_later d last ≡ true
 later_behind c d None first second = refl
 later_behind c d (Some last) first second =
     let one : last < c = ltb-true last c first in

@@ -1,12 +1,13 @@
 -- The name of a cache, and the words of its marks, are tokens.
-use Rattle.std.proofs.Common.{◌≡◌, ℕ, ◌≤◌, ◌<◌, ◌^◌, Bool, true, false, ◌&&◌, ◌||◌, List, [], ◌∷◌, length, ℤ, pos, ◌-ℤ◌, unsigned_abs, refl, sym, ◌∙◌, arith, inl, inr, ⊎_elim}
+use Rattle.std.proofs.Common.{◌≡◌, ◌+◌, ℕ, ◌≤◌, ◌<◌, ◌^◌, Bool, true, false, ◌&&◌, ◌||◌, List, [], ◌∷◌, length, ℤ, pos, ◌-ℤ◌, unsigned_abs, refl, sym, ◌∙◌, arith, inl, inr, ⊎_elim}
 use Rattle.std.specs.Prelude.{◌==◌, nat_le, ◌⊎◌, Some, None, codes}
 use Rattle.std.specs.Char.{is_ascii_alphabetic, is_ascii_alphanumeric}
 use Rattle.std.specs.List.{list_all, list_any}
-use Rattle.std.proofs.lemmas.Bool.{cases_Bool, cases_eq, ne_eqb, and_from, and_parts, or_left, or_right, leb-true}
+use Rattle.std.proofs.lemmas.Bool.{cases_Bool, cases_eq, ne_eqb, and_from, and_parts, or_left, or_right, lt-ltb, leb-true}
 use Rattle.std.proofs.lemmas.Int.{ints}
 use Rattle.std.proofs.lemmas.List.Sums.{AllPass-from_list_all}
-use Rattle.hc_fresh.specs.Lifetimes.{freshness_lifetime}
+use Rattle.hc_fields.specs.Tokens as via
+use Rattle.hc_rules.specs.Laws.{IsCacheName}
 use Rattle.hc_fresh.proofs.LimitLemmas.{lifetime_small}
 use Rattle.hc_status.specs.Classes.{is_token_start, is_token_octet}
 use Rattle.hc_status.specs.Grammar.{IsToken}
@@ -104,3 +105,52 @@ forward_writable name cause stored is =
       short_name = token.1;
       short_word = word_is_short cause;
     }
+
+-- the name is a token of Via
+mark_of_token : (octet : ℕ) → is_name_octet octet ≡ true → via.is_token_octet octet ≡ true
+unfolding via.is_token_octet
+mark_of_token octet is =
+    ⊎_elim
+    (λ (plain : is_ascii_alphanumeric octet ≡ true). or_left _ _ plain)
+    (λ (past : is_ascii_alphanumeric octet ≡ false). elim (cases_eq octet 45) [
+      | inl e ↦ rw e refl
+      | inr a ↦ elim (cases_eq octet 95) [
+        | inl e ↦ rw e refl
+        | inr b ↦ elim (cases_eq octet 46) [
+          | inl e ↦ rw e refl
+          | inr d ↦ absurd (false_is_true (sym (none (is_ascii_alphanumeric octet) (octet == 45) (octet == 95) (octet == 46) past (ne_eqb octet 45 a) (ne_eqb octet 95 b) (ne_eqb octet 46 d)) ∙ is))
+        ]
+      ]
+    ])
+    (cases_Bool (is_ascii_alphanumeric octet))
+  where
+    false_is_true : false ≡ true → ⊥
+    false_is_true e = cc
+
+    none : (a b c d : Bool) → a ≡ false → b ≡ false → c ≡ false → d ≡ false → (a || b || c || d) ≡ false
+    none a b c d ea eb ec ed = rw (ea, eb, ec, ed) refl
+
+all_of_via : (text : List ℕ) → list_all is_name_octet text ≡ true → list_all via.is_token_octet text ≡ true
+all_of_via [] is = refl
+all_of_via (octet ∷ text) is =
+    let parts = and_parts (is_name_octet octet) (list_all is_name_octet text) is in
+    and_from _ _ (mark_of_token octet parts.0) (all_of_via text parts.1)
+
+letter_of_name : (octet : ℕ) → is_ascii_alphabetic octet ≡ true → is_name_octet octet ≡ true
+letter_of_name octet is = ?
+
+pub cache_name : (name : List ℕ) → is_name name ≡ true → IsCacheName name
+cache_name [] is = absurd (cc)
+cache_name (first ∷ rest) is =
+    let parts = three_parts (is_ascii_alphabetic first) (nat_le (length rest) 31) (list_all is_name_octet rest) is in
+    let short : length rest ≤ 31 = leb-true (length rest) 31 parts.1 in
+    record {
+      token = and_from _ _ (lt-ltb 0 (length rest + 1) (omega arith)) (and_from _ _ (mark_of_token first (letter_of_name first parts.0)) (all_of_via rest parts.2));
+      short = omega arith;
+    }
+  where
+    three_parts : (a b c : Bool) → (a && b && c) ≡ true → (a ≡ true) × (b ≡ true) × (c ≡ true)
+    three_parts true true true e = (refl, refl, refl)
+    three_parts true true false e = absurd (cc)
+    three_parts true false c e = absurd (cc)
+    three_parts false b c e = absurd (cc)

@@ -18,7 +18,11 @@ use Rattle.hc_transcript.specs.declared.record.Record.{Record}
 use Rattle.hc_transcript.specs.Items.{Item, ClientRequest, OriginRequest, OriginResponse, OriginFailure, ClientReply, Forward}
 use Rattle.hc_store.specs.Entries.{Holdings}
 use Rattle.hc_service.specs.declared.open.OpenForward.{OpenForward}
-use Rattle.hc_service.specs.Agreement.{AllHeld, HasSource, History}
+use Rattle.hc_service.specs.Agreement.{AllHeld, HasSource, History, Stands}
+use Rattle.hc_service.specs.declared.action.Action.{Action}
+use Rattle.hc_service.specs.Runs.{GoesOnBy}
+use Rattle.hc_service.specs.Serves.{Turn}
+use Rattle.hc_service.specs.State.{State}
 
 -- whether an item is a response of the origin
 abbrev pub is_response : Item → Bool
@@ -51,3 +55,9 @@ pub record IsReceivedAsk (request : Message RequestHead) (target : Target) : Typ
 -- a history with a record more, and what it means
 abbrev pub with_record : Record → Item → History → History
 with_record r item h = record { records = r ∷ h.records; items = item ∷ h.items; heard = h.heard; told = h.told }
+
+-- what has happened goes on by a turn, and the cache stands as it is then
+pub record KeepsOn (turn : Turn) (actions : List Action) (h : History) (s : State) : Type 0 where
+  pub later : History
+  pub goes_on : GoesOnBy turn actions h later
+  pub stands : Stands s later

@@ -16,3 +16,4 @@ pub mod Serves
 pub mod Agreement
 pub mod Runs
 pub mod Laws
+pub mod LowerLaws
