@@ -1,7 +1,8 @@
 -- The name of a cache, and the words of its marks, are tokens.
-use Rattle.std.proofs.Common.{◌≡◌, ◌+◌, ℕ, ◌≤◌, ◌<◌, ◌^◌, Bool, true, false, ◌&&◌, ◌||◌, List, [], ◌∷◌, length, ℤ, pos, ◌-ℤ◌, unsigned_abs, refl, sym, ◌∙◌, arith, inl, inr, ⊎_elim}
+use Rattle.std.proofs.Common.{◌≡◌, ℕ, suc, ◌≤◌, ◌<◌, ◌^◌, Bool, true, false, ◌&&◌, ◌||◌, List, [], ◌∷◌, length, ℤ, pos, ◌-ℤ◌, unsigned_abs, refl, sym, ◌∙◌, arith, inl, inr, ⊎_elim}
 use Rattle.std.specs.Prelude.{◌==◌, nat_le, ◌⊎◌, Some, None, codes}
 use Rattle.std.specs.Char.{is_ascii_alphabetic, is_ascii_alphanumeric}
+use Rattle.std.specs.Int.{is_in_range}
 use Rattle.std.specs.List.{list_all, list_any}
 use Rattle.std.proofs.lemmas.Bool.{cases_Bool, cases_eq, ne_eqb, and_from, and_parts, or_left, or_right, lt-ltb, leb-true}
 use Rattle.std.proofs.lemmas.Int.{ints}
@@ -137,7 +138,13 @@ all_of_via (octet ∷ text) is =
     and_from _ _ (mark_of_token octet parts.0) (all_of_via text parts.1)
 
 letter_of_name : (octet : ℕ) → is_ascii_alphabetic octet ≡ true → is_name_octet octet ≡ true
-letter_of_name octet is = ?
+letter_of_name octet is = go (is_in_range 48 57 octet) (is_in_range 65 90 octet) (is_in_range 97 122 octet) (octet == 45) (octet == 95) (octet == 46) is
+  where
+    go : (d a b x y z : Bool) → (a || b) ≡ true → (((d || a) || b) || x || y || z) ≡ true
+    go true a b x y z e = refl
+    go false true b x y z e = refl
+    go false false true x y z e = refl
+    go false false false x y z e = absurd (cc)
 
 pub cache_name : (name : List ℕ) → is_name name ≡ true → IsCacheName name
 cache_name [] is = absurd (cc)
@@ -145,7 +152,7 @@ cache_name (first ∷ rest) is =
     let parts = three_parts (is_ascii_alphabetic first) (nat_le (length rest) 31) (list_all is_name_octet rest) is in
     let short : length rest ≤ 31 = leb-true (length rest) 31 parts.1 in
     record {
-      token = and_from _ _ (lt-ltb 0 (length rest + 1) (omega arith)) (and_from _ _ (mark_of_token first (letter_of_name first parts.0)) (all_of_via rest parts.2));
+      token = and_from _ _ (lt-ltb 0 (suc (length rest)) (omega arith)) (and_from _ _ (mark_of_token first (letter_of_name first parts.0)) (all_of_via rest parts.2));
       short = omega arith;
     }
   where

@@ -84,7 +84,7 @@ read_more records items item are w keeps =
     (read_back (opening ++ (records_text records ++ [])) records items item (record { octets_are = refl; are_read = are }) w keeps).are_read
 
 -- a count that isn't at its end goes on by one
-one_more_is : (n : ℕ) → n ≤ greatest_number → one_more n ≡ n + 1
+pub one_more_is : (n : ℕ) → n ≤ greatest_number → one_more n ≡ n + 1
 one_more_is n le = omega arith
 
 pub ask_counted : (n : Numbers) (h : History) (request : Message RequestHead) (target : Target) → AreCounted n h → IsWritableAsk request target → one_more n.records ≤ greatest_number

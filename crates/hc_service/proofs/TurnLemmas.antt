@@ -1,9 +1,9 @@
 -- Each turn keeps what the cache has to do with what has happened.
-use Rattle.std.proofs.Common.{◌≡◌, ℕ, ◌+◌, ◌≤◌, ◌<◌, Bool, true, false, cond, ◌||◌, List, [], ◌∷◌, ◌++◌, length, drop, Option, Some, None, refl, sym, ap, ◌∙◌, subst, arith, inl, inr, ⊎_elim}
+use Rattle.std.proofs.Common.{◌≡◌, ℕ, ◌+◌, ◌≤◌, ◌<◌, Bool, true, false, cond, ◌||◌, List, [], ◌∷◌, ◌++◌, length, drop, Option, Some, None, nat_eq, refl, sym, ap, ◌∙◌, subst, arith, inl, inr, ⊎_elim}
 use Rattle.std.specs.Prelude.{◌⊎◌}
 use Rattle.std.specs.Option.{option_map}
 use Rattle.std.specs.FinMap.{get, insert, remove, len}
-use Rattle.std.proofs.lemmas.Bool.{cases_Bool, cases_lt}
+use Rattle.std.proofs.lemmas.Bool.{cases_Bool, cases_eq, cases_lt, eq-eqb}
 use Rattle.hc_head.specs.declared.head.RequestHead.{RequestHead}
 use Rattle.hc_head.specs.declared.head.ResponseHead.{ResponseHead}
 use Rattle.hc_head.specs.declared.head.Target.{Target}
@@ -18,6 +18,7 @@ use Rattle.hc_transcript.specs.Items.{Item, ClientRequest, OriginRequest, Origin
 use Rattle.hc_transcript.specs.History.{exchange_of, forward_of}
 use Rattle.hc_transcript.specs.Written.{IsWritableAsk, IsWritableAnswer}
 use Rattle.hc_history.specs.Right.{IsRight}
+use Rattle.hc_links.specs.Requests.{IsRequest}
 use Rattle.hc_store.specs.Entries.{Holdings}
 use Rattle.hc_service.specs.declared.action.Action.{Action}
 use Rattle.hc_service.specs.declared.cases.Cause.{Cause}
@@ -27,8 +28,9 @@ use Rattle.hc_service.specs.declared.open.OpenForward.{OpenForward}
 use Rattle.hc_service.specs.declared.open.Purpose.{Purpose}
 use Rattle.hc_service.specs.declared.open.Purpose.TheVariants as purpose
 use Rattle.hc_service.specs.declared.settings.CoreSettings.{CoreSettings}
-use Rattle.hc_service.specs.Settings.{AreGood}
-use Rattle.hc_service.specs.Asking.{ends_connection}
+use Rattle.hc_service.specs.Settings.{AreGood, is_name}
+use Rattle.hc_service.specs.Asking.{ends_connection, is_answered_by_store}
+use Rattle.hc_service.specs.Cases.{asks_store}
 use Rattle.hc_service.specs.Numbers.{one_more, after_opening, asked, sent, noted, is_later}
 use Rattle.hc_service.specs.State.{State, Table, Connection, Awaited, new_connection}
 use Rattle.hc_service.specs.Sending.{request_record, forward_record, response_record, failure_record, reply_record, ask_actions, send_actions, reply_actions, response_actions, failure_actions, records_of}
@@ -50,8 +52,8 @@ use Rattle.hc_service.proofs.RecordLemmas.{one_more_is, ask_counted, send_counte
 use Rattle.hc_service.proofs.ReceivedLemmas.{received_ask, received_answer}
 use Rattle.hc_service.proofs.NameLemmas.{cache_name}
 use Rattle.hc_service.proofs.SourceLemmas.{renewed_sources}
-use Rattle.hc_service.proofs.EntryLemmas.{all_can_reply, renewed_can_reply, sound_parts, all_both}
-use Rattle.hc_service.proofs.OutcomeLemmas.{SoundStore, still_sound, reaction_right, response_outcome, failure_outcome}
+use Rattle.hc_service.proofs.EntryLemmas.{IsFit, all_can_reply, renewed_can_reply, sound_parts, all_both}
+use Rattle.hc_service.proofs.OutcomeLemmas.{SoundStore, GetsReply, GetsForward, GetsAnswer, still_sound, reaction_right, response_outcome, failure_outcome}
 
 -- ---- states and histories
 
@@ -228,3 +230,239 @@ module _ (s : State) (h : History) (a : Stands s h) where
             (heard_told s.numbers.connection s.numbers.forward s.connections s.forwards h.heard h.told a.heard f octets t.awaited t.is_open (not_further f t.awaited t.is_open))
             (asked_told s.numbers.exchange s.numbers.forward s.exchanges s.forwards h.items a.asked f octets t.awaited t.is_open) a.linked a.few;
       }
+
+  -- ---- a whole request
+
+  reply_given : (e t : ℕ) (to_head : Bool) (c : ℕ) (closes : Bool) (reply : Message ResponseHead) → records_of (reply_actions e t to_head c closes reply) ≡ reply_record e t to_head reply ∷ []
+  reply_given e t to_head c true reply = refl
+  reply_given e t to_head c false reply = refl
+
+  module _ (settings : CoreSettings) (good : AreGood settings) (laws : ForwardLaws) where
+    early : s.numbers.moment < 253402300800
+    early = let c = a.counted in omega (arith, c.in_time)
+
+    module _ (c : ℕ) (k : Connection) (is_open : get s.connections c ≡ Some k) (idle : k.exchange ≡ None) (request : Message RequestHead) (target : Target) (size : ℕ)
+        (arrives : IsRequest k.unread request target size) where
+      ask : IsReceivedAsk request target
+      ask = received_ask k.unread request target size arrives
+
+      writable_ask : IsWritableAsk request target
+      writable_ask = record { readable = ask.readable; target_is = ask.forwardable.has_target }
+
+      -- it gets a reply at once
+      asking_alone : (wanted : Wanted) (reply : Message ResponseHead) (actions : List Action) (s' : State) → RepliesAlone c k (drop size k.unread) request wanted reply s actions s' → s'.numbers.records ≤ greatest_number
+          → SoundStore h.items s'.store → IsFit (is_head request.head.method) reply
+          → IsRight strict (ClientRequest (one_more s.numbers.exchange) s.numbers.moment request target ∷ h.items) (ClientReply (one_more s.numbers.exchange) s.numbers.moment reply)
+          → KeepsOn (Asking c) actions h s'
+      asking_alone wanted reply actions s' t le sound fit right =
+          let n = s.numbers in
+          let counts = a.counted in
+          let e = one_more n.exchange in
+          let x : Exchange = record { number = e; position = length h.items + 1; request = request.head; target = target } in
+          let last : one_more (one_more n.records) ≤ greatest_number = subst (λ (m : Numbers). m.records ≤ greatest_number) t.numbers le in
+          let first : one_more n.records ≤ greatest_number = omega arith in
+          let number : e ≡ n.exchange + 1 = one_more_is n.exchange (omega (arith, counts.exchanges, counts.in_range)) in
+          let records : one_more n.records ≡ n.records + 1 = one_more_is n.records counts.in_range in
+          let q = ClientRequest e n.moment request target in
+          let h1 = with_record (request_record e n.moment request) q h in
+          let h2 = with_record (reply_record e n.moment (is_head request.head.method) reply) (ClientReply e n.moment reply) h1 in
+          let c1 = ask_counted n h request target a.counted writable_ask first in
+          record {
+            later = h2;
+            goes_on = record {
+              records = record {
+                newer = ClientReply e n.moment reply ∷ q ∷ [];
+                records_are = given_from actions (ask_actions e n.moment request ++ reply_actions e n.moment (is_head request.head.method) c wanted.closes reply)
+                    (request_record e n.moment request ∷ reply_record e n.moment (is_head request.head.method) reply ∷ []) h.records t.actions_are
+                    (ap (λ (rs : List Record). request_record e n.moment request ∷ rs) (reply_given e n.moment (is_head request.head.method) c wanted.closes reply));
+                items_are = refl;
+                right = ((tt, tt), right);
+              };
+              heard = refl;
+              told = refl;
+            };
+            stands = of_parts s' h2 (noted (asked n)) (replied wanted.closes c (drop size k.unread) k s.connections) s.exchanges s.forwards s'.store t.numbers t.connections t.exchanges t.forwards refl
+                (reply_counted (asked n) h1 c1 last e x reply (omega (arith, number)) (omega (arith, number, counts.exchanges, first, records)) (rw (eq-eqb e e refl) refl) fit.writable fit.digits)
+                (still_sound (q ∷ h.items) (ClientReply e n.moment reply) s'.store refl (still_sound h.items q s'.store refl sound))
+                (heard_replied wanted.closes)
+                (asked_alone n.exchange n.forward s.exchanges s.forwards h.items a.asked e n.moment n.moment request target reply (omega (arith, number)))
+                (linked_replied n.connection s.connections s.exchanges a.linked wanted.closes c (drop size k.unread) k is_open idle)
+                (len_replied wanted.closes c (drop size k.unread) k k is_open);
+          }
+        where
+          heard_replied : (closes : Bool) → AreHeard s.numbers.connection s.numbers.forward (replied closes c (drop size k.unread) k s.connections) s.forwards h.heard h.told
+          heard_replied true = heard_out s.numbers.connection s.numbers.forward s.connections s.forwards h.heard h.told a.heard c
+          heard_replied false = heard_same s.numbers.connection s.numbers.forward s.connections s.forwards h.heard h.told a.heard c (after_reply (drop size k.unread) k)
+              (read_replied (h.heard c) k idle (a.heard.connections_are c k is_open) request target size arrives)
+
+      -- it goes to the origin
+      asking_forward : (wanted : Wanted) (why : Cause) (actions : List Action) (s' : State) → wanted.name ≡ settings.name
+          → GoesForward c k (drop size k.unread) request target (plain_forward wanted target request) why false s actions s' → s'.numbers.records ≤ greatest_number
+          → SoundStore h.items s'.store → (asks_store why ≡ true → is_answered_by_store request.head.method ≡ true) → KeepsOn (Asking c) actions h s'
+      asking_forward wanted why actions s' named t le sound by_store =
+          let n = s.numbers in
+          let counts = a.counted in
+          let e = one_more n.exchange in
+          let f = one_more n.forward in
+          let m = plain_forward wanted target request in
+          let last : one_more (one_more n.records) ≤ greatest_number = subst (λ (m : Numbers). m.records ≤ greatest_number) t.numbers le in
+          let first : one_more n.records ≤ greatest_number = omega arith in
+          let number : e ≡ n.exchange + 1 = one_more_is n.exchange (omega (arith, counts.exchanges, counts.in_range)) in
+          let sends : f ≡ n.forward + 1 = one_more_is n.forward (omega (arith, counts.forwards, counts.in_range)) in
+          let q = ClientRequest e n.moment request target in
+          let h1 = with_record (request_record e n.moment request) q h in
+          let h2 = with_record (forward_record f n.moment m) (OriginRequest f n.moment m target) h1 in
+          let c1 = ask_counted n h request target a.counted writable_ask first in
+          let w : IsWritableAsk m target = record {
+            readable = record {
+              head = laws.writable wanted.name target request.head (cache_name wanted.name (subst (λ (name : List ℕ). is_name name ≡ true) (sym named) good.name)) ask.forwardable;
+              short = ask.readable.short;
+            };
+            target_is = laws.keeps_target wanted.name target request.head ask.forwardable.has_target;
+          } in
+          let heard1 = heard_same n.connection n.forward s.connections s.forwards h.heard h.told a.heard c (after_request e (drop size k.unread) k)
+              (read_request (h.heard c) k idle (a.heard.connections_are c k is_open) e request target size arrives) in
+          record {
+            later = h2;
+            goes_on = record {
+              records = record {
+                newer = OriginRequest f n.moment m target ∷ q ∷ [];
+                records_are = given_from actions (ask_actions e n.moment request ++ send_actions f n.moment m) (request_record e n.moment request ∷ forward_record f n.moment m ∷ []) h.records t.actions_are refl;
+                items_are = refl;
+                right = ((tt, tt), tt);
+              };
+              heard = refl;
+              told = refl;
+            };
+            stands = of_parts s' h2 (sent (asked n)) (insert s.connections c (after_request e (drop size k.unread) k))
+                (insert s.exchanges e (record { connection = c; request = request.head; target = target }))
+                (insert s.forwards f (sent_forward m.head target n.moment (purpose.Reply e why false))) s'.store t.numbers t.connections t.exchanges t.forwards refl
+                (send_counted (asked n) h1 m target c1 w last)
+                (still_sound (q ∷ h.items) (OriginRequest f n.moment m target) s'.store refl (still_sound h.items q s'.store refl sound))
+                (heard_sent n.connection n.forward (insert s.connections c (after_request e (drop size k.unread) k)) s.forwards h.heard h.told heard1 f
+                (sent_forward m.head target n.moment (purpose.Reply e why false)) refl (omega (arith, sends)))
+                (asked_sent n.exchange n.forward s.exchanges s.forwards h.items a.asked c e f n.moment request m target why false (omega (arith, number)) (omega (arith, sends))
+                (record { method = refl; target = refl; by_store = by_store }))
+                (linked_asked n.connection s.connections s.exchanges a.linked c e (drop size k.unread) k (record { connection = c; request = request.head; target = target }) is_open idle
+                (a.asked.later_exchanges e (omega (arith, number))) refl ask.forwardable)
+                (len_kept c k (after_request e (drop size k.unread) k) is_open);
+          }
+
+    pub asking : (c : ℕ) (actions : List Action) (s' : State) → Asks settings c s actions s' → s'.numbers.records ≤ greatest_number → KeepsOn (Asking c) actions h s'
+    asking c actions s' t le =
+        let k = t.connection in
+        let wanted = wanted_now settings s t.request.head k in
+        let r = reaction_right settings.name good.name s.numbers.moment early wanted.closes h.items (one_more s.numbers.exchange) t.request t.target s.forwards s.store s'.store t.reaction (sound_of s h a) t.reacts in
+        ⊎_elim
+        (λ (g : GetsReply settings.name good.name s.numbers.moment early wanted.closes h.items (one_more s.numbers.exchange) t.request t.target t.reaction).
+            asking_alone c k t.is_open t.idle t.request t.target t.size t.arrives wanted g.reply actions s'
+            (subst (λ (r : Reaction). DoesReaction r c k (drop t.size k.unread) t.request t.target wanted s actions s') g.reaction_is t.does) le r.0 g.fit g.right)
+        (λ (g : GetsForward settings.name good.name s.numbers.moment early wanted.closes h.items (one_more s.numbers.exchange) t.request t.target t.reaction).
+            asking_forward c k t.is_open t.idle t.request t.target t.size t.arrives wanted g.why actions s' refl
+            (subst (λ (r : Reaction). DoesReaction r c k (drop t.size k.unread) t.request t.target wanted s actions s') g.reaction_is t.does) le r.0 g.by_store)
+        r.1
+
+    -- ---- what answers a forward
+
+    module _ (f : ℕ) (w : Awaited) (is_open : get s.forwards f ≡ Some w) where
+      recorded : forward_of f h.items ≡ Some (recorded_forward w.forward)
+      recorded = a.asked.forwards_are f ∙ ap (option_map seen_forward) is_open
+
+      some_forward : 1 ≤ f
+      some_forward =
+          elim (cases_eq f 0) [
+            | inl none ↦ absurd (none_some (get s.forwards f) w (ap (get s.forwards) none ∙ a.asked.no_forward) is_open)
+            | inr some ↦ omega arith
+          ]
+
+      few_forward : f ≤ greatest_number
+      few_forward =
+          let counts = a.counted in
+          elim (cases_lt s.numbers.forward f) [
+            | inl further ↦ absurd (not_further f w is_open further)
+            | inr le ↦ omega (arith, counts.forwards, counts.in_range)
+          ]
+
+      -- a forward for nobody ends, by a record
+      ends_behind : (turn : Turn) (r : Record) (item : Item) (given actions : List Action) (s' : State) → heard_with turn h.heard ≡ h.heard → told_with turn h.told ≡ h.told
+          → records_of given ≡ r ∷ [] → EndsBehind f given s actions s' → AreCounted (noted s.numbers) (with_record r item h) → SoundStore (item ∷ h.items) s'.store
+          → ((e : ℕ) → exchange_of e (item ∷ h.items) ≡ exchange_of e h.items) → ((d : ℕ) → forward_of d (item ∷ h.items) ≡ cond (nat_eq f d) None (forward_of d h.items))
+          → IsRight strict h.items item → KeepsOn turn actions h s'
+      ends_behind turn r item given actions s' heard told gives t counted sound opens_none closes right = record {
+        later = with_record r item h;
+        goes_on = record {
+          records = record { newer = item ∷ []; records_are = given_from actions given (r ∷ []) h.records t.actions_are gives; items_are = refl; right = (tt, right) };
+          heard = sym heard;
+          told = sym told;
+        };
+        stands = of_parts s' (with_record r item h) (noted s.numbers) s.connections s.exchanges (remove s.forwards f) s'.store t.numbers t.connections t.exchanges t.forwards refl counted sound
+            (heard_ended s.numbers.connection s.numbers.forward s.connections s.forwards h.heard h.told a.heard f)
+            (asked_behind s.numbers.exchange s.numbers.forward s.exchanges s.forwards h.items a.asked f w item is_open opens_none closes) a.linked a.few;
+      }
+
+      -- a forward ends, by a record, and the request that waits for it gets its reply
+      module _ (e : ℕ) (x0 : OpenExchange) (k : Connection) (waits : get s.exchanges e ≡ Some x0) (on : get s.connections x0.connection ≡ Some k) where
+        some_exchange : 1 ≤ e
+        some_exchange =
+            elim (cases_eq e 0) [
+              | inl none ↦ absurd (none_some (get s.exchanges e) x0 (ap (get s.exchanges) none ∙ a.asked.no_exchange) waits)
+              | inr some ↦ omega arith
+            ]
+
+        few_exchange : e ≤ greatest_number
+        few_exchange =
+            let counts = a.counted in
+            elim (cases_lt s.numbers.exchange e) [
+              | inl further ↦ absurd (none_some (get s.exchanges e) x0 (a.asked.later_exchanges e further) waits)
+              | inr le ↦ omega (arith, counts.exchanges, counts.in_range)
+            ]
+
+        heard_after : (closes : Bool) → (closes ≡ false → k.leaves ≡ false)
+            → AreHeard s.numbers.connection s.numbers.forward (replied closes x0.connection k.unread k s.connections) (remove s.forwards f) h.heard h.told
+        heard_after true stays =
+            heard_out s.numbers.connection s.numbers.forward s.connections (remove s.forwards f) h.heard h.told
+            (heard_ended s.numbers.connection s.numbers.forward s.connections s.forwards h.heard h.told a.heard f) x0.connection
+        heard_after false stays =
+            heard_same s.numbers.connection s.numbers.forward s.connections (remove s.forwards f) h.heard h.told
+            (heard_ended s.numbers.connection s.numbers.forward s.connections s.forwards h.heard h.told a.heard f) x0.connection (after_reply k.unread k)
+            (read_answered (h.heard x0.connection) k (stays refl) (a.heard.connections_are x0.connection k on))
+
+        ends_with_reply : (turn : Turn) (r : Record) (item : Item) (given actions : List Action) (wanted : Wanted) (reply : Message ResponseHead) (s' : State) → heard_with turn h.heard ≡ h.heard
+            → told_with turn h.told ≡ h.told → records_of given ≡ r ∷ [] → (wanted.closes ≡ false → k.leaves ≡ false)
+            → records_of (given ++ reply_actions e s.numbers.moment (is_head x0.request.method) x0.connection wanted.closes reply) ≡ r ∷ reply_record e s.numbers.moment (is_head x0.request.method) reply ∷ []
+            → EndsWithReply f e x0 k given wanted reply s actions s' → s'.numbers.records ≤ greatest_number
+            → (one_more s.numbers.records ≤ greatest_number → AreCounted (noted s.numbers) (with_record r item h)) → SoundStore (item ∷ h.items) s'.store
+            → ((d : ℕ) → exchange_of d (item ∷ h.items) ≡ exchange_of d h.items) → ((d : ℕ) → forward_of d (item ∷ h.items) ≡ cond (nat_eq f d) None (forward_of d h.items))
+            → IsRight strict h.items item → IsFit (is_head x0.request.method) reply → IsRight strict (item ∷ h.items) (ClientReply e s.numbers.moment reply)
+            → exchange_for w.forward.purpose ≡ Some e → KeepsOn turn actions h s'
+        ends_with_reply turn r item given actions wanted reply s' heard told gives stays both t le counted sound opens_none closes right fit replied_right its =
+            let n = s.numbers in
+            let last : one_more (one_more n.records) ≤ greatest_number = subst (λ (m : Numbers). m.records ≤ greatest_number) t.numbers le in
+            let counts = a.counted in
+            let first : one_more n.records ≤ greatest_number = omega arith in
+            let h1 = with_record r item h in
+            let seen = subst (λ (o : Option OpenExchange). IsSeenExchange e o (exchange_of e h.items)) waits (a.asked.exchanges_are e) in
+            let x : Exchange = record { number = e; position = seen.0; request = x0.request; target = x0.target } in
+            let h2 = with_record (reply_record e n.moment (is_head x0.request.method) reply) (ClientReply e n.moment reply) h1 in
+            record {
+              later = h2;
+              goes_on = record {
+                records = record {
+                  newer = ClientReply e n.moment reply ∷ item ∷ [];
+                  records_are = given_from actions (given ++ reply_actions e n.moment (is_head x0.request.method) x0.connection wanted.closes reply)
+                      (r ∷ reply_record e n.moment (is_head x0.request.method) reply ∷ []) h.records t.actions_are both;
+                  items_are = refl;
+                  right = ((tt, right), replied_right);
+                };
+                heard = sym heard;
+                told = sym told;
+              };
+              stands = of_parts s' h2 (noted (noted n)) (replied wanted.closes x0.connection k.unread k s.connections) (remove s.exchanges e) (remove s.forwards f) s'.store
+                  t.numbers t.connections t.exchanges t.forwards refl
+                  (reply_counted (noted n) h1 (counted first) last e x reply some_exchange few_exchange (opens_none e ∙ seen.1) fit.writable fit.digits)
+                  (still_sound (item ∷ h.items) (ClientReply e n.moment reply) s'.store refl sound)
+                  (heard_after wanted.closes stays)
+                  (asked_answered n.exchange n.forward s.exchanges s.forwards h.items a.asked f w item is_open opens_none closes e n.moment reply its)
+                  (linked_answered n.connection s.connections s.exchanges a.linked e x0 k waits on wanted.closes k.unread)
+                  (len_replied wanted.closes x0.connection k.unread k k on);
+            }
