@@ -36,7 +36,8 @@ use Rattle.hc_service.specs.State.{State, Table, Connection, Awaited, new_connec
 use Rattle.hc_service.specs.Sending.{request_record, forward_record, response_record, failure_record, reply_record, ask_actions, send_actions, reply_actions, response_actions, failure_actions, records_of}
 use Rattle.hc_service.specs.Replying.{Wanted}
 use Rattle.hc_service.specs.Reactions.{Reaction, plain_forward}
-use Rattle.hc_service.specs.Answers.{Outcome}
+use Rattle.hc_service.specs.Answers.{Outcome, is_news}
+use Rattle.hc_service.specs.Choices.{Stores}
 use Rattle.hc_service.specs.Turns.{most_connections, after_octets, after_request, after_reply, after_leaving, after_hearing, sent_forward, replied, closes_behind, wanted_now, Opens, Hears, Drops, Leaves, Closes, Refuses, Asks, RepliesAlone, GoesForward, DoesReaction, Tells, Answers, Breaks, EndsBehind, EndsWithReply, EndsFor, EndsByResponse, EndsByFailure, DoesOutcome, Failure, is_closed}
 use Rattle.hc_service.specs.Serves.{Turn, Takes}
 use Rattle.hc_service.specs.Serves.Turn.{Opening, Hearing, Asking, Refusal, Dropping, Leaving, Closing, Telling, Answering, Failing}
@@ -51,9 +52,9 @@ use Rattle.hc_service.proofs.HeardLemmas.{read_request, read_replied, read_answe
 use Rattle.hc_service.proofs.RecordLemmas.{one_more_is, ask_counted, send_counted, response_counted, failure_counted, reply_counted}
 use Rattle.hc_service.proofs.ReceivedLemmas.{received_ask, received_answer}
 use Rattle.hc_service.proofs.NameLemmas.{cache_name}
-use Rattle.hc_service.proofs.SourceLemmas.{renewed_sources}
+use Rattle.hc_service.proofs.SourceLemmas.{on_test, renewed_sources}
 use Rattle.hc_service.proofs.EntryLemmas.{IsFit, all_can_reply, renewed_can_reply, sound_parts, all_both}
-use Rattle.hc_service.proofs.OutcomeLemmas.{SoundStore, GetsReply, GetsForward, GetsAnswer, still_sound, reaction_right, response_outcome, failure_outcome}
+use Rattle.hc_service.proofs.OutcomeLemmas.{SoundStore, GetsReply, GetsForward, GetsAnswer, still_sound, stored_sound, reaction_right, response_outcome, failure_outcome}
 
 -- ---- states and histories
 
@@ -466,3 +467,141 @@ module _ (s : State) (h : History) (a : Stands s h) where
                   (linked_answered n.connection s.connections s.exchanges a.linked e x0 k waits on wanted.closes k.unread)
                   (len_replied wanted.closes x0.connection k.unread k k on);
             }
+
+    second_false : (x y : Bool) → (x || y) ≡ false → y ≡ false
+    second_false true y is = absurd (cc)
+    second_false false y is = is
+
+    -- what the request that waits wants
+    module _ (f : ℕ) (w : Awaited) (is_open : get s.forwards f ≡ Some w) (e : ℕ) (why : Cause) (conditional : Bool) (is_for : w.forward.purpose ≡ purpose.Reply e why conditional)
+        (x0 : OpenExchange) (k : Connection) (waits : get s.exchanges e ≡ Some x0) where
+      its_keeps : IsFor s.exchanges e why w.forward
+      its_keeps = subst (λ (p : Purpose). KeepsPurpose s.exchanges p w.forward) is_for (a.asked.purposes f w is_open)
+
+      its_same : its_keeps.exchange ≡ x0
+      its_same = one_of (get s.exchanges e) its_keeps.exchange x0 its_keeps.waits waits
+
+      its_method : w.forward.request.method ≡ x0.request.method
+      its_method = its_keeps.asks_for.method ∙ ap (λ (x : OpenExchange). x.request.method) its_same
+
+      its_target : w.forward.target ≡ x0.target
+      its_target = its_keeps.asks_for.target ∙ ap (λ (x : OpenExchange). x.target) its_same
+
+      its_exchange : (position : ℕ) × (exchange_of e h.items ≡ Some (record { number = e; position = position; request = x0.request; target = x0.target }))
+      its_exchange = subst (λ (o : Option OpenExchange). IsSeenExchange e o (exchange_of e h.items)) waits (a.asked.exchanges_are e)
+
+      its_number : exchange_for w.forward.purpose ≡ Some e
+      its_number = ap exchange_for is_for
+
+      it_stays : closes_behind x0.request k ≡ false → k.leaves ≡ false
+      it_stays is = second_false (ends_connection x0.request) k.leaves is
+
+    pub answering : (f : ℕ) (ended : Bool) (actions : List Action) (s' : State) → Answers settings f ended s actions s' → s'.numbers.records ≤ greatest_number → KeepsOn (Answering f ended) actions h s'
+    answering f ended actions s' t le =
+        let n = s.numbers in
+        let w = t.awaited in
+        let to_head = is_head w.forward.request.method in
+        let response = t.response in
+        let r = received_answer ended to_head w.heard response t.arrives in
+        let writable : IsWritableAnswer to_head response = record {
+          readable = record {
+            head = light_response_writable response.head RECORDED r.plain r.no_framing (omega (arith, r.lines.light)) (omega (arith, r.lines.few));
+            short = r.short;
+            bare = r.bare;
+          };
+          is_final = r.is_final;
+        } in
+        let before = sound_of s h a in
+        let told : SoundStore (OriginResponse f n.moment response ∷ h.items) t.told =
+            (renewed_sources h.items f n.moment response w.forward (recorded f w t.is_open) (one_more n.records) s.store t.told before.0 t.renews,
+            renewed_can_reply w.forward n.moment (one_more n.records) response.head s.store t.told before.1 t.renews) in
+        by_purpose f ended actions s' t le r writable told w.forward.purpose refl t.ends
+      where
+        by_purpose : (f : ℕ) (ended : Bool) (actions : List Action) (s' : State) (t : Answers settings f ended s actions s') → s'.numbers.records ≤ greatest_number
+            → IsReceivedAnswer (is_head t.awaited.forward.request.method) t.response → IsWritableAnswer (is_head t.awaited.forward.request.method) t.response
+            → SoundStore (OriginResponse f s.numbers.moment t.response ∷ h.items) t.told → (p : Purpose) → t.awaited.forward.purpose ≡ p
+            → EndsByResponse p settings f t.awaited.forward t.response t.told (response_actions f s.numbers.moment (is_head t.awaited.forward.request.method) t.response) s actions s'
+            → KeepsOn (Answering f ended) actions h s'
+        by_purpose f ended actions s' t le r writable told purpose.Background is_for ends =
+            let n = s.numbers in
+            let w = t.awaited in
+            let to_head = is_head w.forward.request.method in
+            let first : one_more n.records ≤ greatest_number = subst (λ (m : Numbers). m.records ≤ greatest_number) ends.1.numbers le in
+            ends_behind f w t.is_open (Answering f ended) (response_record f n.moment to_head t.response) (OriginResponse f n.moment t.response) (response_actions f n.moment to_head t.response) actions s'
+            refl refl refl ends.1
+            (response_counted n h a.counted first f (recorded_forward w.forward) t.response (some_forward f w t.is_open) (few_forward f w t.is_open) (recorded f w t.is_open) writable r.plain.greatest)
+            (⊎_elim
+            (λ (q : (is_news t.response.head ≡ true) × ((stored : Bool) × Stores w.forward n.moment t.response t.told stored s'.store)).
+                stored_sound h.items f n.moment t.response w.forward t.told q.1.0 s'.store (recorded f w t.is_open) r early told q.1.1)
+            (λ (q : (is_news t.response.head ≡ false) × (s'.store ≡ t.told)). subst (SoundStore (OriginResponse f n.moment t.response ∷ h.items)) (sym q.1) told)
+            (on_test (is_news t.response.head) _ _ ends.0))
+            (λ d. refl) (λ d. refl) tt
+        by_purpose f ended actions s' t le r writable told (purpose.Reply e why conditional) is_for ends =
+            let n = s.numbers in
+            let w = t.awaited in
+            let to_head = is_head w.forward.request.method in
+            let x0 = ends.exchange in
+            let k = ends.connection in
+            let wanted = wanted_now settings s x0.request k in
+            let seen = its_exchange f w t.is_open e why conditional is_for x0 k ends.is_waiting in
+            let out = response_outcome settings.name good.name n.moment early wanted.closes h.items f w.forward (record { number = e; position = seen.0; request = x0.request; target = x0.target }) why
+                (recorded f w t.is_open) seen.1 (its_method f w t.is_open e why conditional is_for x0 k ends.is_waiting) (its_target f w t.is_open e why conditional is_for x0 k ends.is_waiting)
+                t.response r conditional (one_more n.records) t.told s'.store ends.outcome told ends.decided in
+            ends_with_reply f w t.is_open e x0 k ends.is_waiting ends.is_open (Answering f ended) (response_record f n.moment to_head t.response) (OriginResponse f n.moment t.response)
+            (response_actions f n.moment to_head t.response) actions wanted out.1.reply s' refl refl refl (it_stays f w t.is_open e why conditional is_for x0 k ends.is_waiting)
+            (ap (λ (rs : List Record). response_record f n.moment to_head t.response ∷ rs) (reply_given e n.moment (is_head x0.request.method) x0.connection wanted.closes out.1.reply))
+            (subst (λ (o : Outcome). DoesOutcome o settings f e x0 k why (response_actions f n.moment to_head t.response) wanted s actions s') out.1.outcome_is ends.does) le
+            (λ first. response_counted n h a.counted first f (recorded_forward w.forward) t.response (some_forward f w t.is_open) (few_forward f w t.is_open) (recorded f w t.is_open) writable r.plain.greatest)
+            out.0 (λ d. refl) (λ d. refl) tt out.1.fit out.1.right (its_number f w t.is_open e why conditional is_for x0 k ends.is_waiting)
+
+    failure_given : (f t : ℕ) (closes : Bool) → records_of (failure_actions f t closes) ≡ failure_record f t ∷ []
+    failure_given f t true = refl
+    failure_given f t false = refl
+
+    failure_then : (f t : ℕ) (closes : Bool) (more : List Action) → records_of (failure_actions f t closes ++ more) ≡ failure_record f t ∷ records_of more
+    failure_then f t true more = refl
+    failure_then f t false more = refl
+
+    pub failing : (f : ℕ) (how : Failure) (actions : List Action) (s' : State) → Breaks settings f how s actions s' → s'.numbers.records ≤ greatest_number → KeepsOn (Failing f how) actions h s'
+    failing f how actions s' t le = by_purpose t.awaited.forward.purpose refl t.ends
+      where
+        by_purpose : (p : Purpose) → t.awaited.forward.purpose ≡ p → EndsByFailure p settings f t.awaited.forward (failure_actions f s.numbers.moment (is_closed how)) s actions s' → KeepsOn (Failing f how) actions h s'
+        by_purpose purpose.Background is_for ends =
+            let n = s.numbers in
+            let w = t.awaited in
+            let first : one_more n.records ≤ greatest_number = subst (λ (m : Numbers). m.records ≤ greatest_number) ends.1.numbers le in
+            ends_behind f w t.is_open (Failing f how) (failure_record f n.moment) (OriginFailure f n.moment) (failure_actions f n.moment (is_closed how)) actions s'
+            refl refl (failure_given f n.moment (is_closed how)) ends.1
+            (failure_counted n h a.counted first f (recorded_forward w.forward) (some_forward f w t.is_open) (few_forward f w t.is_open) (recorded f w t.is_open))
+            (subst (SoundStore (OriginFailure f n.moment ∷ h.items)) (sym ends.0) (still_sound h.items (OriginFailure f n.moment) s.store refl (sound_of s h a)))
+            (λ d. refl) (λ d. refl) tt
+        by_purpose (purpose.Reply e why conditional) is_for ends =
+            let n = s.numbers in
+            let w = t.awaited in
+            let x0 = ends.exchange in
+            let k = ends.connection in
+            let wanted = wanted_now settings s x0.request k in
+            let seen = its_exchange f w t.is_open e why conditional is_for x0 k ends.is_waiting in
+            let out = failure_outcome settings.name good.name n.moment early wanted.closes h.items f w.forward (record { number = e; position = seen.0; request = x0.request; target = x0.target }) why
+                (recorded f w t.is_open) seen.1 (its_method f w t.is_open e why conditional is_for x0 k ends.is_waiting) (its_target f w t.is_open e why conditional is_for x0 k ends.is_waiting)
+                s.store s'.store ends.outcome (sound_of s h a) ends.decided in
+            ends_with_reply f w t.is_open e x0 k ends.is_waiting ends.is_open (Failing f how) (failure_record f n.moment) (OriginFailure f n.moment)
+            (failure_actions f n.moment (is_closed how)) actions wanted out.1.reply s' refl refl (failure_given f n.moment (is_closed how)) (it_stays f w t.is_open e why conditional is_for x0 k ends.is_waiting)
+            (failure_then f n.moment (is_closed how) (reply_actions e n.moment (is_head x0.request.method) x0.connection wanted.closes out.1.reply)
+            ∙ ap (λ (rs : List Record). failure_record f n.moment ∷ rs) (reply_given e n.moment (is_head x0.request.method) x0.connection wanted.closes out.1.reply))
+            (subst (λ (o : Outcome). DoesOutcome o settings f e x0 k why (failure_actions f n.moment (is_closed how)) wanted s actions s') out.1.outcome_is ends.does) le
+            (λ first. failure_counted n h a.counted first f (recorded_forward w.forward) (some_forward f w t.is_open) (few_forward f w t.is_open) (recorded f w t.is_open))
+            out.0 (λ d. refl) (λ d. refl) tt out.1.fit out.1.right (its_number f w t.is_open e why conditional is_for x0 k ends.is_waiting)
+
+    -- each turn
+    pub turn_keeps : (turn : Turn) (actions : List Action) (s' : State) → Takes settings turn s actions s' → s'.numbers.records ≤ greatest_number → KeepsOn turn actions h s'
+    turn_keeps (Opening c) actions s' t le = opening c actions s' t
+    turn_keeps (Hearing c octets) actions s' t le = hearing c octets actions s' t
+    turn_keeps (Asking c) actions s' t le = asking c actions s' t le
+    turn_keeps (Refusal c status) actions s' t le = refusing c status actions s' t
+    turn_keeps (Dropping c) actions s' t le = dropping c actions s' t
+    turn_keeps (Leaving c) actions s' t le = leaving c actions s' t
+    turn_keeps (Closing c) actions s' t le = closing c actions s' t
+    turn_keeps (Telling f octets) actions s' t le = telling f octets actions s' t
+    turn_keeps (Answering f ended) actions s' t le = answering f ended actions s' t le
+    turn_keeps (Failing f how) actions s' t le = failing f how actions s' t le

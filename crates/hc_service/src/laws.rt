@@ -24,7 +24,9 @@ ghost use Rattle.hc_service.specs.declared.cases.Cause.{Cause};
 ghost use Rattle.hc_service.specs.declared.open.OpenForward.{OpenForward};
 ghost use Rattle.hc_service.specs.Answers.{Renews};
 ghost use Rattle.hc_service.specs.Choices.{Finds, Stores};
-ghost use Rattle.hc_service.specs.Laws.{HasSources, IsReceivedAnswer, IsReceivedAsk, is_response, recorded_forward, with_record};
+ghost use Rattle.hc_service.specs.Laws.{HasSources, IsReceivedAnswer, IsReceivedAsk, is_response, recorded_forward, with_record, KeepsOn};
+ghost use Rattle.hc_service.specs.declared.action.Action.{Action};
+ghost use Rattle.hc_service.specs.Serves.{Takes, Turn};
 ghost use Rattle.hc_events.specs.declared.Event.{Event};
 ghost use Rattle.hc_transcript.specs.declared.record.Record.{Record};
 ghost use Rattle.hc_service.specs.declared.settings.CoreSettings.{CoreSettings};
@@ -32,13 +34,15 @@ ghost use Rattle.std.specs.FinMap.{get, insert, remove};
 ghost use Rattle.hc_rules.specs.Laws.{IsForwardable};
 ghost use Rattle.hc_service.specs.declared.open.OpenExchange.{OpenExchange};
 ghost use Rattle.hc_service.specs.State.{Awaited, Connection, State, Table, new_connection, new_state};
-ghost use Rattle.hc_service.specs.Agreement.{AllHeld, CanReply, AreAsked, AreCounted, AreHeard, AreLinked, Agrees, History, IsReadOf, IsSound, exchange_for};
+ghost use Rattle.hc_service.specs.Agreement.{AllHeld, CanReply, AreAsked, AreCounted, AreHeard, AreLinked, Agrees, History, IsReadOf, IsSound, Stands, exchange_for};
 ghost use Rattle.hc_service.specs.Runs.{Runs, nothing_yet, StepResult, strict, with_octets};
 ghost use Rattle.hc_service.specs.Asking.{is_answered_by_store};
 ghost use Rattle.hc_service.specs.Replying.{Wanted, hit_reply, made_reply, passed_reply};
 ghost use Rattle.hc_service.specs.Serving.{may_be_served};
 ghost use Rattle.hc_service.specs.Turns.{IsAnswer, after_hearing, after_octets, after_request, replied};
-ghost use Rattle.hc_service.specs.Settings.{is_name};
+ghost use Rattle.hc_service.specs.Settings.{AreGood, is_name};
+
+use hc_rules::{forwards_are_writable, forwards_keep_the_target};
 
 /// A new cache agrees with nothing having happened.
 pub fn new_cache_agrees()
@@ -200,3 +204,14 @@ pub fn what_is_stored_can_be_a_reply()
     ensures hit { (wanted : Wanted) (stored : Stored) → is_name wanted.name ≡ true → CanReply stored
         → IsWritableAnswer (is_head wanted.asked.method) (hit_reply wanted stored) }
 {}
+
+/// Each turn keeps what a cache has to do with what has happened, whatever that is, and each reply among
+/// its records is right in the strictest audit, as far as records can be numbered.
+pub fn turns_keep_agreement()
+    ensures { (settings : CoreSettings) → AreGood settings → (turn : Turn) (s : State) (actions : List Action)
+        (other : State) (h : History) → Stands s h → Takes settings turn s actions other
+        → other.numbers.records ≤ greatest_number → KeepsOn turn actions h other }
+{
+    forwards_are_writable();
+    forwards_keep_the_target();
+}

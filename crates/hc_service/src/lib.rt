@@ -21,7 +21,7 @@ pub use laws::{
     hits_are_right, new_cache_agrees, other_replies_are_right,
     received_messages_can_be_recorded, records_keep_to_the_format, runs_begin_with_agreement,
     stored_responses_are_those_of_the_records, waiting_requests_are_those_of_the_connections,
-    unread_octets_are_those_that_came, what_is_open_is_that_of_the_records,
+    turns_keep_agreement, unread_octets_are_those_that_came, what_is_open_is_that_of_the_records,
     what_is_stored_can_be_a_reply,
 };
 pub use numbers::Numbers;

@@ -1,5 +1,4 @@
 use Rattle.hc_service.proofs.EntryLemmas.{put_can_reply, hit_fit}
-use Rattle.hc_service.proofs.TurnLemmas.{opening, hearing, telling, asking}
 use Rattle.hc_service.proofs.laws.what_is_stored_can_be_a_reply.Goals as goal
 
 pub returns-clause-put : goal.returns-clause-put
