@@ -1,6 +1,5 @@
 -- What is open stays what the records leave open.
-use Rattle.std.proofs.Common.{◌≡◌, ℕ, ◌+◌, ◌<◌, Bool, true, false, cond, List, [], ◌∷◌, length, Option, Some, None, nat_eq, refl, sym, ap, ◌∙◌, subst, arith, inl, inr, ⊎_elim}
-use Rattle.std.specs.Prelude.{◌⊎◌, ◌==◌, codes, if◌then◌else◌}
+use Rattle.std.proofs.Common.{◌≡◌, ℕ, ◌+◌, ◌<◌, Bool, true, false, cond, List, ◌∷◌, length, Option, Some, None, nat_eq, refl, sym, ap, ◌∙◌, subst, arith, ⊎_elim}
 use Rattle.std.specs.Option.{option_map}
 use Rattle.std.specs.FinMap.{get, insert, remove}
 use Rattle.std.proofs.lemmas.Bool.{cases_eq, eq-eqb, ne_eqb}
@@ -8,7 +7,7 @@ use Rattle.hc_head.specs.declared.head.RequestHead.{RequestHead}
 use Rattle.hc_head.specs.declared.head.ResponseHead.{ResponseHead}
 use Rattle.hc_head.specs.declared.head.Target.{Target}
 use Rattle.hc_framing.specs.declared.message.Message.{Message}
-use Rattle.hc_transcript.specs.Items.{Item, ClientRequest, OriginRequest, ClientReply, Exchange, Forward}
+use Rattle.hc_transcript.specs.Items.{Item, ClientRequest, OriginRequest, ClientReply, Exchange}
 use Rattle.hc_transcript.specs.History.{exchange_of, forward_of}
 use Rattle.hc_service.specs.declared.cases.Cause.{Cause}
 use Rattle.hc_service.specs.declared.open.OpenExchange.{OpenExchange}
@@ -17,9 +16,9 @@ use Rattle.hc_service.specs.declared.open.Purpose.{Purpose}
 use Rattle.hc_service.specs.declared.open.Purpose.TheVariants as purpose
 use Rattle.hc_service.specs.State.{Table, Awaited}
 use Rattle.hc_service.specs.Turns.{sent_forward, after_hearing}
-use Rattle.hc_service.specs.Agreement.{IsSeenExchange, AsksFor, IsFor, KeepsPurpose, exchange_for, AreAsked, seen_forward}
-use Rattle.hc_service.proofs.TableLemmas.{get_put, get_same, get_other, get_out, get_gone, get_left, was_put, was_left}
-use Rattle.hc_service.proofs.LinkLemmas.{none_some, one_of}
+use Rattle.hc_service.specs.Agreement.{IsSeenExchange, AsksFor, KeepsPurpose, exchange_for, AreAsked, seen_forward}
+use Rattle.hc_service.proofs.TableLemmas.{get_same, get_other, get_out, get_gone, get_left, was_put, was_left}
+use Rattle.hc_service.proofs.LinkLemmas.{none_some}
 
 seen_as : (e : ℕ) (o p : Option OpenExchange) (s t : Option Exchange) → o ≡ p → s ≡ t → IsSeenExchange e p t → IsSeenExchange e o s
 seen_as e o p s t one two is = subst (λ (o : Option OpenExchange). IsSeenExchange e o s) (sym one) (subst (IsSeenExchange e p) (sym two) is)
@@ -61,9 +60,9 @@ module _ (E F : ℕ) (xs : Table OpenExchange) (fs : Table Awaited) (items : Lis
     exchanges_are = λ d.
         ⊎_elim
         (λ (same : e ≡ d). seen_as d (get xs d) None (exchange_of d (ClientReply e u a ∷ ClientRequest e t q g ∷ items)) None
-            (k.later_exchanges d (omega arith)) (rw (eq-eqb e d same) refl) refl)
+        (k.later_exchanges d (omega arith)) (rw (eq-eqb e d same) refl) refl)
         (λ (other : e ≡ d → ⊥). seen_as d (get xs d) (get xs d) (exchange_of d (ClientReply e u a ∷ ClientRequest e t q g ∷ items)) (exchange_of d items)
-            refl (rw (ne_eqb e d other) refl) (k.exchanges_are d))
+        refl (rw (ne_eqb e d other) refl) (k.exchanges_are d))
         (cases_eq e d);
     forwards_are = k.forwards_are;
     purposes = k.purposes;
@@ -91,10 +90,10 @@ module _ (E F : ℕ) (xs : Table OpenExchange) (fs : Table Awaited) (items : Lis
       exchanges_are = λ d.
           ⊎_elim
           (λ (same : e ≡ d). subst (λ (n : ℕ). IsSeenExchange n (get (insert xs e x) n) (exchange_of n (OriginRequest f t m g ∷ ClientRequest e t q g ∷ items))) same
-              (seen_as e (get (insert xs e x) e) (Some x) (exchange_of e (OriginRequest f t m g ∷ ClientRequest e t q g ∷ items)) _
-              (get_same xs e x) (rw (eq-eqb e e refl) refl) (length items + 1, refl)))
+          (seen_as e (get (insert xs e x) e) (Some x) (exchange_of e (OriginRequest f t m g ∷ ClientRequest e t q g ∷ items)) _
+          (get_same xs e x) (rw (eq-eqb e e refl) refl) (length items + 1, refl)))
           (λ (other : e ≡ d → ⊥). seen_as d (get (insert xs e x) d) (get xs d) (exchange_of d (OriginRequest f t m g ∷ ClientRequest e t q g ∷ items)) (exchange_of d items)
-              (get_other xs e x d other) (rw (ne_eqb e d other) refl) (k.exchanges_are d))
+          (get_other xs e x d other) (rw (ne_eqb e d other) refl) (k.exchanges_are d))
           (cases_eq e d);
       forwards_are = λ d.
           ⊎_elim
@@ -109,13 +108,13 @@ module _ (E F : ℕ) (xs : Table OpenExchange) (fs : Table Awaited) (items : Lis
       alone = λ d h n b z is_b is_z for_b for_z.
           ⊎_elim
           (λ (p : (f ≡ d) × (a ≡ b)). ⊎_elim
-              (λ (r : (f ≡ h) × (a ≡ z)). sym p.0 ∙ r.0)
-              (λ (r : (f ≡ h → ⊥) × (get fs h ≡ Some z)). absurd (taken z h r.1 (for_z ∙ sym_new n b p.1 for_b)))
-              (was_put fs f a h z is_z))
+          (λ (r : (f ≡ h) × (a ≡ z)). sym p.0 ∙ r.0)
+          (λ (r : (f ≡ h → ⊥) × (get fs h ≡ Some z)). absurd (taken z h r.1 (for_z ∙ sym_new n b p.1 for_b)))
+          (was_put fs f a h z is_z))
           (λ (p : (f ≡ d → ⊥) × (get fs d ≡ Some b)). ⊎_elim
-              (λ (r : (f ≡ h) × (a ≡ z)). absurd (taken b d p.1 (for_b ∙ sym_new n z r.1 for_z)))
-              (λ (r : (f ≡ h → ⊥) × (get fs h ≡ Some z)). k.alone d h n b z p.1 r.1 for_b for_z)
-              (was_put fs f a h z is_z))
+          (λ (r : (f ≡ h) × (a ≡ z)). absurd (taken b d p.1 (for_b ∙ sym_new n z r.1 for_z)))
+          (λ (r : (f ≡ h → ⊥) × (get fs h ≡ Some z)). k.alone d h n b z p.1 r.1 for_b for_z)
+          (was_put fs f a h z is_z))
           (was_put fs f a d b is_b);
       later_exchanges = λ d is. get_other xs e x d (λ same. absurd (omega arith)) ∙ k.later_exchanges d (omega arith);
       later_forwards = λ d is. get_other fs f a d (λ same. absurd (omega arith)) ∙ k.later_forwards d (omega arith);
@@ -139,7 +138,7 @@ module _ (E F : ℕ) (xs : Table OpenExchange) (fs : Table Awaited) (items : Lis
     forwards_are = λ d.
         ⊎_elim
         (λ (same : f ≡ d). k.forwards_are d ∙ ap (option_map seen_forward) (ap (get fs) (sym same) ∙ is_open)
-            ∙ sym (ap (option_map seen_forward) (ap (get (insert fs f (after_hearing octets a))) (sym same) ∙ get_same fs f (after_hearing octets a))))
+        ∙ sym (ap (option_map seen_forward) (ap (get (insert fs f (after_hearing octets a))) (sym same) ∙ get_same fs f (after_hearing octets a))))
         (λ (other : f ≡ d → ⊥). k.forwards_are d ∙ sym (ap (option_map seen_forward) (get_other fs f (after_hearing octets a) d other)))
         (cases_eq f d);
     purposes = λ d b is. let w = was d b is in subst (λ (o : OpenForward). KeepsPurpose xs o.purpose o) w.2 (k.purposes d w.0 w.1);
@@ -168,9 +167,9 @@ module _ (E F : ℕ) (xs : Table OpenExchange) (fs : Table Awaited) (items : Lis
     forwards_left d =
         ⊎_elim
         (λ (same : f ≡ d). ap (λ (b : Bool). cond b None (forward_of d items)) (eq-eqb f d same)
-            ∙ sym (ap (option_map seen_forward) (ap (get (remove fs f)) (sym same) ∙ get_gone fs f)))
+        ∙ sym (ap (option_map seen_forward) (ap (get (remove fs f)) (sym same) ∙ get_gone fs f)))
         (λ (other : f ≡ d → ⊥). ap (λ (b : Bool). cond b None (forward_of d items)) (ne_eqb f d other)
-            ∙ k.forwards_are d ∙ sym (ap (option_map seen_forward) (get_left fs f d other)))
+        ∙ k.forwards_are d ∙ sym (ap (option_map seen_forward) (get_left fs f d other)))
         (cases_eq f d)
 
     -- it was for nobody
@@ -192,9 +191,9 @@ module _ (E F : ℕ) (xs : Table OpenExchange) (fs : Table Awaited) (items : Lis
       exchanges_are = λ d.
           ⊎_elim
           (λ (same : e ≡ d). seen_as d (get (remove xs e) d) None (exchange_of d (ClientReply e t reply ∷ item ∷ items)) None
-              (ap (get (remove xs e)) (sym same) ∙ get_gone xs e) (ap (λ (b : Bool). cond b None (exchange_of d (item ∷ items))) (eq-eqb e d same)) refl)
+          (ap (get (remove xs e)) (sym same) ∙ get_gone xs e) (ap (λ (b : Bool). cond b None (exchange_of d (item ∷ items))) (eq-eqb e d same)) refl)
           (λ (other : e ≡ d → ⊥). seen_as d (get (remove xs e) d) (get xs d) (exchange_of d (ClientReply e t reply ∷ item ∷ items)) (exchange_of d items)
-              (get_left xs e d other) (ap (λ (b : Bool). cond b None (exchange_of d (item ∷ items))) (ne_eqb e d other) ∙ opens_none d) (k.exchanges_are d))
+          (get_left xs e d other) (ap (λ (b : Bool). cond b None (exchange_of d (item ∷ items))) (ne_eqb e d other) ∙ opens_none d) (k.exchanges_are d))
           (cases_eq e d);
       forwards_are = λ d. closes d ∙ forwards_left d;
       purposes = λ d b is.

@@ -1,15 +1,11 @@
 -- A new cache, to which nothing has happened.
-use Rattle.std.proofs.Common.{◌≡◌, ℕ, ◌&&◌, Bool, true, false, [], Some, None, refl, sym, ◌∙◌, arith}
-use Rattle.std.specs.Prelude.{nat_le}
+use Rattle.std.proofs.Common.{◌≡◌, ℕ, [], Some, None, refl, sym, ◌∙◌, arith}
 use Rattle.std.specs.FinMap.{empty, get, len-empty}
 use Rattle.std.specs.List.{IsDistinct}
 use Rattle.std.specs.Ordering.{nat_cmp}
-use Rattle.std.proofs.lemmas.Bool.{leb-true}
 use Rattle.hc_head.specs.Targets.{same_target}
-use Rattle.hc_store.specs.Entries.{IsWithin}
 use Rattle.hc_service.specs.declared.settings.CoreSettings.{CoreSettings}
-use Rattle.hc_service.specs.Settings.{AreGood, is_size}
-use Rattle.hc_service.specs.State.{new_state, empty_store}
+use Rattle.hc_service.specs.State.{new_state}
 use Rattle.hc_service.specs.Agreement.{Agrees}
 use Rattle.hc_service.specs.Runs.{nothing_yet}
 use Rattle.hc_service.proofs.TableLemmas.{get_none}

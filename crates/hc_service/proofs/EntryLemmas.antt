@@ -1,6 +1,6 @@
 -- What is stored can be a reply, and replies can be recorded.
-use Rattle.std.proofs.Common.{◌≡◌, ℕ, ◌+◌, ◌≤◌, ◌<◌, Bool, true, false, cond, ◌&&◌, ◌||◌, List, [], ◌∷◌, ◌++◌, length, Option, Some, None, refl, sym, ap, ◌∙◌, subst, arith, inl, inr, ⊎_elim}
-use Rattle.std.specs.Prelude.{◌==◌, nat_le, not, filter, codes, if◌then◌else◌}
+use Rattle.std.proofs.Common.{◌≡◌, ℕ, ◌≤◌, ◌<◌, Bool, true, false, cond, ◌&&◌, ◌||◌, List, [], ◌∷◌, length, Option, Some, None, refl, sym, ap, ◌∙◌, subst, arith, ⊎_elim}
+use Rattle.std.specs.Prelude.{◌==◌, nat_le, not, codes}
 use Rattle.std.specs.List.{AllByRecursion, list_all, IsDistinct}
 use Rattle.std.specs.Map.{keys_of}
 use Rattle.std.specs.Str.{bytes_eq}
@@ -11,7 +11,6 @@ use Rattle.hc_fields.specs.Values.{has_name, without}
 use Rattle.hc_head.specs.declared.head.RequestHead.{RequestHead}
 use Rattle.hc_head.specs.declared.head.ResponseHead.{ResponseHead}
 use Rattle.hc_head.specs.declared.head.Target.{Target}
-use Rattle.hc_head.specs.declared.head.TheConstants.Room.{RECORDED}
 use Rattle.hc_head.specs.Methods.{is_head}
 use Rattle.hc_head.specs.Plain.{is_plain_field}
 use Rattle.hc_head.specs.Statuses.{partial_content}
@@ -22,16 +21,12 @@ use Rattle.hc_head.proofs.PassingLemmas.{kept_from_stored, no_framing_fewer, no_
 use Rattle.hc_head.proofs.PlainLemmas.{plain_fewer, plain_both, date_plain}
 use Rattle.hc_framing.specs.declared.message.Message.{Message}
 use Rattle.hc_framing.specs.Framing.{ends_with_head}
-use Rattle.hc_framing.specs.Written.{IsReadableResponse}
 use Rattle.hc_fresh.specs.DateLines.{date_stated, date_line, dated, dated_by}
 use Rattle.hc_rules.specs.Storing.{may_store, is_storable, asks_for_storable, is_understood_if_asked, no_store_permits, is_not_private, has_authorization, permits_authorized, invites_storing}
-use Rattle.hc_status.specs.declared.cache_status.Handling.{Handling}
 use Rattle.hc_status.specs.declared.cache_status.Handling.TheVariants.{Hit, Fwd}
 use Rattle.hc_update.specs.declared.stored.Stored.{Stored}
 use Rattle.hc_update.specs.Sizes.{fits}
 use Rattle.hc_update.specs.States.{initial_state, kept_lines}
-use Rattle.hc_replies.specs.Replies.{stored_reply}
-use Rattle.hc_replies.specs.Laws.{IsWritableStatus}
 use Rattle.hc_replies.proofs.TextLemmas.{date_text_plain}
 use Rattle.hc_replies.proofs.WritableLemmas.{forwarded_writable, stored_writable, generated_writable}
 use Rattle.hc_transcript.specs.Written.{IsWritableAnswer}
@@ -46,12 +41,12 @@ use Rattle.hc_service.specs.Settings.{is_name}
 use Rattle.hc_service.specs.Serving.{ttl_at}
 use Rattle.hc_service.specs.Cases.{word_of}
 use Rattle.hc_service.specs.Replying.{Wanted, made_reply, hit_reply, passed_reply}
-use Rattle.hc_service.specs.Choices.{OnTest, Finds, PutsResponse, Stores, may_update}
+use Rattle.hc_service.specs.Choices.{Finds, PutsResponse, Stores, may_update}
 use Rattle.hc_update.specs.States.{invalidates}
 use Rattle.hc_service.specs.Answers.{Renews}
 use Rattle.hc_service.specs.Agreement.{AllHeld, HasSource, CanReply, IsSound}
 use Rattle.hc_service.specs.Laws.{IsReceivedAnswer, HasSources}
-use Rattle.hc_service.proofs.StoreLemmas.{all_weaken, choose_held, put_held, without_held, held_weaken}
+use Rattle.hc_service.proofs.StoreLemmas.{choose_held, put_held, without_held, held_weaken}
 use Rattle.hc_service.proofs.SourceLemmas.{on_test}
 use Rattle.hc_service.proofs.NameLemmas.{hit_writable, forward_writable}
 
@@ -176,9 +171,10 @@ all_both P Q (e ∷ entries) p q = (each e.1 p.0 q.0, all_both P Q entries p.1 q
     each (x ∷ xs) p q = ((p.0, q.0), each xs p.1 q.1)
 
 pub sound_parts : (items : List Item) (store : Holdings) → IsDistinct same_target (keys_of store.entries) → AllHeld (IsSound items) store.entries → HasSources items store × all_can_reply store
-sound_parts items store keys sound =
-    (record { keys = keys; sources = held_weaken (IsSound items) (HasSource items) (λ target stored s. s.0) store.entries sound },
-    held_weaken (IsSound items) (λ _ stored. CanReply stored) (λ target stored s. s.1) store.entries sound)
+sound_parts items store keys sound = (
+  record { keys = keys; sources = held_weaken (IsSound items) (HasSource items) (λ target stored s. s.0) store.entries sound },
+  held_weaken (IsSound items) (λ _ stored. CanReply stored) (λ target stored s. s.1) store.entries sound,
+)
 
 -- ---- replies that can be recorded
 

@@ -1,8 +1,7 @@
 -- What is unread stays what came behind the last whole request.
-use Rattle.std.proofs.Common.{◌≡◌, ℕ, zero, suc, ◌+◌, ◌<◌, ◌≤◌, Bool, true, false, cond, List, [], ◌∷◌, ◌++◌, length, drop, Option, Some, None, nat_eq, refl, sym, ap, ◌∙◌, subst, arith, inl, inr, ⊎_elim, length-drop}
-use Rattle.std.specs.Prelude.{◌⊎◌, ◌==◌, if◌then◌else◌}
+use Rattle.std.proofs.Common.{◌≡◌, ℕ, zero, suc, ◌<◌, ◌≤◌, Bool, true, false, cond, List, [], ◌++◌, length, drop, Option, Some, None, refl, sym, ap, ◌∙◌, subst, arith, ⊎_elim, length-drop}
 use Rattle.std.specs.FinMap.{get, insert, remove}
-use Rattle.std.proofs.lemmas.Bool.{cases_Bool, cases_eq, eq-eqb, ne_eqb}
+use Rattle.std.proofs.lemmas.Bool.{cases_Bool, eq-eqb, ne_eqb}
 use Rattle.std.proofs.lemmas.List.{drop-append-le}
 use Rattle.hc_head.specs.declared.head.RequestHead.{RequestHead}
 use Rattle.hc_head.specs.declared.head.Target.{Target}
@@ -13,12 +12,12 @@ use Rattle.hc_framing.proofs.BodyLemmas.{body-append, body_within}
 use Rattle.hc_links.specs.Requests.{IsRequest}
 use Rattle.hc_service.specs.Numbers.{is_later}
 use Rattle.hc_service.specs.State.{Table, Connection, Awaited, new_connection}
-use Rattle.hc_service.specs.Turns.{after_octets, after_request, after_reply, after_leaving, after_hearing, replied}
+use Rattle.hc_service.specs.Turns.{after_octets, after_request, after_reply, after_leaving, after_hearing}
 use Rattle.hc_service.specs.Choices.{OnTest}
 use Rattle.hc_service.specs.Agreement.{AreRequestsThen, HasLeft, IsReadOf, AreHeard}
 use Rattle.hc_service.specs.Runs.{with_octets}
-use Rattle.hc_service.proofs.TableLemmas.{get_same, get_other, get_gone, get_left, was_put, was_left}
-use Rattle.hc_service.proofs.LinkLemmas.{none_some, one_of}
+use Rattle.hc_service.proofs.TableLemmas.{was_put, was_left}
+use Rattle.hc_service.proofs.LinkLemmas.{none_some}
 
 -- ---- requests
 
@@ -55,10 +54,14 @@ request_more octets more message target size r =
 requests_more : (count : ℕ) (octets rest more : List ℕ) → AreRequestsThen count octets rest → AreRequestsThen count (octets ++ more) (rest ++ more)
 requests_more zero octets rest more are = ap (λ (o : List ℕ). o ++ more) are
 requests_more (suc count) octets rest more are =
-    let message = are.0 in let target = are.1 in let size = are.2 in
-    (message, target, size, request_more octets more message target size are.3,
-    subst (λ (o : List ℕ). AreRequestsThen count o (rest ++ more)) (sym (drop-append-le size octets more (request_within octets message target size are.3)))
-    (requests_more count (drop size octets) rest more are.4))
+    let message = are.0 in let target = are.1 in let size = are.2 in (
+      message,
+      target,
+      size,
+      request_more octets more message target size are.3,
+      subst (λ (o : List ℕ). AreRequestsThen count o (rest ++ more)) (sym (drop-append-le size octets more (request_within octets message target size are.3)))
+          (requests_more count (drop size octets) rest more are.4),
+    )
 
 -- one request more is read
 requests_next : (count : ℕ) (octets rest : List ℕ) (message : Message RequestHead) (target : Target) (size : ℕ) → AreRequestsThen count octets rest → IsRequest rest message target size
@@ -90,11 +93,11 @@ pub read_octets : (octets more : List ℕ) (k : Connection) → IsReadOf octets 
 read_octets octets more k is =
     ⊎_elim
     (λ (leaves : k.leaves ≡ true). subst (IsReadOf (octets ++ more)) (sym (ap (λ (b : Bool). cond b k (record { unread = k.unread ++ more; exchange = k.exchange; leaves = k.leaves })) leaves))
-        (subst (λ (b : Bool). OnTest b (HasLeft k) ((count : ℕ) × AreRequestsThen count (octets ++ more) k.unread)) (sym leaves) (left_of octets k leaves is)))
+    (subst (λ (b : Bool). OnTest b (HasLeft k) ((count : ℕ) × AreRequestsThen count (octets ++ more) k.unread)) (sym leaves) (left_of octets k leaves is)))
     (λ (stays : k.leaves ≡ false). subst (IsReadOf (octets ++ more)) (sym (ap (λ (b : Bool). cond b k (record { unread = k.unread ++ more; exchange = k.exchange; leaves = k.leaves })) stays))
-        (let rest = rest_of octets k stays is in
-        subst (λ (b : Bool). OnTest b (HasLeft (record { unread = k.unread ++ more; exchange = k.exchange; leaves = k.leaves })) ((count : ℕ) × AreRequestsThen count (octets ++ more) (k.unread ++ more)))
-        (sym stays) (rest.0, requests_more rest.0 octets k.unread more rest.1)))
+    (let rest = rest_of octets k stays is in
+    subst (λ (b : Bool). OnTest b (HasLeft (record { unread = k.unread ++ more; exchange = k.exchange; leaves = k.leaves })) ((count : ℕ) × AreRequestsThen count (octets ++ more) (k.unread ++ more)))
+    (sym stays) (rest.0, requests_more rest.0 octets k.unread more rest.1)))
     (cases_Bool k.leaves)
 
 -- a request is read
@@ -158,8 +161,8 @@ module _ (last : Option ℕ) (F : ℕ) (ks : Table Connection) (fs : Table Await
     connections_are = λ d q is.
         ⊎_elim
         (λ (p : (c ≡ d) × (after_octets octets k ≡ q)). subst (λ (n : ℕ). IsReadOf (with_octets c octets heard n) q) p.0
-            (subst (λ (o : List ℕ). IsReadOf o q) (sym (ap (λ (b : Bool). cond b (heard c ++ octets) (heard c)) (eq-eqb c c refl)))
-            (subst (IsReadOf (heard c ++ octets)) p.1 (read_octets (heard c) octets k is_read))))
+        (subst (λ (o : List ℕ). IsReadOf o q) (sym (ap (λ (b : Bool). cond b (heard c ++ octets) (heard c)) (eq-eqb c c refl)))
+        (subst (IsReadOf (heard c ++ octets)) p.1 (read_octets (heard c) octets k is_read))))
         (λ (p : (c ≡ d → ⊥) × (get ks d ≡ Some q)). subst (λ (o : List ℕ). IsReadOf o q) (sym (elsewhere d (λ same. p.0 (sym same)))) (a.connections_are d q p.1))
         (was_put ks c (after_octets octets k) d q is);
     forwards_are = a.forwards_are;
@@ -199,7 +202,7 @@ module _ (last : Option ℕ) (F : ℕ) (ks : Table Connection) (fs : Table Await
     forwards_are = λ d z is.
         ⊎_elim
         (λ (p : (f ≡ d) × (after_hearing octets b ≡ z)). sym (ap (λ (z : Awaited). z.heard) p.1) ∙ ap (λ (o : List ℕ). o ++ octets) (a.forwards_are f b is_open)
-            ∙ sym (ap (λ (n : ℕ). with_octets f octets told n) (sym p.0) ∙ ap (λ (b : Bool). cond b (told f ++ octets) (told f)) (eq-eqb f f refl)))
+        ∙ sym (ap (λ (n : ℕ). with_octets f octets told n) (sym p.0) ∙ ap (λ (b : Bool). cond b (told f ++ octets) (told f)) (eq-eqb f f refl)))
         (λ (p : (f ≡ d → ⊥) × (get fs d ≡ Some z)). a.forwards_are d z p.1 ∙ sym (elsewhere d (λ same. p.0 (sym same))))
         (was_put fs f (after_hearing octets b) d z is);
     later_connections = a.later_connections;

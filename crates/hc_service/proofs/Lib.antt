@@ -13,3 +13,4 @@ pub mod HeardLemmas
 pub mod EntryLemmas
 pub mod OutcomeLemmas
 pub mod TurnLemmas
+pub mod StepLemmas

@@ -1,17 +1,14 @@
 -- The requests that wait stay those of the connections.
-use Rattle.std.proofs.Common.{◌≡◌, ℕ, ◌<◌, Bool, true, false, cond, List, [], Option, Some, None, nat_eq, refl, sym, ap, ◌∙◌, subst, arith, inl, inr, ⊎_elim}
-use Rattle.std.specs.Prelude.{◌⊎◌, nat_lt, ◌==◌, if◌then◌else◌}
+use Rattle.std.proofs.Common.{◌≡◌, ℕ, ◌<◌, Bool, true, false, List, Option, Some, None, refl, sym, ap, ◌∙◌, subst, arith, ⊎_elim}
 use Rattle.std.specs.FinMap.{get, insert, remove}
 use Rattle.std.proofs.lemmas.Bool.{ltb-true, lt-ltb, cases_eq}
-use Rattle.hc_head.specs.declared.head.RequestHead.{RequestHead}
-use Rattle.hc_head.specs.declared.head.Target.{Target}
 use Rattle.hc_rules.specs.Laws.{IsForwardable}
 use Rattle.hc_service.specs.declared.open.OpenExchange.{OpenExchange}
 use Rattle.hc_service.specs.Numbers.{is_later}
 use Rattle.hc_service.specs.State.{Table, Connection, new_connection}
 use Rattle.hc_service.specs.Turns.{after_request, after_reply, replied}
 use Rattle.hc_service.specs.Agreement.{WaitsOn, HasWaiting, AreLinked}
-use Rattle.hc_service.proofs.TableLemmas.{get_same, get_other, get_gone, get_left, was_put, was_left}
+use Rattle.hc_service.proofs.TableLemmas.{get_same, get_other, get_left, was_put, was_left}
 
 pub none_some : {X : Type 0} (o : Option X) (x : X) → o ≡ None → o ≡ Some x → ⊥
 none_some o x none some = no (sym none ∙ some)
@@ -113,33 +110,33 @@ module _ (last : Option ℕ) (ks : Table Connection) (xs : Table OpenExchange) (
     waiting = λ e' x' is.
         ⊎_elim
         (λ (p : (e ≡ e') × (x ≡ x')). subst (λ (n : ℕ). WaitsOn (insert ks c (after_request e behind k)) n x') p.0
-            (subst (WaitsOn (insert ks c (after_request e behind k)) e) p.1 (record {
-              connection = after_request e behind k;
-              is_open = subst (λ (d : ℕ). get (insert ks c (after_request e behind k)) d ≡ Some (after_request e behind k)) (sym its) (get_same ks c (after_request e behind k));
-              waits = refl;
-              forwardable = may;
-            })))
+        (subst (WaitsOn (insert ks c (after_request e behind k)) e) p.1 (record {
+          connection = after_request e behind k;
+          is_open = subst (λ (d : ℕ). get (insert ks c (after_request e behind k)) d ≡ Some (after_request e behind k)) (sym its) (get_same ks c (after_request e behind k));
+          waits = refl;
+          forwardable = may;
+        })))
         (λ (p : (e ≡ e' → ⊥) × (get xs e' ≡ Some x')).
-            let w = l.waiting e' x' p.1 in
-            record {
-              connection = w.connection;
-              is_open = get_other ks c (after_request e behind k) x'.connection (waits_elsewhere c k at e' x' w (none_some k.exchange e' idle)) ∙ w.is_open;
-              waits = w.waits;
-              forwardable = w.forwardable;
-            })
+        let w = l.waiting e' x' p.1 in
+        record {
+          connection = w.connection;
+          is_open = get_other ks c (after_request e behind k) x'.connection (waits_elsewhere c k at e' x' w (none_some k.exchange e' idle)) ∙ w.is_open;
+          waits = w.waits;
+          forwardable = w.forwardable;
+        })
         (was_put xs e x e' x' is);
     busy = λ d e' q is at_e.
         ⊎_elim
         (λ (p : (c ≡ d) × (after_request e behind k ≡ q)).
-            let same : e ≡ e' = some_same e e' (ap (λ (q : Connection). q.exchange) p.1 ∙ at_e) in
-            record { exchange = x; is_open = subst (λ (n : ℕ). get (insert xs e x) n ≡ Some x) same (get_same xs e x); is_its = its ∙ p.0 })
+        let same : e ≡ e' = some_same e e' (ap (λ (q : Connection). q.exchange) p.1 ∙ at_e) in
+        record { exchange = x; is_open = subst (λ (n : ℕ). get (insert xs e x) n ≡ Some x) same (get_same xs e x); is_its = its ∙ p.0 })
         (λ (p : (c ≡ d → ⊥) × (get ks d ≡ Some q)).
-            let b = l.busy d e' q p.1 at_e in
-            record {
-              exchange = b.exchange;
-              is_open = get_other xs e x e' (λ same. none_some (get xs e) b.exchange fresh (ap (get xs) same ∙ b.is_open)) ∙ b.is_open;
-              is_its = b.is_its;
-            })
+        let b = l.busy d e' q p.1 at_e in
+        record {
+          exchange = b.exchange;
+          is_open = get_other xs e x e' (λ same. none_some (get xs e) b.exchange fresh (ap (get xs) same ∙ b.is_open)) ∙ b.is_open;
+          is_its = b.is_its;
+        })
         (was_put ks c (after_request e behind k) d q is);
     later = λ d is. get_other ks c (after_request e behind k) d (λ same. none_some (get ks c) k (ap (get ks) same ∙ l.later d is) at) ∙ l.later d is;
   }

@@ -1,20 +1,19 @@
 -- The name of a cache, and the words of its marks, are tokens.
-use Rattle.std.proofs.Common.{◌≡◌, ℕ, suc, ◌≤◌, ◌<◌, ◌^◌, Bool, true, false, ◌&&◌, ◌||◌, List, [], ◌∷◌, length, ℤ, pos, ◌-ℤ◌, unsigned_abs, refl, sym, ◌∙◌, arith, inl, inr, ⊎_elim}
-use Rattle.std.specs.Prelude.{◌==◌, nat_le, ◌⊎◌, Some, None, codes}
+use Rattle.std.proofs.Common.{◌≡◌, ℕ, suc, ◌≤◌, ◌<◌, ◌^◌, Bool, true, false, ◌&&◌, ◌||◌, List, [], ◌∷◌, length, pos, ◌-ℤ◌, unsigned_abs, refl, sym, ◌∙◌, arith, inl, inr, ⊎_elim}
+use Rattle.std.specs.Prelude.{◌==◌, nat_le, Some, None, codes}
 use Rattle.std.specs.Char.{is_ascii_alphabetic, is_ascii_alphanumeric}
 use Rattle.std.specs.Int.{is_in_range}
-use Rattle.std.specs.List.{list_all, list_any}
-use Rattle.std.proofs.lemmas.Bool.{cases_Bool, cases_eq, ne_eqb, and_from, and_parts, or_left, or_right, lt-ltb, leb-true}
+use Rattle.std.specs.List.{list_all}
+use Rattle.std.proofs.lemmas.Bool.{cases_Bool, cases_eq, ne_eqb, and_from, and_parts, or_left, lt-ltb, leb-true}
 use Rattle.std.proofs.lemmas.Int.{ints}
 use Rattle.std.proofs.lemmas.List.Sums.{AllPass-from_list_all}
 use Rattle.hc_fields.specs.Tokens as via
 use Rattle.hc_rules.specs.Laws.{IsCacheName}
 use Rattle.hc_fresh.proofs.LimitLemmas.{lifetime_small}
-use Rattle.hc_status.specs.Classes.{is_token_start, is_token_octet}
+use Rattle.hc_status.specs.Classes.{is_token_octet}
 use Rattle.hc_status.specs.Grammar.{IsToken}
-use Rattle.hc_status.specs.Texts.{IsPlain}
 use Rattle.hc_status.specs.declared.cache_status.Handling.TheVariants.{Hit, Fwd}
-use Rattle.hc_replies.specs.Laws.{IsPlainStatus, IsWritableStatus}
+use Rattle.hc_replies.specs.Laws.{IsWritableStatus}
 use Rattle.hc_update.specs.declared.stored.Stored.{Stored}
 use Rattle.hc_history.specs.Usable.{lifetime_of}
 use Rattle.hc_service.specs.declared.cases.Cause.{Cause}

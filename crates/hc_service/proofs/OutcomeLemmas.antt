@@ -1,8 +1,7 @@
 -- What a request gets, at once or by its forward, is a right reply or a forward.
 use Rattle.std.proofs.Common.{◌≡◌, ℕ, ◌+◌, ◌≤◌, ◌<◌, Bool, true, false, cond, ◌&&◌, ◌||◌, List, [], ◌∷◌, length, Option, Some, None, refl, sym, ap, ◌∙◌, subst, arith, inl, inr, ⊎_elim}
-use Rattle.std.specs.Prelude.{◌⊎◌, ◌==◌, not, codes, if◌then◌else◌}
-use Rattle.std.specs.Str.{bytes_eq}
-use Rattle.std.proofs.lemmas.Bool.{cases_Bool, eq-eqb, or_left, or_right, and_parts}
+use Rattle.std.specs.Prelude.{◌⊎◌, not, codes, if◌then◌else◌}
+use Rattle.std.proofs.lemmas.Bool.{cases_Bool, eq-eqb, or_left, and_parts}
 use Rattle.std.proofs.lemmas.Slice.Eq.{bytes_eq-Decides}
 use Rattle.hc_fields.specs.declared.fields.Field.{Field}
 use Rattle.hc_head.specs.declared.head.RequestHead.{RequestHead}
@@ -10,31 +9,29 @@ use Rattle.hc_head.specs.declared.head.ResponseHead.{ResponseHead}
 use Rattle.hc_head.specs.declared.head.Target.{Target}
 use Rattle.hc_head.specs.Methods.{is_get, is_head}
 use Rattle.hc_framing.specs.declared.message.Message.{Message}
-use Rattle.hc_framing.specs.Framing.{ends_with_head}
 use Rattle.hc_fresh.specs.Lifetimes.{stale_forbidden}
 use Rattle.hc_rules.specs.Storing.{may_store, asks_for_storable, is_storable, is_understood_if_asked, no_store_permits, is_not_private, has_authorization, permits_authorized, invites_storing}
 use Rattle.hc_update.specs.declared.stored.Stored.{Stored}
 use Rattle.hc_transcript.specs.Items.{Item, ClientRequest, OriginResponse, OriginFailure, ClientReply, Exchange}
 use Rattle.hc_transcript.specs.History.{exchange_of, forward_of}
 use Rattle.hc_history.specs.Right.{IsRight}
-use Rattle.hc_store.specs.Entries.{Holdings, knows, variants_of}
-use Rattle.hc_store.specs.Choosing.{is_selected, chosen}
+use Rattle.hc_store.specs.Entries.{Holdings, knows}
+use Rattle.hc_store.specs.Choosing.{chosen}
 use Rattle.hc_service.specs.declared.cases.Cause.{Cause}
-use Rattle.hc_service.specs.declared.cases.Cause.TheVariants.{Method, Bypass, NoStore, UriMiss, VaryMiss, Stale, Request}
-use Rattle.hc_service.specs.declared.cases.Case.{Case}
+use Rattle.hc_service.specs.declared.cases.Cause.TheVariants.{Method, Bypass, NoStore, UriMiss, VaryMiss}
 use Rattle.hc_service.specs.declared.cases.Case.TheVariants as case
 use Rattle.hc_service.specs.declared.open.OpenForward.{OpenForward}
 use Rattle.hc_service.specs.Settings.{is_name}
 use Rattle.hc_service.specs.Asking.{is_answered_by_store}
-use Rattle.hc_service.specs.Cases.{asks_store, case_before_store, case_by_store, has_other_method, asks_origin, forbids_storing, is_served, cause_of_stored}
+use Rattle.hc_service.specs.Cases.{asks_store, case_before_store, case_by_store, has_other_method, asks_origin, forbids_storing, cause_of_stored}
 use Rattle.hc_service.specs.Serving.{may_be_served}
 use Rattle.hc_service.specs.State.{Table, Awaited}
 use Rattle.hc_service.specs.Replying.{Wanted, made_reply, hit_reply, passed_reply, failure_status, bad_gateway, gateway_timeout}
 use Rattle.hc_service.specs.Choices.{OnTest, Finds, PutsResponse, Stores}
-use Rattle.hc_service.specs.Reactions.{Reaction, Reacts, ReactsBy, ReactsByStore, wants_no_forward, plain_forward, stored_forward, forward_reaction, chosen_reaction}
+use Rattle.hc_service.specs.Reactions.{Reaction, Reacts, ReactsBy, wants_no_forward, plain_forward, stored_forward, forward_reaction, chosen_reaction}
 use Rattle.hc_service.specs.Reactions.Reaction.{Replies as RepliesAtOnce, Sends}
 use Rattle.hc_service.specs.Answers.{Outcome, Responds, Passes, FailsByStore, Fails, is_unasked, failed_outcome, standing_in}
-use Rattle.hc_service.specs.Answers.Outcome.{Replies, GoesAnew}
+use Rattle.hc_service.specs.Answers.Outcome.{Replies}
 use Rattle.hc_service.specs.Agreement.{HasSource, CanReply}
 use Rattle.hc_service.specs.Runs.{strict}
 use Rattle.hc_service.specs.Laws.{HasSources, IsReceivedAnswer, is_response, recorded_forward}
@@ -132,18 +129,18 @@ module _ (name : List ℕ) (good : is_name name ≡ true) (t : ℕ) (early : t <
   by_case forwards known old new (Some stored) reaction h method finds is =
       ⊎_elim
       (λ (served : may_be_served request.head.fields stored t ≡ true).
-          let source = chosen_held (HasSource items) target request.head.fields old.entries stored h.0.sources finds.0 in
-          let can = (chosen_held (λ _ stored. CanReply stored) target request.head.fields old.entries stored h.1 finds.0).0 in
-          inl (record {
-            reply = hit_reply wanted stored;
-            reaction_is = is ∙ ap (λ (b : Bool). chosen_reaction wanted target request forwards (Some stored) (cond b case.Hit (case.Forward (cause_of_stored stored t)))) served;
-            fit = hit_fit wanted stored good can;
-            right = hit_right the_items the_exchange t name closes stored (still_source items (ClientRequest e t request target) refl target stored source.0) can (or_left _ _ (or_nothing (is_get request.head.method) method))
-                source.1 served (hit_writable name stored t good).plain it_waits;
-          }))
+      let source = chosen_held (HasSource items) target request.head.fields old.entries stored h.0.sources finds.0 in
+      let can = (chosen_held (λ _ stored. CanReply stored) target request.head.fields old.entries stored h.1 finds.0).0 in
+      inl (record {
+        reply = hit_reply wanted stored;
+        reaction_is = is ∙ ap (λ (b : Bool). chosen_reaction wanted target request forwards (Some stored) (cond b case.Hit (case.Forward (cause_of_stored stored t)))) served;
+        fit = hit_fit wanted stored good can;
+        right = hit_right the_items the_exchange t name closes stored (still_source items (ClientRequest e t request target) refl target stored source.0) can (or_left _ _ (or_nothing (is_get request.head.method) method))
+            source.1 served (hit_writable name stored t good).plain it_waits;
+      }))
       (λ (kept : may_be_served request.head.fields stored t ≡ false).
-          forwarded (Some stored) (cause_of_stored stored t) reaction (λ _. method)
-          (is ∙ ap (λ (b : Bool). chosen_reaction wanted target request forwards (Some stored) (cond b case.Hit (case.Forward (cause_of_stored stored t)))) kept))
+      forwarded (Some stored) (cause_of_stored stored t) reaction (λ _. method)
+      (is ∙ ap (λ (b : Bool). chosen_reaction wanted target request forwards (Some stored) (cond b case.Hit (case.Forward (cause_of_stored stored t)))) kept))
       (cases_Bool (may_be_served request.head.fields stored t))
     where
       or_nothing : (a : Bool) → (a || false) ≡ true → a ≡ true
@@ -163,9 +160,10 @@ module _ (name : List ℕ) (good : is_name name ≡ true) (t : ℕ) (early : t <
 
       go : (before : Option Cause) → case_before_store request ≡ before → ReactsBy before wanted target request forwards old reaction new → SoundStore items new × (GetsReply reaction ⊎ GetsForward reaction)
       go (Some why) is r = (subst (SoundStore items) (sym r.1) h, forwarded None why reaction (never why (before_store request why is)) r.0)
-      go None is r =
-          (found_sound items target request.head.fields old r.chosen new h r.finds,
-          by_case forwards (knows target old.entries) old new r.chosen reaction h (by_store_method request is) r.finds r.reaction_is)
+      go None is r = (
+        found_sound items target request.head.fields old r.chosen new h r.finds,
+        by_case forwards (knows target old.entries) old new r.chosen reaction h (by_store_method request is) r.finds r.reaction_is,
+      )
 
 -- ---- what answers a forward
 
@@ -184,15 +182,16 @@ stored_is_get forward response may = subst (λ (m : List ℕ). is_head m ≡ fal
 pub stored_sound : (items : List Item) (f t : ℕ) (response : Message ResponseHead) (forward : OpenForward) (old : Holdings) (stored : Bool) (new : Holdings)
     → forward_of f items ≡ Some (recorded_forward forward) → IsReceivedAnswer (is_head forward.request.method) response → t < 253402300800
     → SoundStore (OriginResponse f t response ∷ items) old → Stores forward t response old stored new → SoundStore (OriginResponse f t response ∷ items) new
-stored_sound items f t response forward old stored new is_open r early h stores =
-    (put_sources items f t response forward is_open old new stored h.0 stores,
-    ⊎_elim
-    (λ (may : may_store forward.request response.head ≡ true).
-        put_can_reply forward t response old stored new (subst (λ (b : Bool). IsReceivedAnswer b response) (stored_is_get forward.request response.head may) r) early h.1 stores)
-    (λ (may : may_store forward.request response.head ≡ false).
-        let left = subst (λ (b : Bool). OnTest b (PutsResponse forward t response old stored new) ((stored ≡ false) × (new ≡ old))) may stores in
-        subst all_can_reply (sym left.1) h.1)
-    (cases_Bool (may_store forward.request response.head)))
+stored_sound items f t response forward old stored new is_open r early h stores = (
+  put_sources items f t response forward is_open old new stored h.0 stores,
+  ⊎_elim
+      (λ (may : may_store forward.request response.head ≡ true).
+      put_can_reply forward t response old stored new (subst (λ (b : Bool). IsReceivedAnswer b response) (stored_is_get forward.request response.head may) r) early h.1 stores)
+      (λ (may : may_store forward.request response.head ≡ false).
+      let left = subst (λ (b : Bool). OnTest b (PutsResponse forward t response old stored new) ((stored ≡ false) × (new ≡ old))) may stores in
+      subst all_can_reply (sym left.1) h.1)
+      (cases_Bool (may_store forward.request response.head)),
+)
 
 module _ (name : List ℕ) (good : is_name name ≡ true) (t : ℕ) (early : t < 253402300800) (closes : Bool) (items : List Item) (f : ℕ) (forward : OpenForward) (x : Exchange) (why : Cause)
     (is_open : forward_of f items ≡ Some (recorded_forward forward)) (waits : exchange_of x.number items ≡ Some x) (method : forward.request.method ≡ x.request.method) (target : forward.target ≡ x.target) where
@@ -214,31 +213,33 @@ module _ (name : List ℕ) (good : is_name name ≡ true) (t : ℕ) (early : t <
 
     passes : (old new : Holdings) (outcome : Outcome) → SoundStore (OriginResponse f t response ∷ items) old → Passes wants forward why t response old outcome new
         → SoundStore (OriginResponse f t response ∷ items) new × GetsAnswer (OriginResponse f t response ∷ items) outcome
-    passes old new outcome h p =
-        (⊎_elim
-        (λ (q : (asks_store why ≡ true) × Stores forward t response old p.stored new). stored_sound items f t response forward old p.stored new is_open r early h q.1)
-        (λ (q : (asks_store why ≡ false) × ((p.stored ≡ false) × (new ≡ old))). subst (SoundStore (OriginResponse f t response ∷ items)) (sym q.1.1) h)
-        (on_test (asks_store why) _ _ p.puts),
-        record {
-          reply = passed_reply wants why p.stored response;
-          outcome_is = p.outcome_is;
-          fit = passed_fit wants why p.stored (is_head x.request.method) response good early (subst (λ (b : Bool). IsReceivedAnswer b response) same_head r);
-          right = passed_right items f t response forward x wants why p.stored is_open waits method target bare (forward_writable name why p.stored good).plain;
-        })
+    passes old new outcome h p = (
+      ⊎_elim
+          (λ (q : (asks_store why ≡ true) × Stores forward t response old p.stored new). stored_sound items f t response forward old p.stored new is_open r early h q.1)
+          (λ (q : (asks_store why ≡ false) × ((p.stored ≡ false) × (new ≡ old))). subst (SoundStore (OriginResponse f t response ∷ items)) (sym q.1.1) h)
+          (on_test (asks_store why) _ _ p.puts),
+      record {
+        reply = passed_reply wants why p.stored response;
+        outcome_is = p.outcome_is;
+        fit = passed_fit wants why p.stored (is_head x.request.method) response good early (subst (λ (b : Bool). IsReceivedAnswer b response) same_head r);
+        right = passed_right items f t response forward x wants why p.stored is_open waits method target bare (forward_writable name why p.stored good).plain;
+      },
+    )
 
     pub response_outcome : (conditional : Bool) (position : ℕ) (old new : Holdings) (outcome : Outcome) → SoundStore (OriginResponse f t response ∷ items) old
         → Responds (record { name = name; moment = t; asked = x.request; closes = closes }) forward why conditional position response old outcome new
         → SoundStore (OriginResponse f t response ∷ items) new × GetsAnswer (OriginResponse f t response ∷ items) outcome
     response_outcome conditional position old new outcome h responds =
         ⊎_elim
-        (λ (q : (is_unasked wants forward why response.head ≡ true) × ((outcome ≡ Replies (made_reply wants bad_gateway)) × (new ≡ old))).
-            (subst (SoundStore (OriginResponse f t response ∷ items)) (sym q.1.1) h,
-            record {
-              reply = made_reply wants bad_gateway;
-              outcome_is = q.1.0;
-              fit = made_fit wants (is_head x.request.method) bad_gateway (omega arith) (omega arith) early;
-              right = made_right (OriginResponse f t response ∷ items) x wants bad_gateway waits (omega arith);
-            }))
+        (λ (q : (is_unasked wants forward why response.head ≡ true) × ((outcome ≡ Replies (made_reply wants bad_gateway)) × (new ≡ old))). (
+          subst (SoundStore (OriginResponse f t response ∷ items)) (sym q.1.1) h,
+          record {
+            reply = made_reply wants bad_gateway;
+            outcome_is = q.1.0;
+            fit = made_fit wants (is_head x.request.method) bad_gateway (omega arith) (omega arith) early;
+            right = made_right (OriginResponse f t response ∷ items) x wants bad_gateway waits (omega arith);
+          },
+        ))
         (λ (q : (is_unasked wants forward why response.head ≡ false) × Passes wants forward why t response old outcome new). passes old new outcome h q.1)
         (on_test (is_unasked wants forward why response.head) _ _ responds)
 
@@ -264,12 +265,14 @@ module _ (name : List ℕ) (good : is_name name ≡ true) (t : ℕ) (early : t <
   failure_outcome old new outcome h fails =
       ⊎_elim
       (λ (q : (asks_store why ≡ true) × FailsByStore wants forward why old outcome new).
-          let status = failed_status q.1.chosen in
-          (still_sound items (OriginFailure f t) new refl (found_sound items forward.target x.request.fields old q.1.chosen new h q.1.finds),
-          made_answer (OriginFailure f t ∷ items) (failure_status q.1.chosen) outcome waits (omega (arith, status.0)) (omega (arith, status.1)) (q.1.outcome_is ∙ nobody_stands_in q.1.chosen)))
-      (λ (q : (asks_store why ≡ false) × ((outcome ≡ Replies (made_reply wants bad_gateway)) × (new ≡ old))).
-          (subst (SoundStore (OriginFailure f t ∷ items)) (sym q.1.1) (still_sound items (OriginFailure f t) old refl h),
-          made_answer (OriginFailure f t ∷ items) bad_gateway outcome waits (omega arith) (omega arith) q.1.0))
+      let status = failed_status q.1.chosen in (
+        still_sound items (OriginFailure f t) new refl (found_sound items forward.target x.request.fields old q.1.chosen new h q.1.finds),
+        made_answer (OriginFailure f t ∷ items) (failure_status q.1.chosen) outcome waits (omega (arith, status.0)) (omega (arith, status.1)) (q.1.outcome_is ∙ nobody_stands_in q.1.chosen),
+      ))
+      (λ (q : (asks_store why ≡ false) × ((outcome ≡ Replies (made_reply wants bad_gateway)) × (new ≡ old))). (
+        subst (SoundStore (OriginFailure f t ∷ items)) (sym q.1.1) (still_sound items (OriginFailure f t) old refl h),
+        made_answer (OriginFailure f t ∷ items) bad_gateway outcome waits (omega arith) (omega arith) q.1.0,
+      ))
       (on_test (asks_store why) _ _ fails)
     where
       nobody_stands_in : (chosen : Option Stored) → failed_outcome wants forward why chosen (standing_in wants forward why chosen) ≡ Replies (made_reply wants (failure_status chosen))

@@ -1,8 +1,8 @@
 -- Replies that are what the origin answered, and those that the cache makes itself, are right.
-use Rattle.std.proofs.Common.{◌≡◌, ℕ, ◌+◌, ◌≤◌, ◌<◌, Bool, true, false, ◌&&◌, List, [], ◌∷◌, length, Option, Some, None, refl, sym, ap, ◌∙◌, subst, arith, inl, inr, ⊎_elim}
-use Rattle.std.specs.Prelude.{◌==◌, nat_le, if◌then◌else◌}
+use Rattle.std.proofs.Common.{◌≡◌, ℕ, ◌+◌, ◌≤◌, Bool, true, false, ◌&&◌, List, [], ◌∷◌, length, Option, Some, None, refl, sym, ap, subst, arith, inl, inr}
+use Rattle.std.specs.Prelude.{◌==◌, if◌then◌else◌}
 use Rattle.std.specs.Str.{bytes_eq}
-use Rattle.std.proofs.lemmas.Bool.{cases_Bool, cases_eq, eq-eqb, ne_eqb, and_from, or_left, le-leb, lt-ltb}
+use Rattle.std.proofs.lemmas.Bool.{cases_eq, eq-eqb, ne_eqb, and_from, or_left, le-leb, lt-ltb}
 use Rattle.std.proofs.lemmas.Slice.Eq.{bytes_eq-Decides}
 use Rattle.hc_head.specs.declared.head.ResponseHead.{ResponseHead}
 use Rattle.hc_head.specs.declared.head.Target.{Target}
@@ -17,7 +17,7 @@ use Rattle.hc_replies.proofs.ReplyLemmas.{forwarded_marked, generated_unmarked}
 use Rattle.hc_transcript.specs.Items.{Item, ClientRequest, OriginRequest, OriginResponse, OriginFailure, ClientReply, Exchange, Forward}
 use Rattle.hc_transcript.specs.History.{next_position, exchange_of, forward_of}
 use Rattle.hc_history.specs.Claims.{Claim, claim_of}
-use Rattle.hc_history.specs.Forwarded.{carries_response, is_forwarded}
+use Rattle.hc_history.specs.Forwarded.{carries_response}
 use Rattle.hc_history.specs.Marks.{reply_mark, judged_mark}
 use Rattle.hc_history.specs.Right.{IsRight, IsRightTo, IsRightBy}
 use Rattle.hc_history.proofs.TargetLemmas.{same_target_itself}
@@ -75,7 +75,7 @@ module _ (items : List Item) (f moment : ℕ) (response : Message ResponseHead) 
   passed_right is_open waits method target bare plain =
       let place = exchange_place x.number items x waits in
       let marked : reply_mark the_reply ≡ mark.Forwarded =
-          ap (judged_mark response.head.status) (forwarded_marked wanted.name (Fwd (word_of why) None stored) wanted.closes wanted.moment response plain) in
+      ap (judged_mark response.head.status) (forwarded_marked wanted.name (Fwd (word_of why) None stored) wanted.closes wanted.moment response plain) in
       subst (λ (o : Option Exchange). IsRightTo strict o wanted.moment the_reply (OriginResponse f moment response ∷ items)) (sym waits)
       (subst (λ (m : Mark). IsRightBy m the_claim (OriginResponse f moment response ∷ items)) (sym marked)
       (inl (or_left _ _ (and_from _ _ (lt-ltb x.position (next_position items) (omega (arith, place))) (is_its is_open method target bare)))))

@@ -1,8 +1,8 @@
 -- What is received can be recorded and passed on.
-use Rattle.std.proofs.Common.{◌≡◌, ℕ, ◌+◌, ◌≤◌, ◌<◌, Bool, true, false, ◌&&◌, cond, List, [], ◌∷◌, length, take, drop, Option, Some, None, Ok, Err, refl, sym, ap, ◌∙◌, subst, arith, inl, inr, ⊎_elim}
-use Rattle.std.specs.Prelude.{⊤, Result, ◌==◌, nat_le, nat_lt, not, ok_or, codes, flat_map, if◌then◌else◌}
+use Rattle.std.proofs.Common.{◌≡◌, ℕ, ◌≤◌, ◌<◌, Bool, true, false, ◌&&◌, cond, List, [], ◌∷◌, length, drop, Option, Some, None, Ok, Err, refl, sym, ap, subst, arith}
+use Rattle.std.specs.Prelude.{Result, nat_lt, not, ok_or, codes, flat_map, if◌then◌else◌}
 use Rattle.std.specs.List.{list_all}
-use Rattle.std.proofs.lemmas.Bool.{cases_Bool, and_from, le-leb, ltb-false}
+use Rattle.std.proofs.lemmas.Bool.{ltb-false}
 use Rattle.std.proofs.Math.ListN.{length-take}
 use Rattle.hc_fields.specs.declared.fields.Field.{Field}
 use Rattle.std.specs.Str.{str_eq_ignore_ascii_case}
@@ -15,23 +15,18 @@ use Rattle.hc_head.specs.declared.head.Version.{Version}
 use Rattle.hc_head.specs.declared.head.TheConstants.Room.{RECEIVED, RECORDED}
 use Rattle.hc_head.specs.Passing.{AreKeptLines, IsReceivedRequest}
 use Rattle.hc_head.specs.Heads.{BeginsResponseHead, response_field_count}
-use Rattle.hc_head.specs.Plain.{IsPlainResponse, is_plain_field}
+use Rattle.hc_head.specs.Plain.{is_plain_field}
 use Rattle.hc_head.specs.Reading.{IsWholeHead}
 use Rattle.hc_head.specs.Writable.{has_framing, longest_body}
-use Rattle.hc_head.proofs.PassingLemmas.{received_request, received_response, received_without_framing, light_request_writable, light_response_writable, no_framing_taken, kept_fewer}
+use Rattle.hc_head.proofs.PassingLemmas.{received_request, received_response, received_without_framing, light_request_writable, no_framing_taken, kept_fewer}
 use Rattle.hc_framing.specs.declared.fault.FrameFault.{FrameFault}
 use Rattle.hc_framing.specs.declared.fault.FrameFault.TheVariants.{BothLengths, BadLength, BadCoding, BodyTooLong}
 use Rattle.hc_framing.specs.declared.framing.Framing.{Framing}
 use Rattle.hc_framing.specs.declared.framing.Framing.TheVariants.{Nothing, Sized, Chunked, UntilClose}
-use Rattle.hc_framing.specs.declared.kind.Kind.TheVariants as kinds
 use Rattle.hc_framing.specs.declared.message.Message.{Message}
-use Rattle.hc_framing.specs.Framing.{◌>>=◌, refuse, members_of, first_length, each_writes, common_length, sized_by, sized, coded_by, coded, is_http10, framing_by, request_framing, response_framing, ends_with_head}
-use Rattle.hc_framing.specs.Messages.{BeginsBody, IsWholeBody, request_form, response_form, request_without_framing, response_without_framing, fields_without_framing}
-use Rattle.hc_framing.specs.Reader.{BeginsIn}
-use Rattle.hc_framing.specs.Written.{IsReadableRequest}
-use Rattle.hc_rules.specs.Laws.{IsForwardable}
+use Rattle.hc_framing.specs.Framing.{◌>>=◌, refuse, members_of, first_length, each_writes, common_length, sized_by, sized, coded_by, coded, is_http10, framing_by, response_framing, ends_with_head}
+use Rattle.hc_framing.specs.Messages.{BeginsBody, IsWholeBody, response_without_framing, fields_without_framing}
 use Rattle.hc_links.specs.Requests.{IsRequest}
-use Rattle.hc_links.specs.Responses.{IsResponse, IsResponseAtEnd}
 use Rattle.hc_service.specs.Turns.{IsAnswer}
 use Rattle.hc_service.specs.Laws.{IsReceivedAnswer, IsReceivedAsk}
 
@@ -160,7 +155,7 @@ pub received_ask : (octets : List ℕ) (request : Message RequestHead) (target :
 received_ask octets request target size a =
     let m = a.begins.begins in
     let received = received_without_framing m.head (received_request octets m.head m.head_len
-        (record { begins = m.begins; octets_fit = a.begins.octets_fit; fields_fit = a.begins.fields_fit })) in
+    (record { begins = m.begins; octets_fit = a.begins.octets_fit; fields_fit = a.begins.fields_fit })) in
     let is : IsReceivedRequest request.head = subst IsReceivedRequest (sym m.head_is) received in
     let no_framing : has_framing request.head.fields ≡ false = subst (λ (h : RequestHead). has_framing h.fields ≡ false) (sym m.head_is) (no_framing_taken m.head.fields) in
     record {

@@ -1,39 +1,30 @@
 -- The replies of a cache are right.
-use Rattle.std.proofs.Common.{◌≡◌, ℕ, ◌+◌, ◌<◌, ◌≤◌, Bool, true, false, ◌&&◌, ◌||◌, List, [], ◌∷◌, ◌++◌, length, take, ℤ, pos, ◌-ℤ◌, nat_abs, Option, Some, None, refl, sym, ap, ◌∙◌, subst, arith, inl, inr, ⊎_elim}
-use Rattle.std.specs.Prelude.{◌==◌, nat_le, nat_lt, not, codes, if◌then◌else◌, option_and_then}
+use Rattle.std.proofs.Common.{◌≡◌, ℕ, ◌+◌, ◌<◌, Bool, true, false, ◌&&◌, ◌||◌, List, [], ◌∷◌, length, take, ℤ, pos, ◌-ℤ◌, nat_abs, Option, Some, refl, sym, ap, ◌∙◌, subst, arith, ⊎_elim}
+use Rattle.std.specs.Prelude.{◌==◌, nat_le, not, codes, if◌then◌else◌}
 use Rattle.std.specs.Cmp.Lexicographic.{pointwise}
-use Rattle.std.specs.List.{list_all, list_any}
+use Rattle.std.specs.List.{list_all}
 use Rattle.std.specs.Str.{bytes_eq}
 use Rattle.std.proofs.lemmas.Bool.{cases_Bool, eq-eqb, and_from, and_parts, or_left, or_right, le-leb, lt-ltb, ltb-true}
 use Rattle.std.proofs.lemmas.Int.{ints}
 use Rattle.std.proofs.lemmas.Slice.Eq.{bytes_eq-Decides}
-use Rattle.hc_fields.specs.declared.fields.Field.{Field}
-use Rattle.hc_fields.specs.Values.{values_of, has_name, only_value}
-use Rattle.hc_fields.specs.Numbers.{number_of}
-use Rattle.hc_head.specs.declared.head.RequestHead.{RequestHead}
+use Rattle.hc_fields.specs.Values.{values_of}
 use Rattle.hc_head.specs.declared.head.ResponseHead.{ResponseHead}
-use Rattle.hc_head.specs.declared.head.Target.{Target}
 use Rattle.hc_head.specs.Methods.{is_get, is_head}
-use Rattle.hc_head.specs.Statuses.{not_modified, partial_content}
-use Rattle.hc_head.specs.Targets.{same_target}
 use Rattle.hc_framing.specs.declared.message.Message.{Message}
 use Rattle.hc_status.specs.declared.cache_status.Handling.{Handling}
-use Rattle.hc_status.specs.declared.cache_status.Handling.TheVariants.{Hit, Fwd}
+use Rattle.hc_status.specs.declared.cache_status.Handling.TheVariants.{Hit}
 use Rattle.hc_status.specs.declared.marks.Mark.{Mark}
 use Rattle.hc_status.specs.declared.marks.Mark.TheVariants as mark
-use Rattle.hc_status.specs.Marks.{mark_of}
 use Rattle.hc_update.specs.declared.stored.Stored.{Stored}
-use Rattle.hc_replies.specs.Replies.{stored_reply, forwarded_reply, generated_reply}
+use Rattle.hc_replies.specs.Replies.{stored_reply}
 use Rattle.hc_replies.specs.Laws.{is_own_name, IsPlainStatus}
-use Rattle.hc_replies.proofs.ReplyLemmas.{stored_marked, stored_values, stored_age_told, forwarded_marked, generated_unmarked}
-use Rattle.hc_transcript.specs.Items.{Item, OriginResponse, ClientReply, Exchange, Forward}
-use Rattle.hc_transcript.specs.History.{next_position, exchange_of, forward_of}
-use Rattle.hc_history.specs.declared.kept.Kept.{Kept}
-use Rattle.hc_history.specs.Claims.{Claim, claim_of, asks_head, ttl_of}
-use Rattle.hc_history.specs.Filters.{filters, within, is_age, is_ttl, is_exempt, same_values, compared_names, names_of}
-use Rattle.hc_history.specs.Forwarded.{is_forwarded}
+use Rattle.hc_replies.proofs.ReplyLemmas.{stored_marked, stored_values, stored_age_told}
+use Rattle.hc_transcript.specs.Items.{Item, ClientReply, Exchange}
+use Rattle.hc_transcript.specs.History.{exchange_of}
+use Rattle.hc_history.specs.Claims.{Claim, claim_of, ttl_of}
+use Rattle.hc_history.specs.Filters.{within, is_age, is_ttl, is_exempt, same_values, compared_names}
 use Rattle.hc_history.specs.Marks.{reply_mark, judged_mark}
-use Rattle.hc_history.specs.Reused.{Pass, IsReused}
+use Rattle.hc_history.specs.Reused.{IsReused}
 use Rattle.hc_history.specs.Right.{IsRight, IsRightTo, IsRightBy}
 use Rattle.hc_history.specs.Usable.{lifetime_of, is_usable}
 use Rattle.hc_history.proofs.StateLemmas.{place_of}
@@ -41,7 +32,7 @@ use Rattle.hc_history.proofs.TargetLemmas.{same_target_itself}
 use Rattle.hc_store.specs.Choosing.{is_selected}
 use Rattle.hc_service.specs.Agreement.{HasSource, CanReply}
 use Rattle.hc_service.specs.Runs.{strict}
-use Rattle.hc_service.specs.Serving.{age_at, ttl_at, is_fresh, may_be_used, may_be_served}
+use Rattle.hc_service.specs.Serving.{age_at, ttl_at, may_be_used, may_be_served}
 
 -- ---- small facts
 
@@ -86,12 +77,12 @@ module _ (items : List Item) (x : Exchange) (moment : ℕ) (name : List ℕ) (cl
       ⊎_elim
       (λ (e : bytes_eq (codes "age") field ≡ true). subst (λ (n : List ℕ). is_exempt the_claim n ≡ true) ((bytes_eq-Decides (codes "age") field).0 e) (second_of_three _ true _ refl))
       (λ (past : bytes_eq (codes "age") field ≡ false). ⊎_elim
-          (λ (e : bytes_eq (codes "cache-status") field ≡ true). subst (λ (n : List ℕ). is_exempt the_claim n ≡ true) ((bytes_eq-Decides (codes "cache-status") field).0 e) (second_of_three _ true _ refl))
-          (λ (beyond : bytes_eq (codes "cache-status") field ≡ false). ⊎_elim
-              (λ (e : bytes_eq (codes "connection") field ≡ true). subst (λ (n : List ℕ). is_exempt the_claim n ≡ true) ((bytes_eq-Decides (codes "connection") field).0 e) refl)
-              (λ (none : bytes_eq (codes "connection") field ≡ false). absurd (true_is_false (sym own ∙ rw (past, beyond, none) refl)))
-              (cases_Bool (bytes_eq (codes "connection") field)))
-          (cases_Bool (bytes_eq (codes "cache-status") field)))
+      (λ (e : bytes_eq (codes "cache-status") field ≡ true). subst (λ (n : List ℕ). is_exempt the_claim n ≡ true) ((bytes_eq-Decides (codes "cache-status") field).0 e) (second_of_three _ true _ refl))
+      (λ (beyond : bytes_eq (codes "cache-status") field ≡ false). ⊎_elim
+      (λ (e : bytes_eq (codes "connection") field ≡ true). subst (λ (n : List ℕ). is_exempt the_claim n ≡ true) ((bytes_eq-Decides (codes "connection") field).0 e) refl)
+      (λ (none : bytes_eq (codes "connection") field ≡ false). absurd (true_is_false (sym own ∙ rw (past, beyond, none) refl)))
+      (cases_Bool (bytes_eq (codes "connection") field)))
+      (cases_Bool (bytes_eq (codes "cache-status") field)))
       (cases_Bool (bytes_eq (codes "age") field))
     where
       true_is_false : true ≡ false → ⊥
@@ -102,9 +93,9 @@ module _ (items : List Item) (x : Exchange) (moment : ℕ) (name : List ℕ) (cl
       ⊎_elim
       (λ (own : is_own_name field ≡ true). or_left _ _ (exempt field own))
       (λ (other : is_own_name field ≡ false). or_right _ _
-          (subst (λ (vs : List (List ℕ)). pointwise bytes_eq vs (values_of field stored.fields) ≡ true)
-          (sym (stored_values field name (Hit (Some (ttl_at stored moment))) closes moment (is_head x.request.method) stored other))
-          (pointwise_same (values_of field stored.fields))))
+      (subst (λ (vs : List (List ℕ)). pointwise bytes_eq vs (values_of field stored.fields) ≡ true)
+      (sym (stored_values field name (Hit (Some (ttl_at stored moment))) closes moment (is_head x.request.method) stored other))
+      (pointwise_same (values_of field stored.fields))))
       (cases_Bool (is_own_name field))
 
   same_body : (head : Bool) → (if head then length (if head then [] else stored.body) == 0 else bytes_eq (if head then [] else stored.body) stored.body) ≡ true
@@ -164,6 +155,6 @@ module _ (items : List Item) (x : Exchange) (moment : ℕ) (name : List ℕ) (cl
       → exchange_of x.number items ≡ Some x → IsRight strict items (ClientReply x.number moment the_reply)
   hit_right source can method selected served plain is_open =
       let marked : reply_mark the_reply ≡ mark.Hit (Some (ttl_at stored moment)) =
-          ap (judged_mark stored.status) (stored_marked name (Hit (Some (ttl_at stored moment))) closes moment (is_head x.request.method) stored plain) ∙ rw can.is_whole refl in
+      ap (judged_mark stored.status) (stored_marked name (Hit (Some (ttl_at stored moment))) closes moment (is_head x.request.method) stored plain) ∙ rw can.is_whole refl in
       subst (λ (o : Option Exchange). IsRightTo strict o moment the_reply items) (sym is_open)
       (subst (λ (m : Mark). IsRightBy m the_claim items) (sym marked) (hit_reused source can method selected served marked))

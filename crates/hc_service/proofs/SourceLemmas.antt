@@ -1,28 +1,26 @@
 -- What a store holds stays what the records say of it.
-use Rattle.std.proofs.Common.{◌≡◌, ℕ, ◌+◌, ◌≤◌, Bool, true, false, ◌&&◌, List, [], ◌∷◌, length, Option, Some, None, refl, sym, ap, ◌∙◌, subst, arith, inl, inr, ⊎_elim}
-use Rattle.std.specs.Prelude.{◌⊎◌, ◌==◌, not}
+use Rattle.std.proofs.Common.{◌≡◌, ℕ, ◌+◌, Bool, true, false, ◌&&◌, List, ◌∷◌, length, Option, Some, refl, sym, ap, ◌∙◌, subst, inl, inr, ⊎_elim}
+use Rattle.std.specs.Prelude.{◌⊎◌, ◌==◌}
 use Rattle.std.specs.Option.{option_map}
 use Rattle.std.specs.List.{IsDistinct}
 use Rattle.std.specs.Map.{keys_of}
 use Rattle.std.proofs.lemmas.Bool.{cases_Bool, eq-eqb}
 use Rattle.hc_fields.specs.declared.fields.Field.{Field}
-use Rattle.hc_head.specs.declared.head.RequestHead.{RequestHead}
 use Rattle.hc_head.specs.declared.head.ResponseHead.{ResponseHead}
 use Rattle.hc_head.specs.declared.head.Target.{Target}
 use Rattle.hc_head.specs.Methods.{is_get}
 use Rattle.hc_head.specs.Statuses.{not_modified}
 use Rattle.hc_head.specs.Targets.{same_target}
 use Rattle.hc_framing.specs.declared.message.Message.{Message}
-use Rattle.hc_fresh.specs.Lifetimes.{says}
 use Rattle.hc_rules.specs.Storing.{may_store, asks_for_storable}
 use Rattle.hc_rules.specs.Selecting.{selects}
 use Rattle.hc_update.specs.declared.stored.Stored.{Stored}
 use Rattle.hc_update.specs.States.{initial_state, invalidates}
 use Rattle.hc_update.specs.Identifying.{identifies, may_freshen, validators_agree}
-use Rattle.hc_transcript.specs.Items.{Item, ClientRequest, OriginRequest, OriginResponse, OriginFailure, ClientReply, Forward}
+use Rattle.hc_transcript.specs.Items.{Item, ClientRequest, OriginRequest, OriginResponse, OriginFailure, ClientReply}
 use Rattle.hc_transcript.specs.History.{next_position, forward_of}
 use Rattle.hc_history.specs.declared.kept.Kept.{Kept}
-use Rattle.hc_history.specs.States.{state_at, state_after, state_begun, begun_to, kept_answered_to}
+use Rattle.hc_history.specs.States.{state_after}
 use Rattle.hc_history.proofs.StateLemmas.{place_of, earlier_at}
 use Rattle.hc_store.specs.declared.putting.Put.{Put}
 use Rattle.hc_store.specs.declared.putting.Put.TheVariants as put
@@ -30,7 +28,7 @@ use Rattle.hc_store.specs.Entries.{Holdings, Entries}
 use Rattle.hc_store.specs.Calls.{Puts, invalidated}
 use Rattle.hc_store.specs.Changes.{without}
 use Rattle.hc_service.specs.declared.open.OpenForward.{OpenForward}
-use Rattle.hc_service.specs.Choices.{OnTest, Finds, PutsResponse, Stores, Invalidates, Updates, may_update}
+use Rattle.hc_service.specs.Choices.{OnTest, Finds, PutsResponse, Stores, may_update}
 use Rattle.hc_service.specs.Answers.{Renews}
 use Rattle.hc_service.specs.Agreement.{AllHeld, HasSource}
 use Rattle.hc_service.specs.Laws.{is_response, recorded_forward, HasSources}
@@ -88,8 +86,8 @@ pub identifies_none : (forward : OpenForward) (response : ResponseHead) (state :
 identifies_none forward response state none =
     ⊎_elim
     (λ (is : (response.status == not_modified) ≡ true).
-        let other : is_get forward.request.method ≡ false = second_false (response.status == not_modified) (is_get forward.request.method) is none in
-        by_method (may_freshen response) (asks_for_storable forward.request) (rw other refl))
+    let other : is_get forward.request.method ≡ false = second_false (response.status == not_modified) (is_get forward.request.method) is none in
+    by_method (may_freshen response) (asks_for_storable forward.request) (rw other refl))
     (λ (is : (response.status == not_modified) ≡ false). rw is refl)
     (cases_Bool (response.status == not_modified))
   where
@@ -128,7 +126,7 @@ module _ (items : List Item) (number moment : ℕ) (response : Message ResponseH
       steps (inr nothing) =
           ⊎_elim
           (λ (same : same_target forward.target target ≡ true).
-              same_stays (record { target = target; state = stored }) same (identifies_none forward response.head stored nothing.1) nothing.0)
+          same_stays (record { target = target; state = stored }) same (identifies_none forward response.head stored nothing.1) nothing.0)
           (λ (other : same_target forward.target target ≡ false). other_stays (record { target = target; state = stored }) other)
           (cases_Bool (same_target forward.target target))
 
@@ -169,10 +167,10 @@ module _ (items : List Item) (number moment : ℕ) (response : Message ResponseH
       without_invalidation valid is =
           ⊎_elim
           (λ (p : (may_update forward response.head ≡ true) × (new ≡ invalidated forward.target renews.between)).
-              gone old new h (ap (λ (s : Holdings). s.entries) (p.1 ∙ ap (invalidated forward.target) is)))
+          gone old new h (ap (λ (s : Holdings). s.entries) (p.1 ∙ ap (invalidated forward.target) is)))
           (λ (p : (may_update forward response.head ≡ false) × (new ≡ renews.between)).
-              subst (HasSources (OriginResponse number moment response ∷ items)) (sym (p.1 ∙ is))
-              (record { keys = h.keys; sources = held_weaken _ _ (λ target stored s. left_source target stored (s, inr (valid, p.0))) old.entries h.sources }))
+          subst (HasSources (OriginResponse number moment response ∷ items)) (sym (p.1 ∙ is))
+          (record { keys = h.keys; sources = held_weaken _ _ (λ target stored s. left_source target stored (s, inr (valid, p.0))) old.entries h.sources }))
           (on_test (may_update forward response.head) _ _ renews.updates)
 
   -- what it begins, where it may be stored

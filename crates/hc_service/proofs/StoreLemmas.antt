@@ -1,17 +1,17 @@
 -- What a store holds after each call was held before, or was put.
-use Rattle.std.proofs.Common.{◌≡◌, ℕ, zero, suc, ◌-◌, Bool, true, false, cond, List, [], ◌∷◌, ◌++◌, map, Option, Some, None, refl, sym, ap, ◌∙◌, subst, inl, inr, ⊎_elim}
-use Rattle.std.specs.Prelude.{filter, take, drop, length, not, unwrap_or, nat_le, if◌then◌else◌}
-use Rattle.std.specs.List.{AllByRecursion, IsDistinct, best_of, fold}
-use Rattle.std.specs.Map.{keys_of, lookup, remove_entry}
+use Rattle.std.proofs.Common.{◌≡◌, ℕ, zero, suc, ◌-◌, Bool, true, false, cond, List, [], ◌∷◌, ◌++◌, Some, sym, subst, ⊎_elim}
+use Rattle.std.specs.Prelude.{filter, take, drop, not, nat_le}
+use Rattle.std.specs.List.{AllByRecursion, IsDistinct, best_of}
+use Rattle.std.specs.Map.{keys_of}
 use Rattle.std.proofs.lemmas.Bool.{cases_Bool}
 use Rattle.hc_fields.specs.declared.fields.Field.{Field}
 use Rattle.hc_head.specs.declared.head.Target.{Target}
 use Rattle.hc_head.specs.Targets.{same_target}
 use Rattle.hc_update.specs.declared.stored.Stored.{Stored}
-use Rattle.hc_history.proofs.TargetLemmas.{same_target_one, same_target_itself}
-use Rattle.hc_store.specs.Entries.{Entries, variants_of, variants_weight, most_variants}
+use Rattle.hc_history.proofs.TargetLemmas.{same_target_one}
+use Rattle.hc_store.specs.Entries.{Entries, variants_of, variants_weight}
 use Rattle.hc_store.specs.Choosing.{is_selected, goes_before, first_choice, chosen}
-use Rattle.hc_store.specs.Changes.{keyed, without, after_choose, after_put, first_keys, last_variants, last_ones, trimmed, added}
+use Rattle.hc_store.specs.Changes.{keyed, without, after_choose, after_put, first_keys, last_variants, trimmed, added}
 use Rattle.hc_service.specs.Agreement.{AllHeld}
 
 -- ---- lists of which all is so
@@ -63,7 +63,7 @@ other_keys target [] d = tt
 other_keys target (e ∷ entries) d =
     ⊎_elim
     (λ (at : same_target target e.0 ≡ true).
-        rw at (all_weaken (λ key. same_target e.0 key ≡ false) (λ key. same_target target key ≡ false) (λ key ne. rw (same_target_one target e.0 at) ne) (keys_of entries) d.0))
+    rw at (all_weaken (λ key. same_target e.0 key ≡ false) (λ key. same_target target key ≡ false) (λ key ne. rw (same_target_one target e.0 at) ne) (keys_of entries) d.0))
     (λ (past : same_target target e.0 ≡ false). rw past (past, other_keys target entries d.1))
     (cases_Bool (same_target target e.0))
 
@@ -122,7 +122,7 @@ distinct_first_keys room [] d = tt
 distinct_first_keys room (e ∷ entries) d =
     ⊎_elim
     (λ (le : nat_le (variants_weight e.1) room ≡ true).
-        rw le (all_keys_first (λ key. same_target e.0 key ≡ false) (room - variants_weight e.1) entries d.0, distinct_first_keys (room - variants_weight e.1) entries d.1))
+    rw le (all_keys_first (λ key. same_target e.0 key ≡ false) (room - variants_weight e.1) entries d.0, distinct_first_keys (room - variants_weight e.1) entries d.1))
     (λ (gt : nat_le (variants_weight e.1) room ≡ false). rw gt tt)
     (cases_Bool (nat_le (variants_weight e.1) room))
 
@@ -137,7 +137,7 @@ distinct_trimmed bytes [] d = tt
 distinct_trimmed bytes (e ∷ entries) d =
     ⊎_elim
     (λ (le : nat_le (variants_weight e.1) bytes ≡ true).
-        rw le (all_keys_first (λ key. same_target e.0 key ≡ false) (bytes - variants_weight e.1) entries d.0, distinct_first_keys (bytes - variants_weight e.1) entries d.1))
+    rw le (all_keys_first (λ key. same_target e.0 key ≡ false) (bytes - variants_weight e.1) entries d.0, distinct_first_keys (bytes - variants_weight e.1) entries d.1))
     (λ (gt : nat_le (variants_weight e.1) bytes ≡ false). rw gt (distinct_keyed e.0 (last_variants bytes e.1)))
     (cases_Bool (nat_le (variants_weight e.1) bytes))
 
@@ -222,9 +222,10 @@ module _ (P : Target → Stored → Type 0) where
           → Some stored ≡ first_choice variants → P target stored × (is_selected asked stored ≡ true)
       first_held [] a b e = absurd (cc)
       first_held (v ∷ more) a b e =
-          let same : stored ≡ best_of goes_before v more = cc in
-          (subst (P target) (sym same) (best_held (P target) goes_before v more a.0 a.1),
-          subst (λ (x : Stored). is_selected asked x ≡ true) (sym same) (best_held (λ x. is_selected asked x ≡ true) goes_before v more b.0 b.1))
+          let same : stored ≡ best_of goes_before v more = cc in (
+            subst (P target) (sym same) (best_held (P target) goes_before v more a.0 a.1),
+            subst (λ (x : Stored). is_selected asked x ≡ true) (sym same) (best_held (λ x. is_selected asked x ≡ true) goes_before v more b.0 b.1),
+          )
 
 -- what is held of other targets, once that of a target is taken away
 pub without_others : (P : Target → Stored → Type 0) (target : Target) (entries : Entries) → IsDistinct same_target (keys_of entries) → AllHeld P entries

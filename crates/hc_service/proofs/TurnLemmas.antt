@@ -1,9 +1,8 @@
 -- Each turn keeps what the cache has to do with what has happened.
 use Rattle.std.proofs.Common.{◌≡◌, ℕ, ◌+◌, ◌≤◌, ◌<◌, Bool, true, false, cond, ◌||◌, List, [], ◌∷◌, ◌++◌, length, drop, Option, Some, None, nat_eq, refl, sym, ap, ◌∙◌, subst, arith, inl, inr, ⊎_elim}
-use Rattle.std.specs.Prelude.{◌⊎◌}
 use Rattle.std.specs.Option.{option_map}
 use Rattle.std.specs.FinMap.{get, insert, remove, len}
-use Rattle.std.proofs.lemmas.Bool.{cases_Bool, cases_eq, cases_lt, eq-eqb}
+use Rattle.std.proofs.lemmas.Bool.{cases_eq, cases_lt, eq-eqb}
 use Rattle.hc_head.specs.declared.head.RequestHead.{RequestHead}
 use Rattle.hc_head.specs.declared.head.ResponseHead.{ResponseHead}
 use Rattle.hc_head.specs.declared.head.Target.{Target}
@@ -11,10 +10,9 @@ use Rattle.hc_head.specs.declared.head.TheConstants.Room.{RECORDED}
 use Rattle.hc_head.specs.Methods.{is_head}
 use Rattle.hc_head.proofs.PassingLemmas.{light_response_writable}
 use Rattle.hc_framing.specs.declared.message.Message.{Message}
-use Rattle.hc_rules.specs.Forwards.{plain_request}
 use Rattle.hc_transcript.specs.declared.record.Record.{Record}
-use Rattle.hc_transcript.specs.Limits.{greatest_number, greatest_moment}
-use Rattle.hc_transcript.specs.Items.{Item, ClientRequest, OriginRequest, OriginResponse, OriginFailure, ClientReply, Exchange, Forward}
+use Rattle.hc_transcript.specs.Limits.{greatest_number}
+use Rattle.hc_transcript.specs.Items.{Item, ClientRequest, OriginRequest, OriginResponse, OriginFailure, ClientReply, Exchange}
 use Rattle.hc_transcript.specs.History.{exchange_of, forward_of}
 use Rattle.hc_transcript.specs.Written.{IsWritableAsk, IsWritableAnswer}
 use Rattle.hc_history.specs.Right.{IsRight}
@@ -24,7 +22,6 @@ use Rattle.hc_service.specs.declared.action.Action.{Action}
 use Rattle.hc_service.specs.declared.cases.Cause.{Cause}
 use Rattle.hc_service.specs.declared.numbers.Numbers.{Numbers}
 use Rattle.hc_service.specs.declared.open.OpenExchange.{OpenExchange}
-use Rattle.hc_service.specs.declared.open.OpenForward.{OpenForward}
 use Rattle.hc_service.specs.declared.open.Purpose.{Purpose}
 use Rattle.hc_service.specs.declared.open.Purpose.TheVariants as purpose
 use Rattle.hc_service.specs.declared.settings.CoreSettings.{CoreSettings}
@@ -38,11 +35,11 @@ use Rattle.hc_service.specs.Replying.{Wanted}
 use Rattle.hc_service.specs.Reactions.{Reaction, plain_forward}
 use Rattle.hc_service.specs.Answers.{Outcome, is_news}
 use Rattle.hc_service.specs.Choices.{Stores}
-use Rattle.hc_service.specs.Turns.{most_connections, after_octets, after_request, after_reply, after_leaving, after_hearing, sent_forward, replied, closes_behind, wanted_now, Opens, Hears, Drops, Leaves, Closes, Refuses, Asks, RepliesAlone, GoesForward, DoesReaction, Tells, Answers, Breaks, EndsBehind, EndsWithReply, EndsFor, EndsByResponse, EndsByFailure, DoesOutcome, Failure, is_closed}
+use Rattle.hc_service.specs.Turns.{most_connections, after_octets, after_request, after_reply, after_leaving, after_hearing, sent_forward, replied, closes_behind, wanted_now, Opens, Hears, Drops, Leaves, Closes, Refuses, Asks, RepliesAlone, GoesForward, DoesReaction, Tells, Answers, Breaks, EndsBehind, EndsWithReply, EndsByResponse, EndsByFailure, DoesOutcome, Failure, is_closed}
 use Rattle.hc_service.specs.Serves.{Turn, Takes}
 use Rattle.hc_service.specs.Serves.Turn.{Opening, Hearing, Asking, Refusal, Dropping, Leaving, Closing, Telling, Answering, Failing}
-use Rattle.hc_service.specs.Agreement.{History, AreCounted, AreHeard, AreAsked, AreLinked, Stands, IsSound, IsFor, KeepsPurpose, IsSeenExchange, exchange_for, seen_forward}
-use Rattle.hc_service.specs.Runs.{GoesOnBy, Records, AllRightBehind, behind, heard_with, told_with, strict, with_octets}
+use Rattle.hc_service.specs.Agreement.{History, AreCounted, AreHeard, AreAsked, AreLinked, Stands, IsFor, KeepsPurpose, IsSeenExchange, exchange_for, seen_forward}
+use Rattle.hc_service.specs.Runs.{Records, behind, heard_with, told_with, strict, with_octets}
 use Rattle.hc_service.specs.LowerLaws.{ForwardLaws}
 use Rattle.hc_service.specs.Laws.{KeepsOn, IsReceivedAnswer, IsReceivedAsk, with_record, recorded_forward}
 use Rattle.hc_service.proofs.TableLemmas.{len_new, len_old, len_less}
@@ -53,8 +50,8 @@ use Rattle.hc_service.proofs.RecordLemmas.{one_more_is, ask_counted, send_counte
 use Rattle.hc_service.proofs.ReceivedLemmas.{received_ask, received_answer}
 use Rattle.hc_service.proofs.NameLemmas.{cache_name}
 use Rattle.hc_service.proofs.SourceLemmas.{on_test, renewed_sources}
-use Rattle.hc_service.proofs.EntryLemmas.{IsFit, all_can_reply, renewed_can_reply, sound_parts, all_both}
-use Rattle.hc_service.proofs.OutcomeLemmas.{SoundStore, GetsReply, GetsForward, GetsAnswer, still_sound, stored_sound, reaction_right, response_outcome, failure_outcome}
+use Rattle.hc_service.proofs.EntryLemmas.{IsFit, renewed_can_reply, sound_parts, all_both}
+use Rattle.hc_service.proofs.OutcomeLemmas.{SoundStore, GetsReply, GetsForward, still_sound, stored_sound, reaction_right, response_outcome, failure_outcome}
 
 -- ---- states and histories
 
@@ -322,7 +319,7 @@ module _ (s : State) (h : History) (a : Stands s h) where
             target_is = laws.keeps_target wanted.name target request.head ask.forwardable.has_target;
           } in
           let heard1 = heard_same n.connection n.forward s.connections s.forwards h.heard h.told a.heard c (after_request e (drop size k.unread) k)
-              (read_request (h.heard c) k idle (a.heard.connections_are c k is_open) e request target size arrives) in
+          (read_request (h.heard c) k idle (a.heard.connections_are c k is_open) e request target size arrives) in
           record {
             later = h2;
             goes_on = record {
@@ -356,11 +353,11 @@ module _ (s : State) (h : History) (a : Stands s h) where
         let r = reaction_right settings.name good.name s.numbers.moment early wanted.closes h.items (one_more s.numbers.exchange) t.request t.target s.forwards s.store s'.store t.reaction (sound_of s h a) t.reacts in
         ⊎_elim
         (λ (g : GetsReply settings.name good.name s.numbers.moment early wanted.closes h.items (one_more s.numbers.exchange) t.request t.target t.reaction).
-            asking_alone c k t.is_open t.idle t.request t.target t.size t.arrives wanted g.reply actions s'
-            (subst (λ (r : Reaction). DoesReaction r c k (drop t.size k.unread) t.request t.target wanted s actions s') g.reaction_is t.does) le r.0 g.fit g.right)
+        asking_alone c k t.is_open t.idle t.request t.target t.size t.arrives wanted g.reply actions s'
+        (subst (λ (r : Reaction). DoesReaction r c k (drop t.size k.unread) t.request t.target wanted s actions s') g.reaction_is t.does) le r.0 g.fit g.right)
         (λ (g : GetsForward settings.name good.name s.numbers.moment early wanted.closes h.items (one_more s.numbers.exchange) t.request t.target t.reaction).
-            asking_forward c k t.is_open t.idle t.request t.target t.size t.arrives wanted g.why actions s' refl
-            (subst (λ (r : Reaction). DoesReaction r c k (drop t.size k.unread) t.request t.target wanted s actions s') g.reaction_is t.does) le r.0 g.by_store)
+        asking_forward c k t.is_open t.idle t.request t.target t.size t.arrives wanted g.why actions s' refl
+        (subst (λ (r : Reaction). DoesReaction r c k (drop t.size k.unread) t.request t.target wanted s actions s') g.reaction_is t.does) le r.0 g.by_store)
         r.1
 
     -- ---- what answers a forward
@@ -512,9 +509,10 @@ module _ (s : State) (h : History) (a : Stands s h) where
           is_final = r.is_final;
         } in
         let before = sound_of s h a in
-        let told : SoundStore (OriginResponse f n.moment response ∷ h.items) t.told =
-            (renewed_sources h.items f n.moment response w.forward (recorded f w t.is_open) (one_more n.records) s.store t.told before.0 t.renews,
-            renewed_can_reply w.forward n.moment (one_more n.records) response.head s.store t.told before.1 t.renews) in
+        let told : SoundStore (OriginResponse f n.moment response ∷ h.items) t.told = (
+          renewed_sources h.items f n.moment response w.forward (recorded f w t.is_open) (one_more n.records) s.store t.told before.0 t.renews,
+          renewed_can_reply w.forward n.moment (one_more n.records) response.head s.store t.told before.1 t.renews,
+        ) in
         by_purpose f ended actions s' t le r writable told w.forward.purpose refl t.ends
       where
         by_purpose : (f : ℕ) (ended : Bool) (actions : List Action) (s' : State) (t : Answers settings f ended s actions s') → s'.numbers.records ≤ greatest_number
@@ -532,7 +530,7 @@ module _ (s : State) (h : History) (a : Stands s h) where
             (response_counted n h a.counted first f (recorded_forward w.forward) t.response (some_forward f w t.is_open) (few_forward f w t.is_open) (recorded f w t.is_open) writable r.plain.greatest)
             (⊎_elim
             (λ (q : (is_news t.response.head ≡ true) × ((stored : Bool) × Stores w.forward n.moment t.response t.told stored s'.store)).
-                stored_sound h.items f n.moment t.response w.forward t.told q.1.0 s'.store (recorded f w t.is_open) r early told q.1.1)
+            stored_sound h.items f n.moment t.response w.forward t.told q.1.0 s'.store (recorded f w t.is_open) r early told q.1.1)
             (λ (q : (is_news t.response.head ≡ false) × (s'.store ≡ t.told)). subst (SoundStore (OriginResponse f n.moment t.response ∷ h.items)) (sym q.1) told)
             (on_test (is_news t.response.head) _ _ ends.0))
             (λ d. refl) (λ d. refl) tt
@@ -545,8 +543,8 @@ module _ (s : State) (h : History) (a : Stands s h) where
             let wanted = wanted_now settings s x0.request k in
             let seen = its_exchange f w t.is_open e why conditional is_for x0 k ends.is_waiting in
             let out = response_outcome settings.name good.name n.moment early wanted.closes h.items f w.forward (record { number = e; position = seen.0; request = x0.request; target = x0.target }) why
-                (recorded f w t.is_open) seen.1 (its_method f w t.is_open e why conditional is_for x0 k ends.is_waiting) (its_target f w t.is_open e why conditional is_for x0 k ends.is_waiting)
-                t.response r conditional (one_more n.records) t.told s'.store ends.outcome told ends.decided in
+            (recorded f w t.is_open) seen.1 (its_method f w t.is_open e why conditional is_for x0 k ends.is_waiting) (its_target f w t.is_open e why conditional is_for x0 k ends.is_waiting)
+            t.response r conditional (one_more n.records) t.told s'.store ends.outcome told ends.decided in
             ends_with_reply f w t.is_open e x0 k ends.is_waiting ends.is_open (Answering f ended) (response_record f n.moment to_head t.response) (OriginResponse f n.moment t.response)
             (response_actions f n.moment to_head t.response) actions wanted out.1.reply s' refl refl refl (it_stays f w t.is_open e why conditional is_for x0 k ends.is_waiting)
             (ap (λ (rs : List Record). response_record f n.moment to_head t.response ∷ rs) (reply_given e n.moment (is_head x0.request.method) x0.connection wanted.closes out.1.reply))
@@ -583,8 +581,8 @@ module _ (s : State) (h : History) (a : Stands s h) where
             let wanted = wanted_now settings s x0.request k in
             let seen = its_exchange f w t.is_open e why conditional is_for x0 k ends.is_waiting in
             let out = failure_outcome settings.name good.name n.moment early wanted.closes h.items f w.forward (record { number = e; position = seen.0; request = x0.request; target = x0.target }) why
-                (recorded f w t.is_open) seen.1 (its_method f w t.is_open e why conditional is_for x0 k ends.is_waiting) (its_target f w t.is_open e why conditional is_for x0 k ends.is_waiting)
-                s.store s'.store ends.outcome (sound_of s h a) ends.decided in
+            (recorded f w t.is_open) seen.1 (its_method f w t.is_open e why conditional is_for x0 k ends.is_waiting) (its_target f w t.is_open e why conditional is_for x0 k ends.is_waiting)
+            s.store s'.store ends.outcome (sound_of s h a) ends.decided in
             ends_with_reply f w t.is_open e x0 k ends.is_waiting ends.is_open (Failing f how) (failure_record f n.moment) (OriginFailure f n.moment)
             (failure_actions f n.moment (is_closed how)) actions wanted out.1.reply s' refl refl (failure_given f n.moment (is_closed how)) (it_stays f w t.is_open e why conditional is_for x0 k ends.is_waiting)
             (failure_then f n.moment (is_closed how) (reply_actions e n.moment (is_head x0.request.method) x0.connection wanted.closes out.1.reply)

@@ -1,5 +1,5 @@
 -- What the laws of a cache speak of.
-use Rattle.std.specs.Prelude.{◌≡◌, ◌≤◌, Bool, true, false, List, [], ◌∷◌, length}
+use Rattle.std.specs.Prelude.{◌≡◌, ℕ, ◌≤◌, Bool, true, false, List, [], ◌∷◌, length}
 use Rattle.std.specs.List.{IsDistinct}
 use Rattle.std.specs.Map.{keys_of}
 use Rattle.hc_head.specs.declared.head.RequestHead.{RequestHead}
@@ -15,12 +15,12 @@ use Rattle.hc_framing.specs.Framing.{ends_with_head}
 use Rattle.hc_framing.specs.Written.{IsReadableRequest}
 use Rattle.hc_rules.specs.Laws.{IsForwardable}
 use Rattle.hc_transcript.specs.declared.record.Record.{Record}
-use Rattle.hc_transcript.specs.Items.{Item, ClientRequest, OriginRequest, OriginResponse, OriginFailure, ClientReply, Forward}
+use Rattle.hc_transcript.specs.Items.{Item, OriginResponse, Forward}
 use Rattle.hc_store.specs.Entries.{Holdings}
 use Rattle.hc_service.specs.declared.open.OpenForward.{OpenForward}
 use Rattle.hc_service.specs.Agreement.{AllHeld, HasSource, History, Stands}
 use Rattle.hc_service.specs.declared.action.Action.{Action}
-use Rattle.hc_service.specs.Runs.{GoesOnBy}
+use Rattle.hc_service.specs.Runs.{GoesOnBy, Records, heard_with, told_with}
 use Rattle.hc_service.specs.Serves.{Turn}
 use Rattle.hc_service.specs.State.{State}
 
@@ -60,4 +60,24 @@ with_record r item h = record { records = r ∷ h.records; items = item ∷ h.it
 pub record KeepsOn (turn : Turn) (actions : List Action) (h : History) (s : State) : Type 0 where
   pub later : History
   pub goes_on : GoesOnBy turn actions h later
+  pub stands : Stands s later
+
+-- what came with turns, one after another
+abbrev pub heard_all : List Turn → (ℕ → List ℕ) → ℕ → List ℕ
+heard_all [] before = before
+heard_all (turn ∷ turns) before = heard_all turns (heard_with turn before)
+
+abbrev pub told_all : List Turn → (ℕ → List ℕ) → ℕ → List ℕ
+told_all [] before = before
+told_all (turn ∷ turns) before = told_all turns (told_with turn before)
+
+-- what turns, one after another, make of what has happened
+pub record GoesOnByAll (turns : List Turn) (actions : List Action) (old new : History) : Type 0 where
+  pub records : Records actions old new
+  pub heard : new.heard ≡ heard_all turns old.heard
+  pub told : new.told ≡ told_all turns old.told
+
+pub record KeepsAll (turns : List Turn) (actions : List Action) (h : History) (s : State) : Type 0 where
+  pub later : History
+  pub goes_on : GoesOnByAll turns actions h later
   pub stands : Stands s later

@@ -24,9 +24,9 @@ ghost use Rattle.hc_service.specs.declared.cases.Cause.{Cause};
 ghost use Rattle.hc_service.specs.declared.open.OpenForward.{OpenForward};
 ghost use Rattle.hc_service.specs.Answers.{Renews};
 ghost use Rattle.hc_service.specs.Choices.{Finds, Stores};
-ghost use Rattle.hc_service.specs.Laws.{HasSources, IsReceivedAnswer, IsReceivedAsk, is_response, recorded_forward, with_record, KeepsOn};
+ghost use Rattle.hc_service.specs.Laws.{HasSources, IsReceivedAnswer, IsReceivedAsk, is_response, recorded_forward, with_record, KeepsAll, KeepsOn};
 ghost use Rattle.hc_service.specs.declared.action.Action.{Action};
-ghost use Rattle.hc_service.specs.Serves.{Takes, Turn};
+ghost use Rattle.hc_service.specs.Serves.{Run, Takes, Turn};
 ghost use Rattle.hc_events.specs.declared.Event.{Event};
 ghost use Rattle.hc_transcript.specs.declared.record.Record.{Record};
 ghost use Rattle.hc_service.specs.declared.settings.CoreSettings.{CoreSettings};
@@ -211,6 +211,16 @@ pub fn turns_keep_agreement()
     ensures { (settings : CoreSettings) → AreGood settings → (turn : Turn) (s : State) (actions : List Action)
         (other : State) (h : History) → Stands s h → Takes settings turn s actions other
         → other.numbers.records ≤ greatest_number → KeepsOn turn actions h other }
+{
+    forwards_are_writable();
+    forwards_keep_the_target();
+}
+
+/// So do turns, one after another, as an event owes them.
+pub fn runs_of_turns_keep_agreement()
+    ensures { (settings : CoreSettings) → AreGood settings → (turns : List Turn) (s : State) (actions : List Action)
+        (other : State) (h : History) → Stands s h → Run settings turns s actions other
+        → other.numbers.records ≤ greatest_number → KeepsAll turns actions h other }
 {
     forwards_are_writable();
     forwards_keep_the_target();

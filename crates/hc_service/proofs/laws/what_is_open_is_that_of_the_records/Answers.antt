@@ -1,6 +1,6 @@
 use Rattle.std.proofs.Common.{refl}
 use Rattle.hc_transcript.specs.Items.{OriginResponse, OriginFailure}
-use Rattle.hc_service.proofs.AskedLemmas.{asked_alone, asked_told, asked_answered, asked_sent}
+use Rattle.hc_service.proofs.AskedLemmas.{asked_alone, asked_told, asked_answered}
 use Rattle.hc_service.proofs.laws.what_is_open_is_that_of_the_records.Goals as goal
 
 pub returns-clause-alone : goal.returns-clause-alone
