@@ -1,0 +1,207 @@
+-- What is open stays what the records leave open.
+use Rattle.std.proofs.Common.{◌≡◌, ℕ, ◌+◌, ◌<◌, Bool, true, false, cond, List, ◌∷◌, length, Option, Some, None, nat_eq, refl, sym, ap, ◌∙◌, subst, arith, ⊎_elim}
+use Rattle.std.specs.Option.{option_map}
+use Rattle.std.specs.FinMap.{get, insert, remove}
+use Rattle.std.proofs.lemmas.Bool.{cases_eq, eq-eqb, ne_eqb}
+use Rattle.hc_head.specs.declared.head.RequestHead.{RequestHead}
+use Rattle.hc_head.specs.declared.head.ResponseHead.{ResponseHead}
+use Rattle.hc_head.specs.declared.head.Target.{Target}
+use Rattle.hc_framing.specs.declared.message.Message.{Message}
+use Rattle.hc_transcript.specs.Items.{Item, ClientRequest, OriginRequest, ClientReply, Exchange}
+use Rattle.hc_transcript.specs.History.{exchange_of, forward_of}
+use Rattle.hc_service.specs.declared.cases.Cause.{Cause}
+use Rattle.hc_service.specs.declared.open.OpenExchange.{OpenExchange}
+use Rattle.hc_service.specs.declared.open.OpenForward.{OpenForward}
+use Rattle.hc_service.specs.declared.open.Purpose.{Purpose}
+use Rattle.hc_service.specs.declared.open.Purpose.TheVariants as purpose
+use Rattle.hc_service.specs.State.{Table, Awaited}
+use Rattle.hc_service.specs.Turns.{sent_forward, after_hearing}
+use Rattle.hc_service.specs.Agreement.{IsSeenExchange, AsksFor, KeepsPurpose, exchange_for, AreAsked, seen_forward}
+use Rattle.hc_service.proofs.TableLemmas.{get_same, get_other, get_out, get_gone, get_left, was_put, was_left}
+use Rattle.hc_service.proofs.LinkLemmas.{none_some}
+
+seen_as : (e : ℕ) (o p : Option OpenExchange) (s t : Option Exchange) → o ≡ p → s ≡ t → IsSeenExchange e p t → IsSeenExchange e o s
+seen_as e o p s t one two is = subst (λ (o : Option OpenExchange). IsSeenExchange e o s) (sym one) (subst (IsSeenExchange e p) (sym two) is)
+
+-- nothing is there still
+none_left : {X : Type 0} (t : Table X) (n m : ℕ) → get t m ≡ None → get (remove t n) m ≡ None
+none_left t n m none = get_out t n m ∙ either (nat_eq n m) (get t m) none
+  where
+    either : {X : Type 0} (b : Bool) (o : Option X) → o ≡ None → cond b None o ≡ None
+    either true o none = refl
+    either false o none = none
+
+-- the request that a forward is for waits
+for_waits : (xs : Table OpenExchange) (forward : OpenForward) (e : ℕ) (p : Purpose) → KeepsPurpose xs p forward → exchange_for p ≡ Some e → (x : OpenExchange) × (get xs e ≡ Some x)
+for_waits xs forward e purpose.Background keeps is = absurd (cc)
+for_waits xs forward e (purpose.Reply d why conditional) keeps is =
+    let same : d ≡ e = cc in (keeps.exchange, subst (λ (n : ℕ). get xs n ≡ Some keeps.exchange) same keeps.waits)
+
+keeps_more : (xs : Table OpenExchange) (e : ℕ) (x : OpenExchange) → get xs e ≡ None → (forward : OpenForward) (p : Purpose) → KeepsPurpose xs p forward → KeepsPurpose (insert xs e x) p forward
+keeps_more xs e x fresh forward purpose.Background keeps = keeps
+keeps_more xs e x fresh forward (purpose.Reply d why conditional) keeps = record {
+  exchange = keeps.exchange;
+  waits = get_other xs e x d (λ same. none_some (get xs e) keeps.exchange fresh (ap (get xs) same ∙ keeps.waits)) ∙ keeps.waits;
+  asks_for = keeps.asks_for;
+}
+
+keeps_less : (xs : Table OpenExchange) (e : ℕ) (forward : OpenForward) (p : Purpose) → (exchange_for p ≡ Some e → ⊥) → KeepsPurpose xs p forward → KeepsPurpose (remove xs e) p forward
+keeps_less xs e forward purpose.Background other keeps = keeps
+keeps_less xs e forward (purpose.Reply d why conditional) other keeps = record {
+  exchange = keeps.exchange;
+  waits = get_left xs e d (λ same. other (ap Some (sym same))) ∙ keeps.waits;
+  asks_for = keeps.asks_for;
+}
+
+module _ (E F : ℕ) (xs : Table OpenExchange) (fs : Table Awaited) (items : List Item) (k : AreAsked E F xs fs items) where
+  -- a request has its reply at once
+  pub asked_alone : (e t u : ℕ) (q : Message RequestHead) (g : Target) (a : Message ResponseHead) → E < e → AreAsked e F xs fs (ClientReply e u a ∷ ClientRequest e t q g ∷ items)
+  asked_alone e t u q g a later = record {
+    exchanges_are = λ d.
+        ⊎_elim
+        (λ (same : e ≡ d). seen_as d (get xs d) None (exchange_of d (ClientReply e u a ∷ ClientRequest e t q g ∷ items)) None
+        (k.later_exchanges d (omega arith)) (rw (eq-eqb e d same) refl) refl)
+        (λ (other : e ≡ d → ⊥). seen_as d (get xs d) (get xs d) (exchange_of d (ClientReply e u a ∷ ClientRequest e t q g ∷ items)) (exchange_of d items)
+        refl (rw (ne_eqb e d other) refl) (k.exchanges_are d))
+        (cases_eq e d);
+    forwards_are = k.forwards_are;
+    purposes = k.purposes;
+    alone = k.alone;
+    later_exchanges = λ d is. k.later_exchanges d (omega arith);
+    later_forwards = k.later_forwards;
+    no_exchange = k.no_exchange;
+    no_forward = k.no_forward;
+  }
+
+  -- a request goes to the origin, and waits
+  module _ (c e f t : ℕ) (q m : Message RequestHead) (g : Target) (why : Cause) (conditional : Bool) (newer : E < e) (further : F < f)
+      (asks : AsksFor (record { connection = c; request = q.head; target = g }) why (sent_forward m.head g t (purpose.Reply e why conditional)).forward) where
+    abbrev x : OpenExchange
+    x = record { connection = c; request = q.head; target = g }
+
+    abbrev a : Awaited
+    a = sent_forward m.head g t (purpose.Reply e why conditional)
+
+    fresh : get xs e ≡ None
+    fresh = k.later_exchanges e newer
+
+    pub asked_sent : AreAsked e f (insert xs e x) (insert fs f a) (OriginRequest f t m g ∷ ClientRequest e t q g ∷ items)
+    asked_sent = record {
+      exchanges_are = λ d.
+          ⊎_elim
+          (λ (same : e ≡ d). subst (λ (n : ℕ). IsSeenExchange n (get (insert xs e x) n) (exchange_of n (OriginRequest f t m g ∷ ClientRequest e t q g ∷ items))) same
+          (seen_as e (get (insert xs e x) e) (Some x) (exchange_of e (OriginRequest f t m g ∷ ClientRequest e t q g ∷ items)) _
+          (get_same xs e x) (rw (eq-eqb e e refl) refl) (length items + 1, refl)))
+          (λ (other : e ≡ d → ⊥). seen_as d (get (insert xs e x) d) (get xs d) (exchange_of d (OriginRequest f t m g ∷ ClientRequest e t q g ∷ items)) (exchange_of d items)
+          (get_other xs e x d other) (rw (ne_eqb e d other) refl) (k.exchanges_are d))
+          (cases_eq e d);
+      forwards_are = λ d.
+          ⊎_elim
+          (λ (same : f ≡ d). rw (eq-eqb f d same) (sym (ap (option_map seen_forward) (ap (get (insert fs f a)) (sym same) ∙ get_same fs f a))))
+          (λ (other : f ≡ d → ⊥). rw (ne_eqb f d other) (k.forwards_are d ∙ sym (ap (option_map seen_forward) (get_other fs f a d other))))
+          (cases_eq f d);
+      purposes = λ d b is.
+          ⊎_elim
+          (λ (p : (f ≡ d) × (a ≡ b)). subst (λ (b : Awaited). KeepsPurpose (insert xs e x) b.forward.purpose b.forward) p.1 (record { exchange = x; waits = get_same xs e x; asks_for = asks }))
+          (λ (p : (f ≡ d → ⊥) × (get fs d ≡ Some b)). keeps_more xs e x fresh b.forward b.forward.purpose (k.purposes d b p.1))
+          (was_put fs f a d b is);
+      alone = λ d h n b z is_b is_z for_b for_z.
+          ⊎_elim
+          (λ (p : (f ≡ d) × (a ≡ b)). ⊎_elim
+          (λ (r : (f ≡ h) × (a ≡ z)). sym p.0 ∙ r.0)
+          (λ (r : (f ≡ h → ⊥) × (get fs h ≡ Some z)). absurd (taken z h r.1 (for_z ∙ sym_new n b p.1 for_b)))
+          (was_put fs f a h z is_z))
+          (λ (p : (f ≡ d → ⊥) × (get fs d ≡ Some b)). ⊎_elim
+          (λ (r : (f ≡ h) × (a ≡ z)). absurd (taken b d p.1 (for_b ∙ sym_new n z r.1 for_z)))
+          (λ (r : (f ≡ h → ⊥) × (get fs h ≡ Some z)). k.alone d h n b z p.1 r.1 for_b for_z)
+          (was_put fs f a h z is_z))
+          (was_put fs f a d b is_b);
+      later_exchanges = λ d is. get_other xs e x d (λ same. absurd (omega arith)) ∙ k.later_exchanges d (omega arith);
+      later_forwards = λ d is. get_other fs f a d (λ same. absurd (omega arith)) ∙ k.later_forwards d (omega arith);
+      no_exchange = get_other xs e x 0 (λ same. absurd (omega arith)) ∙ k.no_exchange;
+      no_forward = get_other fs f a 0 (λ same. absurd (omega arith)) ∙ k.no_forward;
+    }
+      where
+        -- no forward was for the new exchange
+        taken : (z : Awaited) (h : ℕ) → get fs h ≡ Some z → exchange_for z.forward.purpose ≡ Some e → ⊥
+        taken z h is for_e =
+            let waits = for_waits xs z.forward e z.forward.purpose (k.purposes h z is) for_e in
+            none_some (get xs e) waits.0 fresh waits.1
+
+        sym_new : (n : ℕ) (b : Awaited) → a ≡ b → exchange_for b.forward.purpose ≡ Some n → Some n ≡ Some e
+        sym_new n b same is = sym (ap (λ (b : Awaited). exchange_for b.forward.purpose) same ∙ is)
+
+  -- octets come on a forward
+  pub asked_told : (f : ℕ) (octets : List ℕ) (a : Awaited) → get fs f ≡ Some a → AreAsked E F xs (insert fs f (after_hearing octets a)) items
+  asked_told f octets a is_open = record {
+    exchanges_are = k.exchanges_are;
+    forwards_are = λ d.
+        ⊎_elim
+        (λ (same : f ≡ d). k.forwards_are d ∙ ap (option_map seen_forward) (ap (get fs) (sym same) ∙ is_open)
+        ∙ sym (ap (option_map seen_forward) (ap (get (insert fs f (after_hearing octets a))) (sym same) ∙ get_same fs f (after_hearing octets a))))
+        (λ (other : f ≡ d → ⊥). k.forwards_are d ∙ sym (ap (option_map seen_forward) (get_other fs f (after_hearing octets a) d other)))
+        (cases_eq f d);
+    purposes = λ d b is. let w = was d b is in subst (λ (o : OpenForward). KeepsPurpose xs o.purpose o) w.2 (k.purposes d w.0 w.1);
+    alone = λ d h n b z is_b is_z for_b for_z.
+        let w = was d b is_b in
+        let v = was h z is_z in
+        k.alone d h n w.0 v.0 w.1 v.1 (ap (λ (o : OpenForward). exchange_for o.purpose) w.2 ∙ for_b) (ap (λ (o : OpenForward). exchange_for o.purpose) v.2 ∙ for_z);
+    later_exchanges = k.later_exchanges;
+    later_forwards = λ d is. get_other fs f (after_hearing octets a) d (λ same. none_some (get fs f) a (ap (get fs) same ∙ k.later_forwards d is) is_open) ∙ k.later_forwards d is;
+    no_exchange = k.no_exchange;
+    no_forward = get_other fs f (after_hearing octets a) 0 (λ same. none_some (get fs f) a (ap (get fs) same ∙ k.no_forward) is_open) ∙ k.no_forward;
+  }
+    where
+      -- each forward was there with the same request
+      was : (d : ℕ) (b : Awaited) → get (insert fs f (after_hearing octets a)) d ≡ Some b → (z : Awaited) × (get fs d ≡ Some z) × (z.forward ≡ b.forward)
+      was d b is =
+          ⊎_elim
+          (λ (p : (f ≡ d) × (after_hearing octets a ≡ b)). (a, ap (get fs) (sym p.0) ∙ is_open, ap (λ (b : Awaited). b.forward) p.1))
+          (λ (p : (f ≡ d → ⊥) × (get fs d ≡ Some b)). (b, p.1, refl))
+          (was_put fs f (after_hearing octets a) d b is)
+
+  -- a forward ends, with a record that opens and closes nothing else
+  module _ (f : ℕ) (a : Awaited) (item : Item) (is_open : get fs f ≡ Some a) (opens_none : (e : ℕ) → exchange_of e (item ∷ items) ≡ exchange_of e items)
+      (closes : (d : ℕ) → forward_of d (item ∷ items) ≡ cond (nat_eq f d) None (forward_of d items)) where
+    forwards_left : (d : ℕ) → cond (nat_eq f d) None (forward_of d items) ≡ option_map seen_forward (get (remove fs f) d)
+    forwards_left d =
+        ⊎_elim
+        (λ (same : f ≡ d). ap (λ (b : Bool). cond b None (forward_of d items)) (eq-eqb f d same)
+        ∙ sym (ap (option_map seen_forward) (ap (get (remove fs f)) (sym same) ∙ get_gone fs f)))
+        (λ (other : f ≡ d → ⊥). ap (λ (b : Bool). cond b None (forward_of d items)) (ne_eqb f d other)
+        ∙ k.forwards_are d ∙ sym (ap (option_map seen_forward) (get_left fs f d other)))
+        (cases_eq f d)
+
+    -- it was for nobody
+    pub asked_behind : AreAsked E F xs (remove fs f) (item ∷ items)
+    asked_behind = record {
+      exchanges_are = λ e. subst (IsSeenExchange e (get xs e)) (sym (opens_none e)) (k.exchanges_are e);
+      forwards_are = λ d. closes d ∙ forwards_left d;
+      purposes = λ d b is. k.purposes d b (was_left fs f d b is).1;
+      alone = λ d h n b z is_b is_z for_b for_z. k.alone d h n b z (was_left fs f d b is_b).1 (was_left fs f h z is_z).1 for_b for_z;
+      later_exchanges = k.later_exchanges;
+      later_forwards = λ d is. none_left fs f d (k.later_forwards d is);
+      no_exchange = k.no_exchange;
+      no_forward = none_left fs f 0 k.no_forward;
+    }
+
+    -- the request that waited for it has its reply
+    pub asked_answered : (e t : ℕ) (reply : Message ResponseHead) → exchange_for a.forward.purpose ≡ Some e → AreAsked E F (remove xs e) (remove fs f) (ClientReply e t reply ∷ item ∷ items)
+    asked_answered e t reply its = record {
+      exchanges_are = λ d.
+          ⊎_elim
+          (λ (same : e ≡ d). seen_as d (get (remove xs e) d) None (exchange_of d (ClientReply e t reply ∷ item ∷ items)) None
+          (ap (get (remove xs e)) (sym same) ∙ get_gone xs e) (ap (λ (b : Bool). cond b None (exchange_of d (item ∷ items))) (eq-eqb e d same)) refl)
+          (λ (other : e ≡ d → ⊥). seen_as d (get (remove xs e) d) (get xs d) (exchange_of d (ClientReply e t reply ∷ item ∷ items)) (exchange_of d items)
+          (get_left xs e d other) (ap (λ (b : Bool). cond b None (exchange_of d (item ∷ items))) (ne_eqb e d other) ∙ opens_none d) (k.exchanges_are d))
+          (cases_eq e d);
+      forwards_are = λ d. closes d ∙ forwards_left d;
+      purposes = λ d b is.
+          let w = was_left fs f d b is in
+          keeps_less xs e b.forward b.forward.purpose (λ for_e. w.0 (k.alone f d e a b is_open w.1 its for_e)) (k.purposes d b w.1);
+      alone = λ d h n b z is_b is_z for_b for_z. k.alone d h n b z (was_left fs f d b is_b).1 (was_left fs f h z is_z).1 for_b for_z;
+      later_exchanges = λ d is. none_left xs e d (k.later_exchanges d is);
+      later_forwards = λ d is. none_left fs f d (k.later_forwards d is);
+      no_exchange = none_left xs e 0 k.no_exchange;
+      no_forward = none_left fs f 0 k.no_forward;
+    }

@@ -1,0 +1,16 @@
+pub mod TableLemmas
+pub mod BeginLemmas
+pub mod StoreLemmas
+pub mod SourceLemmas
+pub mod NameLemmas
+pub mod RightLemmas
+pub mod PassedLemmas
+pub mod ReceivedLemmas
+pub mod RecordLemmas
+pub mod LinkLemmas
+pub mod AskedLemmas
+pub mod HeardLemmas
+pub mod EntryLemmas
+pub mod OutcomeLemmas
+pub mod TurnLemmas
+pub mod StepLemmas

@@ -1,0 +1,280 @@
+-- What a request gets, at once or by its forward, is a right reply or a forward.
+use Rattle.std.proofs.Common.{◌≡◌, ℕ, ◌+◌, ◌≤◌, ◌<◌, Bool, true, false, cond, ◌&&◌, ◌||◌, List, [], ◌∷◌, length, Option, Some, None, refl, sym, ap, ◌∙◌, subst, arith, inl, inr, ⊎_elim}
+use Rattle.std.specs.Prelude.{◌⊎◌, not, codes, if◌then◌else◌}
+use Rattle.std.proofs.lemmas.Bool.{cases_Bool, eq-eqb, or_left, and_parts}
+use Rattle.std.proofs.lemmas.Slice.Eq.{bytes_eq-Decides}
+use Rattle.hc_fields.specs.declared.fields.Field.{Field}
+use Rattle.hc_head.specs.declared.head.RequestHead.{RequestHead}
+use Rattle.hc_head.specs.declared.head.ResponseHead.{ResponseHead}
+use Rattle.hc_head.specs.declared.head.Target.{Target}
+use Rattle.hc_head.specs.Methods.{is_get, is_head}
+use Rattle.hc_framing.specs.declared.message.Message.{Message}
+use Rattle.hc_fresh.specs.Lifetimes.{stale_forbidden}
+use Rattle.hc_rules.specs.Storing.{may_store, asks_for_storable, is_storable, is_understood_if_asked, no_store_permits, is_not_private, has_authorization, permits_authorized, invites_storing}
+use Rattle.hc_update.specs.declared.stored.Stored.{Stored}
+use Rattle.hc_transcript.specs.Items.{Item, ClientRequest, OriginResponse, OriginFailure, ClientReply, Exchange}
+use Rattle.hc_transcript.specs.History.{exchange_of, forward_of}
+use Rattle.hc_history.specs.Right.{IsRight}
+use Rattle.hc_store.specs.Entries.{Holdings, knows}
+use Rattle.hc_store.specs.Choosing.{chosen}
+use Rattle.hc_service.specs.declared.cases.Cause.{Cause}
+use Rattle.hc_service.specs.declared.cases.Cause.TheVariants.{Method, Bypass, NoStore, UriMiss, VaryMiss}
+use Rattle.hc_service.specs.declared.cases.Case.TheVariants as case
+use Rattle.hc_service.specs.declared.open.OpenForward.{OpenForward}
+use Rattle.hc_service.specs.Settings.{is_name}
+use Rattle.hc_service.specs.Asking.{is_answered_by_store}
+use Rattle.hc_service.specs.Cases.{asks_store, case_before_store, case_by_store, has_other_method, asks_origin, forbids_storing, cause_of_stored}
+use Rattle.hc_service.specs.Serving.{may_be_served}
+use Rattle.hc_service.specs.State.{Table, Awaited}
+use Rattle.hc_service.specs.Replying.{Wanted, made_reply, hit_reply, passed_reply, failure_status, bad_gateway, gateway_timeout}
+use Rattle.hc_service.specs.Choices.{OnTest, Finds, PutsResponse, Stores}
+use Rattle.hc_service.specs.Reactions.{Reaction, Reacts, ReactsBy, wants_no_forward, plain_forward, stored_forward, forward_reaction, chosen_reaction}
+use Rattle.hc_service.specs.Reactions.Reaction.{Replies as RepliesAtOnce, Sends}
+use Rattle.hc_service.specs.Answers.{Outcome, Responds, Passes, FailsByStore, Fails, is_unasked, failed_outcome, standing_in}
+use Rattle.hc_service.specs.Answers.Outcome.{Replies}
+use Rattle.hc_service.specs.Agreement.{HasSource, CanReply}
+use Rattle.hc_service.specs.Runs.{strict}
+use Rattle.hc_service.specs.Laws.{HasSources, IsReceivedAnswer, is_response, recorded_forward}
+use Rattle.hc_service.proofs.StoreLemmas.{chosen_held}
+use Rattle.hc_service.proofs.SourceLemmas.{on_test, found_sources, still_sources, still_source, put_sources}
+use Rattle.hc_service.proofs.EntryLemmas.{all_can_reply, found_can_reply, put_can_reply, IsFit, hit_fit, passed_fit, made_fit}
+use Rattle.hc_service.proofs.NameLemmas.{hit_writable, forward_writable}
+use Rattle.hc_service.proofs.RightLemmas.{hit_right}
+use Rattle.hc_service.proofs.PassedLemmas.{passed_right, made_right}
+
+-- all that a store holds is sound
+abbrev pub SoundStore : List Item → Holdings → Type 0
+SoundStore items store = HasSources items store × all_can_reply store
+
+pub still_sound : (items : List Item) (item : Item) (store : Holdings) → is_response item ≡ false → SoundStore items store → SoundStore (item ∷ items) store
+still_sound items item store is h = (still_sources items item store is h.0, h.1)
+
+found_sound : (items : List Item) (target : Target) (asked : List Field) (old : Holdings) (chosen : Option Stored) (new : Holdings) → SoundStore items old → Finds target asked old chosen new → SoundStore items new
+found_sound items target asked old chosen new h finds = (found_sources items target asked old chosen new h.0 finds, found_can_reply target asked old chosen new h.1 finds)
+
+-- ---- a whole request
+
+-- no case before the store lets what answers be stored
+before_store : (request : Message RequestHead) (why : Cause) → case_before_store request ≡ Some why → asks_store why ≡ false
+before_store request why is = go (has_other_method request) (asks_origin request) (forbids_storing request) is
+  where
+    go : (a b c : Bool) → (if a then Some Method else if b then Some Bypass else if c then Some NoStore else None) ≡ Some why → asks_store why ≡ false
+    go true b c e = let same : Method ≡ why = cc in subst (λ (w : Cause). asks_store w ≡ false) same refl
+    go false true c e = let same : Bypass ≡ why = cc in subst (λ (w : Cause). asks_store w ≡ false) same refl
+    go false false true e = let same : NoStore ≡ why = cc in subst (λ (w : Cause). asks_store w ≡ false) same refl
+    go false false false e = absurd (cc)
+
+by_store_method : (request : Message RequestHead) → case_before_store request ≡ None → is_answered_by_store request.head.method ≡ true
+by_store_method request is = go (is_answered_by_store request.head.method) (asks_origin request) (forbids_storing request) is
+  where
+    go : (a b c : Bool) → (if not a then Some Method else if b then Some Bypass else if c then Some NoStore else None) ≡ None → a ≡ true
+    go true b c e = refl
+    go false b c e = absurd (cc)
+
+module _ (name : List ℕ) (good : is_name name ≡ true) (t : ℕ) (early : t < 253402300800) (closes : Bool) (items : List Item) (e : ℕ) (request : Message RequestHead) (target : Target) where
+  abbrev wanted : Wanted
+  wanted = record { name = name; moment = t; asked = request.head; closes = closes }
+
+  abbrev the_items : List Item
+  the_items = ClientRequest e t request target ∷ items
+
+  abbrev the_exchange : Exchange
+  the_exchange = record { number = e; position = length items + 1; request = request.head; target = target }
+
+  it_waits : exchange_of e (ClientRequest e t request target ∷ items) ≡ Some (record { number = e; position = length items + 1; request = request.head; target = target })
+  it_waits = rw (eq-eqb e e refl) refl
+
+  -- it gets a right reply at once, or goes to the origin as it came
+  pub record GetsReply (reaction : Reaction) : Type 0 where
+    pub reply : Message ResponseHead
+    pub reaction_is : reaction ≡ RepliesAtOnce reply None
+    pub fit : IsFit (is_head request.head.method) reply
+    pub right : IsRight strict (ClientRequest e t request target ∷ items) (ClientReply e t reply)
+
+  pub record GetsForward (reaction : Reaction) : Type 0 where
+    pub why : Cause
+    pub reaction_is : reaction ≡ Sends (plain_forward (record { name = name; moment = t; asked = request.head; closes = closes }) target request) why false
+    pub by_store : asks_store why ≡ true → is_answered_by_store request.head.method ≡ true
+
+  made_at_once : (reaction : Reaction) → reaction ≡ RepliesAtOnce (made_reply (record { name = name; moment = t; asked = request.head; closes = closes }) gateway_timeout) None → GetsReply reaction
+  made_at_once reaction is = record {
+    reply = made_reply wanted gateway_timeout;
+    reaction_is = is;
+    fit = made_fit wanted (is_head request.head.method) gateway_timeout (omega arith) (omega arith) early;
+    right = made_right the_items the_exchange wanted gateway_timeout it_waits (omega arith);
+  }
+
+  forwarded : (chosen : Option Stored) (why : Cause) (reaction : Reaction) → (asks_store why ≡ true → is_answered_by_store request.head.method ≡ true)
+      → reaction ≡ forward_reaction (record { name = name; moment = t; asked = request.head; closes = closes }) target request chosen why → GetsReply reaction ⊎ GetsForward reaction
+  forwarded chosen why reaction by_store is =
+      ⊎_elim
+      (λ (none : wants_no_forward why request.head ≡ true). inl (made_at_once reaction (is ∙ ap (λ (b : Bool). cond b (RepliesAtOnce (made_reply wanted gateway_timeout) None) (stored_forward wanted target request why chosen)) none)))
+      (λ (some : wants_no_forward why request.head ≡ false). inr (record {
+        why = why;
+        reaction_is = is ∙ ap (λ (b : Bool). cond b (RepliesAtOnce (made_reply wanted gateway_timeout) None) (stored_forward wanted target request why chosen)) some ∙ plain chosen;
+        by_store = by_store;
+      }))
+      (cases_Bool (wants_no_forward why request.head))
+    where
+      plain : (chosen : Option Stored) → stored_forward wanted target request why chosen ≡ Sends (plain_forward wanted target request) why false
+      plain None = refl
+      plain (Some stored) = refl
+
+  by_case : (forwards : Table Awaited) (known : Bool) (old new : Holdings) (chosen : Option Stored) (reaction : Reaction) → SoundStore items old → is_answered_by_store request.head.method ≡ true
+      → Finds target request.head.fields old chosen new
+      → reaction ≡ chosen_reaction (record { name = name; moment = t; asked = request.head; closes = closes }) target request forwards chosen (case_by_store request.head.fields known chosen t)
+      → GetsReply reaction ⊎ GetsForward reaction
+  by_case forwards true old new None reaction h method finds is = forwarded None VaryMiss reaction (λ _. method) is
+  by_case forwards false old new None reaction h method finds is = forwarded None UriMiss reaction (λ _. method) is
+  by_case forwards known old new (Some stored) reaction h method finds is =
+      ⊎_elim
+      (λ (served : may_be_served request.head.fields stored t ≡ true).
+      let source = chosen_held (HasSource items) target request.head.fields old.entries stored h.0.sources finds.0 in
+      let can = (chosen_held (λ _ stored. CanReply stored) target request.head.fields old.entries stored h.1 finds.0).0 in
+      inl (record {
+        reply = hit_reply wanted stored;
+        reaction_is = is ∙ ap (λ (b : Bool). chosen_reaction wanted target request forwards (Some stored) (cond b case.Hit (case.Forward (cause_of_stored stored t)))) served;
+        fit = hit_fit wanted stored good can;
+        right = hit_right the_items the_exchange t name closes stored (still_source items (ClientRequest e t request target) refl target stored source.0) can (or_left _ _ (or_nothing (is_get request.head.method) method))
+            source.1 served (hit_writable name stored t good).plain it_waits;
+      }))
+      (λ (kept : may_be_served request.head.fields stored t ≡ false).
+      forwarded (Some stored) (cause_of_stored stored t) reaction (λ _. method)
+      (is ∙ ap (λ (b : Bool). chosen_reaction wanted target request forwards (Some stored) (cond b case.Hit (case.Forward (cause_of_stored stored t)))) kept))
+      (cases_Bool (may_be_served request.head.fields stored t))
+    where
+      or_nothing : (a : Bool) → (a || false) ≡ true → a ≡ true
+      or_nothing true e = refl
+      or_nothing false e = e
+
+  pub reaction_right : (forwards : Table Awaited) (old new : Holdings) (reaction : Reaction) → SoundStore items old
+      → Reacts (record { name = name; moment = t; asked = request.head; closes = closes }) target request forwards old reaction new
+      → SoundStore items new × (GetsReply reaction ⊎ GetsForward reaction)
+  reaction_right forwards old new reaction h reacts = go (case_before_store request) refl reacts
+    where
+      never : (why : Cause) → asks_store why ≡ false → asks_store why ≡ true → is_answered_by_store request.head.method ≡ true
+      never why none it = absurd (false_true (sym none ∙ it))
+        where
+          false_true : false ≡ true → ⊥
+          false_true e = cc
+
+      go : (before : Option Cause) → case_before_store request ≡ before → ReactsBy before wanted target request forwards old reaction new → SoundStore items new × (GetsReply reaction ⊎ GetsForward reaction)
+      go (Some why) is r = (subst (SoundStore items) (sym r.1) h, forwarded None why reaction (never why (before_store request why is)) r.0)
+      go None is r = (
+        found_sound items target request.head.fields old r.chosen new h r.finds,
+        by_case forwards (knows target old.entries) old new r.chosen reaction h (by_store_method request is) r.finds r.reaction_is,
+      )
+
+-- ---- what answers a forward
+
+-- what may be stored answers GET
+stored_is_get : (forward : RequestHead) (response : ResponseHead) → may_store forward response ≡ true → is_head forward.method ≡ false
+stored_is_get forward response may = subst (λ (m : List ℕ). is_head m ≡ false) (sym ((bytes_eq-Decides forward.method (codes "GET")).0 get)) refl
+  where
+    first : (a b c d e f g : Bool) → (a && b && c && d && e && f && g) ≡ true → a ≡ true
+    first true b c d e f g is = refl
+    first false b c d e f g is = absurd (cc)
+
+    get : is_get forward.method ≡ true
+    get = (and_parts (is_get forward.method) _ (first (asks_for_storable forward) (is_storable response.status) (is_understood_if_asked response) (no_store_permits response.fields)
+        (is_not_private response.fields) (not (has_authorization forward) || permits_authorized response.fields) (invites_storing response) may)).0
+
+pub stored_sound : (items : List Item) (f t : ℕ) (response : Message ResponseHead) (forward : OpenForward) (old : Holdings) (stored : Bool) (new : Holdings)
+    → forward_of f items ≡ Some (recorded_forward forward) → IsReceivedAnswer (is_head forward.request.method) response → t < 253402300800
+    → SoundStore (OriginResponse f t response ∷ items) old → Stores forward t response old stored new → SoundStore (OriginResponse f t response ∷ items) new
+stored_sound items f t response forward old stored new is_open r early h stores = (
+  put_sources items f t response forward is_open old new stored h.0 stores,
+  ⊎_elim
+      (λ (may : may_store forward.request response.head ≡ true).
+      put_can_reply forward t response old stored new (subst (λ (b : Bool). IsReceivedAnswer b response) (stored_is_get forward.request response.head may) r) early h.1 stores)
+      (λ (may : may_store forward.request response.head ≡ false).
+      let left = subst (λ (b : Bool). OnTest b (PutsResponse forward t response old stored new) ((stored ≡ false) × (new ≡ old))) may stores in
+      subst all_can_reply (sym left.1) h.1)
+      (cases_Bool (may_store forward.request response.head)),
+)
+
+module _ (name : List ℕ) (good : is_name name ≡ true) (t : ℕ) (early : t < 253402300800) (closes : Bool) (items : List Item) (f : ℕ) (forward : OpenForward) (x : Exchange) (why : Cause)
+    (is_open : forward_of f items ≡ Some (recorded_forward forward)) (waits : exchange_of x.number items ≡ Some x) (method : forward.request.method ≡ x.request.method) (target : forward.target ≡ x.target) where
+  abbrev wants : Wanted
+  wants = record { name = name; moment = t; asked = x.request; closes = closes }
+
+  pub record GetsAnswer (items' : List Item) (outcome : Outcome) : Type 0 where
+    pub reply : Message ResponseHead
+    pub outcome_is : outcome ≡ Replies reply
+    pub fit : IsFit (is_head x.request.method) reply
+    pub right : IsRight strict items' (ClientReply x.number t reply)
+
+  module _ (response : Message ResponseHead) (r : IsReceivedAnswer (is_head forward.request.method) response) where
+    same_head : is_head forward.request.method ≡ is_head x.request.method
+    same_head = ap is_head method
+
+    bare : is_head x.request.method ≡ true → response.body ≡ []
+    bare is = r.bare (or_left _ _ (same_head ∙ is))
+
+    passes : (old new : Holdings) (outcome : Outcome) → SoundStore (OriginResponse f t response ∷ items) old → Passes wants forward why t response old outcome new
+        → SoundStore (OriginResponse f t response ∷ items) new × GetsAnswer (OriginResponse f t response ∷ items) outcome
+    passes old new outcome h p = (
+      ⊎_elim
+          (λ (q : (asks_store why ≡ true) × Stores forward t response old p.stored new). stored_sound items f t response forward old p.stored new is_open r early h q.1)
+          (λ (q : (asks_store why ≡ false) × ((p.stored ≡ false) × (new ≡ old))). subst (SoundStore (OriginResponse f t response ∷ items)) (sym q.1.1) h)
+          (on_test (asks_store why) _ _ p.puts),
+      record {
+        reply = passed_reply wants why p.stored response;
+        outcome_is = p.outcome_is;
+        fit = passed_fit wants why p.stored (is_head x.request.method) response good early (subst (λ (b : Bool). IsReceivedAnswer b response) same_head r);
+        right = passed_right items f t response forward x wants why p.stored is_open waits method target bare (forward_writable name why p.stored good).plain;
+      },
+    )
+
+    pub response_outcome : (conditional : Bool) (position : ℕ) (old new : Holdings) (outcome : Outcome) → SoundStore (OriginResponse f t response ∷ items) old
+        → Responds (record { name = name; moment = t; asked = x.request; closes = closes }) forward why conditional position response old outcome new
+        → SoundStore (OriginResponse f t response ∷ items) new × GetsAnswer (OriginResponse f t response ∷ items) outcome
+    response_outcome conditional position old new outcome h responds =
+        ⊎_elim
+        (λ (q : (is_unasked wants forward why response.head ≡ true) × ((outcome ≡ Replies (made_reply wants bad_gateway)) × (new ≡ old))). (
+          subst (SoundStore (OriginResponse f t response ∷ items)) (sym q.1.1) h,
+          record {
+            reply = made_reply wants bad_gateway;
+            outcome_is = q.1.0;
+            fit = made_fit wants (is_head x.request.method) bad_gateway (omega arith) (omega arith) early;
+            right = made_right (OriginResponse f t response ∷ items) x wants bad_gateway waits (omega arith);
+          },
+        ))
+        (λ (q : (is_unasked wants forward why response.head ≡ false) × Passes wants forward why t response old outcome new). passes old new outcome h q.1)
+        (on_test (is_unasked wants forward why response.head) _ _ responds)
+
+  failed_status : (chosen : Option Stored) → (500 ≤ failure_status chosen) × (failure_status chosen < 600)
+  failed_status None = (omega arith, omega arith)
+  failed_status (Some stored) = go (stale_forbidden stored.fields)
+    where
+      go : (b : Bool) → (500 ≤ cond b gateway_timeout bad_gateway) × (cond b gateway_timeout bad_gateway < 600)
+      go true = (omega arith, omega arith)
+      go false = (omega arith, omega arith)
+
+  made_answer : (items' : List Item) (status : ℕ) (outcome : Outcome) → exchange_of x.number items' ≡ Some x → 400 ≤ status → status < 1000
+      → outcome ≡ Replies (made_reply (record { name = name; moment = t; asked = x.request; closes = closes }) status) → GetsAnswer items' outcome
+  made_answer items' status outcome still is_error digits is = record {
+    reply = made_reply wants status;
+    outcome_is = is;
+    fit = made_fit wants (is_head x.request.method) status (omega arith) digits early;
+    right = made_right items' x wants status still is_error;
+  }
+
+  pub failure_outcome : (old new : Holdings) (outcome : Outcome) → SoundStore items old → Fails (record { name = name; moment = t; asked = x.request; closes = closes }) forward why old outcome new
+      → SoundStore (OriginFailure f t ∷ items) new × GetsAnswer (OriginFailure f t ∷ items) outcome
+  failure_outcome old new outcome h fails =
+      ⊎_elim
+      (λ (q : (asks_store why ≡ true) × FailsByStore wants forward why old outcome new).
+      let status = failed_status q.1.chosen in (
+        still_sound items (OriginFailure f t) new refl (found_sound items forward.target x.request.fields old q.1.chosen new h q.1.finds),
+        made_answer (OriginFailure f t ∷ items) (failure_status q.1.chosen) outcome waits (omega (arith, status.0)) (omega (arith, status.1)) (q.1.outcome_is ∙ nobody_stands_in q.1.chosen),
+      ))
+      (λ (q : (asks_store why ≡ false) × ((outcome ≡ Replies (made_reply wants bad_gateway)) × (new ≡ old))). (
+        subst (SoundStore (OriginFailure f t ∷ items)) (sym q.1.1) (still_sound items (OriginFailure f t) old refl h),
+        made_answer (OriginFailure f t ∷ items) bad_gateway outcome waits (omega arith) (omega arith) q.1.0,
+      ))
+      (on_test (asks_store why) _ _ fails)
+    where
+      nobody_stands_in : (chosen : Option Stored) → failed_outcome wants forward why chosen (standing_in wants forward why chosen) ≡ Replies (made_reply wants (failure_status chosen))
+      nobody_stands_in None = refl
+      nobody_stands_in (Some stored) = refl

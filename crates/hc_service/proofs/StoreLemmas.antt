@@ -1,0 +1,242 @@
+-- What a store holds after each call was held before, or was put.
+use Rattle.std.proofs.Common.{◌≡◌, ℕ, zero, suc, ◌-◌, Bool, true, false, cond, List, [], ◌∷◌, ◌++◌, Some, sym, subst, ⊎_elim}
+use Rattle.std.specs.Prelude.{filter, take, drop, not, nat_le}
+use Rattle.std.specs.List.{AllByRecursion, IsDistinct, best_of}
+use Rattle.std.specs.Map.{keys_of}
+use Rattle.std.proofs.lemmas.Bool.{cases_Bool}
+use Rattle.hc_fields.specs.declared.fields.Field.{Field}
+use Rattle.hc_head.specs.declared.head.Target.{Target}
+use Rattle.hc_head.specs.Targets.{same_target}
+use Rattle.hc_update.specs.declared.stored.Stored.{Stored}
+use Rattle.hc_history.proofs.TargetLemmas.{same_target_one}
+use Rattle.hc_store.specs.Entries.{Entries, variants_of, variants_weight}
+use Rattle.hc_store.specs.Choosing.{is_selected, goes_before, first_choice, chosen}
+use Rattle.hc_store.specs.Changes.{keyed, without, after_choose, after_put, first_keys, last_variants, trimmed, added}
+use Rattle.hc_service.specs.Agreement.{AllHeld}
+
+-- ---- lists of which all is so
+
+pub all_weaken : {X : Type 0} (P Q : X → Type 0) → ((x : X) → P x → Q x) → (xs : List X) → AllByRecursion P xs → AllByRecursion Q xs
+all_weaken P Q f [] h = tt
+all_weaken P Q f (x ∷ xs) h = (f x h.0, all_weaken P Q f xs h.1)
+
+pub all_filter : {X : Type 0} (P : X → Type 0) (test : X → Bool) (xs : List X) → AllByRecursion P xs → AllByRecursion P (filter test xs)
+all_filter P test [] h = tt
+all_filter P test (x ∷ xs) h =
+    ⊎_elim (λ (e : test x ≡ true). rw e (h.0, all_filter P test xs h.1)) (λ (e : test x ≡ false). rw e (all_filter P test xs h.1)) (cases_Bool (test x))
+
+pub all_passing : {X : Type 0} (test : X → Bool) (xs : List X) → AllByRecursion (λ x. test x ≡ true) (filter test xs)
+all_passing test [] = tt
+all_passing test (x ∷ xs) =
+    ⊎_elim (λ (e : test x ≡ true). rw e (e, all_passing test xs)) (λ (e : test x ≡ false). rw e (all_passing test xs)) (cases_Bool (test x))
+
+pub all_append : {X : Type 0} (P : X → Type 0) (xs ys : List X) → AllByRecursion P xs → AllByRecursion P ys → AllByRecursion P (xs ++ ys)
+all_append P [] ys h k = k
+all_append P (x ∷ xs) ys h k = (h.0, all_append P xs ys h.1 k)
+
+pub all_drop : {X : Type 0} (P : X → Type 0) (n : ℕ) (xs : List X) → AllByRecursion P xs → AllByRecursion P (drop n xs)
+all_drop P zero xs h = h
+all_drop P (suc n) [] h = tt
+all_drop P (suc n) (x ∷ xs) h = all_drop P n xs h.1
+
+pub all_take : {X : Type 0} (P : X → Type 0) (n : ℕ) (xs : List X) → AllByRecursion P xs → AllByRecursion P (take n xs)
+all_take P zero xs h = tt
+all_take P (suc n) [] h = tt
+all_take P (suc n) (x ∷ xs) h = (h.0, all_take P n xs h.1)
+
+-- the best of several is one of them
+pub best_held : {X : Type 0} (P : X → Type 0) (beats : X → X → Bool) (x : X) (xs : List X) → P x → AllByRecursion P xs → P (best_of beats x xs)
+best_held P beats x [] p h = p
+best_held P beats x (y ∷ xs) p h = best_held P beats (cond (beats y x) y x) xs (next (beats y x)) h.1
+  where
+    next : (b : Bool) → P (cond b y x)
+    next true = h.0
+    next false = p
+
+-- ---- keys
+
+-- the keys but for that of the target are others
+pub other_keys : (target : Target) (entries : Entries) → IsDistinct same_target (keys_of entries)
+    → AllByRecursion (λ key. same_target target key ≡ false) (keys_of (without target entries))
+unfolding IsDistinct
+other_keys target [] d = tt
+other_keys target (e ∷ entries) d =
+    ⊎_elim
+    (λ (at : same_target target e.0 ≡ true).
+    rw at (all_weaken (λ key. same_target e.0 key ≡ false) (λ key. same_target target key ≡ false) (λ key ne. rw (same_target_one target e.0 at) ne) (keys_of entries) d.0))
+    (λ (past : same_target target e.0 ≡ false). rw past (past, other_keys target entries d.1))
+    (cases_Bool (same_target target e.0))
+
+all_keys_without : (P : Target → Type 0) (target : Target) (entries : Entries) → AllByRecursion P (keys_of entries) → AllByRecursion P (keys_of (without target entries))
+all_keys_without P target [] h = tt
+all_keys_without P target (e ∷ entries) h =
+    ⊎_elim
+    (λ (at : same_target target e.0 ≡ true). rw at h.1)
+    (λ (past : same_target target e.0 ≡ false). rw past (h.0, all_keys_without P target entries h.1))
+    (cases_Bool (same_target target e.0))
+
+pub distinct_without : (target : Target) (entries : Entries) → IsDistinct same_target (keys_of entries) → IsDistinct same_target (keys_of (without target entries))
+unfolding IsDistinct
+distinct_without target [] d = tt
+distinct_without target (e ∷ entries) d =
+    ⊎_elim
+    (λ (at : same_target target e.0 ≡ true). rw at d.1)
+    (λ (past : same_target target e.0 ≡ false). rw past (all_keys_without (λ key. same_target e.0 key ≡ false) target entries d.0, distinct_without target entries d.1))
+    (cases_Bool (same_target target e.0))
+
+-- one key before the others
+pub distinct_first : (target : Target) (variants : List Stored) (entries : Entries) → IsDistinct same_target (keys_of entries)
+    → IsDistinct same_target (keys_of ((target, variants) ∷ without target entries))
+unfolding IsDistinct
+distinct_first target variants entries d = (other_keys target entries d, distinct_without target entries d)
+
+pub distinct_choose : (target : Target) (entries : Entries) → IsDistinct same_target (keys_of entries) → IsDistinct same_target (keys_of (after_choose target entries))
+distinct_choose target entries d = go (variants_of target entries)
+  where
+    go : (variants : List Stored) → IsDistinct same_target (keys_of (keyed target variants ++ without target entries))
+    go [] = distinct_without target entries d
+    go (variant ∷ more) = distinct_first target (variant ∷ more) entries d
+
+all_keys_take : (P : Target → Type 0) (n : ℕ) (entries : Entries) → AllByRecursion P (keys_of entries) → AllByRecursion P (keys_of (take n entries))
+all_keys_take P zero entries h = tt
+all_keys_take P (suc n) [] h = tt
+all_keys_take P (suc n) (e ∷ entries) h = (h.0, all_keys_take P n entries h.1)
+
+distinct_take : (n : ℕ) (entries : Entries) → IsDistinct same_target (keys_of entries) → IsDistinct same_target (keys_of (take n entries))
+unfolding IsDistinct
+distinct_take zero entries d = tt
+distinct_take (suc n) [] d = tt
+distinct_take (suc n) (e ∷ entries) d = (all_keys_take (λ key. same_target e.0 key ≡ false) n entries d.0, distinct_take n entries d.1)
+
+all_keys_first : (P : Target → Type 0) (room : ℕ) (entries : Entries) → AllByRecursion P (keys_of entries) → AllByRecursion P (keys_of (first_keys room entries))
+all_keys_first P room [] h = tt
+all_keys_first P room (e ∷ entries) h =
+    ⊎_elim
+    (λ (le : nat_le (variants_weight e.1) room ≡ true). rw le (h.0, all_keys_first P (room - variants_weight e.1) entries h.1))
+    (λ (gt : nat_le (variants_weight e.1) room ≡ false). rw gt tt)
+    (cases_Bool (nat_le (variants_weight e.1) room))
+
+distinct_first_keys : (room : ℕ) (entries : Entries) → IsDistinct same_target (keys_of entries) → IsDistinct same_target (keys_of (first_keys room entries))
+unfolding IsDistinct
+distinct_first_keys room [] d = tt
+distinct_first_keys room (e ∷ entries) d =
+    ⊎_elim
+    (λ (le : nat_le (variants_weight e.1) room ≡ true).
+    rw le (all_keys_first (λ key. same_target e.0 key ≡ false) (room - variants_weight e.1) entries d.0, distinct_first_keys (room - variants_weight e.1) entries d.1))
+    (λ (gt : nat_le (variants_weight e.1) room ≡ false). rw gt tt)
+    (cases_Bool (nat_le (variants_weight e.1) room))
+
+distinct_keyed : (target : Target) (variants : List Stored) → IsDistinct same_target (keys_of (keyed target variants))
+unfolding IsDistinct
+distinct_keyed target [] = tt
+distinct_keyed target (variant ∷ more) = (tt, tt)
+
+pub distinct_trimmed : (bytes : ℕ) (entries : Entries) → IsDistinct same_target (keys_of entries) → IsDistinct same_target (keys_of (trimmed bytes entries))
+unfolding IsDistinct
+distinct_trimmed bytes [] d = tt
+distinct_trimmed bytes (e ∷ entries) d =
+    ⊎_elim
+    (λ (le : nat_le (variants_weight e.1) bytes ≡ true).
+    rw le (all_keys_first (λ key. same_target e.0 key ≡ false) (bytes - variants_weight e.1) entries d.0, distinct_first_keys (bytes - variants_weight e.1) entries d.1))
+    (λ (gt : nat_le (variants_weight e.1) bytes ≡ false). rw gt (distinct_keyed e.0 (last_variants bytes e.1)))
+    (cases_Bool (nat_le (variants_weight e.1) bytes))
+
+pub distinct_put : (keys bytes : ℕ) (target : Target) (stored : Stored) (entries : Entries) → IsDistinct same_target (keys_of entries)
+    → IsDistinct same_target (keys_of (after_put keys bytes target stored entries))
+distinct_put keys bytes target stored entries d =
+    distinct_trimmed bytes _ (distinct_take keys _ (distinct_first target (added stored (variants_of target entries)) entries d))
+
+-- ---- what is held
+
+module _ (P : Target → Stored → Type 0) where
+  pub variants_held : (target : Target) (entries : Entries) → AllHeld P entries → AllByRecursion (P target) (variants_of target entries)
+  variants_held target [] h = tt
+  variants_held target (e ∷ entries) h =
+      ⊎_elim
+      (λ (at : same_target target e.0 ≡ true). rw at (subst (λ (key : Target). AllByRecursion (P key) e.1) (sym (same_target_one target e.0 at)) h.0))
+      (λ (past : same_target target e.0 ≡ false). rw past (variants_held target entries h.1))
+      (cases_Bool (same_target target e.0))
+
+  pub without_held : (target : Target) (entries : Entries) → AllHeld P entries → AllHeld P (without target entries)
+  without_held target [] h = tt
+  without_held target (e ∷ entries) h =
+      ⊎_elim
+      (λ (at : same_target target e.0 ≡ true). rw at h.1)
+      (λ (past : same_target target e.0 ≡ false). rw past (h.0, without_held target entries h.1))
+      (cases_Bool (same_target target e.0))
+
+  keyed_held : (target : Target) (variants : List Stored) → AllByRecursion (P target) variants → AllHeld P (keyed target variants)
+  keyed_held target [] h = tt
+  keyed_held target (variant ∷ more) h = (h, tt)
+
+  pub choose_held : (target : Target) (entries : Entries) → AllHeld P entries → AllHeld P (after_choose target entries)
+  choose_held target entries h =
+      all_append _ (keyed target (variants_of target entries)) (without target entries)
+      (keyed_held target (variants_of target entries) (variants_held target entries h)) (without_held target entries h)
+
+  first_keys_held : (room : ℕ) (entries : Entries) → AllHeld P entries → AllHeld P (first_keys room entries)
+  first_keys_held room [] h = tt
+  first_keys_held room (e ∷ entries) h =
+      ⊎_elim
+      (λ (le : nat_le (variants_weight e.1) room ≡ true). rw le (h.0, first_keys_held (room - variants_weight e.1) entries h.1))
+      (λ (gt : nat_le (variants_weight e.1) room ≡ false). rw gt tt)
+      (cases_Bool (nat_le (variants_weight e.1) room))
+
+  last_variants_held : (Q : Stored → Type 0) (room : ℕ) (variants : List Stored) → AllByRecursion Q variants → AllByRecursion Q (last_variants room variants)
+  last_variants_held Q room [] h = tt
+  last_variants_held Q room (variant ∷ more) h =
+      ⊎_elim
+      (λ (le : nat_le (variants_weight (variant ∷ more)) room ≡ true). rw le h)
+      (λ (gt : nat_le (variants_weight (variant ∷ more)) room ≡ false). rw gt (last_variants_held Q room more h.1))
+      (cases_Bool (nat_le (variants_weight (variant ∷ more)) room))
+
+  pub trimmed_held : (bytes : ℕ) (entries : Entries) → AllHeld P entries → AllHeld P (trimmed bytes entries)
+  trimmed_held bytes [] h = tt
+  trimmed_held bytes (e ∷ entries) h =
+      ⊎_elim
+      (λ (le : nat_le (variants_weight e.1) bytes ≡ true). rw le (h.0, first_keys_held (bytes - variants_weight e.1) entries h.1))
+      (λ (gt : nat_le (variants_weight e.1) bytes ≡ false). rw gt (keyed_held e.0 (last_variants bytes e.1) (last_variants_held (P e.0) bytes e.1 h.0)))
+      (cases_Bool (nat_le (variants_weight e.1) bytes))
+
+  added_held : (target : Target) (stored : Stored) (variants : List Stored) → AllByRecursion (P target) variants → P target stored → AllByRecursion (P target) (added stored variants)
+  added_held target stored variants h p =
+      all_append (P target) _ (stored ∷ [])
+      (all_drop (P target) _ _ (all_filter (P target) (λ variant. not (is_selected stored.request.fields variant)) variants h)) (p, tt)
+
+  pub put_held : (keys bytes : ℕ) (target : Target) (stored : Stored) (entries : Entries) → AllHeld P entries → P target stored
+      → AllHeld P (after_put keys bytes target stored entries)
+  put_held keys bytes target stored entries h p =
+      trimmed_held bytes _
+      (all_take _ keys ((target, added stored (variants_of target entries)) ∷ without target entries)
+      (added_held target stored (variants_of target entries) (variants_held target entries h) p, without_held target entries h))
+
+  -- what is chosen is held of the target, and selects the request
+  pub chosen_held : (target : Target) (asked : List Field) (entries : Entries) (stored : Stored) → AllHeld P entries
+      → Some stored ≡ chosen asked (variants_of target entries) → P target stored × (is_selected asked stored ≡ true)
+  chosen_held target asked entries stored h is =
+      first_held (filter (is_selected asked) (variants_of target entries))
+      (all_filter (P target) (is_selected asked) (variants_of target entries) (variants_held target entries h))
+      (all_passing (is_selected asked) (variants_of target entries)) is
+    where
+      first_held : (variants : List Stored) → AllByRecursion (P target) variants → AllByRecursion (λ v. is_selected asked v ≡ true) variants
+          → Some stored ≡ first_choice variants → P target stored × (is_selected asked stored ≡ true)
+      first_held [] a b e = absurd (cc)
+      first_held (v ∷ more) a b e =
+          let same : stored ≡ best_of goes_before v more = cc in (
+            subst (P target) (sym same) (best_held (P target) goes_before v more a.0 a.1),
+            subst (λ (x : Stored). is_selected asked x ≡ true) (sym same) (best_held (λ x. is_selected asked x ≡ true) goes_before v more b.0 b.1),
+          )
+
+-- what is held of other targets, once that of a target is taken away
+pub without_others : (P : Target → Stored → Type 0) (target : Target) (entries : Entries) → IsDistinct same_target (keys_of entries) → AllHeld P entries
+    → AllHeld (λ key stored. P key stored × (same_target target key ≡ false)) (without target entries)
+without_others P target entries d h = go (without target entries) (other_keys target entries d) (without_held P target entries h)
+  where
+    go : (left : Entries) → AllByRecursion (λ key. same_target target key ≡ false) (keys_of left) → AllHeld P left
+        → AllHeld (λ key stored. P key stored × (same_target target key ≡ false)) left
+    go [] d h = tt
+    go (e ∷ left) d h = (all_weaken (P e.0) (λ stored. P e.0 stored × (same_target target e.0 ≡ false)) (λ stored p. (p, d.0)) e.1 h.0, go left d.1 h.1)
+
+pub held_weaken : (P Q : Target → Stored → Type 0) → ((target : Target) (stored : Stored) → P target stored → Q target stored) → (entries : Entries) → AllHeld P entries → AllHeld Q entries
+held_weaken P Q f [] h = tt
+held_weaken P Q f (e ∷ entries) h = (all_weaken (P e.0) (Q e.0) (f e.0) e.1 h.0, held_weaken P Q f entries h.1)

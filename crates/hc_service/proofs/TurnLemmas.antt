@@ -1,0 +1,605 @@
+-- Each turn keeps what the cache has to do with what has happened.
+use Rattle.std.proofs.Common.{◌≡◌, ℕ, ◌+◌, ◌≤◌, ◌<◌, Bool, true, false, cond, ◌||◌, List, [], ◌∷◌, ◌++◌, length, drop, Option, Some, None, nat_eq, refl, sym, ap, ◌∙◌, subst, arith, inl, inr, ⊎_elim}
+use Rattle.std.specs.Option.{option_map}
+use Rattle.std.specs.FinMap.{get, insert, remove, len}
+use Rattle.std.proofs.lemmas.Bool.{cases_eq, cases_lt, eq-eqb}
+use Rattle.hc_head.specs.declared.head.RequestHead.{RequestHead}
+use Rattle.hc_head.specs.declared.head.ResponseHead.{ResponseHead}
+use Rattle.hc_head.specs.declared.head.Target.{Target}
+use Rattle.hc_head.specs.declared.head.TheConstants.Room.{RECORDED}
+use Rattle.hc_head.specs.Methods.{is_head}
+use Rattle.hc_head.proofs.PassingLemmas.{light_response_writable}
+use Rattle.hc_framing.specs.declared.message.Message.{Message}
+use Rattle.hc_transcript.specs.declared.record.Record.{Record}
+use Rattle.hc_transcript.specs.Limits.{greatest_number}
+use Rattle.hc_transcript.specs.Items.{Item, ClientRequest, OriginRequest, OriginResponse, OriginFailure, ClientReply, Exchange}
+use Rattle.hc_transcript.specs.History.{exchange_of, forward_of}
+use Rattle.hc_transcript.specs.Written.{IsWritableAsk, IsWritableAnswer}
+use Rattle.hc_history.specs.Right.{IsRight}
+use Rattle.hc_links.specs.Requests.{IsRequest}
+use Rattle.hc_store.specs.Entries.{Holdings}
+use Rattle.hc_service.specs.declared.action.Action.{Action}
+use Rattle.hc_service.specs.declared.cases.Cause.{Cause}
+use Rattle.hc_service.specs.declared.numbers.Numbers.{Numbers}
+use Rattle.hc_service.specs.declared.open.OpenExchange.{OpenExchange}
+use Rattle.hc_service.specs.declared.open.Purpose.{Purpose}
+use Rattle.hc_service.specs.declared.open.Purpose.TheVariants as purpose
+use Rattle.hc_service.specs.declared.settings.CoreSettings.{CoreSettings}
+use Rattle.hc_service.specs.Settings.{AreGood, is_name}
+use Rattle.hc_service.specs.Asking.{ends_connection, is_answered_by_store}
+use Rattle.hc_service.specs.Cases.{asks_store}
+use Rattle.hc_service.specs.Numbers.{one_more, after_opening, asked, sent, noted, is_later}
+use Rattle.hc_service.specs.State.{State, Table, Connection, Awaited, new_connection}
+use Rattle.hc_service.specs.Sending.{request_record, forward_record, response_record, failure_record, reply_record, ask_actions, send_actions, reply_actions, response_actions, failure_actions, records_of}
+use Rattle.hc_service.specs.Replying.{Wanted}
+use Rattle.hc_service.specs.Reactions.{Reaction, plain_forward}
+use Rattle.hc_service.specs.Answers.{Outcome, is_news}
+use Rattle.hc_service.specs.Choices.{Stores}
+use Rattle.hc_service.specs.Turns.{most_connections, after_octets, after_request, after_reply, after_leaving, after_hearing, sent_forward, replied, closes_behind, wanted_now, Opens, Hears, Drops, Leaves, Closes, Refuses, Asks, RepliesAlone, GoesForward, DoesReaction, Tells, Answers, Breaks, EndsBehind, EndsWithReply, EndsByResponse, EndsByFailure, DoesOutcome, Failure, is_closed}
+use Rattle.hc_service.specs.Serves.{Turn, Takes}
+use Rattle.hc_service.specs.Serves.Turn.{Opening, Hearing, Asking, Refusal, Dropping, Leaving, Closing, Telling, Answering, Failing}
+use Rattle.hc_service.specs.Agreement.{History, AreCounted, AreHeard, AreAsked, AreLinked, Stands, IsFor, KeepsPurpose, IsSeenExchange, exchange_for, seen_forward}
+use Rattle.hc_service.specs.Runs.{Records, behind, heard_with, told_with, strict, with_octets}
+use Rattle.hc_service.specs.LowerLaws.{ForwardLaws}
+use Rattle.hc_service.specs.Laws.{KeepsOn, IsReceivedAnswer, IsReceivedAsk, with_record, recorded_forward}
+use Rattle.hc_service.proofs.TableLemmas.{len_new, len_old, len_less}
+use Rattle.hc_service.proofs.LinkLemmas.{none_some, one_of, later_behind, linked_opened, linked_same, linked_out, linked_replied, linked_asked, linked_answered}
+use Rattle.hc_service.proofs.AskedLemmas.{asked_alone, asked_sent, asked_told, asked_behind, asked_answered}
+use Rattle.hc_service.proofs.HeardLemmas.{read_request, read_replied, read_answered, read_left, heard_opened, heard_same, heard_octets, heard_out, heard_sent, heard_told, heard_ended}
+use Rattle.hc_service.proofs.RecordLemmas.{one_more_is, ask_counted, send_counted, response_counted, failure_counted, reply_counted}
+use Rattle.hc_service.proofs.ReceivedLemmas.{received_ask, received_answer}
+use Rattle.hc_service.proofs.NameLemmas.{cache_name}
+use Rattle.hc_service.proofs.SourceLemmas.{on_test, renewed_sources}
+use Rattle.hc_service.proofs.EntryLemmas.{IsFit, renewed_can_reply, sound_parts, all_both}
+use Rattle.hc_service.proofs.OutcomeLemmas.{SoundStore, GetsReply, GetsForward, still_sound, stored_sound, reaction_right, response_outcome, failure_outcome}
+
+-- ---- states and histories
+
+-- a state is known by its parts
+of_parts : (s : State) (h : History) (n : Numbers) (ks : Table Connection) (xs : Table OpenExchange) (fs : Table Awaited) (store : Holdings)
+    → s.numbers ≡ n → s.connections ≡ ks → s.exchanges ≡ xs → s.forwards ≡ fs → s.store ≡ store
+    → AreCounted n h → SoundStore h.items store → AreHeard n.connection n.forward ks fs h.heard h.told → AreAsked n.exchange n.forward xs fs h.items
+    → AreLinked n.connection ks xs → len ks ≤ most_connections → Stands s h
+of_parts s h n ks xs fs store en ek ex ef es counted sound heard asks linked few =
+    subst (λ (s : State). Stands s h) (λ i. record { numbers = sym en i; connections = sym ek i; exchanges = sym ex i; forwards = sym ef i; store = sym es i })
+    (record {
+      counted = counted;
+      entries = all_both _ _ store.entries sound.0.sources sound.1;
+      keys = sound.0.keys;
+      heard = heard;
+      asked = asks;
+      linked = linked;
+      few = few;
+    })
+
+sound_of : (s : State) (h : History) → Stands s h → SoundStore h.items s.store
+sound_of s h a = sound_parts h.items s.store a.keys a.entries
+
+-- no record is given out
+none_given : (actions given : List Action) (h : History) → actions ≡ given → records_of given ≡ [] → Records actions h h
+none_given actions given h is none = record {
+  newer = [];
+  records_are = sym (ap (λ (a : List Action). behind (records_of a) h.records) is ∙ ap (λ (rs : List Record). behind rs h.records) none);
+  items_are = refl;
+  right = tt;
+}
+
+given_from : (actions given : List Action) (rs : List Record) (records : List Record) → actions ≡ given → records_of given ≡ rs → behind rs records ≡ behind (records_of actions) records
+given_from actions given rs records is are = sym (ap (λ (a : List Action). behind (records_of a) records) is ∙ ap (λ (rs : List Record). behind rs records) are)
+
+counted_opened : (c : ℕ) (n : Numbers) (h : History) → AreCounted n h → AreCounted (after_opening c n) h
+counted_opened c n h a = record {
+  are_read = a.are_read;
+  records = a.records;
+  exchange = a.exchange;
+  forward = a.forward;
+  moment = a.moment;
+  exchanges = a.exchanges;
+  forwards = a.forwards;
+  in_range = a.in_range;
+  in_time = a.in_time;
+}
+
+-- what came doesn't matter to what is counted
+counted_heard : (n : Numbers) (h : History) (heard told : ℕ → List ℕ) → AreCounted n h → AreCounted n (record { records = h.records; items = h.items; heard = heard; told = told })
+counted_heard n h heard told a = record {
+  are_read = a.are_read;
+  records = a.records;
+  exchange = a.exchange;
+  forward = a.forward;
+  moment = a.moment;
+  exchanges = a.exchanges;
+  forwards = a.forwards;
+  in_range = a.in_range;
+  in_time = a.in_time;
+}
+
+module _ (s : State) (h : History) (a : Stands s h) where
+  known : (c : ℕ) (k : Connection) → get s.connections c ≡ Some k → is_later c s.numbers.connection ≡ true → ⊥
+  known c k is later = none_some (get s.connections c) k (a.linked.later c later) is
+
+  len_kept : (c : ℕ) (k k' : Connection) → get s.connections c ≡ Some k → len (insert s.connections c k') ≤ most_connections
+  len_kept c k k' is = let few = a.few in omega (arith, len_old s.connections c k' k is)
+
+  len_fewer : (c : ℕ) → len (remove s.connections c) ≤ most_connections
+  len_fewer c = let few = a.few in omega (arith, len_less s.connections c)
+
+  len_replied : (closes : Bool) (c : ℕ) (unread : List ℕ) (k q : Connection) → get s.connections c ≡ Some q → len (replied closes c unread k s.connections) ≤ most_connections
+  len_replied true c unread k q is = len_fewer c
+  len_replied false c unread k q is = len_kept c q (after_reply unread k) is
+
+  -- ---- connections
+
+  pub opening : (c : ℕ) (actions : List Action) (s' : State) → Opens c s actions s' → KeepsOn (Opening c) actions h s'
+  opening c actions s' t =
+      record {
+        later = h;
+        goes_on = record { records = none_given actions [] h t.actions_are refl; heard = refl; told = refl };
+        stands = of_parts s' h (after_opening c s.numbers) (insert s.connections c new_connection) s.exchanges s.forwards s.store t.numbers t.connections t.exchanges t.forwards t.store
+            (counted_opened c s.numbers h a.counted) (sound_of s h a)
+            (heard_opened s.numbers.connection s.numbers.forward s.connections s.forwards h.heard h.told a.heard c t.later (λ d is. later_behind c d s.numbers.connection t.later is))
+            a.asked (linked_opened s.numbers.connection s.connections s.exchanges a.linked c t.later)
+            (let few = t.has_place in omega (arith, len_new s.connections c new_connection (a.linked.later c t.later)));
+      }
+
+  pub hearing : (c : ℕ) (octets : List ℕ) (actions : List Action) (s' : State) → Hears c octets s actions s' → KeepsOn (Hearing c octets) actions h s'
+  hearing c octets actions s' t =
+      let h' : History = record { records = h.records; items = h.items; heard = with_octets c octets h.heard; told = h.told } in
+      record {
+        later = h';
+        goes_on = record {
+          records = record { newer = []; records_are = given_from actions [] [] h.records t.actions_are refl; items_are = refl; right = tt };
+          heard = refl;
+          told = refl;
+        };
+        stands = of_parts s' h' s.numbers (insert s.connections c (after_octets octets t.connection)) s.exchanges s.forwards s.store t.numbers t.connections t.exchanges t.forwards t.store
+            (counted_heard s.numbers h (with_octets c octets h.heard) h.told a.counted) (sound_of s h a)
+            (heard_octets s.numbers.connection s.numbers.forward s.connections s.forwards h.heard h.told a.heard c octets t.connection
+            (a.heard.connections_are c t.connection t.is_open) (known c t.connection t.is_open))
+            a.asked (linked_same s.numbers.connection s.connections s.exchanges a.linked c t.connection (after_octets octets t.connection) t.is_open (same_exchange t.connection.leaves refl))
+            (len_kept c t.connection (after_octets octets t.connection) t.is_open);
+      }
+    where
+      same_exchange : (b : Bool) → t.connection.leaves ≡ b → (after_octets octets t.connection).exchange ≡ t.connection.exchange
+      same_exchange true is = ap (λ (b : Bool). (cond b t.connection (record { unread = t.connection.unread ++ octets; exchange = t.connection.exchange; leaves = t.connection.leaves })).exchange) is
+      same_exchange false is = ap (λ (b : Bool). (cond b t.connection (record { unread = t.connection.unread ++ octets; exchange = t.connection.exchange; leaves = t.connection.leaves })).exchange) is
+
+  -- nothing more is read of a connection
+  left_alone : (c e : ℕ) (k : Connection) (s' : State) → get s.connections c ≡ Some k → k.exchange ≡ Some e → s'.numbers ≡ s.numbers → s'.connections ≡ insert s.connections c (after_leaving k)
+      → s'.exchanges ≡ s.exchanges → s'.forwards ≡ s.forwards → s'.store ≡ s.store → Stands s' h
+  left_alone c e k s' is waits en ek ex ef es =
+      of_parts s' h s.numbers (insert s.connections c (after_leaving k)) s.exchanges s.forwards s.store en ek ex ef es a.counted (sound_of s h a)
+      (heard_same s.numbers.connection s.numbers.forward s.connections s.forwards h.heard h.told a.heard c (after_leaving k) (read_left (h.heard c) k e waits))
+      a.asked (linked_same s.numbers.connection s.connections s.exchanges a.linked c k (after_leaving k) is refl) (len_kept c k (after_leaving k) is)
+
+  pub dropping : (c : ℕ) (actions : List Action) (s' : State) → Drops c s actions s' → KeepsOn (Dropping c) actions h s'
+  dropping c actions s' t = record {
+    later = h;
+    goes_on = record { records = none_given actions [] h t.actions_are refl; heard = refl; told = refl };
+    stands = left_alone c t.exchange t.connection s' t.is_open t.waits t.numbers t.connections t.exchanges t.forwards t.store;
+  }
+
+  pub leaving : (c : ℕ) (actions : List Action) (s' : State) → Leaves c s actions s' → KeepsOn (Leaving c) actions h s'
+  leaving c actions s' t = record {
+    later = h;
+    goes_on = record { records = none_given actions [] h t.actions_are refl; heard = refl; told = refl };
+    stands = left_alone c t.exchange t.connection s' t.is_open t.waits t.numbers t.connections t.exchanges t.forwards t.store;
+  }
+
+  -- a connection without a request goes
+  gone_alone : (c : ℕ) (k : Connection) (s' : State) → get s.connections c ≡ Some k → k.exchange ≡ None → s'.numbers ≡ s.numbers → s'.connections ≡ remove s.connections c
+      → s'.exchanges ≡ s.exchanges → s'.forwards ≡ s.forwards → s'.store ≡ s.store → Stands s' h
+  gone_alone c k s' is idle en ek ex ef es =
+      of_parts s' h s.numbers (remove s.connections c) s.exchanges s.forwards s.store en ek ex ef es a.counted (sound_of s h a)
+      (heard_out s.numbers.connection s.numbers.forward s.connections s.forwards h.heard h.told a.heard c)
+      a.asked (linked_out s.numbers.connection s.connections s.exchanges a.linked c k is idle) (len_fewer c)
+
+  pub closing : (c : ℕ) (actions : List Action) (s' : State) → Closes c s actions s' → KeepsOn (Closing c) actions h s'
+  closing c actions s' t = record {
+    later = h;
+    goes_on = record { records = none_given actions _ h t.actions_are refl; heard = refl; told = refl };
+    stands = gone_alone c t.connection s' t.is_open t.idle t.numbers t.connections t.exchanges t.forwards t.store;
+  }
+
+  pub refusing : (c status : ℕ) (actions : List Action) (s' : State) → Refuses c status s actions s' → KeepsOn (Refusal c status) actions h s'
+  refusing c status actions s' t = record {
+    later = h;
+    goes_on = record { records = none_given actions _ h t.actions_are refl; heard = refl; told = refl };
+    stands = gone_alone c t.connection s' t.is_open t.idle t.numbers t.connections t.exchanges t.forwards t.store;
+  }
+
+  -- ---- octets of the origin
+
+  not_further : (f : ℕ) (w : Awaited) → get s.forwards f ≡ Some w → s.numbers.forward < f → ⊥
+  not_further f w is further = none_some (get s.forwards f) w (a.asked.later_forwards f further) is
+
+  pub telling : (f : ℕ) (octets : List ℕ) (actions : List Action) (s' : State) → Tells f octets s actions s' → KeepsOn (Telling f octets) actions h s'
+  telling f octets actions s' t =
+      let h' : History = record { records = h.records; items = h.items; heard = h.heard; told = with_octets f octets h.told } in
+      record {
+        later = h';
+        goes_on = record {
+          records = record { newer = []; records_are = given_from actions [] [] h.records t.actions_are refl; items_are = refl; right = tt };
+          heard = refl;
+          told = refl;
+        };
+        stands = of_parts s' h' s.numbers s.connections s.exchanges (insert s.forwards f (after_hearing octets t.awaited)) s.store t.numbers t.connections t.exchanges t.forwards t.store
+            (counted_heard s.numbers h h.heard (with_octets f octets h.told) a.counted) (sound_of s h a)
+            (heard_told s.numbers.connection s.numbers.forward s.connections s.forwards h.heard h.told a.heard f octets t.awaited t.is_open (not_further f t.awaited t.is_open))
+            (asked_told s.numbers.exchange s.numbers.forward s.exchanges s.forwards h.items a.asked f octets t.awaited t.is_open) a.linked a.few;
+      }
+
+  -- ---- a whole request
+
+  reply_given : (e t : ℕ) (to_head : Bool) (c : ℕ) (closes : Bool) (reply : Message ResponseHead) → records_of (reply_actions e t to_head c closes reply) ≡ reply_record e t to_head reply ∷ []
+  reply_given e t to_head c true reply = refl
+  reply_given e t to_head c false reply = refl
+
+  module _ (settings : CoreSettings) (good : AreGood settings) (laws : ForwardLaws) where
+    early : s.numbers.moment < 253402300800
+    early = let c = a.counted in omega (arith, c.in_time)
+
+    module _ (c : ℕ) (k : Connection) (is_open : get s.connections c ≡ Some k) (idle : k.exchange ≡ None) (request : Message RequestHead) (target : Target) (size : ℕ)
+        (arrives : IsRequest k.unread request target size) where
+      ask : IsReceivedAsk request target
+      ask = received_ask k.unread request target size arrives
+
+      writable_ask : IsWritableAsk request target
+      writable_ask = record { readable = ask.readable; target_is = ask.forwardable.has_target }
+
+      -- it gets a reply at once
+      asking_alone : (wanted : Wanted) (reply : Message ResponseHead) (actions : List Action) (s' : State) → RepliesAlone c k (drop size k.unread) request wanted reply s actions s' → s'.numbers.records ≤ greatest_number
+          → SoundStore h.items s'.store → IsFit (is_head request.head.method) reply
+          → IsRight strict (ClientRequest (one_more s.numbers.exchange) s.numbers.moment request target ∷ h.items) (ClientReply (one_more s.numbers.exchange) s.numbers.moment reply)
+          → KeepsOn (Asking c) actions h s'
+      asking_alone wanted reply actions s' t le sound fit right =
+          let n = s.numbers in
+          let counts = a.counted in
+          let e = one_more n.exchange in
+          let x : Exchange = record { number = e; position = length h.items + 1; request = request.head; target = target } in
+          let last : one_more (one_more n.records) ≤ greatest_number = subst (λ (m : Numbers). m.records ≤ greatest_number) t.numbers le in
+          let first : one_more n.records ≤ greatest_number = omega arith in
+          let number : e ≡ n.exchange + 1 = one_more_is n.exchange (omega (arith, counts.exchanges, counts.in_range)) in
+          let records : one_more n.records ≡ n.records + 1 = one_more_is n.records counts.in_range in
+          let q = ClientRequest e n.moment request target in
+          let h1 = with_record (request_record e n.moment request) q h in
+          let h2 = with_record (reply_record e n.moment (is_head request.head.method) reply) (ClientReply e n.moment reply) h1 in
+          let c1 = ask_counted n h request target a.counted writable_ask first in
+          record {
+            later = h2;
+            goes_on = record {
+              records = record {
+                newer = ClientReply e n.moment reply ∷ q ∷ [];
+                records_are = given_from actions (ask_actions e n.moment request ++ reply_actions e n.moment (is_head request.head.method) c wanted.closes reply)
+                    (request_record e n.moment request ∷ reply_record e n.moment (is_head request.head.method) reply ∷ []) h.records t.actions_are
+                    (ap (λ (rs : List Record). request_record e n.moment request ∷ rs) (reply_given e n.moment (is_head request.head.method) c wanted.closes reply));
+                items_are = refl;
+                right = ((tt, tt), right);
+              };
+              heard = refl;
+              told = refl;
+            };
+            stands = of_parts s' h2 (noted (asked n)) (replied wanted.closes c (drop size k.unread) k s.connections) s.exchanges s.forwards s'.store t.numbers t.connections t.exchanges t.forwards refl
+                (reply_counted (asked n) h1 c1 last e x reply (omega (arith, number)) (omega (arith, number, counts.exchanges, first, records)) (rw (eq-eqb e e refl) refl) fit.writable fit.digits)
+                (still_sound (q ∷ h.items) (ClientReply e n.moment reply) s'.store refl (still_sound h.items q s'.store refl sound))
+                (heard_replied wanted.closes)
+                (asked_alone n.exchange n.forward s.exchanges s.forwards h.items a.asked e n.moment n.moment request target reply (omega (arith, number)))
+                (linked_replied n.connection s.connections s.exchanges a.linked wanted.closes c (drop size k.unread) k is_open idle)
+                (len_replied wanted.closes c (drop size k.unread) k k is_open);
+          }
+        where
+          heard_replied : (closes : Bool) → AreHeard s.numbers.connection s.numbers.forward (replied closes c (drop size k.unread) k s.connections) s.forwards h.heard h.told
+          heard_replied true = heard_out s.numbers.connection s.numbers.forward s.connections s.forwards h.heard h.told a.heard c
+          heard_replied false = heard_same s.numbers.connection s.numbers.forward s.connections s.forwards h.heard h.told a.heard c (after_reply (drop size k.unread) k)
+              (read_replied (h.heard c) k idle (a.heard.connections_are c k is_open) request target size arrives)
+
+      -- it goes to the origin
+      asking_forward : (wanted : Wanted) (why : Cause) (actions : List Action) (s' : State) → wanted.name ≡ settings.name
+          → GoesForward c k (drop size k.unread) request target (plain_forward wanted target request) why false s actions s' → s'.numbers.records ≤ greatest_number
+          → SoundStore h.items s'.store → (asks_store why ≡ true → is_answered_by_store request.head.method ≡ true) → KeepsOn (Asking c) actions h s'
+      asking_forward wanted why actions s' named t le sound by_store =
+          let n = s.numbers in
+          let counts = a.counted in
+          let e = one_more n.exchange in
+          let f = one_more n.forward in
+          let m = plain_forward wanted target request in
+          let last : one_more (one_more n.records) ≤ greatest_number = subst (λ (m : Numbers). m.records ≤ greatest_number) t.numbers le in
+          let first : one_more n.records ≤ greatest_number = omega arith in
+          let number : e ≡ n.exchange + 1 = one_more_is n.exchange (omega (arith, counts.exchanges, counts.in_range)) in
+          let sends : f ≡ n.forward + 1 = one_more_is n.forward (omega (arith, counts.forwards, counts.in_range)) in
+          let q = ClientRequest e n.moment request target in
+          let h1 = with_record (request_record e n.moment request) q h in
+          let h2 = with_record (forward_record f n.moment m) (OriginRequest f n.moment m target) h1 in
+          let c1 = ask_counted n h request target a.counted writable_ask first in
+          let w : IsWritableAsk m target = record {
+            readable = record {
+              head = laws.writable wanted.name target request.head (cache_name wanted.name (subst (λ (name : List ℕ). is_name name ≡ true) (sym named) good.name)) ask.forwardable;
+              short = ask.readable.short;
+            };
+            target_is = laws.keeps_target wanted.name target request.head ask.forwardable.has_target;
+          } in
+          let heard1 = heard_same n.connection n.forward s.connections s.forwards h.heard h.told a.heard c (after_request e (drop size k.unread) k)
+          (read_request (h.heard c) k idle (a.heard.connections_are c k is_open) e request target size arrives) in
+          record {
+            later = h2;
+            goes_on = record {
+              records = record {
+                newer = OriginRequest f n.moment m target ∷ q ∷ [];
+                records_are = given_from actions (ask_actions e n.moment request ++ send_actions f n.moment m) (request_record e n.moment request ∷ forward_record f n.moment m ∷ []) h.records t.actions_are refl;
+                items_are = refl;
+                right = ((tt, tt), tt);
+              };
+              heard = refl;
+              told = refl;
+            };
+            stands = of_parts s' h2 (sent (asked n)) (insert s.connections c (after_request e (drop size k.unread) k))
+                (insert s.exchanges e (record { connection = c; request = request.head; target = target }))
+                (insert s.forwards f (sent_forward m.head target n.moment (purpose.Reply e why false))) s'.store t.numbers t.connections t.exchanges t.forwards refl
+                (send_counted (asked n) h1 m target c1 w last)
+                (still_sound (q ∷ h.items) (OriginRequest f n.moment m target) s'.store refl (still_sound h.items q s'.store refl sound))
+                (heard_sent n.connection n.forward (insert s.connections c (after_request e (drop size k.unread) k)) s.forwards h.heard h.told heard1 f
+                (sent_forward m.head target n.moment (purpose.Reply e why false)) refl (omega (arith, sends)))
+                (asked_sent n.exchange n.forward s.exchanges s.forwards h.items a.asked c e f n.moment request m target why false (omega (arith, number)) (omega (arith, sends))
+                (record { method = refl; target = refl; by_store = by_store }))
+                (linked_asked n.connection s.connections s.exchanges a.linked c e (drop size k.unread) k (record { connection = c; request = request.head; target = target }) is_open idle
+                (a.asked.later_exchanges e (omega (arith, number))) refl ask.forwardable)
+                (len_kept c k (after_request e (drop size k.unread) k) is_open);
+          }
+
+    pub asking : (c : ℕ) (actions : List Action) (s' : State) → Asks settings c s actions s' → s'.numbers.records ≤ greatest_number → KeepsOn (Asking c) actions h s'
+    asking c actions s' t le =
+        let k = t.connection in
+        let wanted = wanted_now settings s t.request.head k in
+        let r = reaction_right settings.name good.name s.numbers.moment early wanted.closes h.items (one_more s.numbers.exchange) t.request t.target s.forwards s.store s'.store t.reaction (sound_of s h a) t.reacts in
+        ⊎_elim
+        (λ (g : GetsReply settings.name good.name s.numbers.moment early wanted.closes h.items (one_more s.numbers.exchange) t.request t.target t.reaction).
+        asking_alone c k t.is_open t.idle t.request t.target t.size t.arrives wanted g.reply actions s'
+        (subst (λ (r : Reaction). DoesReaction r c k (drop t.size k.unread) t.request t.target wanted s actions s') g.reaction_is t.does) le r.0 g.fit g.right)
+        (λ (g : GetsForward settings.name good.name s.numbers.moment early wanted.closes h.items (one_more s.numbers.exchange) t.request t.target t.reaction).
+        asking_forward c k t.is_open t.idle t.request t.target t.size t.arrives wanted g.why actions s' refl
+        (subst (λ (r : Reaction). DoesReaction r c k (drop t.size k.unread) t.request t.target wanted s actions s') g.reaction_is t.does) le r.0 g.by_store)
+        r.1
+
+    -- ---- what answers a forward
+
+    module _ (f : ℕ) (w : Awaited) (is_open : get s.forwards f ≡ Some w) where
+      recorded : forward_of f h.items ≡ Some (recorded_forward w.forward)
+      recorded = a.asked.forwards_are f ∙ ap (option_map seen_forward) is_open
+
+      some_forward : 1 ≤ f
+      some_forward =
+          elim (cases_eq f 0) [
+            | inl none ↦ absurd (none_some (get s.forwards f) w (ap (get s.forwards) none ∙ a.asked.no_forward) is_open)
+            | inr some ↦ omega arith
+          ]
+
+      few_forward : f ≤ greatest_number
+      few_forward =
+          let counts = a.counted in
+          elim (cases_lt s.numbers.forward f) [
+            | inl further ↦ absurd (not_further f w is_open further)
+            | inr le ↦ omega (arith, counts.forwards, counts.in_range)
+          ]
+
+      -- a forward for nobody ends, by a record
+      ends_behind : (turn : Turn) (r : Record) (item : Item) (given actions : List Action) (s' : State) → heard_with turn h.heard ≡ h.heard → told_with turn h.told ≡ h.told
+          → records_of given ≡ r ∷ [] → EndsBehind f given s actions s' → AreCounted (noted s.numbers) (with_record r item h) → SoundStore (item ∷ h.items) s'.store
+          → ((e : ℕ) → exchange_of e (item ∷ h.items) ≡ exchange_of e h.items) → ((d : ℕ) → forward_of d (item ∷ h.items) ≡ cond (nat_eq f d) None (forward_of d h.items))
+          → IsRight strict h.items item → KeepsOn turn actions h s'
+      ends_behind turn r item given actions s' heard told gives t counted sound opens_none closes right = record {
+        later = with_record r item h;
+        goes_on = record {
+          records = record { newer = item ∷ []; records_are = given_from actions given (r ∷ []) h.records t.actions_are gives; items_are = refl; right = (tt, right) };
+          heard = sym heard;
+          told = sym told;
+        };
+        stands = of_parts s' (with_record r item h) (noted s.numbers) s.connections s.exchanges (remove s.forwards f) s'.store t.numbers t.connections t.exchanges t.forwards refl counted sound
+            (heard_ended s.numbers.connection s.numbers.forward s.connections s.forwards h.heard h.told a.heard f)
+            (asked_behind s.numbers.exchange s.numbers.forward s.exchanges s.forwards h.items a.asked f w item is_open opens_none closes) a.linked a.few;
+      }
+
+      -- a forward ends, by a record, and the request that waits for it gets its reply
+      module _ (e : ℕ) (x0 : OpenExchange) (k : Connection) (waits : get s.exchanges e ≡ Some x0) (on : get s.connections x0.connection ≡ Some k) where
+        some_exchange : 1 ≤ e
+        some_exchange =
+            elim (cases_eq e 0) [
+              | inl none ↦ absurd (none_some (get s.exchanges e) x0 (ap (get s.exchanges) none ∙ a.asked.no_exchange) waits)
+              | inr some ↦ omega arith
+            ]
+
+        few_exchange : e ≤ greatest_number
+        few_exchange =
+            let counts = a.counted in
+            elim (cases_lt s.numbers.exchange e) [
+              | inl further ↦ absurd (none_some (get s.exchanges e) x0 (a.asked.later_exchanges e further) waits)
+              | inr le ↦ omega (arith, counts.exchanges, counts.in_range)
+            ]
+
+        heard_after : (closes : Bool) → (closes ≡ false → k.leaves ≡ false)
+            → AreHeard s.numbers.connection s.numbers.forward (replied closes x0.connection k.unread k s.connections) (remove s.forwards f) h.heard h.told
+        heard_after true stays =
+            heard_out s.numbers.connection s.numbers.forward s.connections (remove s.forwards f) h.heard h.told
+            (heard_ended s.numbers.connection s.numbers.forward s.connections s.forwards h.heard h.told a.heard f) x0.connection
+        heard_after false stays =
+            heard_same s.numbers.connection s.numbers.forward s.connections (remove s.forwards f) h.heard h.told
+            (heard_ended s.numbers.connection s.numbers.forward s.connections s.forwards h.heard h.told a.heard f) x0.connection (after_reply k.unread k)
+            (read_answered (h.heard x0.connection) k (stays refl) (a.heard.connections_are x0.connection k on))
+
+        ends_with_reply : (turn : Turn) (r : Record) (item : Item) (given actions : List Action) (wanted : Wanted) (reply : Message ResponseHead) (s' : State) → heard_with turn h.heard ≡ h.heard
+            → told_with turn h.told ≡ h.told → records_of given ≡ r ∷ [] → (wanted.closes ≡ false → k.leaves ≡ false)
+            → records_of (given ++ reply_actions e s.numbers.moment (is_head x0.request.method) x0.connection wanted.closes reply) ≡ r ∷ reply_record e s.numbers.moment (is_head x0.request.method) reply ∷ []
+            → EndsWithReply f e x0 k given wanted reply s actions s' → s'.numbers.records ≤ greatest_number
+            → (one_more s.numbers.records ≤ greatest_number → AreCounted (noted s.numbers) (with_record r item h)) → SoundStore (item ∷ h.items) s'.store
+            → ((d : ℕ) → exchange_of d (item ∷ h.items) ≡ exchange_of d h.items) → ((d : ℕ) → forward_of d (item ∷ h.items) ≡ cond (nat_eq f d) None (forward_of d h.items))
+            → IsRight strict h.items item → IsFit (is_head x0.request.method) reply → IsRight strict (item ∷ h.items) (ClientReply e s.numbers.moment reply)
+            → exchange_for w.forward.purpose ≡ Some e → KeepsOn turn actions h s'
+        ends_with_reply turn r item given actions wanted reply s' heard told gives stays both t le counted sound opens_none closes right fit replied_right its =
+            let n = s.numbers in
+            let last : one_more (one_more n.records) ≤ greatest_number = subst (λ (m : Numbers). m.records ≤ greatest_number) t.numbers le in
+            let counts = a.counted in
+            let first : one_more n.records ≤ greatest_number = omega arith in
+            let h1 = with_record r item h in
+            let seen = subst (λ (o : Option OpenExchange). IsSeenExchange e o (exchange_of e h.items)) waits (a.asked.exchanges_are e) in
+            let x : Exchange = record { number = e; position = seen.0; request = x0.request; target = x0.target } in
+            let h2 = with_record (reply_record e n.moment (is_head x0.request.method) reply) (ClientReply e n.moment reply) h1 in
+            record {
+              later = h2;
+              goes_on = record {
+                records = record {
+                  newer = ClientReply e n.moment reply ∷ item ∷ [];
+                  records_are = given_from actions (given ++ reply_actions e n.moment (is_head x0.request.method) x0.connection wanted.closes reply)
+                      (r ∷ reply_record e n.moment (is_head x0.request.method) reply ∷ []) h.records t.actions_are both;
+                  items_are = refl;
+                  right = ((tt, right), replied_right);
+                };
+                heard = sym heard;
+                told = sym told;
+              };
+              stands = of_parts s' h2 (noted (noted n)) (replied wanted.closes x0.connection k.unread k s.connections) (remove s.exchanges e) (remove s.forwards f) s'.store
+                  t.numbers t.connections t.exchanges t.forwards refl
+                  (reply_counted (noted n) h1 (counted first) last e x reply some_exchange few_exchange (opens_none e ∙ seen.1) fit.writable fit.digits)
+                  (still_sound (item ∷ h.items) (ClientReply e n.moment reply) s'.store refl sound)
+                  (heard_after wanted.closes stays)
+                  (asked_answered n.exchange n.forward s.exchanges s.forwards h.items a.asked f w item is_open opens_none closes e n.moment reply its)
+                  (linked_answered n.connection s.connections s.exchanges a.linked e x0 k waits on wanted.closes k.unread)
+                  (len_replied wanted.closes x0.connection k.unread k k on);
+            }
+
+    second_false : (x y : Bool) → (x || y) ≡ false → y ≡ false
+    second_false true y is = absurd (cc)
+    second_false false y is = is
+
+    -- what the request that waits wants
+    module _ (f : ℕ) (w : Awaited) (is_open : get s.forwards f ≡ Some w) (e : ℕ) (why : Cause) (conditional : Bool) (is_for : w.forward.purpose ≡ purpose.Reply e why conditional)
+        (x0 : OpenExchange) (k : Connection) (waits : get s.exchanges e ≡ Some x0) where
+      its_keeps : IsFor s.exchanges e why w.forward
+      its_keeps = subst (λ (p : Purpose). KeepsPurpose s.exchanges p w.forward) is_for (a.asked.purposes f w is_open)
+
+      its_same : its_keeps.exchange ≡ x0
+      its_same = one_of (get s.exchanges e) its_keeps.exchange x0 its_keeps.waits waits
+
+      its_method : w.forward.request.method ≡ x0.request.method
+      its_method = its_keeps.asks_for.method ∙ ap (λ (x : OpenExchange). x.request.method) its_same
+
+      its_target : w.forward.target ≡ x0.target
+      its_target = its_keeps.asks_for.target ∙ ap (λ (x : OpenExchange). x.target) its_same
+
+      its_exchange : (position : ℕ) × (exchange_of e h.items ≡ Some (record { number = e; position = position; request = x0.request; target = x0.target }))
+      its_exchange = subst (λ (o : Option OpenExchange). IsSeenExchange e o (exchange_of e h.items)) waits (a.asked.exchanges_are e)
+
+      its_number : exchange_for w.forward.purpose ≡ Some e
+      its_number = ap exchange_for is_for
+
+      it_stays : closes_behind x0.request k ≡ false → k.leaves ≡ false
+      it_stays is = second_false (ends_connection x0.request) k.leaves is
+
+    pub answering : (f : ℕ) (ended : Bool) (actions : List Action) (s' : State) → Answers settings f ended s actions s' → s'.numbers.records ≤ greatest_number → KeepsOn (Answering f ended) actions h s'
+    answering f ended actions s' t le =
+        let n = s.numbers in
+        let w = t.awaited in
+        let to_head = is_head w.forward.request.method in
+        let response = t.response in
+        let r = received_answer ended to_head w.heard response t.arrives in
+        let writable : IsWritableAnswer to_head response = record {
+          readable = record {
+            head = light_response_writable response.head RECORDED r.plain r.no_framing (omega (arith, r.lines.light)) (omega (arith, r.lines.few));
+            short = r.short;
+            bare = r.bare;
+          };
+          is_final = r.is_final;
+        } in
+        let before = sound_of s h a in
+        let told : SoundStore (OriginResponse f n.moment response ∷ h.items) t.told = (
+          renewed_sources h.items f n.moment response w.forward (recorded f w t.is_open) (one_more n.records) s.store t.told before.0 t.renews,
+          renewed_can_reply w.forward n.moment (one_more n.records) response.head s.store t.told before.1 t.renews,
+        ) in
+        by_purpose f ended actions s' t le r writable told w.forward.purpose refl t.ends
+      where
+        by_purpose : (f : ℕ) (ended : Bool) (actions : List Action) (s' : State) (t : Answers settings f ended s actions s') → s'.numbers.records ≤ greatest_number
+            → IsReceivedAnswer (is_head t.awaited.forward.request.method) t.response → IsWritableAnswer (is_head t.awaited.forward.request.method) t.response
+            → SoundStore (OriginResponse f s.numbers.moment t.response ∷ h.items) t.told → (p : Purpose) → t.awaited.forward.purpose ≡ p
+            → EndsByResponse p settings f t.awaited.forward t.response t.told (response_actions f s.numbers.moment (is_head t.awaited.forward.request.method) t.response) s actions s'
+            → KeepsOn (Answering f ended) actions h s'
+        by_purpose f ended actions s' t le r writable told purpose.Background is_for ends =
+            let n = s.numbers in
+            let w = t.awaited in
+            let to_head = is_head w.forward.request.method in
+            let first : one_more n.records ≤ greatest_number = subst (λ (m : Numbers). m.records ≤ greatest_number) ends.1.numbers le in
+            ends_behind f w t.is_open (Answering f ended) (response_record f n.moment to_head t.response) (OriginResponse f n.moment t.response) (response_actions f n.moment to_head t.response) actions s'
+            refl refl refl ends.1
+            (response_counted n h a.counted first f (recorded_forward w.forward) t.response (some_forward f w t.is_open) (few_forward f w t.is_open) (recorded f w t.is_open) writable r.plain.greatest)
+            (⊎_elim
+            (λ (q : (is_news t.response.head ≡ true) × ((stored : Bool) × Stores w.forward n.moment t.response t.told stored s'.store)).
+            stored_sound h.items f n.moment t.response w.forward t.told q.1.0 s'.store (recorded f w t.is_open) r early told q.1.1)
+            (λ (q : (is_news t.response.head ≡ false) × (s'.store ≡ t.told)). subst (SoundStore (OriginResponse f n.moment t.response ∷ h.items)) (sym q.1) told)
+            (on_test (is_news t.response.head) _ _ ends.0))
+            (λ d. refl) (λ d. refl) tt
+        by_purpose f ended actions s' t le r writable told (purpose.Reply e why conditional) is_for ends =
+            let n = s.numbers in
+            let w = t.awaited in
+            let to_head = is_head w.forward.request.method in
+            let x0 = ends.exchange in
+            let k = ends.connection in
+            let wanted = wanted_now settings s x0.request k in
+            let seen = its_exchange f w t.is_open e why conditional is_for x0 k ends.is_waiting in
+            let out = response_outcome settings.name good.name n.moment early wanted.closes h.items f w.forward (record { number = e; position = seen.0; request = x0.request; target = x0.target }) why
+            (recorded f w t.is_open) seen.1 (its_method f w t.is_open e why conditional is_for x0 k ends.is_waiting) (its_target f w t.is_open e why conditional is_for x0 k ends.is_waiting)
+            t.response r conditional (one_more n.records) t.told s'.store ends.outcome told ends.decided in
+            ends_with_reply f w t.is_open e x0 k ends.is_waiting ends.is_open (Answering f ended) (response_record f n.moment to_head t.response) (OriginResponse f n.moment t.response)
+            (response_actions f n.moment to_head t.response) actions wanted out.1.reply s' refl refl refl (it_stays f w t.is_open e why conditional is_for x0 k ends.is_waiting)
+            (ap (λ (rs : List Record). response_record f n.moment to_head t.response ∷ rs) (reply_given e n.moment (is_head x0.request.method) x0.connection wanted.closes out.1.reply))
+            (subst (λ (o : Outcome). DoesOutcome o settings f e x0 k why (response_actions f n.moment to_head t.response) wanted s actions s') out.1.outcome_is ends.does) le
+            (λ first. response_counted n h a.counted first f (recorded_forward w.forward) t.response (some_forward f w t.is_open) (few_forward f w t.is_open) (recorded f w t.is_open) writable r.plain.greatest)
+            out.0 (λ d. refl) (λ d. refl) tt out.1.fit out.1.right (its_number f w t.is_open e why conditional is_for x0 k ends.is_waiting)
+
+    failure_given : (f t : ℕ) (closes : Bool) → records_of (failure_actions f t closes) ≡ failure_record f t ∷ []
+    failure_given f t true = refl
+    failure_given f t false = refl
+
+    failure_then : (f t : ℕ) (closes : Bool) (more : List Action) → records_of (failure_actions f t closes ++ more) ≡ failure_record f t ∷ records_of more
+    failure_then f t true more = refl
+    failure_then f t false more = refl
+
+    pub failing : (f : ℕ) (how : Failure) (actions : List Action) (s' : State) → Breaks settings f how s actions s' → s'.numbers.records ≤ greatest_number → KeepsOn (Failing f how) actions h s'
+    failing f how actions s' t le = by_purpose t.awaited.forward.purpose refl t.ends
+      where
+        by_purpose : (p : Purpose) → t.awaited.forward.purpose ≡ p → EndsByFailure p settings f t.awaited.forward (failure_actions f s.numbers.moment (is_closed how)) s actions s' → KeepsOn (Failing f how) actions h s'
+        by_purpose purpose.Background is_for ends =
+            let n = s.numbers in
+            let w = t.awaited in
+            let first : one_more n.records ≤ greatest_number = subst (λ (m : Numbers). m.records ≤ greatest_number) ends.1.numbers le in
+            ends_behind f w t.is_open (Failing f how) (failure_record f n.moment) (OriginFailure f n.moment) (failure_actions f n.moment (is_closed how)) actions s'
+            refl refl (failure_given f n.moment (is_closed how)) ends.1
+            (failure_counted n h a.counted first f (recorded_forward w.forward) (some_forward f w t.is_open) (few_forward f w t.is_open) (recorded f w t.is_open))
+            (subst (SoundStore (OriginFailure f n.moment ∷ h.items)) (sym ends.0) (still_sound h.items (OriginFailure f n.moment) s.store refl (sound_of s h a)))
+            (λ d. refl) (λ d. refl) tt
+        by_purpose (purpose.Reply e why conditional) is_for ends =
+            let n = s.numbers in
+            let w = t.awaited in
+            let x0 = ends.exchange in
+            let k = ends.connection in
+            let wanted = wanted_now settings s x0.request k in
+            let seen = its_exchange f w t.is_open e why conditional is_for x0 k ends.is_waiting in
+            let out = failure_outcome settings.name good.name n.moment early wanted.closes h.items f w.forward (record { number = e; position = seen.0; request = x0.request; target = x0.target }) why
+            (recorded f w t.is_open) seen.1 (its_method f w t.is_open e why conditional is_for x0 k ends.is_waiting) (its_target f w t.is_open e why conditional is_for x0 k ends.is_waiting)
+            s.store s'.store ends.outcome (sound_of s h a) ends.decided in
+            ends_with_reply f w t.is_open e x0 k ends.is_waiting ends.is_open (Failing f how) (failure_record f n.moment) (OriginFailure f n.moment)
+            (failure_actions f n.moment (is_closed how)) actions wanted out.1.reply s' refl refl (failure_given f n.moment (is_closed how)) (it_stays f w t.is_open e why conditional is_for x0 k ends.is_waiting)
+            (failure_then f n.moment (is_closed how) (reply_actions e n.moment (is_head x0.request.method) x0.connection wanted.closes out.1.reply)
+            ∙ ap (λ (rs : List Record). failure_record f n.moment ∷ rs) (reply_given e n.moment (is_head x0.request.method) x0.connection wanted.closes out.1.reply))
+            (subst (λ (o : Outcome). DoesOutcome o settings f e x0 k why (failure_actions f n.moment (is_closed how)) wanted s actions s') out.1.outcome_is ends.does) le
+            (λ first. failure_counted n h a.counted first f (recorded_forward w.forward) (some_forward f w t.is_open) (few_forward f w t.is_open) (recorded f w t.is_open))
+            out.0 (λ d. refl) (λ d. refl) tt out.1.fit out.1.right (its_number f w t.is_open e why conditional is_for x0 k ends.is_waiting)
+
+    -- each turn
+    pub turn_keeps : (turn : Turn) (actions : List Action) (s' : State) → Takes settings turn s actions s' → s'.numbers.records ≤ greatest_number → KeepsOn turn actions h s'
+    turn_keeps (Opening c) actions s' t le = opening c actions s' t
+    turn_keeps (Hearing c octets) actions s' t le = hearing c octets actions s' t
+    turn_keeps (Asking c) actions s' t le = asking c actions s' t le
+    turn_keeps (Refusal c status) actions s' t le = refusing c status actions s' t
+    turn_keeps (Dropping c) actions s' t le = dropping c actions s' t
+    turn_keeps (Leaving c) actions s' t le = leaving c actions s' t
+    turn_keeps (Closing c) actions s' t le = closing c actions s' t
+    turn_keeps (Telling f octets) actions s' t le = telling f octets actions s' t
+    turn_keeps (Answering f ended) actions s' t le = answering f ended actions s' t le
+    turn_keeps (Failing f how) actions s' t le = failing f how actions s' t le

@@ -1,0 +1,16 @@
+use Rattle.hc_service.proofs.SourceLemmas.{still_sources, found_sources, renewed_sources, put_sources}
+use Rattle.hc_service.proofs.laws.stored_responses_are_those_of_the_records.Goals as goal
+
+pub returns-clause-other : goal.returns-clause-other
+returns-clause-other c = still_sources
+
+pub returns-clause-chosen : goal.returns-clause-chosen
+returns-clause-chosen c = found_sources
+
+pub returns-clause-renewed : goal.returns-clause-renewed
+returns-clause-renewed c = λ items number moment position response forward old new is_open h renews.
+    renewed_sources items number moment response forward is_open position old new h renews
+
+pub returns-clause-put : goal.returns-clause-put
+returns-clause-put c = λ items number moment response forward old new stored is_open h stores.
+    put_sources items number moment response forward is_open old new stored h stores

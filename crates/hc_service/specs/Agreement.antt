@@ -1,0 +1,199 @@
+-- What a cache has to do with what has happened so far, which it doesn't keep.
+use Rattle.std.specs.Prelude.{◌≡◌, ℕ, zero, suc, ◌<◌, ◌≤◌, ◌==◌, true, false, List, [], length, drop, Option, Some, None, option_map, codes}
+use Rattle.std.specs.FinMap.{get, len}
+use Rattle.std.specs.List.{AllByRecursion, IsDistinct}
+use Rattle.std.specs.Map.{keys_of}
+use Rattle.hc_fields.specs.Values.{has_name}
+use Rattle.hc_head.specs.declared.head.RequestHead.{RequestHead}
+use Rattle.hc_head.specs.declared.head.Target.{Target}
+use Rattle.hc_head.specs.Passing.{AreKeptLines}
+use Rattle.hc_head.specs.Statuses.{partial_content}
+use Rattle.hc_head.specs.Targets.{same_target}
+use Rattle.hc_head.specs.Writable.{has_framing, longest_body}
+use Rattle.hc_framing.specs.declared.message.Message.{Message}
+use Rattle.hc_framing.specs.Framing.{ends_with_head}
+use Rattle.hc_rules.specs.Laws.{IsForwardable}
+use Rattle.hc_update.specs.declared.stored.Stored.{Stored}
+use Rattle.hc_transcript.specs.declared.record.Record.{Record}
+use Rattle.hc_transcript.specs.Limits.{greatest_number, greatest_moment}
+use Rattle.hc_transcript.specs.Items.{Item, Exchange, Forward}
+use Rattle.hc_transcript.specs.History.{exchange_of, forward_of, last_moment, last_exchange, last_forward}
+use Rattle.hc_transcript.specs.Transcript.{AreReadAs}
+use Rattle.hc_history.specs.States.{state_at}
+use Rattle.hc_links.specs.Requests.{IsRequest}
+use Rattle.hc_store.specs.Entries.{Entries}
+use Rattle.hc_service.specs.declared.cases.Cause.{Cause}
+use Rattle.hc_service.specs.declared.numbers.Numbers.{Numbers}
+use Rattle.hc_service.specs.declared.open.OpenExchange.{OpenExchange}
+use Rattle.hc_service.specs.declared.open.OpenForward.{OpenForward}
+use Rattle.hc_service.specs.declared.open.Purpose.{Purpose}
+use Rattle.hc_service.specs.declared.open.Purpose.TheVariants as purpose
+use Rattle.hc_service.specs.Asking.{is_answered_by_store}
+use Rattle.hc_service.specs.Cases.{asks_store}
+use Rattle.hc_service.specs.Numbers.{is_later}
+use Rattle.hc_service.specs.State.{State, Table, Connection, Awaited}
+use Rattle.hc_service.specs.Choices.{OnTest}
+use Rattle.hc_service.specs.Serves.{IsQuietAt}
+use Rattle.hc_service.specs.Turns.{most_connections}
+
+-- what has happened so far: the records, the newest first, and what they mean; and the octets that came on each connection and from the origin on each forward
+pub record History : Type 0 where
+  pub records : List Record
+  pub items : List Item
+  pub heard : ℕ → List ℕ
+  pub told : ℕ → List ℕ
+
+-- ---- 1: records and numbers
+
+-- the records are a transcript, and what is counted is theirs
+pub record AreCounted (n : Numbers) (h : History) : Type 0 where
+  pub are_read : AreReadAs h.records h.items
+  pub records : n.records ≡ length h.items
+  pub exchange : n.exchange ≡ last_exchange h.items
+  pub forward : n.forward ≡ last_forward h.items
+  pub moment : last_moment h.items ≤ n.moment
+  -- each exchange and each forward has a record, all of which can be numbered
+  pub exchanges : n.exchange ≤ n.records
+  pub forwards : n.forward ≤ n.records
+  pub in_range : n.records ≤ greatest_number
+  pub in_time : n.moment ≤ greatest_moment
+
+-- ---- 2: entries
+
+-- all that is held of a target is so
+abbrev pub AllHeld : (Target → Stored → Type 0) → Entries → Type 0
+AllHeld P entries = AllByRecursion (λ entry. AllByRecursion (P entry.0) entry.1) entries
+
+-- it is a response of that target that may be stored, as the records have left it, and is valid
+pub record HasSource (items : List Item) (target : Target) (stored : Stored) : Type 0 where
+  pub position : ℕ
+  pub is_its_state : state_at position items ≡ Some (record { target = target; state = stored })
+  pub is_valid : stored.invalid ≡ false
+
+-- it can be a reply that is read back: few and plain lines, without Age and without what frames a body, a final status that is of no part, and a body within
+-- the limit, and none where the status has none
+pub record CanReply (stored : Stored) : Type 0 where
+  pub lines : AreKeptLines stored.fields
+  pub no_framing : has_framing stored.fields ≡ false
+  pub no_age : has_name (codes "age") stored.fields ≡ false
+  pub is_final : 200 ≤ stored.status
+  pub has_digits : stored.status < 1000
+  pub is_whole : (stored.status == partial_content) ≡ false
+  pub short : length stored.body ≤ longest_body
+  pub bare : ends_with_head false stored.status ≡ true → stored.body ≡ []
+
+abbrev pub IsSound : List Item → Target → Stored → Type 0
+IsSound items target stored = HasSource items target stored × CanReply stored
+
+-- ---- 3: what came on links, and what of it is unread
+
+-- whole requests, so many, and then the rest
+abbrev pub AreRequestsThen : ℕ → List ℕ → List ℕ → Type 0
+AreRequestsThen zero octets rest = octets ≡ rest
+AreRequestsThen (suc count) octets rest =
+    (message : Message RequestHead) × (target : Target) × (size : ℕ) × IsRequest octets message target size × AreRequestsThen count (drop size octets) rest
+
+-- nothing is unread of a connection of which nothing more is read, and which closes behind the reply that is waited for
+pub record HasLeft (k : Connection) : Type 0 where
+  pub none_unread : k.unread ≡ []
+  pub exchange : ℕ
+  pub waits : k.exchange ≡ Some exchange
+
+-- what is unread of a connection is what came behind its last whole request
+abbrev pub IsReadOf : List ℕ → Connection → Type 0
+IsReadOf octets k = OnTest k.leaves (HasLeft k) ((count : ℕ) × AreRequestsThen count octets k.unread)
+
+-- by the numbers of the last connection and the last forward
+pub record AreHeard (last : Option ℕ) (forward : ℕ) (connections : Table Connection) (forwards : Table Awaited) (heard told : ℕ → List ℕ) : Type 0 where
+  pub connections_are : (c : ℕ) (k : Connection) → get connections c ≡ Some k → IsReadOf (heard c) k
+  pub forwards_are : (f : ℕ) (a : Awaited) → get forwards f ≡ Some a → a.heard ≡ told f
+  -- nothing has come where nothing was open
+  pub later_connections : (c : ℕ) → is_later c last ≡ true → heard c ≡ []
+  pub later_forwards : (f : ℕ) → forward < f → told f ≡ []
+
+-- ---- 4: what is open
+
+-- an exchange is that of the records
+abbrev pub IsSeenExchange : ℕ → Option OpenExchange → Option Exchange → Type 0
+IsSeenExchange e None seen = seen ≡ None
+IsSeenExchange e (Some x) seen =
+    (position : ℕ) × (seen ≡ Some (record { number = e; position = position; request = x.request; target = x.target }))
+
+-- a forward as the records have it
+abbrev pub seen_forward : Awaited → Forward
+seen_forward a = record { moment = a.forward.moment; request = a.forward.request; target = a.forward.target }
+
+-- the forward asks for what the request asks for, and the store was asked for methods that it answers alone
+pub record AsksFor (x : OpenExchange) (why : Cause) (forward : OpenForward) : Type 0 where
+  pub method : forward.request.method ≡ x.request.method
+  pub target : forward.target ≡ x.target
+  pub by_store : asks_store why ≡ true → is_answered_by_store x.request.method ≡ true
+
+-- the request that the forward is for waits for it
+pub record IsFor (exchanges : Table OpenExchange) (e : ℕ) (why : Cause) (forward : OpenForward) : Type 0 where
+  pub exchange : OpenExchange
+  pub waits : get exchanges e ≡ Some exchange
+  pub asks_for : AsksFor exchange why forward
+
+abbrev pub KeepsPurpose : Table OpenExchange → Purpose → OpenForward → Type 0
+KeepsPurpose exchanges purpose.Background forward = forward.request.method ≡ codes "GET"
+KeepsPurpose exchanges (purpose.Reply e why conditional) forward = IsFor exchanges e why forward
+
+-- the exchange that a forward is for
+abbrev pub exchange_for : Purpose → Option ℕ
+exchange_for purpose.Background = None
+exchange_for (purpose.Reply e why conditional) = Some e
+
+-- what is open is what the records leave open, by the numbers of the last exchange and the last forward
+pub record AreAsked (exchange forward : ℕ) (exchanges : Table OpenExchange) (forwards : Table Awaited) (items : List Item) : Type 0 where
+  pub exchanges_are : (e : ℕ) → IsSeenExchange e (get exchanges e) (exchange_of e items)
+  pub forwards_are : (f : ℕ) → forward_of f items ≡ option_map seen_forward (get forwards f)
+  pub purposes : (f : ℕ) (a : Awaited) → get forwards f ≡ Some a → KeepsPurpose exchanges a.forward.purpose a.forward
+  -- no two forwards are for the same request
+  pub alone : (f g e : ℕ) (a b : Awaited) → get forwards f ≡ Some a → get forwards g ≡ Some b
+      → exchange_for a.forward.purpose ≡ Some e → exchange_for b.forward.purpose ≡ Some e → f ≡ g
+  -- numbers that weren't given yet
+  pub later_exchanges : (e : ℕ) → exchange < e → get exchanges e ≡ None
+  pub later_forwards : (f : ℕ) → forward < f → get forwards f ≡ None
+  pub no_exchange : get exchanges 0 ≡ None
+  pub no_forward : get forwards 0 ≡ None
+
+-- the request waits on its connection, and can be passed on
+pub record WaitsOn (connections : Table Connection) (e : ℕ) (x : OpenExchange) : Type 0 where
+  pub connection : Connection
+  pub is_open : get connections x.connection ≡ Some connection
+  pub waits : connection.exchange ≡ Some e
+  pub forwardable : IsForwardable x.request x.target
+
+-- the connection's request waits there
+pub record HasWaiting (exchanges : Table OpenExchange) (c e : ℕ) : Type 0 where
+  pub exchange : OpenExchange
+  pub is_open : get exchanges e ≡ Some exchange
+  pub is_its : exchange.connection ≡ c
+
+-- the requests that wait are those of the connections, by the number of the last connection
+pub record AreLinked (last : Option ℕ) (connections : Table Connection) (exchanges : Table OpenExchange) : Type 0 where
+  pub waiting : (e : ℕ) (x : OpenExchange) → get exchanges e ≡ Some x → WaitsOn connections e x
+  pub busy : (c e : ℕ) (k : Connection) → get connections c ≡ Some k → k.exchange ≡ Some e → HasWaiting exchanges c e
+  pub later : (c : ℕ) → is_later c last ≡ true → get connections c ≡ None
+
+-- ---- all
+
+-- the parts, in the middle of a step
+pub record Stands (s : State) (h : History) : Type 0 where
+  pub counted : AreCounted s.numbers h
+  pub entries : AllHeld (IsSound h.items) s.store.entries
+  pub keys : IsDistinct same_target (keys_of s.store.entries)
+  pub heard : AreHeard s.numbers.connection s.numbers.forward s.connections s.forwards h.heard h.told
+  pub asked : AreAsked s.numbers.exchange s.numbers.forward s.exchanges s.forwards h.items
+  pub linked : AreLinked s.numbers.connection s.connections s.exchanges
+  pub few : len s.connections ≤ most_connections
+
+-- 5: nothing that has come can be read yet, and while a request waits for its reply no more octets wait than may
+abbrev pub IsQuiet : State → Type 0
+IsQuiet s = (c : ℕ) → IsQuietAt c s
+
+-- the cache agrees with what has happened
+pub record Agrees (s : State) (h : History) : Type 0 where
+  pub stands : Stands s h
+  pub quiet : IsQuiet s

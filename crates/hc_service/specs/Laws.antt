@@ -1,0 +1,83 @@
+-- What the laws of a cache speak of.
+use Rattle.std.specs.Prelude.{◌≡◌, ℕ, ◌≤◌, Bool, true, false, List, [], ◌∷◌, length}
+use Rattle.std.specs.List.{IsDistinct}
+use Rattle.std.specs.Map.{keys_of}
+use Rattle.hc_head.specs.declared.head.RequestHead.{RequestHead}
+use Rattle.hc_head.specs.declared.head.ResponseHead.{ResponseHead}
+use Rattle.hc_head.specs.declared.head.Target.{Target}
+use Rattle.hc_head.specs.declared.head.TheConstants.Room.{RECORDED}
+use Rattle.hc_head.specs.Passing.{AreKeptLines}
+use Rattle.hc_head.specs.Plain.{IsPlainResponse}
+use Rattle.hc_head.specs.Targets.{same_target}
+use Rattle.hc_head.specs.Writable.{has_framing, longest_body}
+use Rattle.hc_framing.specs.declared.message.Message.{Message}
+use Rattle.hc_framing.specs.Framing.{ends_with_head}
+use Rattle.hc_framing.specs.Written.{IsReadableRequest}
+use Rattle.hc_rules.specs.Laws.{IsForwardable}
+use Rattle.hc_transcript.specs.declared.record.Record.{Record}
+use Rattle.hc_transcript.specs.Items.{Item, OriginResponse, Forward}
+use Rattle.hc_store.specs.Entries.{Holdings}
+use Rattle.hc_service.specs.declared.open.OpenForward.{OpenForward}
+use Rattle.hc_service.specs.Agreement.{AllHeld, HasSource, History, Stands}
+use Rattle.hc_service.specs.declared.action.Action.{Action}
+use Rattle.hc_service.specs.Runs.{GoesOnBy, Records, heard_with, told_with}
+use Rattle.hc_service.specs.Serves.{Turn}
+use Rattle.hc_service.specs.State.{State}
+
+-- whether an item is a response of the origin
+abbrev pub is_response : Item → Bool
+is_response (OriginResponse number moment response) = true
+is_response item = false
+
+-- a forward as the records have it
+abbrev pub recorded_forward : OpenForward → Forward
+recorded_forward forward = record { moment = forward.moment; request = forward.request; target = forward.target }
+
+-- all that a store holds are responses of the records, each under one key
+pub record HasSources (items : List Item) (store : Holdings) : Type 0 where
+  pub keys : IsDistinct same_target (keys_of store.entries)
+  pub sources : AllHeld (HasSource items) store.entries
+
+-- an answer of the origin as it was received: its lines are few and plain and frame no body, its body is within the limit, and none where it ends with its head
+pub record IsReceivedAnswer (to_head : Bool) (response : Message ResponseHead) : Type 0 where
+  pub plain : IsPlainResponse response.head
+  pub lines : AreKeptLines response.head.fields
+  pub no_framing : has_framing response.head.fields ≡ false
+  pub short : length response.body ≤ longest_body
+  pub bare : ends_with_head to_head response.head.status ≡ true → response.body ≡ []
+  pub is_final : 200 ≤ response.head.status
+
+-- a request as it was received, of that target: it can be recorded, and passed on
+pub record IsReceivedAsk (request : Message RequestHead) (target : Target) : Type 0 where
+  pub forwardable : IsForwardable request.head target
+  pub readable : IsReadableRequest request RECORDED
+
+-- a history with a record more, and what it means
+abbrev pub with_record : Record → Item → History → History
+with_record r item h = record { records = r ∷ h.records; items = item ∷ h.items; heard = h.heard; told = h.told }
+
+-- what has happened goes on by a turn, and the cache stands as it is then
+pub record KeepsOn (turn : Turn) (actions : List Action) (h : History) (s : State) : Type 0 where
+  pub later : History
+  pub goes_on : GoesOnBy turn actions h later
+  pub stands : Stands s later
+
+-- what came with turns, one after another
+abbrev pub heard_all : List Turn → (ℕ → List ℕ) → ℕ → List ℕ
+heard_all [] before = before
+heard_all (turn ∷ turns) before = heard_all turns (heard_with turn before)
+
+abbrev pub told_all : List Turn → (ℕ → List ℕ) → ℕ → List ℕ
+told_all [] before = before
+told_all (turn ∷ turns) before = told_all turns (told_with turn before)
+
+-- what turns, one after another, make of what has happened
+pub record GoesOnByAll (turns : List Turn) (actions : List Action) (old new : History) : Type 0 where
+  pub records : Records actions old new
+  pub heard : new.heard ≡ heard_all turns old.heard
+  pub told : new.told ≡ told_all turns old.told
+
+pub record KeepsAll (turns : List Turn) (actions : List Action) (h : History) (s : State) : Type 0 where
+  pub later : History
+  pub goes_on : GoesOnByAll turns actions h later
+  pub stands : Stands s later

@@ -1,0 +1,114 @@
+-- Runs: events, one after another, from a cache and what has happened before.
+use Rattle.std.specs.Prelude.{◌≡◌, ℕ, ◌==◌, List, [], ◌∷◌, ◌++◌, Option, Some, None, Result, Ok, Err, if◌then◌else◌}
+use Rattle.std.specs.Global.{Global}
+use Rattle.std.specs.declared.vec.Vec.{Vec}
+use Rattle.hc_transcript.specs.declared.record.Record.{Record}
+use Rattle.hc_transcript.specs.Items.{Item}
+use Rattle.hc_history.specs.declared.settings.Settings.{Settings}
+use Rattle.hc_history.specs.declared.settings.UnmarkedReplies.TheVariants.{ErrorsOnly}
+use Rattle.hc_history.specs.Right.{IsRight}
+use Rattle.hc_events.specs.declared.Event.{Event}
+use Rattle.hc_events.specs.declared.Happening.{Happening}
+use Rattle.hc_events.specs.declared.Happening.TheVariants.{ClientBytes, OriginBytes}
+use Rattle.hc_service.specs.declared.action.Action.{Action}
+use Rattle.hc_service.specs.declared.fault.StepFault.{StepFault}
+use Rattle.hc_service.specs.declared.fault.StepFault.TheVariants.{Memory, MomentTooLarge, UnknownNumber, TooManyConnections, Failed}
+use Rattle.hc_service.specs.declared.settings.CoreSettings.{CoreSettings}
+use Rattle.hc_service.specs.State.{State}
+use Rattle.hc_service.specs.Sending.{records_of}
+use Rattle.hc_service.specs.Serves.{Turn, Serves, first_fault}
+use Rattle.hc_service.specs.Serves.Turn.{Hearing, Telling}
+use Rattle.hc_service.specs.Agreement.{History, Agrees}
+
+-- ---- what a step makes of what has happened
+
+-- records, the oldest first, behind others, of which the newest is first
+abbrev pub behind : List Record → List Record → List Record
+behind [] records = records
+behind (r ∷ more) records = behind more (r ∷ records)
+
+-- octets come at that number
+abbrev pub with_octets : ℕ → List ℕ → (ℕ → List ℕ) → ℕ → List ℕ
+with_octets n octets before m = if m == n then before m ++ octets else before m
+
+-- what came on connections, and from the origin, with that turn
+abbrev pub heard_with : Turn → (ℕ → List ℕ) → ℕ → List ℕ
+heard_with (Hearing c octets) before = with_octets c octets before
+heard_with turn before = before
+
+abbrev pub told_with : Turn → (ℕ → List ℕ) → ℕ → List ℕ
+told_with (Telling f octets) before = with_octets f octets before
+told_with turn before = before
+
+-- and with that event
+abbrev pub heard_by : Happening → (ℕ → List ℕ) → ℕ → List ℕ
+heard_by (ClientBytes c octets) before = with_octets c octets before
+heard_by other before = before
+
+abbrev pub told_by : Happening → (ℕ → List ℕ) → ℕ → List ℕ
+told_by (OriginBytes f octets) before = with_octets f octets before
+told_by other before = before
+
+-- the audit that lets nothing pass: no slack, no names that aren't compared, and no reply without a mark but errors
+abbrev pub strict : Settings
+strict = record { slack = 0; ignored = []; unmarked = ErrorsOnly }
+
+-- each of the newer items is right behind those before it
+abbrev pub AllRightBehind : List Item → List Item → Type 0
+AllRightBehind [] items = Unit {0}
+AllRightBehind (item ∷ newer) items = AllRightBehind newer items × IsRight strict (newer ++ items) item
+
+-- the records that are given out stand behind the others, and each reply among them is right
+pub record Records (actions : List Action) (old new : History) : Type 0 where
+  pub newer : List Item
+  pub records_are : new.records ≡ behind (records_of actions) old.records
+  pub items_are : new.items ≡ newer ++ old.items
+  pub right : AllRightBehind newer old.items
+
+-- what a turn makes of what has happened
+pub record GoesOnBy (turn : Turn) (actions : List Action) (old new : History) : Type 0 where
+  pub records : Records actions old new
+  pub heard : new.heard ≡ heard_with turn old.heard
+  pub told : new.told ≡ told_with turn old.told
+
+-- what a step makes of it
+pub record GoesOn (happening : Happening) (actions : List Action) (old new : History) : Type 0 where
+  pub records : Records actions old new
+  pub heard : new.heard ≡ heard_by happening old.heard
+  pub told : new.told ≡ told_by happening old.told
+
+-- nothing has happened
+abbrev pub nothing_yet : History
+nothing_yet = record { records = []; items = []; heard = λ _. []; told = λ _. [] }
+
+-- ---- runs
+
+-- what a step answers
+abbrev pub StepResult : Type 0
+StepResult = Result (Vec Action Global) StepFault
+
+-- an event isn't served by that fault, and nothing changes
+abbrev pub IsRefusedBy : StepFault → Event → State → Type 0
+IsRefusedBy fault event s = first_fault event s ≡ Some fault
+
+-- from a cache that agrees with what has happened, the events lead with these answers and these records to that cache; each state between agrees with what
+-- has happened by then. A refused growth ends the run, and leaves no cache that agrees with anything
+abbrev pub Runs : CoreSettings → State → History → List Event → List StepResult → List Record → Option State → Type 0
+Runs settings s h [] [] records end = Agrees s h × (records ≡ []) × (end ≡ Some s)
+Runs settings s h (event ∷ events) (Ok actions ∷ results) records end =
+    Agrees s h
+    × (mid : State) × (later : History) × (rest : List Record)
+    × (first_fault event s ≡ None)
+    × Serves settings event s actions.items mid × GoesOn event.of actions.items h later
+    × (records ≡ records_of actions.items ++ rest)
+    × Runs settings mid later events results rest end
+Runs settings s h (event ∷ events) (Err Memory ∷ results) records end = Agrees s h × (results ≡ []) × (records ≡ []) × (end ≡ None)
+Runs settings s h (event ∷ events) (Err MomentTooLarge ∷ results) records end =
+    Agrees s h × IsRefusedBy MomentTooLarge event s × Runs settings s h events results records end
+Runs settings s h (event ∷ events) (Err UnknownNumber ∷ results) records end =
+    Agrees s h × IsRefusedBy UnknownNumber event s × Runs settings s h events results records end
+Runs settings s h (event ∷ events) (Err TooManyConnections ∷ results) records end =
+    Agrees s h × IsRefusedBy TooManyConnections event s × Runs settings s h events results records end
+Runs settings s h (event ∷ events) (Err Failed ∷ results) records end = ⊥
+Runs settings s h [] (result ∷ results) records end = ⊥
+Runs settings s h (event ∷ events) [] records end = ⊥

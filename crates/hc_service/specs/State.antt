@@ -1,0 +1,54 @@
+-- What a cache knows, as contracts see it.
+use Rattle.std.specs.Prelude.{ℕ, Bool, false, List, [], Option, None}
+use Rattle.std.specs.FinMap.{FinMap, empty}
+use Rattle.std.specs.Ordering.{nat_cmp}
+use Rattle.hc_store.specs.Entries.{Holdings}
+use Rattle.hc_service.specs.declared.numbers.Numbers.{Numbers}
+use Rattle.hc_service.specs.declared.open.OpenExchange.{OpenExchange}
+use Rattle.hc_service.specs.declared.open.OpenForward.{OpenForward}
+use Rattle.hc_service.specs.declared.settings.CoreSettings.{CoreSettings}
+use Rattle.hc_service.specs.Numbers.{no_numbers}
+
+-- what is known by number
+abbrev pub Table : Type 0 → Type 0
+Table X = FinMap nat_cmp X
+
+-- a connection of a client that is open
+pub record Connection : Type 0 where
+  -- the octets behind the last whole request, as far as they came
+  pub unread : List ℕ
+  -- the number of the request that waits for its reply, if one does
+  pub exchange : Option ℕ
+  -- nothing more is read: the client has ended, or octets that waited were dropped; it closes behind the reply
+  pub leaves : Bool
+
+-- one that has just opened
+abbrev pub new_connection : Connection
+new_connection = record { unread = []; exchange = None; leaves = false }
+
+-- a forward that is open, and the octets that came from the origin
+pub record Awaited : Type 0 where
+  pub forward : OpenForward
+  pub heard : List ℕ
+
+pub record State : Type 0 where
+  pub numbers : Numbers
+  -- what is open, by number
+  pub connections : Table Connection
+  pub exchanges : Table OpenExchange
+  pub forwards : Table Awaited
+  pub store : Holdings
+
+-- an empty store of so many keys and octets
+abbrev pub empty_store : CoreSettings → Holdings
+empty_store settings = record { entries = []; keys = settings.keys; bytes = settings.bytes }
+
+-- a cache to which nothing has happened
+abbrev pub new_state : CoreSettings → State
+new_state settings = record {
+  numbers = no_numbers;
+  connections = empty;
+  exchanges = empty;
+  forwards = empty;
+  store = empty_store settings;
+}

@@ -1,0 +1,227 @@
+//! What holds of every cache that does what it owes.
+
+ghost use Rattle.std.specs.Prelude.{◌≡◌, ℕ, Bool, ◌≤◌, ◌<◌, true, false, List, [], ◌∷◌, drop, Option, Some, None};
+ghost use Rattle.hc_fields.specs.declared.fields.Field.{Field};
+ghost use Rattle.hc_fields.specs.Numbers.{end_of_moments};
+ghost use Rattle.hc_head.specs.declared.head.RequestHead.{RequestHead};
+ghost use Rattle.hc_head.specs.declared.head.ResponseHead.{ResponseHead};
+ghost use Rattle.hc_head.specs.declared.head.Target.{Target};
+ghost use Rattle.hc_head.specs.Methods.{is_head};
+ghost use Rattle.hc_framing.specs.declared.message.Message.{Message};
+ghost use Rattle.hc_update.specs.declared.stored.Stored.{Stored};
+ghost use Rattle.hc_transcript.specs.Items.{ClientReply, ClientRequest, Exchange, Forward, Item, OriginFailure, OriginRequest, OriginResponse};
+ghost use Rattle.hc_transcript.specs.History.{exchange_of, forward_of};
+ghost use Rattle.hc_transcript.specs.Limits.{greatest_number};
+ghost use Rattle.hc_transcript.specs.Written.{IsWritableAnswer, IsWritableAsk};
+ghost use Rattle.hc_history.specs.Right.{IsRight};
+ghost use Rattle.hc_service.specs.declared.numbers.Numbers.{Numbers};
+ghost use Rattle.hc_service.specs.Numbers.{asked, is_later, noted, one_more, sent};
+ghost use Rattle.hc_service.specs.Sending.{failure_record, forward_record, reply_record, request_record, response_record};
+ghost use Rattle.hc_store.specs.Choosing.{is_selected};
+ghost use Rattle.hc_links.specs.Requests.{IsRequest};
+ghost use Rattle.hc_store.specs.Entries.{Holdings};
+ghost use Rattle.hc_service.specs.declared.cases.Cause.{Cause};
+ghost use Rattle.hc_service.specs.declared.open.OpenForward.{OpenForward};
+ghost use Rattle.hc_service.specs.Answers.{Renews};
+ghost use Rattle.hc_service.specs.Choices.{Finds, Stores};
+ghost use Rattle.hc_service.specs.Laws.{HasSources, IsReceivedAnswer, IsReceivedAsk, is_response, recorded_forward, with_record, KeepsAll, KeepsOn};
+ghost use Rattle.hc_service.specs.declared.action.Action.{Action};
+ghost use Rattle.hc_service.specs.Serves.{Run, Takes, Turn};
+ghost use Rattle.hc_events.specs.declared.Event.{Event};
+ghost use Rattle.hc_transcript.specs.declared.record.Record.{Record};
+ghost use Rattle.hc_service.specs.declared.settings.CoreSettings.{CoreSettings};
+ghost use Rattle.std.specs.FinMap.{get, insert, remove};
+ghost use Rattle.hc_rules.specs.Laws.{IsForwardable};
+ghost use Rattle.hc_service.specs.declared.open.OpenExchange.{OpenExchange};
+ghost use Rattle.hc_service.specs.State.{Awaited, Connection, State, Table, new_connection, new_state};
+ghost use Rattle.hc_service.specs.Agreement.{AllHeld, CanReply, AreAsked, AreCounted, AreHeard, AreLinked, Agrees, History, IsReadOf, IsSound, Stands, exchange_for};
+ghost use Rattle.hc_service.specs.Runs.{Runs, nothing_yet, StepResult, strict, with_octets};
+ghost use Rattle.hc_service.specs.Asking.{is_answered_by_store};
+ghost use Rattle.hc_service.specs.Replying.{Wanted, hit_reply, made_reply, passed_reply};
+ghost use Rattle.hc_service.specs.Serving.{may_be_served};
+ghost use Rattle.hc_service.specs.Turns.{IsAnswer, after_hearing, after_octets, after_request, replied};
+ghost use Rattle.hc_service.specs.Settings.{AreGood, is_name};
+
+use hc_rules::{forwards_are_writable, forwards_keep_the_target};
+
+/// A new cache agrees with nothing having happened.
+pub fn new_cache_agrees()
+    ensures { (settings : CoreSettings) → Agrees (new_state settings) nothing_yet }
+{}
+
+/// A run begins with a cache that agrees with what has happened.
+pub fn runs_begin_with_agreement()
+    ensures { (settings : CoreSettings) (s : State) (h : History) (event : Event) (events : List Event)
+        (result : StepResult) (results : List StepResult) (records : List Record) (end : Option State)
+        → Runs settings s h (event ∷ events) (result ∷ results) records end → Agrees s h }
+{}
+
+/// What is stored stays what the records say of it: valid responses of their target that may be stored,
+/// as the records have left them, whatever the next record is and whatever the store is asked.
+pub fn stored_responses_are_those_of_the_records()
+    ensures other { (items : List Item) (item : Item) (store : Holdings) → is_response item ≡ false
+        → HasSources items store → HasSources (item ∷ items) store }
+    ensures chosen { (items : List Item) (target : Target) (asked : List Field) (old : Holdings)
+        (chosen : Option Stored) (new : Holdings) → HasSources items old → Finds target asked old chosen new
+        → HasSources items new }
+    // A response that invalidates, and a 304, leave nothing that the records see otherwise.
+    ensures renewed { (items : List Item) (number moment position : ℕ) (response : Message ResponseHead)
+        (forward : OpenForward) (old new : Holdings)
+        → forward_of number items ≡ Some (recorded_forward forward) → HasSources items old
+        → Renews forward moment position response.head old new
+        → HasSources (OriginResponse number moment response ∷ items) new }
+    ensures put { (items : List Item) (number moment : ℕ) (response : Message ResponseHead)
+        (forward : OpenForward) (old new : Holdings) (stored : Bool)
+        → forward_of number items ≡ Some (recorded_forward forward)
+        → HasSources (OriginResponse number moment response ∷ items) old
+        → Stores forward moment response old stored new
+        → HasSources (OriginResponse number moment response ∷ items) new }
+{}
+
+/// A hit is right in the strictest audit: a stored response that the request selects and that may be
+/// served is reused, whatever has happened besides.
+pub fn hits_are_right()
+    ensures { (items : List Item) (x : Exchange) (wanted : Wanted) (stored : Stored) → is_name wanted.name ≡ true
+        → exchange_of x.number items ≡ Some x → wanted.asked ≡ x.request → IsSound items x.target stored
+        → is_answered_by_store x.request.method ≡ true → is_selected x.request.fields stored ≡ true
+        → may_be_served x.request.fields stored wanted.moment ≡ true
+        → IsRight strict items (ClientReply x.number wanted.moment (hit_reply wanted stored)) }
+{}
+
+/// What the origin answered to a forward of the request is a right reply, and so is one of status 400
+/// or more that the cache makes itself.
+pub fn other_replies_are_right()
+    ensures passed { (items : List Item) (f moment : ℕ) (response : Message ResponseHead) (forward : OpenForward)
+        (x : Exchange) (wanted : Wanted) (why : Cause) (stored : Bool) → is_name wanted.name ≡ true
+        → forward_of f items ≡ Some (recorded_forward forward) → exchange_of x.number items ≡ Some x
+        → forward.request.method ≡ x.request.method → forward.target ≡ x.target
+        → (is_head x.request.method ≡ true → response.body ≡ [])
+        → IsRight strict (OriginResponse f moment response ∷ items)
+        (ClientReply x.number wanted.moment (passed_reply wanted why stored response)) }
+    ensures made { (items : List Item) (x : Exchange) (wanted : Wanted) (status : ℕ)
+        → exchange_of x.number items ≡ Some x → 400 ≤ status
+        → IsRight strict items (ClientReply x.number wanted.moment (made_reply wanted status)) }
+{}
+
+/// What is read off a connection can be recorded and passed on.
+pub fn received_messages_can_be_recorded()
+    ensures request { (octets : List ℕ) (request : Message RequestHead) (target : Target) (size : ℕ)
+        → IsRequest octets request target size → IsReceivedAsk request target }
+    ensures response { (ended to_head : Bool) (octets : List ℕ) (response : Message ResponseHead)
+        → IsAnswer ended to_head octets response → IsReceivedAnswer to_head response }
+{}
+
+/// What is recorded keeps to the format of a transcript, as far as records can be numbered, and the counts
+/// stay those of the records.
+pub fn records_keep_to_the_format()
+    ensures ask { (n : Numbers) (h : History) (request : Message RequestHead) (target : Target) → AreCounted n h
+        → IsWritableAsk request target → one_more n.records ≤ greatest_number
+        → AreCounted (asked n) (with_record (request_record (one_more n.exchange) n.moment request)
+        (ClientRequest (one_more n.exchange) n.moment request target) h) }
+    ensures send { (n : Numbers) (h : History) (request : Message RequestHead) (target : Target) → AreCounted n h
+        → IsWritableAsk request target → one_more n.records ≤ greatest_number
+        → AreCounted (sent n) (with_record (forward_record (one_more n.forward) n.moment request)
+        (OriginRequest (one_more n.forward) n.moment request target) h) }
+    ensures response { (n : Numbers) (h : History) → AreCounted n h → one_more n.records ≤ greatest_number
+        → (f : ℕ) (forward : Forward) (response : Message ResponseHead) → 1 ≤ f → f ≤ greatest_number
+        → forward_of f h.items ≡ Some forward → IsWritableAnswer (is_head forward.request.method) response
+        → response.head.status < 1000
+        → AreCounted (noted n) (with_record (response_record f n.moment (is_head forward.request.method) response)
+        (OriginResponse f n.moment response) h) }
+    ensures failure { (n : Numbers) (h : History) → AreCounted n h → one_more n.records ≤ greatest_number
+        → (f : ℕ) (forward : Forward) → 1 ≤ f → f ≤ greatest_number → forward_of f h.items ≡ Some forward
+        → AreCounted (noted n) (with_record (failure_record f n.moment) (OriginFailure f n.moment) h) }
+    ensures reply { (n : Numbers) (h : History) → AreCounted n h → one_more n.records ≤ greatest_number
+        → (e : ℕ) (exchange : Exchange) (reply : Message ResponseHead) → 1 ≤ e → e ≤ greatest_number
+        → exchange_of e h.items ≡ Some exchange → IsWritableAnswer (is_head exchange.request.method) reply
+        → reply.head.status < 1000
+        → AreCounted (noted n) (with_record (reply_record e n.moment (is_head exchange.request.method) reply)
+        (ClientReply e n.moment reply) h) }
+{}
+
+/// The requests that wait stay those of the connections, whatever opens, closes, waits or is answered.
+pub fn waiting_requests_are_those_of_the_connections()
+    ensures opened { (last : Option ℕ) (ks : Table Connection) (xs : Table OpenExchange) → AreLinked last ks xs
+        → (c : ℕ) → is_later c last ≡ true → AreLinked (Some c) (insert ks c new_connection) xs }
+    ensures same { (last : Option ℕ) (ks : Table Connection) (xs : Table OpenExchange) → AreLinked last ks xs
+        → (c : ℕ) (k other : Connection) → get ks c ≡ Some k → other.exchange ≡ k.exchange
+        → AreLinked last (insert ks c other) xs }
+    ensures closed { (last : Option ℕ) (ks : Table Connection) (xs : Table OpenExchange) → AreLinked last ks xs
+        → (c : ℕ) (k : Connection) → get ks c ≡ Some k → k.exchange ≡ None → AreLinked last (remove ks c) xs }
+    ensures asked { (last : Option ℕ) (ks : Table Connection) (xs : Table OpenExchange) → AreLinked last ks xs
+        → (c e : ℕ) (behind : List ℕ) (k : Connection) (x : OpenExchange) → get ks c ≡ Some k → k.exchange ≡ None
+        → get xs e ≡ None → x.connection ≡ c → IsForwardable x.request x.target
+        → AreLinked last (insert ks c (after_request e behind k)) (insert xs e x) }
+    ensures answered { (last : Option ℕ) (ks : Table Connection) (xs : Table OpenExchange) → AreLinked last ks xs
+        → (e : ℕ) (x : OpenExchange) (k : Connection) → get xs e ≡ Some x → get ks x.connection ≡ Some k
+        → (closes : Bool) (behind : List ℕ)
+        → AreLinked last (replied closes x.connection behind k ks) (remove xs e) }
+{}
+
+/// What is open stays what the records leave open, whatever is asked, sent, told and answered.
+pub fn what_is_open_is_that_of_the_records()
+    ensures alone { (last other : ℕ) (xs : Table OpenExchange) (fs : Table Awaited) (items : List Item)
+        → AreAsked last other xs fs items → (e t u : ℕ) (request : Message RequestHead) (target : Target)
+        (reply : Message ResponseHead) → last < e
+        → AreAsked e other xs fs (ClientReply e u reply ∷ ClientRequest e t request target ∷ items) }
+    ensures told { (last other : ℕ) (xs : Table OpenExchange) (fs : Table Awaited) (items : List Item)
+        → AreAsked last other xs fs items → (f : ℕ) (octets : List ℕ) (a : Awaited) → get fs f ≡ Some a
+        → AreAsked last other xs (insert fs f (after_hearing octets a)) items }
+    ensures answered { (last other : ℕ) (xs : Table OpenExchange) (fs : Table Awaited) (items : List Item)
+        → AreAsked last other xs fs items → (f moment : ℕ) (response : Message ResponseHead) (a : Awaited)
+        → get fs f ≡ Some a → (e t : ℕ) (reply : Message ResponseHead) → exchange_for a.forward.purpose ≡ Some e
+        → AreAsked last other (remove xs e) (remove fs f)
+        (ClientReply e t reply ∷ OriginResponse f moment response ∷ items) }
+    ensures failed { (last other : ℕ) (xs : Table OpenExchange) (fs : Table Awaited) (items : List Item)
+        → AreAsked last other xs fs items → (f moment : ℕ) (a : Awaited)
+        → get fs f ≡ Some a → (e t : ℕ) (reply : Message ResponseHead) → exchange_for a.forward.purpose ≡ Some e
+        → AreAsked last other (remove xs e) (remove fs f)
+        (ClientReply e t reply ∷ OriginFailure f moment ∷ items) }
+{}
+
+/// What is unread of a connection stays what came behind its last whole request, and what came of the
+/// origin on a forward is kept.
+pub fn unread_octets_are_those_that_came()
+    ensures octets { (last : Option ℕ) (forward : ℕ) (ks : Table Connection) (fs : Table Awaited)
+        (heard told : ℕ → List ℕ) → AreHeard last forward ks fs heard told
+        → (c : ℕ) (octets : List ℕ) (k : Connection) → IsReadOf (heard c) k → (is_later c last ≡ true → ⊥)
+        → AreHeard last forward (insert ks c (after_octets octets k)) fs (with_octets c octets heard) told }
+    ensures request { (octets : List ℕ) (k : Connection) → k.exchange ≡ None → IsReadOf octets k
+        → (e : ℕ) (request : Message RequestHead) (target : Target) (size : ℕ)
+        → IsRequest k.unread request target size → IsReadOf octets (after_request e (drop size k.unread) k) }
+    ensures told { (last : Option ℕ) (forward : ℕ) (ks : Table Connection) (fs : Table Awaited)
+        (heard told : ℕ → List ℕ) → AreHeard last forward ks fs heard told
+        → (f : ℕ) (octets : List ℕ) (a : Awaited) → get fs f ≡ Some a → (forward < f → ⊥)
+        → AreHeard last forward ks (insert fs f (after_hearing octets a)) heard (with_octets f octets told) }
+{}
+
+/// What is stored can be a reply that is recorded and read back, whatever the store is asked.
+pub fn what_is_stored_can_be_a_reply()
+    ensures put { (forward : OpenForward) (moment : ℕ) (response : Message ResponseHead) (old : Holdings) (stored : Bool)
+        (new : Holdings) → IsReceivedAnswer false response → moment < end_of_moments
+        → AllHeld (λ target state. CanReply state) old.entries → Stores forward moment response old stored new
+        → AllHeld (λ target state. CanReply state) new.entries }
+    ensures hit { (wanted : Wanted) (stored : Stored) → is_name wanted.name ≡ true → CanReply stored
+        → IsWritableAnswer (is_head wanted.asked.method) (hit_reply wanted stored) }
+{}
+
+/// Each turn keeps what a cache has to do with what has happened, whatever that is, and each reply among
+/// its records is right in the strictest audit, as far as records can be numbered.
+pub fn turns_keep_agreement()
+    ensures { (settings : CoreSettings) → AreGood settings → (turn : Turn) (s : State) (actions : List Action)
+        (other : State) (h : History) → Stands s h → Takes settings turn s actions other
+        → other.numbers.records ≤ greatest_number → KeepsOn turn actions h other }
+{
+    forwards_are_writable();
+    forwards_keep_the_target();
+}
+
+/// So do turns, one after another, as an event owes them.
+pub fn runs_of_turns_keep_agreement()
+    ensures { (settings : CoreSettings) → AreGood settings → (turns : List Turn) (s : State) (actions : List Action)
+        (other : State) (h : History) → Stands s h → Run settings turns s actions other
+        → other.numbers.records ≤ greatest_number → KeepsAll turns actions h other }
+{
+    forwards_are_writable();
+    forwards_keep_the_target();
+}

@@ -1,0 +1,33 @@
+//! What a shared cache owes: which case a request is, what is done with what the origin answers, and
+//! what each event makes of what the cache knows.
+#![tactic(auto)]
+
+mod action;
+mod asking;
+mod cases;
+mod fault;
+mod laws;
+mod numbers;
+mod open;
+mod replying;
+mod serving;
+mod settings;
+
+pub use action::Action;
+pub use asking::{ends_connection, is_answered_by_store, is_bypass};
+pub use cases::{Case, Cause, case_before_store, case_by_store};
+pub use fault::StepFault;
+pub use laws::{
+    hits_are_right, new_cache_agrees, other_replies_are_right, received_messages_can_be_recorded,
+    records_keep_to_the_format, runs_begin_with_agreement, runs_of_turns_keep_agreement,
+    stored_responses_are_those_of_the_records, turns_keep_agreement,
+    unread_octets_are_those_that_came, waiting_requests_are_those_of_the_connections,
+    what_is_open_is_that_of_the_records, what_is_stored_can_be_a_reply,
+};
+pub use numbers::Numbers;
+pub use open::{OpenExchange, OpenForward, Purpose};
+pub use replying::{
+    BAD_GATEWAY, GATEWAY_TIMEOUT, WantedReply, failure_status, hit_reply, made_reply, passed_reply,
+};
+pub use serving::{age_at, is_fresh, lifetime_of, may_be_served, ttl_at};
+pub use settings::{CoreSettings, is_name, is_size};

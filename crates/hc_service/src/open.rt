@@ -1,0 +1,44 @@
+//! What is open: exchanges with clients, and forwards to the origin.
+
+use crate::cases::Cause;
+use hc_head::{RequestHead, Target};
+
+/// A request that waits for its reply.
+#[derive(Debug, Drop)]
+pub struct OpenExchange {
+    /// The number of the connection on which it came.
+    pub connection: u64,
+    /// Its head, as it was received.
+    pub request: RequestHead,
+    /// What it asks for.
+    pub target: Target,
+}
+
+/// A request that was sent to the origin and isn't answered yet.
+#[derive(Debug, Drop)]
+pub struct OpenForward {
+    /// Its head, as it was sent.
+    pub request: RequestHead,
+    /// What it asks for.
+    pub target: Target,
+    /// When it was sent, in whole seconds since 1970.
+    pub moment: u64,
+    /// Whom its answer is for.
+    pub purpose: Purpose,
+}
+
+/// Whom the answer to a forward is for.
+#[derive(Clone, Copy, Debug, PartialEq, Eq)]
+pub enum Purpose {
+    /// A client's request.
+    Reply {
+        /// The number of its exchange.
+        exchange: u64,
+        /// Why the request went to the origin.
+        cause: Cause,
+        /// Whether it asks, by the cache's own condition, whether what is stored still holds.
+        conditional: bool,
+    },
+    /// The store alone: it validates what was served stale (RFC 5861 section 3).
+    Background,
+}

@@ -1,0 +1,129 @@
+//! The replies that a request gets, each for itself, with what Cache-Status says of it.
+
+ghost use Rattle.std.specs.Prelude.{◌≡◌, ◌<◌, IfOk, option_copied};
+ghost use Rattle.hc_fields.specs.Numbers.{end_of_moments};
+ghost use Rattle.hc_service.specs.Replying.{entry_reply, failure_status, hit_reply, made_reply, passed_reply};
+
+use crate::cases::Cause;
+use crate::serving::ttl_at;
+use hc_fields::Octets;
+use hc_framing::Message;
+use hc_fresh::stale_forbidden;
+use hc_head::{RequestHead, ResponseHead, is_head};
+use hc_replies::{forwarded_reply, generated_reply, stored_reply};
+use hc_status::{CacheStatus, Handling};
+use hc_update::Stored;
+use std::alloc::{AllocError, Global};
+use std::marker::Model;
+
+/// The origin's answer can't be used, or there is none.
+pub const BAD_GATEWAY: u16 = 502;
+
+/// There is no answer in time, or none without a forward.
+pub const GATEWAY_TIMEOUT: u16 = 504;
+
+/// A reply that is wanted. Contracts see it as a `Wanted` of the definitions.
+#[derive(Debug, Drop)]
+pub struct WantedReply<'a> {
+    /// The name of the cache.
+    pub name: &'a Octets,
+    /// The moment, in whole seconds since 1970.
+    pub moment: u64,
+    /// The head of the request, as it was received.
+    pub asked: &'a RequestHead,
+    /// Whether the connection closes behind the reply.
+    pub closes: bool,
+}
+
+impl<'a> Model for WantedReply<'a> {
+    ghost use Rattle.hc_service.specs.Replying.{Wanted};
+
+    ghost Value = { Wanted };
+
+    ghost view = { λ w. record { name = w.name.now; moment = w.moment; asked = w.asked.now; closes = w.closes } };
+}
+
+/// A reply of that status that the cache makes itself, which bears no mark.
+pub fn made_reply(
+    alloc: Global,
+    wanted: &WantedReply<'_>,
+    status: u16,
+) -> Result<Message<ResponseHead>, AllocError>
+    requires { wanted.now.moment < end_of_moments }
+    ensures { IfOk result (λ reply. reply ≡ made_reply wanted.now status) }
+{
+    generated_reply(alloc, status, wanted.moment, wanted.closes)
+}
+
+/// A stored response as the reply, marked so.
+fn entry_reply(
+    alloc: Global,
+    wanted: &WantedReply<'_>,
+    handling: Handling,
+    stored: &Stored,
+) -> Result<Message<ResponseHead>, AllocError>
+    ensures { IfOk result (λ reply. reply ≡ entry_reply wanted.now handling stored.now) }
+{
+    let status = CacheStatus {
+        name: wanted.name.copy(alloc)?,
+        handling,
+    };
+    let to_head = is_head(wanted.asked.method.as_slice());
+    stored_reply(
+        alloc,
+        &status,
+        wanted.closes,
+        wanted.moment,
+        to_head,
+        stored,
+    )
+}
+
+/// A hit, with the seconds for which it is fresh still. The body is shared.
+pub fn hit_reply(
+    alloc: Global,
+    wanted: &WantedReply<'_>,
+    stored: &Stored,
+) -> Result<Message<ResponseHead>, AllocError>
+    ensures { IfOk result (λ reply. reply ≡ hit_reply wanted.now stored.now) }
+{
+    let ttl = Some(ttl_at(stored, wanted.moment));
+    entry_reply(alloc, wanted, Handling::Hit { ttl }, stored)
+}
+
+/// What the origin answered; `stored` tells whether it was put into the store. The body is moved.
+pub fn passed_reply(
+    alloc: Global,
+    wanted: &WantedReply<'_>,
+    cause: Cause,
+    stored: bool,
+    response: Message<ResponseHead>,
+) -> Result<Message<ResponseHead>, AllocError>
+    requires { wanted.now.moment < end_of_moments }
+    ensures { IfOk result (λ reply. reply ≡ passed_reply wanted.now cause stored response) }
+{
+    let status = CacheStatus {
+        name: wanted.name.copy(alloc)?,
+        handling: Handling::Fwd {
+            word: Octets::from_slice(alloc, cause.word().as_bytes())?,
+            fwd_status: None,
+            stored,
+        },
+    };
+    forwarded_reply(alloc, &status, wanted.closes, wanted.moment, response)
+}
+
+/// The status of the reply where the origin gave no answer, by the stored response that is chosen then.
+pub fn failure_status(chosen: Option<&Stored>) -> u16
+    ensures { result ≡ failure_status (option_copied chosen.entry) }
+{
+    match chosen {
+        None => BAD_GATEWAY,
+        Some(stored) => {
+            if stale_forbidden(&stored.fields) {
+                return GATEWAY_TIMEOUT;
+            }
+            BAD_GATEWAY
+        }
+    }
+}
