@@ -26,7 +26,9 @@ asks_origin request = is_bypass request
 abbrev pub forbids_storing : Message RequestHead → Bool
 forbids_storing request = says (codes "no-store") request.head.fields
 
--- 4: nothing is stored of its target. A request that waits for the forward of another one, in place of a forward of its own, would be a case here, behind this one
+-- a request that waits for the forward of another one, in place of a forward of its own, would be a case here, before the next
+
+-- 4: nothing is stored of its target
 abbrev pub has_no_entry : Bool → Bool
 has_no_entry known = not known
 

@@ -98,11 +98,11 @@ Runs settings s h [] [] records end = Agrees s h × (records ≡ []) × (end ≡
 Runs settings s h (event ∷ events) (Ok actions ∷ results) records end =
     Agrees s h
     × (mid : State) × (later : History) × (rest : List Record)
-    × (first_fault event s ≡ None)
     × Serves settings event s actions.items mid × GoesOn event.of actions.items h later
     × (records ≡ records_of actions.items ++ rest)
     × Runs settings mid later events results rest end
-Runs settings s h (event ∷ events) (Err Memory ∷ results) records end = Agrees s h × (results ≡ []) × (records ≡ []) × (end ≡ None)
+Runs settings s h (event ∷ events) (Err Memory ∷ results) records end =
+    Agrees s h × (first_fault event s ≡ None) × (results ≡ []) × (records ≡ []) × (end ≡ None)
 Runs settings s h (event ∷ events) (Err MomentTooLarge ∷ results) records end =
     Agrees s h × IsRefusedBy MomentTooLarge event s × Runs settings s h events results records end
 Runs settings s h (event ∷ events) (Err UnknownNumber ∷ results) records end =

@@ -133,12 +133,6 @@ passed_to moment s = record {
   store = s.store;
 }
 
--- what a cache owes for an event
-pub record Serves (settings : CoreSettings) (event : Event) (s : State) (actions : List Action) (s' : State) : Type 0 where
-  pub turns : List Turn
-  pub owes : Owes event.of turns s s'
-  pub run : Run settings turns (passed_to event.moment s) actions s'
-
 -- ---- which events are served
 
 -- what the event is about is open, or has a number that may be opened
@@ -162,3 +156,13 @@ first_fault event s =
     else if not (is_known event.of s) then Some UnknownNumber
     else if is_full event.of s then Some TooManyConnections
     else None
+
+-- ---- all
+
+-- what a cache owes for an event
+pub record Serves (settings : CoreSettings) (event : Event) (s : State) (actions : List Action) (s' : State) : Type 0 where
+  -- no test of the event fails
+  pub is_served : first_fault event s ≡ None
+  pub turns : List Turn
+  pub owes : Owes event.of turns s s'
+  pub run : Run settings turns (passed_to event.moment s) actions s'
