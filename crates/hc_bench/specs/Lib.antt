@@ -4,4 +4,6 @@ pub mod Feeding
 pub mod Lines
 pub mod Messages
 pub mod Rates
+pub mod Responses
+pub mod Storing
 pub mod Transcripts

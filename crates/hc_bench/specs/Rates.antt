@@ -1,8 +1,8 @@
--- How fast messages were read, or records audited.
+-- How fast messages were read, records audited, or calls answered.
 use Rattle.std.specs.Prelude.{ℕ, ◌*◌, ◌/◌, ◌^◌, max}
 use Rattle.hc_bench.specs.declared.rate.Rate.{Rate}
 
--- how many messages or records a second that is; a time of nothing counts as a nanosecond
+-- how many of them a second that is; a time of nothing counts as a nanosecond
 abbrev pub count_per_second : Rate → ℕ
 count_per_second rate = rate.count * 10 ^ 9 / max rate.nanoseconds 1
 

@@ -17,10 +17,12 @@ pub enum Task {
     AuditLong,
     /// To write the transcript of long bodies that is audited.
     Transcript,
+    /// To measure what calls of a store cost.
+    Store,
 }
 
 /// How the program is called.
-pub const USAGE: &str = "usage: hc_bench [measure|audit|audit-long|transcript]\n";
+pub const USAGE: &str = "usage: hc_bench [measure|audit|audit-long|transcript|store]\n";
 
 /// What the word asks for, if it is a known one.
 fn task_of(word: &str) -> Option<Task>
@@ -34,6 +36,8 @@ fn task_of(word: &str) -> Option<Task>
         Some(Task::AuditLong)
     } else if word == "transcript" {
         Some(Task::Transcript)
+    } else if word == "store" {
+        Some(Task::Store)
     } else {
         None
     }

@@ -1,6 +1,6 @@
 //! The lines that the program prints.
 ghost use Rattle.std.specs.Prelude.{◌≡◌, IfOk, string_bytes};
-ghost use Rattle.hc_bench.specs.Lines.{audit_line, counts_line, rate_line, cost_line, sample_text};
+ghost use Rattle.hc_bench.specs.Lines.{audit_line, counts_line, rate_line, cost_line, sample_text, store_line};
 
 use crate::feeding::Fed;
 use crate::rate::Rate;
@@ -74,5 +74,21 @@ pub fn audit_line(
     let octets_speed = rate.octets_per_second();
     format!(in alloc;
         "audit {sample} octets={octets} records_per_second={records_speed} octets_per_second={octets_speed}\n"
+    )
+}
+
+/// How fast calls of `choose` and of `put` were, of a store of so many keys.
+pub fn store_line(
+    alloc: Global,
+    keys: usize,
+    choose: &Rate,
+    put: &Rate,
+) -> Result<String, AllocError>
+    ensures { IfOk result (λ line. string_bytes line ≡ store_line keys choose.now put.now) }
+{
+    let choose_speed = choose.count_per_second();
+    let put_speed = put.count_per_second();
+    format!(in alloc;
+        "store keys={keys} choose_per_second={choose_speed} put_per_second={put_speed}\n"
     )
 }

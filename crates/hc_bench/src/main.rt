@@ -1,9 +1,10 @@
-//! `hc_bench`: what it costs to read messages in pieces, and to audit transcripts.
+//! `hc_bench`: what it costs to read messages in pieces, to audit transcripts, and to call a store.
 //!
 //! Without an argument it reads two short messages in pieces and says how many calls that took. With
 //! `measure` it reads long ones against the clock. With `audit` it audits transcripts against it, and with
 //! `audit-long` also one of a million records. With `transcript` it writes one of those that it audits, so
-//! that other programs can be timed over the same octets.
+//! that other programs can be timed over the same octets. With `store` it asks stores of few keys and of
+//! many for responses, and puts others in their place.
 #![tactic(auto)]
 
 mod auditing;
@@ -16,7 +17,10 @@ mod measures;
 mod messages;
 mod print;
 mod rate;
+mod responses;
 mod run;
+mod stores;
+mod storing;
 #[cfg(test)]
 mod tests;
 mod transcripts;

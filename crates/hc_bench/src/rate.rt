@@ -1,8 +1,8 @@
-//! How fast messages were read, or records audited.
+//! How fast messages were read, records audited, or calls answered.
 
 use std::time::Duration;
 
-/// So many messages or records, with so many octets together, in so much time.
+/// So many messages, records or calls, with so many octets together, in so much time.
 #[derive(Clone, Copy, Debug, PartialEq, Eq)]
 pub struct Rate {
     pub count: usize,
@@ -40,7 +40,7 @@ impl Rate {
         }
     }
 
-    /// How many messages or records a second that is.
+    /// How many of them a second that is.
     pub fn count_per_second(&self) -> u128
         ensures { result ≡ count_per_second self.now }
     {

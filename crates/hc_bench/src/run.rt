@@ -8,6 +8,7 @@ use crate::command::{Task, USAGE, asked};
 use crate::counts::count;
 use crate::measures::measure;
 use crate::print::printed;
+use crate::stores::store;
 use crate::trouble::Trouble;
 use std::convert::AsStr;
 use std::io::Write;
@@ -51,6 +52,7 @@ where
         Some(Task::Audit) => audit(rt.alloc(), rt, false, output),
         Some(Task::AuditLong) => audit(rt.alloc(), rt, true, output),
         Some(Task::Transcript) => write_sample(rt.alloc(), &LONG_BODIES, output),
+        Some(Task::Store) => store(rt.alloc(), rt, output),
         None => return refused(faults),
     };
     match done {

@@ -1,11 +1,16 @@
 //! What no clause says: the texts, readers and writers that fail, and that calls succeed.
+ghost use Rattle.std.specs.Prelude.{◌<◌, ◌≤◌};
+
 use crate::audits::{Sample, audit_sample, write_sample};
 use crate::counts::count;
 use crate::feeding::feed;
 use crate::measures::{Pair, compare};
 use crate::messages::{chunked_response, long_request};
 use crate::rate::Rate;
+use crate::responses::request_fields;
 use crate::run::answered;
+use crate::stores::store_sized;
+use crate::storing::{ask_all, filled, targets};
 use crate::trouble::Trouble;
 use hc_framing::{FrameFault, Kind};
 use hc_head::{RequestHead, ResponseHead, Room};
@@ -189,6 +194,42 @@ fn transcripts_are_written(rt: HostRuntime) {
     );
 }
 
+// Times 20 calls of each kind at a store of three keys, by a clock that breaks after so many readings.
+fn stored(rt: &impl AllocGlobal, readings: u64, output: &mut Vec<u8>) -> Result<(), Trouble> {
+    let clock = Ticks {
+        microseconds: Cell::new(0),
+        last: readings,
+    };
+    store_sized::<Ticks, Vec<u8>>(rt.alloc(), &clock, 3, 20, output)
+}
+
+#[test]
+fn stores_are_measured(rt: HostRuntime) {
+    let mut said = Vec::new(rt.alloc());
+    assert_eq!(rt; stored(&rt, 35, &mut said), Err(Trouble::Device));
+    assert!(rt; said.is_empty());
+    assert_eq!(rt; stored(&rt, 36, &mut said), Ok(()));
+    let want = "store keys=3 choose_per_second=20000000 put_per_second=20000000\n";
+    assert_eq!(rt; said.as_slice(), want.as_bytes());
+}
+
+// Asks a store that has so many of the targets for each of three.
+fn asked(rt: &impl AllocGlobal, keys: usize) -> Result<(), Trouble>
+    requires some { 0 < keys }
+    requires few { keys ≤ 65536 }
+{
+    let mut store = filled(rt.alloc(), keys)?;
+    let targets = targets(rt.alloc(), 3, 3)?;
+    let presented = request_fields(rt.alloc())?;
+    ask_all(&mut store, targets.as_slice(), &presented)
+}
+
+#[test]
+fn targets_without_a_response(rt: HostRuntime) {
+    assert_eq!(rt; asked(&rt, 2), Err(Trouble::NotStored));
+    assert_eq!(rt; asked(&rt, 3), Ok(()));
+}
+
 #[test]
 fn devices_that_fail(rt: HostRuntime) {
     for readings in 0..36 {
@@ -203,6 +244,7 @@ fn devices_that_fail(rt: HostRuntime) {
         (Trouble::Device, "error: device\n"),
         (Trouble::Unended, "error: the message doesn't end\n"),
         (Trouble::NotRight, "error: the transcript isn't right\n"),
+        (Trouble::NotStored, "error: a response isn't stored\n"),
     ] {
         let mut wrong = Vec::new(rt.alloc());
         assert_eq!(rt; trouble.told(&mut wrong), 3);
@@ -232,7 +274,7 @@ fn answers(
 
 #[test]
 fn words_are_answered(rt: HostRuntime) {
-    let usage = "usage: hc_bench [measure|audit|audit-long|transcript]\n";
+    let usage = "usage: hc_bench [measure|audit|audit-long|transcript|store]\n";
     answers(&rt, &["hc_bench"], 0, COUNTS, "");
     answers(&rt, &[], 0, COUNTS, "");
     answers(&rt, &["hc_bench", "fast"], 64, "", usage);

@@ -28,6 +28,9 @@ pub enum Trouble {
     /// What was audited isn't right, or has another count of records.
     #[error("the transcript isn't right")]
     NotRight,
+    /// A store has no response for a target, or doesn't take one.
+    #[error("a response isn't stored")]
+    NotStored,
 }
 
 impl Trouble {

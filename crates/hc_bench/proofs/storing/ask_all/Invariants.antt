@@ -1,0 +1,7 @@
+use Rattle.std.proofs.Common.{◌≡◌, take, Some}
+use Rattle.hc_bench.specs.Storing.{behind_all}
+use Rattle.hc_bench.proofs.storing.ask_all.Given as goal
+
+-- the store was asked for so many of them so far
+abbrev pub invariant-targets : goal.invariant-targets
+invariant-targets g l = behind_all l.presented (take l.target-index l.targets) l.initial.store ≡ Some l.store

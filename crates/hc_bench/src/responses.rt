@@ -1,0 +1,89 @@
+//! Responses of one host, as a store is given them.
+ghost use Rattle.std.specs.Prelude.{◌≡◌, IfOk};
+ghost use Rattle.hc_bench.specs.Responses.{forward, path, request_fields, response, response_fields, stored_of, target_of};
+
+use hc_fields::{Field, Fields, Octets, SharedOctets};
+use hc_framing::Message;
+use hc_head::{RequestHead, ResponseHead, Target, Version};
+use hc_update::{Stored, initial};
+use std::alloc::{AllocError, Global};
+
+/// The moment of each request and response, in seconds since 1970, which the dates tell too.
+const MOMENT: u64 = 1_000;
+
+/// How many octets a body has.
+const BODY: usize = 100;
+
+/// The target of that number.
+pub fn target_of(alloc: Global, number: usize) -> Result<Target, AllocError>
+    ensures { IfOk result (λ target. target ≡ target_of number) }
+{
+    Ok(Target {
+        host: Octets::from_slice(alloc, b"h")?,
+        path: path(alloc, number)?,
+    })
+}
+
+/// The fields of each request.
+pub fn request_fields(alloc: Global) -> Result<Fields, AllocError>
+    ensures { IfOk result (λ fields. fields ≡ request_fields) }
+{
+    let mut fields = Fields::new(alloc);
+    fields.push(Field::new(alloc, b"host", b"h")?)?;
+    Ok(fields)
+}
+
+/// What is stored of the response for the target of that number.
+#[tactic(auto, unfolding(crate::specs::Responses::stored_of))]
+pub fn stored_of(alloc: Global, number: usize) -> Result<Stored, AllocError>
+    ensures { IfOk result (λ stored. stored ≡ stored_of number) }
+{
+    let forward = forward(alloc, number)?;
+    let response = response(alloc)?;
+    initial(alloc, forward, MOMENT, response, MOMENT)
+}
+
+// The path of that number.
+fn path(alloc: Global, number: usize) -> Result<Octets, AllocError>
+    ensures { IfOk result (λ octets. octets ≡ path number) }
+{
+    let text = format!(in alloc; "/{number}")?;
+    Ok(Octets::from_vec(text.into_bytes()))
+}
+
+// A GET for the target of that number.
+fn forward(alloc: Global, number: usize) -> Result<RequestHead, AllocError>
+    ensures { IfOk result (λ head. head ≡ forward number) }
+{
+    Ok(RequestHead {
+        method: Octets::from_slice(alloc, b"GET")?,
+        target: path(alloc, number)?,
+        version: Version::Http11,
+        fields: request_fields(alloc)?,
+    })
+}
+
+// The fields of each response.
+fn response_fields(alloc: Global) -> Result<Fields, AllocError>
+    ensures { IfOk result (λ fields. fields ≡ response_fields) }
+{
+    let mut fields = Fields::new(alloc);
+    fields.push(Field::new(alloc, b"date", b"Thu, 01 Jan 1970 00:16:40 GMT")?)?;
+    fields.push(Field::new(alloc, b"cache-control", b"max-age=600")?)?;
+    Ok(fields)
+}
+
+// A response that is fresh for ten minutes.
+fn response(alloc: Global) -> Result<Message<ResponseHead>, AllocError>
+    ensures { IfOk result (λ message. message ≡ response) }
+{
+    let body = "x".repeat(alloc, BODY)?;
+    Ok(Message {
+        head: ResponseHead {
+            status: 200,
+            version: Version::Http11,
+            fields: response_fields(alloc)?,
+        },
+        body: SharedOctets::from_vec(body.into_bytes())?,
+    })
+}
