@@ -1,0 +1,5 @@
+pub mod TableLemmas
+pub mod LinkLemmas
+pub mod ClientLemmas
+pub mod AskLemmas
+pub mod ReadLemmas

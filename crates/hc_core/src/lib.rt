@@ -1,0 +1,17 @@
+//! The shared cache as a step function: events in, actions and records out.
+#![tactic(auto)]
+
+mod answering;
+mod asking;
+mod clients;
+mod desk;
+mod links;
+mod machine;
+mod moving;
+mod outcomes;
+mod reacting;
+mod reading;
+mod sending;
+mod serving;
+
+pub use machine::Core;

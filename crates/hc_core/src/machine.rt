@@ -1,0 +1,93 @@
+//! The cache.
+
+ghost use Rattle.std.specs.Prelude.{◌≡◌};
+
+use crate::desk::Desk;
+use hc_events::Event;
+use hc_service::{Action, CoreSettings, Numbers, StepFault};
+use hc_store::Store;
+use std::alloc::{AllocError, Global};
+use std::collections::BTreeMap;
+use std::hash::BuildHasher;
+
+/// A shared cache in front of one origin, as a step function over what happens at its links.
+#[derive(Drop)]
+pub struct Core<S: BuildHasher> {
+    failed: bool,
+    desk: Desk<S>,
+}
+
+impl<S: BuildHasher + Drop> Core<S> {
+    ghost use Rattle.std.specs.Prelude.{◌≢◌, ◌&&◌, ◌==◌, true, Err, IfOk};
+    ghost use Rattle.std.specs.FinMap.{len};
+    ghost use Rattle.hc_service.specs.declared.fault.StepFault.TheVariants.{Failed, Memory};
+    ghost use Rattle.hc_service.specs.declared.fault.StepFault.{StepFault};
+    ghost use Rattle.hc_service.specs.declared.settings.CoreSettings.{CoreSettings};
+    ghost use Rattle.hc_service.specs.Settings.{AreGood};
+    ghost use Rattle.hc_service.specs.State.{State, new_state};
+    ghost use Rattle.hc_core.specs.Standing.{IsReady};
+    ghost use Rattle.hc_core.specs.Steps.{CanStep, GivesStep, StandsFor, has_failed};
+
+    /// A cache of good settings to which nothing has happened; its store hashes targets by the hasher.
+    pub fn with_hasher(alloc: Global, settings: CoreSettings, hasher: S) -> Result<Self, AllocError>
+        requires { AreGood settings }
+        ensures { IfOk result (λ core. StandsFor settings core (new_state settings)) }
+    {
+        Ok(Core {
+            failed: false,
+            desk: Desk {
+                alloc,
+                name: settings.name,
+                numbers: Numbers::new(),
+                clients: BTreeMap::new(alloc),
+                exchanges: BTreeMap::new(alloc),
+                links: BTreeMap::new(alloc),
+                store: Store::with_hasher(alloc, settings.keys, settings.bytes as usize, hasher)?,
+            },
+        })
+    }
+
+    /// Something happens. Where memory is refused, no event is served any more; any other fault changes
+    /// nothing, and of several the first is told: that it has failed, then those of `first_fault`.
+    pub fn step(&mut self, event: Event) -> Result<Vec<Action>, StepFault>
+        // It keeps what a state has, or it has failed.
+        requires { CanStep self.old }
+        ensures can { CanStep self.new }
+        // Whatever state it stands for, it does what it owes for the event.
+        ensures gives { (settings : CoreSettings) (s : State) → StandsFor settings self.old s → IsReady s
+            → GivesStep result settings event s self.new }
+        // What stands after a fault.
+        ensures failed { result ≡ Err Memory → has_failed self.new ≡ true }
+        ensures same { (fault : StepFault) → result ≡ Err fault → fault ≢ Memory → self.new ≡ self.old }
+        ensures failed_again { has_failed self.old ≡ true → result ≡ Err Failed }
+    {
+        if self.failed {
+            return Err(StepFault::Failed);
+        }
+        if let Some(fault) = self.desk.first_fault(&event) {
+            return Err(fault);
+        }
+        match self.desk.serve(event) {
+            Ok(actions) => Ok(actions),
+            Err(_) => {
+                self.failed = true;
+                Err(StepFault::Memory)
+            }
+        }
+    }
+
+    /// How many records were given out.
+    pub fn records(&self) -> u64
+        ensures { (settings : CoreSettings) (s : State) → StandsFor settings self.now s → result ≡ s.numbers.records }
+    {
+        self.desk.numbers.records
+    }
+
+    /// Whether it hasn't failed, and no connection or forward is open.
+    pub fn idle(&self) -> bool
+        ensures { (settings : CoreSettings) (s : State) → StandsFor settings self.now s
+            → result ≡ (len s.connections == 0 && len s.forwards == 0) }
+    {
+        !self.failed && self.desk.clients.is_empty() && self.desk.links.is_empty()
+    }
+}
