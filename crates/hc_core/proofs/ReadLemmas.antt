@@ -1,5 +1,6 @@
 -- Reading a connection as far as can be.
-use Rattle.std.proofs.Common.{append_assoc, append-nil, ◌≡◌, ◌<◌, ◌≤◌, ℕ, Bool, true, false, List, [], ◌∷◌, ◌++◌, length, Option, Some, None, refl, sym, ap, ◌∙◌, subst, arith}
+use Rattle.std.proofs.Common.{append_assoc, append-nil, ◌≡◌, ◌<◌, ◌≤◌, ℕ, Bool, true, false, List, [], ◌∷◌, ◌++◌, length, nat_lt, Option, Some, None, refl, sym, ap, ◌∙◌, subst, arith}
+use Rattle.std.proofs.lemmas.Bool.{ltb-false, ltb-true}
 use Rattle.std.specs.BTreeMap.{BTreeMap}
 use Rattle.std.specs.FinMap.{get, insert, remove}
 use Rattle.std.specs.List.{AllByRecursion}
@@ -14,9 +15,9 @@ use Rattle.hc_service.specs.State.{State, Table, Connection}
 use Rattle.hc_service.specs.Turns.{after_leaving, most_waiting}
 use Rattle.hc_core.specs.declared.desk.Desk.{Desk}
 use Rattle.hc_core.specs.declared.links.Client.{Client}
-use Rattle.hc_core.specs.Links.{AreClients}
+use Rattle.hc_core.specs.Links.{AreClients, IsClient, IsTrimmed}
 use Rattle.hc_core.specs.Standing.{Adds, GivesReading, GivesTurn, Stands, without_connection}
-use Rattle.hc_core.proofs.TableLemmas.{get_gone, put_back, put_same, get_put}
+use Rattle.hc_core.proofs.TableLemmas.{get_gone, get_put, gone_same, put_back, put_same}
 
 some_one : {X : Type 0} (a b : X) → Some a ≡ Some b → a ≡ b
 some_one a b e = cc
@@ -170,3 +171,55 @@ module _ (S : Type 0) (settings : CoreSettings) (c : ℕ) where
       where
         none_some : (q : Connection) → None ≡ Some q → ⊥
         none_some q e = cc
+
+  -- no such connection is open
+  pub reads_absent : (d : Desk S) (s : State) (clients : BTreeMap ℕ Client) (items : List Action) → Stands {S = S} settings d s → get s.connections c ≡ None
+      → AreClients clients (remove s.connections c)
+      → GivesReading {S = S} settings c false s items items
+      (record { alloc = d.alloc; name = d.name; numbers = d.numbers; clients = clients; exchanges = d.exchanges; links = d.links; store = d.store })
+  reads_absent d s clients items stands none are = record {
+    state = s;
+    stands = record {
+      name = stands.name;
+      numbers = stands.numbers;
+      clients = subst (AreClients clients) (gone_same s.connections c none) are;
+      exchanges = stands.exchanges;
+      links = stands.links;
+      store = stands.store;
+      in_time = stands.in_time;
+    };
+    turns = [];
+    reads = tt;
+    runs = ([], sym (append-nil items), (refl, refl));
+    quiet = λ _ q is. absurd (no_one q (sym none ∙ is));
+  }
+    where
+      no_one : (q : Connection) → None ≡ Some q → ⊥
+      no_one q e = cc
+
+  -- a client that is taken out leaves what the state without it has
+  pub taken_out : (d : Desk S) (s : State) (clients : BTreeMap ℕ Client) → Stands {S = S} settings d s → AreClients clients (remove s.connections c)
+      → Stands {S = S} settings (record { alloc = d.alloc; name = d.name; numbers = d.numbers; clients = clients; exchanges = d.exchanges; links = d.links; store = d.store })
+      (without_connection c s)
+  taken_out d s clients stands are = record {
+    name = stands.name;
+    numbers = stands.numbers;
+    clients = are;
+    exchanges = stands.exchanges;
+    links = stands.links;
+    store = stands.store;
+    in_time = stands.in_time;
+  }
+
+  -- what a connection that was trimmed gives
+  pub reads_trimmed : (d : Desk S) (s : State) (k : Connection) (client : Client) (clients : BTreeMap ℕ Client) (items : List Action) (exchange : ℕ) (over : Bool)
+      → Stands {S = S} settings d (without_connection c s) → get s.connections c ≡ Some k → k.exchange ≡ Some exchange
+      → nat_lt most_waiting (length k.unread) ≡ over → IsTrimmed over client k
+      → ((q : Connection) → IsClient client q → AreClients clients (insert (remove s.connections c) c q))
+      → GivesReading {S = S} settings c false s items items
+      (record { alloc = d.alloc; name = d.name; numbers = d.numbers; clients = clients; exchanges = d.exchanges; links = d.links; store = d.store })
+  reads_trimmed d s k client clients items exchange true stands there waits over is put =
+      reads_dropping d s k stands there clients items exchange (put (after_leaving k) is) waits (ltb-true most_waiting (length k.unread) over)
+  reads_trimmed d s k client clients items exchange false stands there waits over is put =
+      reads_nothing d s k stands there clients items (put k is)
+      (subst (λ (e : Option ℕ). IsQuietBy e k.unread) (sym waits) (ltb-false most_waiting (length k.unread) over))

@@ -120,3 +120,11 @@ module _ {Y : Type 0} where
       kept : (q : ℕ) (b : Bool) → eq_by_cmp nat_cmp q k ≡ b → cond b (Some y) (get t q) ≡ get t q
       kept q true same = sym there ∙ get_tied nat_cmp_total t q k (equal_of (nat_cmp q k) same)
       kept q false other = refl
+
+  -- to take out what isn't there changes nothing
+  pub gone_same : (t : Table Y) (k : ℕ) → get t k ≡ None → remove t k ≡ t
+  gone_same t k none = same_map nat_cmp_total exact_unsigned _ _ (λ q. get-remove nat_cmp_total t k q ∙ kept q (eq_by_cmp nat_cmp q k) refl)
+    where
+      kept : (q : ℕ) (b : Bool) → eq_by_cmp nat_cmp q k ≡ b → cond b None (get t q) ≡ get t q
+      kept q true same = sym none ∙ get_tied nat_cmp_total t q k (equal_of (nat_cmp q k) same)
+      kept q false other = refl

@@ -1,7 +1,10 @@
+pub mod Names
 pub mod Tables
 pub mod Links
 pub mod Reacting
 pub mod Failing
 pub mod Reading
+pub mod Ending
 pub mod Standing
 pub mod Steps
+pub mod Settings

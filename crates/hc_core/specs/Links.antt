@@ -1,5 +1,5 @@
 -- What is open at a cache's links, and what contracts see of it.
-use Rattle.std.specs.Prelude.{◌≡◌, ℕ, List, Option, Some, None}
+use Rattle.std.specs.Prelude.{◌≡◌, ℕ, Bool, true, false, List, Option, Some, None}
 use Rattle.std.specs.BTreeMap.{BTreeMap}
 use Rattle.hc_head.specs.Methods.{is_head}
 use Rattle.hc_links.specs.declared.requests.RequestReader.{RequestReader}
@@ -7,6 +7,7 @@ use Rattle.hc_links.specs.RequestReading as requests
 use Rattle.hc_links.specs.ResponseReading as responses
 use Rattle.hc_service.specs.declared.open.OpenExchange.{OpenExchange}
 use Rattle.hc_service.specs.State.{Table, Connection, Awaited}
+use Rattle.hc_service.specs.Turns.{after_leaving}
 use Rattle.hc_core.specs.declared.links.Client.{Client}
 use Rattle.hc_core.specs.declared.links.Link.{Link}
 use Rattle.hc_core.specs.Tables.{AreAlike, IsSame}
@@ -48,3 +49,8 @@ pub record WillWait (client : Client) (exchange : ℕ) (k : Connection) : Type 0
   pub reads : requests.HasUnread client.reader k.unread
   pub exchange_is : k.exchange ≡ Some exchange
   pub leaves : client.leaves ≡ k.leaves
+
+-- it is the connection, of whose octets those that wait were dropped where they were too many
+abbrev pub IsTrimmed : Bool → Client → Connection → Type 0
+IsTrimmed true client k = IsClient client (after_leaving k)
+IsTrimmed false client k = IsClient client k

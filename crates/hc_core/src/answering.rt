@@ -1,6 +1,11 @@
 //! What comes from the origin, and what it makes of the request that waits for it.
 
 ghost use Rattle.std.specs.Prelude.{◌≡◌, ◌⊎◌};
+ghost use Rattle.hc_head.specs.Methods.{is_head};
+ghost use Rattle.hc_service.specs.declared.open.OpenExchange.{OpenExchange};
+ghost use Rattle.hc_service.specs.State.{Connection, Table};
+ghost use Rattle.hc_core.specs.Ending.{TakesWaiting};
+ghost use Rattle.hc_core.specs.Links.{AreClients, AreExchanges};
 
 use crate::desk::Desk;
 use crate::links::{Client, Link};
@@ -13,6 +18,7 @@ use hc_head::{ResponseHead, is_head};
 use hc_links::Heard;
 use hc_service::{Action, Cause, OpenExchange, OpenForward, Purpose, WantedReply};
 use std::alloc::AllocError;
+use std::collections::BTreeMap;
 use std::hash::BuildHasher;
 
 /// A request that waits for a reply, taken out with its connection.
@@ -23,16 +29,36 @@ struct Waiting {
     client: Client,
 }
 
+/// Takes out the exchange of that number, with its connection.
+fn take_waiting(
+    exchanges: &mut BTreeMap<u64, OpenExchange>,
+    clients: &mut BTreeMap<u64, Client>,
+    number: u64,
+) -> Option<Waiting>
+    ensures { (waiting : Table OpenExchange) (connections : Table Connection) → AreExchanges exchanges.old waiting
+        → AreClients clients.old connections → TakesWaiting number result waiting connections exchanges.new clients.new }
+{
+    let exchange = exchanges.remove(&number)?;
+    let client = clients.remove(&exchange.connection)?;
+    Some(Waiting {
+        number,
+        exchange,
+        client,
+    })
+}
+
 impl<S: BuildHasher> Desk<S> {
-    ghost use Rattle.std.specs.Prelude.{Bool, true, IfOk, OnOk, Some, ◌<◌};
+    ghost use Rattle.std.specs.Prelude.{ℕ, Bool, IfOk, OnOk, Some, ◌<◌};
     ghost use Rattle.std.specs.FinMap.{get};
     ghost use Rattle.hc_fields.specs.Numbers.{end_of_moments};
-    ghost use Rattle.hc_head.specs.Methods.{is_head};
     ghost use Rattle.hc_service.specs.declared.settings.CoreSettings.{CoreSettings};
     ghost use Rattle.hc_service.specs.State.{Awaited, State};
     ghost use Rattle.hc_service.specs.Serves.Turn.{Answering, Failing};
     ghost use Rattle.hc_service.specs.Turns.Failure.{IsCutOff, IsLost};
     ghost use Rattle.hc_service.specs.Turns.{Failure, HasFailure, IsAnswer, is_closed};
+    ghost use Rattle.hc_service.specs.Answers.{Fails, Responds};
+    ghost use Rattle.hc_service.specs.Answers.Outcome.{Replies};
+    ghost use Rattle.hc_core.specs.Ending.{GivesReply, wanted_of};
     ghost use Rattle.hc_core.specs.Standing.{CanServe, GivesEnding, GivesTelling, Stands, without_forward};
 
     /// Octets come from the origin on an open forward. Answers the connection that may be read on, where
@@ -143,10 +169,14 @@ impl<S: BuildHasher> Desk<S> {
                 exchange,
                 cause,
                 ..
-            } => match self.take_waiting(exchange) {
-                None => Ok(None),
-                Some(waiting) => self.respond(waiting, forward, cause, response, actions),
-            },
+            } => {
+                let Some(waiting) = take_waiting(&mut self.exchanges, &mut self.clients, exchange)
+                else {
+                    return Ok(None);
+                };
+                let client = self.respond(waiting, forward, cause, response, actions)?;
+                Ok(Some(client))
+            }
         }
     }
 
@@ -173,25 +203,18 @@ impl<S: BuildHasher> Desk<S> {
                 exchange,
                 cause,
                 ..
-            } => match self.take_waiting(exchange) {
-                None => Ok(None),
-                Some(waiting) => self.fail(waiting, forward, cause, actions),
-            },
+            } => {
+                let Some(waiting) = take_waiting(&mut self.exchanges, &mut self.clients, exchange)
+                else {
+                    return Ok(None);
+                };
+                let client = self.fail(waiting, forward, cause, actions)?;
+                Ok(Some(client))
+            }
         }
     }
 
-    /// Takes out the exchange of that number, with its connection.
-    fn take_waiting(&mut self, number: u64) -> Option<Waiting> {
-        let exchange = self.exchanges.remove(&number)?;
-        let client = self.clients.remove(&exchange.connection)?;
-        Some(Waiting {
-            number,
-            exchange,
-            client,
-        })
-    }
-
-    /// A response is what a request waits for that was taken out.
+    /// A response is what a request waits for that was taken out. Answers its connection.
     fn respond(
         &mut self,
         waiting: Waiting,
@@ -199,8 +222,12 @@ impl<S: BuildHasher> Desk<S> {
         cause: Cause,
         response: Message<ResponseHead>,
         actions: &mut Vec<Action>,
-    ) -> Result<Option<u64>, AllocError>
+    ) -> Result<u64, AllocError>
         requires { self.old.numbers.moment < end_of_moments }
+        ensures replies { (conditional : Bool) (position : ℕ) → OnOk result (GivesReply waiting
+            (λ reply old new. Responds (wanted_of self.old waiting) forward cause conditional position response old (Replies reply) new)
+            actions.old.items actions.new.items self.old self.new) }
+        ensures client { IfOk result (λ client. client ≡ waiting.exchange.connection) }
     {
         let closes = closes_behind(&waiting.exchange.request, waiting.client.leaves);
         let wanted = WantedReply {
@@ -211,18 +238,32 @@ impl<S: BuildHasher> Desk<S> {
         };
         let store = &mut self.store;
         let reply = respond(self.alloc, store, &wanted, forward, cause, response)?;
-        self.reply_to(waiting, closes, &reply, actions)
+        let to = addressee(&waiting, closes);
+        reply_on(
+            self.alloc,
+            &mut self.numbers,
+            &mut self.clients,
+            to,
+            waiting.client,
+            &reply,
+            actions,
+        )?;
+        Ok(to.connection)
     }
 
-    /// A forward failed for which a request waits that was taken out.
+    /// A forward failed for which a request waits that was taken out. Answers its connection.
     fn fail(
         &mut self,
         waiting: Waiting,
         forward: OpenForward,
         cause: Cause,
         actions: &mut Vec<Action>,
-    ) -> Result<Option<u64>, AllocError>
+    ) -> Result<u64, AllocError>
         requires { self.old.numbers.moment < end_of_moments }
+        ensures replies { OnOk result (GivesReply waiting
+            (λ reply old new. Fails (wanted_of self.old waiting) forward cause old (Replies reply) new)
+            actions.old.items actions.new.items self.old self.new) }
+        ensures client { IfOk result (λ client. client ≡ waiting.exchange.connection) }
     {
         let closes = closes_behind(&waiting.exchange.request, waiting.client.leaves);
         let wanted = WantedReply {
@@ -232,33 +273,33 @@ impl<S: BuildHasher> Desk<S> {
             closes,
         };
         let reply = fail(self.alloc, &mut self.store, &wanted, &forward, cause)?;
-        self.reply_to(waiting, closes, &reply, actions)
-    }
-
-    /// Sends the reply to a request that waited. Answers its connection.
-    fn reply_to(
-        &mut self,
-        waiting: Waiting,
-        closes: bool,
-        reply: &Message<ResponseHead>,
-        actions: &mut Vec<Action>,
-    ) -> Result<Option<u64>, AllocError> {
-        let connection = waiting.exchange.connection;
-        let to = Addressee {
-            exchange: waiting.number,
-            to_head: is_head(waiting.exchange.request.method.as_slice()),
-            connection,
-            closes,
-        };
+        let to = addressee(&waiting, closes);
         reply_on(
             self.alloc,
             &mut self.numbers,
             &mut self.clients,
             to,
             waiting.client,
-            reply,
+            &reply,
             actions,
         )?;
-        Ok(Some(connection))
+        Ok(to.connection)
+    }
+}
+
+/// To whom the reply to a request that waited goes.
+fn addressee(waiting: &Waiting, closes: bool) -> Addressee
+    ensures { result ≡ record {
+      exchange = waiting.now.number;
+      to_head = is_head waiting.now.exchange.request.method;
+      connection = waiting.now.exchange.connection;
+      closes = closes;
+    } }
+{
+    Addressee {
+        exchange: waiting.number,
+        to_head: is_head(waiting.exchange.request.method.as_slice()),
+        connection: waiting.exchange.connection,
+        closes,
     }
 }

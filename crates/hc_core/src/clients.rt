@@ -14,7 +14,7 @@ impl Client {
     ghost use Rattle.std.specs.Prelude.{◌≡◌, List, ℕ, OnOk, Some, length, nat_lt};
     ghost use Rattle.hc_service.specs.State.{Connection};
     ghost use Rattle.hc_service.specs.Turns.{after_leaving, after_octets, most_waiting};
-    ghost use Rattle.hc_core.specs.Links.{IsClient};
+    ghost use Rattle.hc_core.specs.Links.{IsClient, IsTrimmed};
 
     /// Takes in octets, which are dropped where nothing more is read.
     fn hear(&mut self, octets: &[u8]) -> Result<(), AllocError>
@@ -36,11 +36,22 @@ impl Client {
     }
 
     /// Whether more octets wait than may while a request waits for its reply.
-    pub(crate) fn is_over(&self) -> bool
+    fn is_over(&self) -> bool
         ensures { (k : Connection) (exchange : ℕ) → IsClient self.now k → k.exchange ≡ Some exchange
             → result ≡ nat_lt most_waiting (length k.unread) }
     {
         MOST_WAITING < self.reader.waiting()
+    }
+
+    /// Drops what waits where that is more than may, while a request waits for its reply.
+    pub(crate) fn trim(&mut self)
+        ensures { (k : Connection) (exchange : ℕ) → IsClient self.old k → k.exchange ≡ Some exchange
+            → IsTrimmed (nat_lt most_waiting (length k.unread)) self.new k }
+    {
+        if !self.is_over() {
+            return;
+        }
+        self.leave();
     }
 }
 

@@ -5,6 +5,7 @@ mod answering;
 mod asking;
 mod clients;
 mod desk;
+mod fault;
 mod links;
 mod machine;
 mod moving;
@@ -14,4 +15,5 @@ mod reading;
 mod sending;
 mod serving;
 
+pub use fault::CoreFault;
 pub use machine::Core;

@@ -3,49 +3,63 @@
 ghost use Rattle.std.specs.Prelude.{◌≡◌};
 
 use crate::desk::Desk;
+use crate::fault::CoreFault;
 use hc_events::Event;
-use hc_service::{Action, CoreSettings, Numbers, StepFault};
+use hc_service::{Action, CoreSettings, StepFault, is_name, is_size};
 use hc_store::Store;
-use std::alloc::{AllocError, Global};
-use std::collections::BTreeMap;
-use std::hash::BuildHasher;
+use lru::DefaultHasher;
+use std::alloc::Global;
+use std::hash::{BuildHasher, BuildHasherDefault};
 
 /// A shared cache in front of one origin, as a step function over what happens at its links.
 #[derive(Drop)]
-pub struct Core<S: BuildHasher> {
+pub struct Core<S: BuildHasher = DefaultHasher> {
     failed: bool,
     desk: Desk<S>,
 }
 
+impl Core<DefaultHasher> {
+    ghost use Rattle.hc_core.specs.Settings.{GivesCore};
+
+    /// A cache of those settings to which nothing has happened. Targets are hashed with a fixed seed; where an
+    /// attacker picks them, use `with_hasher` with a `RandomState`.
+    pub fn new(alloc: Global, settings: CoreSettings) -> Result<Self, CoreFault>
+        ensures { GivesCore result settings }
+    {
+        Core::with_hasher(alloc, settings, BuildHasherDefault::new())
+    }
+}
+
 impl<S: BuildHasher + Drop> Core<S> {
-    ghost use Rattle.std.specs.Prelude.{◌≢◌, ◌&&◌, ◌==◌, true, Err, IfOk};
+    ghost use Rattle.hc_core.specs.Settings.{GivesCore};
+
+    /// The same, whose store hashes targets with that.
+    pub fn with_hasher(alloc: Global, settings: CoreSettings, hasher: S) -> Result<Self, CoreFault>
+        ensures { GivesCore result settings }
+    {
+        if !is_name(settings.name.as_slice()) {
+            return Err(CoreFault::Name);
+        }
+        if !is_size(settings.keys) {
+            return Err(CoreFault::Size);
+        }
+        let store = Store::with_hasher(alloc, settings.keys, settings.bytes as usize, hasher)?;
+        Ok(Core {
+            failed: false,
+            desk: Desk::new(alloc, settings.name, store),
+        })
+    }
+}
+
+impl<S: BuildHasher> Core<S> {
+    ghost use Rattle.std.specs.Prelude.{◌≢◌, ◌&&◌, ◌==◌, true, IsErrOf};
     ghost use Rattle.std.specs.FinMap.{len};
     ghost use Rattle.hc_service.specs.declared.fault.StepFault.TheVariants.{Failed, Memory};
     ghost use Rattle.hc_service.specs.declared.fault.StepFault.{StepFault};
     ghost use Rattle.hc_service.specs.declared.settings.CoreSettings.{CoreSettings};
-    ghost use Rattle.hc_service.specs.Settings.{AreGood};
-    ghost use Rattle.hc_service.specs.State.{State, new_state};
+    ghost use Rattle.hc_service.specs.State.{State};
     ghost use Rattle.hc_core.specs.Standing.{IsReady};
     ghost use Rattle.hc_core.specs.Steps.{CanStep, GivesStep, StandsFor, has_failed};
-
-    /// A cache of good settings to which nothing has happened; its store hashes targets by the hasher.
-    pub fn with_hasher(alloc: Global, settings: CoreSettings, hasher: S) -> Result<Self, AllocError>
-        requires { AreGood settings }
-        ensures { IfOk result (λ core. StandsFor settings core (new_state settings)) }
-    {
-        Ok(Core {
-            failed: false,
-            desk: Desk {
-                alloc,
-                name: settings.name,
-                numbers: Numbers::new(),
-                clients: BTreeMap::new(alloc),
-                exchanges: BTreeMap::new(alloc),
-                links: BTreeMap::new(alloc),
-                store: Store::with_hasher(alloc, settings.keys, settings.bytes as usize, hasher)?,
-            },
-        })
-    }
 
     /// Something happens. Where memory is refused, no event is served any more; any other fault changes
     /// nothing, and of several the first is told: that it has failed, then those of `first_fault`.
@@ -57,9 +71,9 @@ impl<S: BuildHasher + Drop> Core<S> {
         ensures gives { (settings : CoreSettings) (s : State) → StandsFor settings self.old s → IsReady s
             → GivesStep result settings event s self.new }
         // What stands after a fault.
-        ensures failed { result ≡ Err Memory → has_failed self.new ≡ true }
-        ensures same { (fault : StepFault) → result ≡ Err fault → fault ≢ Memory → self.new ≡ self.old }
-        ensures failed_again { has_failed self.old ≡ true → result ≡ Err Failed }
+        ensures failed { IsErrOf result Memory → has_failed self.new ≡ true }
+        ensures same { (fault : StepFault) → IsErrOf result fault → fault ≢ Memory → self.new ≡ self.old }
+        ensures failed_again { has_failed self.old ≡ true → IsErrOf result Failed }
     {
         if self.failed {
             return Err(StepFault::Failed);

@@ -108,8 +108,8 @@ pub(crate) fn await_reply(
     client: Client,
     exchange: OpenExchange,
 ) -> Result<(), AllocError>
-    ensures exchanges { (waiting : Table OpenExchange) → AreExchanges exchanges.old waiting
-        → OnOk result (AreExchanges exchanges.new (insert waiting number exchange)) }
+    ensures exchanges { (table : Table OpenExchange) → AreExchanges exchanges.old table
+        → OnOk result (AreExchanges exchanges.new (insert table number exchange)) }
     ensures clients { (connections : Table Connection) (k : Connection) → AreClients clients.old connections
         → WillWait client number k → OnOk result (AreClients clients.new (insert connections exchange.connection k)) }
     ensures waits { OnOk result (waiting_at exchange.connection clients.new ≤ length (waiting client.reader)) }

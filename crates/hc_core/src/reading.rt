@@ -60,11 +60,16 @@ impl<S: BuildHasher> Desk<S> {
         let Some(client) = self.clients.remove(&c) else {
             return Ok(false);
         };
-        if client.exchange.is_some() {
-            self.wait(c, client)?;
-            return Ok(false);
+        match client.exchange {
+            Some(_) => {
+                self.wait(c, client)?;
+                Ok(false)
+            }
+            None => {
+                let more = self.read_idle(c, client, actions)?;
+                Ok(more)
+            }
         }
-        self.read_idle(c, client, actions)
     }
 
     /// A request waits for its reply on a connection, which was taken out: of the octets behind it no
@@ -75,9 +80,7 @@ impl<S: BuildHasher> Desk<S> {
             → get s.connections c ≡ Some k → IsClient client k → k.exchange ≡ Some exchange
             → OnOk result (GivesReading settings c false s items items self.new) }
     {
-        if client.is_over() {
-            client.leave();
-        }
+        client.trim();
         self.clients.insert(c, client)?;
         Ok(())
     }
