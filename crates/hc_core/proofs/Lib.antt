@@ -5,3 +5,5 @@ pub mod AskLemmas
 pub mod ReadLemmas
 pub mod EndLemmas
 pub mod CanLemmas
+pub mod TellLemmas
+pub mod ServeLemmas

@@ -24,7 +24,7 @@ some_one a b e = cc
 
 -- ---- turns one after another
 
-runs_on : (settings : CoreSettings) (turns more : List Turn) (s mid s' : State) (first rest : List Action) → Run settings turns s first mid → Run settings more mid rest s'
+pub runs_on : (settings : CoreSettings) (turns more : List Turn) (s mid s' : State) (first rest : List Action) → Run settings turns s first mid → Run settings more mid rest s'
     → Run settings (turns ++ more) s (first ++ rest) s'
 runs_on settings [] more s mid s' first rest run on =
     subst (λ (x : List Action × State). Run settings more x.1 (x.0 ++ rest) s') (λ i. (sym run.0 i, run.1 i)) on

@@ -128,3 +128,14 @@ module _ {Y : Type 0} where
       kept : (q : ℕ) (b : Bool) → eq_by_cmp nat_cmp q k ≡ b → cond b None (get t q) ≡ get t q
       kept q true same = sym none ∙ get_tied nat_cmp_total t q k (equal_of (nat_cmp q k) same)
       kept q false other = refl
+
+  -- to take out what was just put is to take out what was there
+  pub remove_put : (t : Table Y) (k : ℕ) (y : Y) → remove (insert t k y) k ≡ remove t k
+  remove_put t k y = same_map nat_cmp_total exact_unsigned _ _ (λ q.
+      get-remove nat_cmp_total (insert t k y) k q
+      ∙ ap (cond (eq_by_cmp nat_cmp q k) None) (get-insert nat_cmp_total t k y q)
+      ∙ twice (eq_by_cmp nat_cmp q k) None (Some y) (get t q) ∙ sym (get-remove nat_cmp_total t k q))
+    where
+      twice : (b : Bool) (out new kept : Option Y) → cond b out (cond b new kept) ≡ cond b out kept
+      twice true out new kept = refl
+      twice false out new kept = refl
