@@ -35,7 +35,7 @@ use Rattle.hc_core.proofs.TableLemmas.{put_back}
 abbrev pub wanted_by : List ℕ → ℕ → RequestHead → Bool → Wanted
 wanted_by name moment request closes = record { name = name; moment = moment; asked = request; closes = closes }
 
-module _ (S : Type 0) (settings : CoreSettings) (d : Desk S) (s : State) (c : ℕ) (k : Connection) (client : Client) (request : Message RequestHead) (target : Target) (size : ℕ) where
+module _ (S H : Type 0) (settings : CoreSettings) (d : Desk S H) (s : State) (c : ℕ) (k : Connection) (client : Client) (request : Message RequestHead) (target : Target) (size : ℕ) where
   -- the request has its record, and its reaction
   pub record HasReaction (closes : Bool) (exchange : ℕ) (numbers : Numbers) (before after : List Action) (reaction : Reaction) (store : Holdings) : Type 0 where
     pub closes_is : closes ≡ (ends_connection request.head || client.leaves)
@@ -46,7 +46,7 @@ module _ (S : Type 0) (settings : CoreSettings) (d : Desk S) (s : State) (c : �
         → Reacts (wanted_by d.name numbers.moment request.head closes) target request forwards d.store reaction store
 
   module _ (closes : Bool) (exchange : ℕ) (numbers : Numbers) (before mid : List Action) (reaction : Reaction) (store : Holdings)
-      (stands : Stands {S = S} settings d (without_connection c s)) (there : get s.connections c ≡ Some k) (is : IsAsked client k request target size)
+      (stands : Stands {S = S} {H = H} settings d (without_connection c s)) (there : get s.connections c ≡ Some k) (is : IsAsked client k request target size)
       (has : HasReaction closes exchange numbers before mid reaction store) where
     exchange_now : exchange ≡ one_more s.numbers.exchange
     exchange_now = has.exchange_is ∙ ap (λ (n : Numbers). one_more n.exchange) stands.numbers
@@ -80,18 +80,19 @@ module _ (S : Type 0) (settings : CoreSettings) (d : Desk S) (s : State) (c : �
         ∙ ap (λ (l : List Action). before ++ (ask_actions (one_more s.numbers.exchange) s.numbers.moment request ++ l)) same
 
   pub asks_reply : (closes : Bool) (exchange : ℕ) (n m : Numbers) (before mid after : List Action) (reply : Message ResponseHead) (store : Holdings) (clients : BTreeMap ℕ Client)
-      → Stands {S = S} settings d (without_connection c s) → get s.connections c ≡ Some k → IsAsked client k request target size
+      → Stands {S = S} {H = H} settings d (without_connection c s) → get s.connections c ≡ Some k → IsAsked client k request target size
       → HasReaction closes exchange n before mid (Replies reply None) store
       → m ≡ noted n
       → AreClients clients (cond closes (remove s.connections c) (insert (remove s.connections c) c (after_reply (drop size k.unread) k)))
       → after ≡ mid ++ reply_actions exchange n.moment (is_head request.head.method) c closes reply
-      → GivesTurn {S = S} settings (Asking c) s before after
+      → GivesTurn {S = S} {H = H} settings (Asking c) s before after
       (record { alloc = d.alloc; name = d.name; numbers = m; clients = clients; exchanges = d.exchanges; links = d.links; store = store })
   asks_reply closes exchange n m before mid after reply store clients stands there is has noted-are are actions =
       let e = exchange_now closes exchange n before mid (Replies reply None) store stands there is has in
       let t = moment_now closes exchange n before mid (Replies reply None) store stands there is has in
       let b = closes_now closes exchange n before mid (Replies reply None) store stands there is has in
       let behind = drop size k.unread in
+      let answer : List Action = reply_actions (one_more s.numbers.exchange) s.numbers.moment (is_head request.head.method) c (closes_behind request.head k) reply in
       record {
         state = record {
           numbers = noted (asked s.numbers);
@@ -110,8 +111,8 @@ module _ (S : Type 0) (settings : CoreSettings) (d : Desk S) (s : State) (c : �
           in_time = stands.in_time;
         };
         takes = (
-          _,
-          behind_asked closes exchange n before mid (Replies reply None) store stands there is has after _ _ actions
+          ask_actions (one_more s.numbers.exchange) s.numbers.moment request ++ answer,
+          behind_asked closes exchange n before mid (Replies reply None) store stands there is has after (reply_actions exchange n.moment (is_head request.head.method) c closes reply) answer actions
               (λ i. reply_actions (e i) (t i) (is_head request.head.method) c (b i) reply),
           record {
             connection = k;
@@ -130,20 +131,21 @@ module _ (S : Type 0) (settings : CoreSettings) (d : Desk S) (s : State) (c : �
 
   pub asks_forward : (closes : Bool) (exchange : ℕ) (n m : Numbers) (before mid after : List Action) (forward : Message RequestHead) (why : Cause) (store : Holdings)
       (clients : BTreeMap ℕ Client) (exchanges : BTreeMap ℕ OpenExchange) (links : BTreeMap ℕ Link)
-      → Stands {S = S} settings d (without_connection c s) → get s.connections c ≡ Some k → IsAsked client k request target size
+      → Stands {S = S} {H = H} settings d (without_connection c s) → get s.connections c ≡ Some k → IsAsked client k request target size
       → HasReaction closes exchange n before mid (Sends forward why false) store
       → m ≡ sent n
       → AreLinks links (insert s.forwards (one_more n.forward) (sent_forward forward.head target n.moment (purpose.Reply exchange why false)))
       → AreExchanges exchanges (insert s.exchanges exchange (record { connection = c; request = request.head; target = target }))
       → AreClients clients (insert (remove s.connections c) c (after_request exchange (drop size k.unread) k))
       → after ≡ mid ++ send_actions (one_more n.forward) n.moment forward
-      → GivesTurn {S = S} settings (Asking c) s before after
+      → GivesTurn {S = S} {H = H} settings (Asking c) s before after
       (record { alloc = d.alloc; name = d.name; numbers = m; clients = clients; exchanges = exchanges; links = links; store = store })
   asks_forward closes exchange n m before mid after forward why store clients exchanges links stands there is has sent-are are-links are-exchanges are actions =
       let e = exchange_now closes exchange n before mid (Sends forward why false) store stands there is has in
       let t = moment_now closes exchange n before mid (Sends forward why false) store stands there is has in
       let f = forward_now closes exchange n before mid (Sends forward why false) store stands there is has in
       let behind = drop size k.unread in
+      let sends : List Action = send_actions (one_more s.numbers.forward) s.numbers.moment forward in
       record {
         state = record {
           numbers = sent (asked s.numbers);
@@ -164,8 +166,8 @@ module _ (S : Type 0) (settings : CoreSettings) (d : Desk S) (s : State) (c : �
           in_time = stands.in_time;
         };
         takes = (
-          _,
-          behind_asked closes exchange n before mid (Sends forward why false) store stands there is has after _ _ actions
+          ask_actions (one_more s.numbers.exchange) s.numbers.moment request ++ sends,
+          behind_asked closes exchange n before mid (Sends forward why false) store stands there is has after (send_actions (one_more n.forward) n.moment forward) sends actions
               (λ i. send_actions (f i) (t i) forward),
           record {
             connection = k;

@@ -28,31 +28,31 @@ request_can_read r octets agrees = inl (record { kind = Request; room = RECEIVED
 pub response_can_read : (to_head : Bool) (r : ResponseReader) (octets : List ℕ) → responses.Agrees to_head r octets → responses.CanRead r
 response_can_read to_head r octets agrees = inl (record { kind = Response to_head; room = RECEIVED; octets = agrees.rest; agrees = agrees.reads })
 
-module _ (S : Type 0) (d : Desk S) where
+module _ (S H : Type 0) (d : Desk S H) where
   -- its moment lies before the year 10000
-  pub is_in_time : CanServe {S = S} d → d.numbers.moment < end_of_moments
+  pub is_in_time : CanServe {S = S} {H = H} d → d.numbers.moment < end_of_moments
   is_in_time can = subst (λ (n : Numbers). n.moment < end_of_moments) (sym can.stands.numbers) can.stands.in_time
 
   -- it can read what comes
-  pub can_read_client : (c : ℕ) (client : Client) → CanServe {S = S} d → Some client ≡ kept_at nat_cmp d.clients c → requests.CanRead client.reader
+  pub can_read_client : (c : ℕ) (client : Client) → CanServe {S = S} {H = H} d → Some client ≡ kept_at nat_cmp d.clients c → requests.CanRead client.reader
   can_read_client c client can is =
       let k = found IsClient _ _ client (can.stands.clients.at c) (sym is) in request_can_read client.reader k.0.unread k.2.reads
 
-  pub can_read_link : (f : ℕ) (link : Link) → CanServe {S = S} d → Some link ≡ kept_at nat_cmp d.links f → responses.CanRead link.reader
+  pub can_read_link : (f : ℕ) (link : Link) → CanServe {S = S} {H = H} d → Some link ≡ kept_at nat_cmp d.links f → responses.CanRead link.reader
   can_read_link f link can is =
       let a = found IsLink _ _ link (can.stands.links.at f) (sym is) in response_can_read _ link.reader a.0.heard a.2.reads
 
   -- behind turns
-  pub can_behind_turn : (settings : CoreSettings) (turn : Turn) (s : State) (a z : List Action) → GivesTurn {S = S} settings turn s a z d → CanServe {S = S} d
+  pub can_behind_turn : (settings : CoreSettings) (turn : Turn) (s : State) (a z : List Action) → GivesTurn {S = S} {H = H} settings turn s a z d → CanServe {S = S} {H = H} d
   can_behind_turn settings turn s a z gives = record { settings = settings; state = gives.state; stands = gives.stands }
 
-  pub can_behind_reading : (settings : CoreSettings) (c : ℕ) (more : Bool) (s : State) (a z : List Action) → GivesReading {S = S} settings c more s a z d → CanServe {S = S} d
+  pub can_behind_reading : (settings : CoreSettings) (c : ℕ) (more : Bool) (s : State) (a z : List Action) → GivesReading {S = S} {H = H} settings c more s a z d → CanServe {S = S} {H = H} d
   can_behind_reading settings c more s a z gives = record { settings = settings; state = gives.state; stands = gives.stands }
 
-  pub can_behind_ending : (settings : CoreSettings) (turn : Turn) (f : ℕ) (client : Option ℕ) (s : State) (a z : List Action) → GivesEnding {S = S} settings turn f client s a z d
-      → CanServe {S = S} d
+  pub can_behind_ending : (settings : CoreSettings) (turn : Turn) (f : ℕ) (client : Option ℕ) (s : State) (a z : List Action) → GivesEnding {S = S} {H = H} settings turn f client s a z d
+      → CanServe {S = S} {H = H} d
   can_behind_ending settings turn f client s a z gives = record { settings = settings; state = gives.state; stands = gives.stands }
 
-  pub can_behind_telling : (settings : CoreSettings) (f : ℕ) (octets : List ℕ) (client : Option ℕ) (s : State) (a z : List Action) → GivesTelling {S = S} settings f octets client s a z d
-      → CanServe {S = S} d
+  pub can_behind_telling : (settings : CoreSettings) (f : ℕ) (octets : List ℕ) (client : Option ℕ) (s : State) (a z : List Action) → GivesTelling {S = S} {H = H} settings f octets client s a z d
+      → CanServe {S = S} {H = H} d
   can_behind_telling settings f octets client s a z gives = record { settings = settings; state = gives.state; stands = gives.stands }

@@ -13,7 +13,7 @@ use Rattle.hc_core.specs.declared.links.Client.{Client}
 use Rattle.hc_core.specs.Links.{AreClients}
 use Rattle.hc_core.specs.Standing.{GivesTurn, Stands}
 
-module _ (S : Type 0) (settings : CoreSettings) (d : Desk S) (s : State) where
+module _ (S H : Type 0) (settings : CoreSettings) (d : Desk S H) (s : State) where
   -- the state with other connections
   abbrev pub connected : Table Connection → State
   connected connections = record {
@@ -25,8 +25,8 @@ module _ (S : Type 0) (settings : CoreSettings) (d : Desk S) (s : State) where
   }
 
   -- what is kept with other connections is that of the state with them
-  pub stands_connected : (clients : BTreeMap ℕ Client) (connections : Table Connection) → Stands {S = S} settings d s → AreClients clients connections
-      → Stands {S = S} settings (record { alloc = d.alloc; name = d.name; numbers = d.numbers; clients = clients; exchanges = d.exchanges; links = d.links; store = d.store }) (connected connections)
+  pub stands_connected : (clients : BTreeMap ℕ Client) (connections : Table Connection) → Stands {S = S} {H = H} settings d s → AreClients clients connections
+      → Stands {S = S} {H = H} settings (record { alloc = d.alloc; name = d.name; numbers = d.numbers; clients = clients; exchanges = d.exchanges; links = d.links; store = d.store }) (connected connections)
   stands_connected clients connections stands are = record {
     name = stands.name;
     numbers = stands.numbers;
@@ -37,9 +37,9 @@ module _ (S : Type 0) (settings : CoreSettings) (d : Desk S) (s : State) where
     in_time = stands.in_time;
   }
 
-  pub opened : (c : ℕ) (numbers : Numbers) (clients : BTreeMap ℕ Client) → Stands {S = S} settings d s → is_later c s.numbers.connection ≡ true → len s.connections < most_connections
+  pub opened : (c : ℕ) (numbers : Numbers) (clients : BTreeMap ℕ Client) → Stands {S = S} {H = H} settings d s → is_later c s.numbers.connection ≡ true → len s.connections < most_connections
       → numbers ≡ after_opening c d.numbers → AreClients clients (insert s.connections c new_connection)
-      → GivesTurn {S = S} settings (Opening c) s [] [] (record { alloc = d.alloc; name = d.name; numbers = numbers; clients = clients; exchanges = d.exchanges; links = d.links; store = d.store })
+      → GivesTurn {S = S} {H = H} settings (Opening c) s [] [] (record { alloc = d.alloc; name = d.name; numbers = numbers; clients = clients; exchanges = d.exchanges; links = d.links; store = d.store })
   opened c numbers clients stands later place is are = record {
     state = record {
       numbers = after_opening c s.numbers;
@@ -73,9 +73,9 @@ module _ (S : Type 0) (settings : CoreSettings) (d : Desk S) (s : State) where
     );
   }
 
-  pub heard : (c : ℕ) (octets : List ℕ) (k : Connection) (clients : BTreeMap ℕ Client) → Stands {S = S} settings d s → get s.connections c ≡ Some k
+  pub heard : (c : ℕ) (octets : List ℕ) (k : Connection) (clients : BTreeMap ℕ Client) → Stands {S = S} {H = H} settings d s → get s.connections c ≡ Some k
       → AreClients clients (insert s.connections c (after_octets octets k))
-      → GivesTurn {S = S} settings (Hearing c octets) s [] [] (record { alloc = d.alloc; name = d.name; numbers = d.numbers; clients = clients; exchanges = d.exchanges; links = d.links; store = d.store })
+      → GivesTurn {S = S} {H = H} settings (Hearing c octets) s [] [] (record { alloc = d.alloc; name = d.name; numbers = d.numbers; clients = clients; exchanges = d.exchanges; links = d.links; store = d.store })
   heard c octets k clients stands there are = record {
     state = connected (insert s.connections c (after_octets octets k));
     stands = stands_connected clients _ stands are;

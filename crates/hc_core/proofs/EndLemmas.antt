@@ -1,5 +1,6 @@
 -- A forward ends: what that makes of each part.
 use Rattle.std.proofs.Common.{append_assoc, ◌≡◌, ℕ, Bool, true, false, ◌||◌, cond, List, ◌++◌, Option, Some, None, refl, sym, ap, ◌∙◌, subst}
+use Rattle.std.specs.BTreeMap.{BTreeMap}
 use Rattle.std.specs.FinMap.{get, insert, remove}
 use Rattle.std.specs.Option.{IsSome, option_map, option_and_then}
 use Rattle.hc_head.specs.declared.head.ResponseHead.{ResponseHead}
@@ -26,6 +27,8 @@ use Rattle.hc_service.specs.State.{State, Connection, Awaited}
 use Rattle.hc_service.specs.Turns.{Answers, Breaks, EndsBehind, EndsByFailure, EndsByResponse, EndsFor, Failure, HasFailure, IsAnswer, after_reply, closes_behind, is_closed, replied, wanted_now}
 use Rattle.hc_core.specs.declared.answering.Waiting.{Waiting}
 use Rattle.hc_core.specs.declared.desk.Desk.{Desk}
+use Rattle.hc_core.specs.declared.links.Client.{Client}
+use Rattle.hc_core.specs.declared.links.Link.{Link}
 use Rattle.hc_core.specs.Ending.{GivesReply, IsMissing, IsTaken, is_last, wanted_of}
 use Rattle.hc_core.specs.Links.{AreClients, AreExchanges, AreLinks}
 use Rattle.hc_core.specs.Standing.{GivesEnding, HasExchange, IsReady, Stands, without_forward}
@@ -33,15 +36,15 @@ use Rattle.hc_core.proofs.TableLemmas.{put_back}
 
 -- what is there is something
 there_is : {X : Type 0} (o : Option X) → IsSome o → (x : X) × (o ≡ Some x)
-there_is None some = absurd (cc)
+there_is None some = cc
 there_is (Some x) some = (x, refl)
 
 none_is_some : {X : Type 0} (o : Option X) → o ≡ None → IsSome o → ⊥
 none_is_some None is some = cc
 none_is_some (Some x) is some = cc
 
-module _ (S : Type 0) (settings : CoreSettings) (d : Desk S) (s : State) (f : ℕ) (awaited : Awaited) (forward : OpenForward)
-    (stands : Stands {S = S} settings d (without_forward f s)) (there : get s.forwards f ≡ Some awaited) (same : awaited.forward ≡ forward) where
+module _ (S H : Type 0) (settings : CoreSettings) (d : Desk S H) (s : State) (f : ℕ) (awaited : Awaited) (forward : OpenForward)
+    (stands : Stands {S = S} {H = H} settings d (without_forward f s)) (there : get s.forwards f ≡ Some awaited) (same : awaited.forward ≡ forward) where
   -- the connection of the request that waits for the forward
   pub client_is : (p : Purpose) → forward.purpose ≡ p → client_of f s ≡ client_by s.exchanges p
   client_is p is =
@@ -79,23 +82,23 @@ module _ (S : Type 0) (settings : CoreSettings) (d : Desk S) (s : State) (f : �
   -- ---- once the end has its record
 
   -- what the end makes of the parts before the request that waits is looked for
-  pub record HasEnded (first before after : List Action) (mid : Desk S) : Type 0 where
+  pub record HasEnded (first before after : List Action) (mid : Desk S H) : Type 0 where
     pub name : mid.name ≡ d.name
     pub numbers : mid.numbers ≡ noted d.numbers
     pub links : mid.links ≡ d.links
     pub actions : after ≡ before ++ first
 
-  numbers_ended : (first before after : List Action) (mid : Desk S) → HasEnded first before after mid → mid.numbers ≡ noted s.numbers
+  numbers_ended : (first before after : List Action) (mid : Desk S H) → HasEnded first before after mid → mid.numbers ≡ noted s.numbers
   numbers_ended first before after mid ended = ended.numbers ∙ ap noted stands.numbers
 
-  links_ended : (first before after : List Action) (mid : Desk S) → HasEnded first before after mid → AreLinks mid.links (remove s.forwards f)
-  links_ended first before after mid ended = subst (λ (l : _). AreLinks l (remove s.forwards f)) (sym ended.links) stands.links
+  links_ended : (first before after : List Action) (mid : Desk S H) → HasEnded first before after mid → AreLinks mid.links (remove s.forwards f)
+  links_ended first before after mid ended = subst (λ (l : BTreeMap ℕ Link). AreLinks l (remove s.forwards f)) (sym ended.links) stands.links
 
   -- nobody waits for it
-  pub ends_behind : (turn : Turn) (first before after : List Action) (mid : Desk S) → HasEnded first before after mid → mid.clients ≡ d.clients → mid.exchanges ≡ d.exchanges
+  pub ends_behind : (turn : Turn) (first before after : List Action) (mid : Desk S H) → HasEnded first before after mid → mid.clients ≡ d.clients → mid.exchanges ≡ d.exchanges
       → forward.purpose ≡ purpose.Background
       → ((added : List Action) (s' : State) → s'.store ≡ mid.store → EndsBehind f first s added s' → Takes settings turn s added s')
-      → GivesEnding {S = S} settings turn f None s before after mid
+      → GivesEnding {S = S} {H = H} settings turn f None s before after mid
   ends_behind turn first before after mid ended clients exchanges is takes =
       let left : State = record {
         numbers = noted s.numbers;
@@ -109,8 +112,8 @@ module _ (S : Type 0) (settings : CoreSettings) (d : Desk S) (s : State) (f : �
         stands = record {
           name = ended.name ∙ stands.name;
           numbers = numbers_ended first before after mid ended;
-          clients = subst (λ (x : _). AreClients x s.connections) (sym clients) stands.clients;
-          exchanges = subst (λ (x : _). AreExchanges x s.exchanges) (sym exchanges) stands.exchanges;
+          clients = subst (λ (x : BTreeMap ℕ Client). AreClients x s.connections) (sym clients) stands.clients;
+          exchanges = subst (λ (x : BTreeMap ℕ OpenExchange). AreExchanges x s.exchanges) (sym exchanges) stands.exchanges;
           links = links_ended first before after mid ended;
           store = refl;
           in_time = stands.in_time;
@@ -123,8 +126,8 @@ module _ (S : Type 0) (settings : CoreSettings) (d : Desk S) (s : State) (f : �
 
   module _ (e : ℕ) (why : Cause) (conditional : Bool) (is : forward.purpose ≡ purpose.Reply e why conditional) where
     -- the request that waits for it isn't there, so that the forward can't end
-    pub ends_missing : (turn : Turn) (first before after : List Action) (mid : Desk S) → HasEnded first before after mid
-        → IsMissing e s.exchanges s.connections mid.exchanges mid.clients → GivesEnding {S = S} settings turn f None s before after mid
+    pub ends_missing : (turn : Turn) (first before after : List Action) (mid : Desk S H) → HasEnded first before after mid
+        → IsMissing e s.exchanges s.connections mid.exchanges mid.clients → GivesEnding {S = S} {H = H} settings turn f None s before after mid
     ends_missing turn first before after mid ended missing = record {
       state = record {
         numbers = noted s.numbers;
@@ -152,11 +155,11 @@ module _ (S : Type 0) (settings : CoreSettings) (d : Desk S) (s : State) (f : �
             none_is_some (get s.connections waits.0.connection) (missing.no_connection waits.0 waits.1) (ready.connections e waits.0 waits.1)
 
     -- the request that waits for it gets its reply
-    pub ends_with_reply : (turn : Turn) (decides : Wanted → Outcome → Holdings → Type 0) (first before after last : List Action) (mid new : Desk S) (w : Waiting)
+    pub ends_with_reply : (turn : Turn) (decides : Wanted → Outcome → Holdings → Type 0) (first before after last : List Action) (mid new : Desk S H) (w : Waiting)
         → HasEnded first before after mid → IsTaken e w s.exchanges s.connections mid.exchanges mid.clients
-        → GivesReply {S = S} w (λ reply old fresh. decides (wanted_of mid w) (Replies reply) fresh) after last mid new
+        → GivesReply {S = S} {H = H} w (λ reply old fresh. decides (wanted_of mid w) (Replies reply) fresh) after last mid new
         → ((added : List Action) (s' : State) → EndsFor settings decides f e why first s added s' → Takes settings turn s added s')
-        → GivesEnding {S = S} settings turn f (Some w.exchange.connection) s before last new
+        → GivesEnding {S = S} {H = H} settings turn f (Some w.exchange.connection) s before last new
     ends_with_reply turn decides first before after last mid new w ended taken gives takes =
         let x = w.exchange in
         let k = taken.connection in
@@ -184,8 +187,8 @@ module _ (S : Type 0) (settings : CoreSettings) (d : Desk S) (s : State) (f : �
                 (λ i. cond (b i) (remove s.connections x.connection) (put_back s.connections x.connection (after_reply k.unread k) i))
                 (gives.clients (remove s.connections x.connection) (after_reply k.unread k) taken.are_clients
                 (record { reads = taken.is_client.reads; exchange = refl; leaves = taken.is_client.leaves }));
-            exchanges = subst (λ (y : _). AreExchanges y (remove s.exchanges e)) (sym gives.exchanges) taken.are_exchanges;
-            links = subst (λ (y : _). AreLinks y (remove s.forwards f)) (sym gives.links) (links_ended first before after mid ended);
+            exchanges = subst (λ (y : BTreeMap ℕ OpenExchange). AreExchanges y (remove s.exchanges e)) (sym gives.exchanges) taken.are_exchanges;
+            links = subst (λ (y : BTreeMap ℕ Link). AreLinks y (remove s.forwards f)) (sym gives.links) (links_ended first before after mid ended);
             store = refl;
             in_time = stands.in_time;
           };

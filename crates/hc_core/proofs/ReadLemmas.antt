@@ -7,6 +7,7 @@ use Rattle.std.specs.List.{AllByRecursion}
 use Rattle.hc_links.specs.Requests.{IsRefused}
 use Rattle.hc_replies.specs.Replies.{generated_reply}
 use Rattle.hc_service.specs.declared.action.Action.{Action}
+use Rattle.hc_service.specs.declared.numbers.Numbers.{Numbers}
 use Rattle.hc_service.specs.declared.settings.CoreSettings.{CoreSettings}
 use Rattle.hc_service.specs.Sending.{refusal_actions}
 use Rattle.hc_service.specs.Serves.{IsQuietAt, IsQuietBy, Reads, Run, Turn}
@@ -35,10 +36,10 @@ all_on : (c : ℕ) (turns more : List Turn) → AllByRecursion (Reads c) turns �
 all_on c [] more all on = on
 all_on c (turn ∷ turns) more all on = (all.0, all_on c turns more all.1 on)
 
-module _ (S : Type 0) (settings : CoreSettings) (c : ℕ) where
+module _ (S H : Type 0) (settings : CoreSettings) (c : ℕ) where
   -- what is read from here on is read behind what was read so far
-  pub reads_on : (d e : Desk S) (so_far more : Bool) (s : State) (a b z : List Action) (first : GivesReading {S = S} settings c so_far s a b d)
-      → GivesReading {S = S} settings c more first.state b z e → GivesReading {S = S} settings c more s a z e
+  pub reads_on : (d e : Desk S H) (so_far more : Bool) (s : State) (a b z : List Action) (first : GivesReading {S = S} {H = H} settings c so_far s a b d)
+      → GivesReading {S = S} {H = H} settings c more first.state b z e → GivesReading {S = S} {H = H} settings c more s a z e
   reads_on d e so_far more s a b z first next = record {
     state = next.state;
     stands = next.stands;
@@ -53,7 +54,7 @@ module _ (S : Type 0) (settings : CoreSettings) (c : ℕ) where
   }
 
   -- nothing was read yet
-  pub reads_none : (d : Desk S) (s : State) (items : List Action) → Stands {S = S} settings d s → GivesReading {S = S} settings c true s items items d
+  pub reads_none : (d : Desk S H) (s : State) (items : List Action) → Stands {S = S} {H = H} settings d s → GivesReading {S = S} {H = H} settings c true s items items d
   reads_none d s items stands = record {
     state = s;
     stands = stands;
@@ -64,8 +65,8 @@ module _ (S : Type 0) (settings : CoreSettings) (c : ℕ) where
   }
 
   -- one turn reads
-  pub reads_one : (d : Desk S) (turn : Turn) (more : Bool) (s : State) (a z : List Action) (gives : GivesTurn {S = S} settings turn s a z d) → Reads c turn
-      → (more ≡ false → IsQuietAt c gives.state) → GivesReading {S = S} settings c more s a z d
+  pub reads_one : (d : Desk S H) (turn : Turn) (more : Bool) (s : State) (a z : List Action) (gives : GivesTurn {S = S} {H = H} settings turn s a z d) → Reads c turn
+      → (more ≡ false → IsQuietAt c gives.state) → GivesReading {S = S} {H = H} settings c more s a z d
   reads_one d turn more s a z gives reads quiet = record {
     state = gives.state;
     stands = gives.stands;
@@ -75,10 +76,10 @@ module _ (S : Type 0) (settings : CoreSettings) (c : ℕ) where
     quiet = quiet;
   }
 
-  module _ (d : Desk S) (s : State) (k : Connection) (stands : Stands {S = S} settings d (without_connection c s)) (there : get s.connections c ≡ Some k) where
+  module _ (d : Desk S H) (s : State) (k : Connection) (stands : Stands {S = S} {H = H} settings d (without_connection c s)) (there : get s.connections c ≡ Some k) where
     -- a connection that is put back as it was
     pub reads_nothing : (clients : BTreeMap ℕ Client) (items : List Action) → AreClients clients (insert (remove s.connections c) c k) → IsQuietBy k.exchange k.unread
-        → GivesReading {S = S} settings c false s items items
+        → GivesReading {S = S} {H = H} settings c false s items items
         (record { alloc = d.alloc; name = d.name; numbers = d.numbers; clients = clients; exchanges = d.exchanges; links = d.links; store = d.store })
     reads_nothing clients items are quiet = record {
       state = s;
@@ -100,7 +101,7 @@ module _ (S : Type 0) (settings : CoreSettings) (c : ℕ) where
     -- octets that waited are dropped
     pub reads_dropping : (clients : BTreeMap ℕ Client) (items : List Action) (exchange : ℕ) → AreClients clients (insert (remove s.connections c) c (after_leaving k))
         → k.exchange ≡ Some exchange → most_waiting < length k.unread
-        → GivesReading {S = S} settings c false s items items
+        → GivesReading {S = S} {H = H} settings c false s items items
         (record { alloc = d.alloc; name = d.name; numbers = d.numbers; clients = clients; exchanges = d.exchanges; links = d.links; store = d.store })
     reads_dropping clients items exchange are waits over =
         let left : State = record {
@@ -145,14 +146,14 @@ module _ (S : Type 0) (settings : CoreSettings) (c : ℕ) where
     -- what came is refused
     pub reads_refusal : (status : ℕ) (a z : List Action) → k.exchange ≡ None → IsRefused k.unread status
         → z ≡ a ++ refusal_actions c (generated_reply status d.numbers.moment true)
-        → GivesReading {S = S} settings c false s a z d
+        → GivesReading {S = S} {H = H} settings c false s a z d
     reads_refusal status a z idle refused actions =
         reads_one d (Refusal c status) false s a z (record {
           state = without_connection c s;
           stands = stands;
           takes = (
             refusal_actions c (generated_reply status s.numbers.moment true),
-            actions ∙ ap (λ n. a ++ refusal_actions c (generated_reply status n.moment true)) stands.numbers,
+            actions ∙ ap (λ (n : Numbers). a ++ refusal_actions c (generated_reply status n.moment true)) stands.numbers,
             record {
               connection = k;
               is_open = there;
@@ -173,9 +174,9 @@ module _ (S : Type 0) (settings : CoreSettings) (c : ℕ) where
         none_some q e = cc
 
   -- no such connection is open
-  pub reads_absent : (d : Desk S) (s : State) (clients : BTreeMap ℕ Client) (items : List Action) → Stands {S = S} settings d s → get s.connections c ≡ None
+  pub reads_absent : (d : Desk S H) (s : State) (clients : BTreeMap ℕ Client) (items : List Action) → Stands {S = S} {H = H} settings d s → get s.connections c ≡ None
       → AreClients clients (remove s.connections c)
-      → GivesReading {S = S} settings c false s items items
+      → GivesReading {S = S} {H = H} settings c false s items items
       (record { alloc = d.alloc; name = d.name; numbers = d.numbers; clients = clients; exchanges = d.exchanges; links = d.links; store = d.store })
   reads_absent d s clients items stands none are = record {
     state = s;
@@ -198,8 +199,8 @@ module _ (S : Type 0) (settings : CoreSettings) (c : ℕ) where
       no_one q e = cc
 
   -- a client that is taken out leaves what the state without it has
-  pub taken_out : (d : Desk S) (s : State) (clients : BTreeMap ℕ Client) → Stands {S = S} settings d s → AreClients clients (remove s.connections c)
-      → Stands {S = S} settings (record { alloc = d.alloc; name = d.name; numbers = d.numbers; clients = clients; exchanges = d.exchanges; links = d.links; store = d.store })
+  pub taken_out : (d : Desk S H) (s : State) (clients : BTreeMap ℕ Client) → Stands {S = S} {H = H} settings d s → AreClients clients (remove s.connections c)
+      → Stands {S = S} {H = H} settings (record { alloc = d.alloc; name = d.name; numbers = d.numbers; clients = clients; exchanges = d.exchanges; links = d.links; store = d.store })
       (without_connection c s)
   taken_out d s clients stands are = record {
     name = stands.name;
@@ -212,11 +213,11 @@ module _ (S : Type 0) (settings : CoreSettings) (c : ℕ) where
   }
 
   -- what a connection that was trimmed gives
-  pub reads_trimmed : (d : Desk S) (s : State) (k : Connection) (client : Client) (clients : BTreeMap ℕ Client) (items : List Action) (exchange : ℕ) (over : Bool)
-      → Stands {S = S} settings d (without_connection c s) → get s.connections c ≡ Some k → k.exchange ≡ Some exchange
+  pub reads_trimmed : (d : Desk S H) (s : State) (k : Connection) (client : Client) (clients : BTreeMap ℕ Client) (items : List Action) (exchange : ℕ) (over : Bool)
+      → Stands {S = S} {H = H} settings d (without_connection c s) → get s.connections c ≡ Some k → k.exchange ≡ Some exchange
       → nat_lt most_waiting (length k.unread) ≡ over → IsTrimmed over client k
       → ((q : Connection) → IsClient client q → AreClients clients (insert (remove s.connections c) c q))
-      → GivesReading {S = S} settings c false s items items
+      → GivesReading {S = S} {H = H} settings c false s items items
       (record { alloc = d.alloc; name = d.name; numbers = d.numbers; clients = clients; exchanges = d.exchanges; links = d.links; store = d.store })
   reads_trimmed d s k client clients items exchange true stands there waits over is put =
       reads_dropping d s k stands there clients items exchange (put (after_leaving k) is) waits (ltb-true most_waiting (length k.unread) over)

@@ -17,14 +17,14 @@ use Rattle.hc_core.specs.declared.desk.Desk.{Desk}
 use Rattle.hc_core.specs.Standing.{DoesTelling, GivesEnd, GivesEnding, GivesReading, GivesReadingBehind, GivesService, GivesTelling, GivesTurn, IsReady, Stands}
 use Rattle.hc_core.proofs.ReadLemmas.{runs_on}
 
-module _ (S : Type 0) (settings : CoreSettings) (event : Event) (s : State) where
+module _ (S H : Type 0) (settings : CoreSettings) (event : Event) (s : State) where
   -- the state at the moment of the event
   abbrev pub now_state : State
   now_state = passed_to event.moment s
 
   -- the moment has come
-  pub passed : (d : Desk S) (numbers : Numbers) → Stands {S = S} settings d s → event.moment < end_of_moments → numbers ≡ at_moment event.moment d.numbers
-      → Stands {S = S} settings
+  pub passed : (d : Desk S H) (numbers : Numbers) → Stands {S = S} {H = H} settings d s → event.moment < end_of_moments → numbers ≡ at_moment event.moment d.numbers
+      → Stands {S = S} {H = H} settings
       (record { alloc = d.alloc; name = d.name; numbers = numbers; clients = d.clients; exchanges = d.exchanges; links = d.links; store = d.store }) now_state
   passed d numbers stands in-time is = record {
     name = stands.name;
@@ -52,7 +52,7 @@ module _ (S : Type 0) (settings : CoreSettings) (event : Event) (s : State) wher
   alone : (all added : List Action) → all ≡ [] ++ added → added ≡ all
   alone all added is = sym is
 
-  pub serves_opening : (c : ℕ) (d : Desk S) → event.of ≡ ClientOpened c → GivesTurn {S = S} settings (Opening c) now_state [] [] d → GivesService {S = S} settings event s [] d
+  pub serves_opening : (c : ℕ) (d : Desk S H) → event.of ≡ ClientOpened c → GivesTurn {S = S} {H = H} settings (Opening c) now_state [] [] d → GivesService {S = S} {H = H} settings event s [] d
   serves_opening c d is gives = record {
     state = gives.state;
     stands = gives.stands;
@@ -60,9 +60,9 @@ module _ (S : Type 0) (settings : CoreSettings) (event : Event) (s : State) wher
         (gives.state, gives.takes.0, [], gives.takes.2, gives.takes.1 ∙ sym (append-nil gives.takes.0), (refl, refl));
   }
 
-  pub serves_hearing : (c : ℕ) (octets : List ℕ) (mid d : Desk S) (actions : List Action) → event.of ≡ ClientBytes c octets
-      → (first : GivesTurn {S = S} settings (Hearing c octets) now_state [] [] mid) → GivesReading {S = S} settings c false first.state [] actions d
-      → GivesService {S = S} settings event s actions d
+  pub serves_hearing : (c : ℕ) (octets : List ℕ) (mid d : Desk S H) (actions : List Action) → event.of ≡ ClientBytes c octets
+      → (first : GivesTurn {S = S} {H = H} settings (Hearing c octets) now_state [] [] mid) → GivesReading {S = S} {H = H} settings c false first.state [] actions d
+      → GivesService {S = S} {H = H} settings event s actions d
   serves_hearing c octets mid d actions is first next = record {
     state = next.state;
     stands = next.stands;
@@ -70,8 +70,8 @@ module _ (S : Type 0) (settings : CoreSettings) (event : Event) (s : State) wher
         (first.state, first.takes.0, next.runs.0, first.takes.2, next.runs.1 ∙ ap (λ (l : List Action). l ++ next.runs.0) first.takes.1, next.runs.2);
   }
 
-  pub serves_end : (c : ℕ) (k : Connection) (d : Desk S) (actions : List Action) → event.of ≡ ClientEnd c → get s.connections c ≡ Some k
-      → GivesEnd {S = S} settings c k now_state [] actions d → GivesService {S = S} settings event s actions d
+  pub serves_end : (c : ℕ) (k : Connection) (d : Desk S H) (actions : List Action) → event.of ≡ ClientEnd c → get s.connections c ≡ Some k
+      → GivesEnd {S = S} {H = H} settings c k now_state [] actions d → GivesService {S = S} {H = H} settings event s actions d
   serves_end c k d actions is there gives = record {
     state = gives.state;
     stands = gives.stands;
@@ -80,8 +80,8 @@ module _ (S : Type 0) (settings : CoreSettings) (event : Event) (s : State) wher
   }
 
   -- a forward ends by one turn, and behind it a connection is read on
-  ends_then : (turn : Turn) (f : ℕ) (client : Option ℕ) (mid d : Desk S) (a z : List Action) (first : GivesEnding {S = S} settings turn f client now_state [] a mid)
-      → (next : GivesReadingBehind {S = S} settings client first.state a z d) → IsReady s
+  ends_then : (turn : Turn) (f : ℕ) (client : Option ℕ) (mid d : Desk S H) (a z : List Action) (first : GivesEnding {S = S} {H = H} settings turn f client now_state [] a mid)
+      → (next : GivesReadingBehind {S = S} {H = H} settings client first.state a z d) → IsReady s
       → Run settings (turn ∷ next.turns) now_state z next.state × ReadsOn (client_of f s) next.turns next.state
   ends_then turn f client mid d a z first next ready =
       let t = first.takes (record { exchanges = ready.exchanges; connections = ready.connections }) in (
@@ -89,9 +89,9 @@ module _ (S : Type 0) (settings : CoreSettings) (event : Event) (s : State) wher
         subst (λ (x : Option ℕ). ReadsOn x next.turns next.state) t.1 next.reads,
       )
 
-  pub serves_answer_at_end : (f : ℕ) (client : Option ℕ) (mid d : Desk S) (a z : List Action) → event.of ≡ OriginEnd f
-      → (first : GivesEnding {S = S} settings (Answering f true) f client now_state [] a mid) → GivesReadingBehind {S = S} settings client first.state a z d
-      → GivesService {S = S} settings event s z d
+  pub serves_answer_at_end : (f : ℕ) (client : Option ℕ) (mid d : Desk S H) (a z : List Action) → event.of ≡ OriginEnd f
+      → (first : GivesEnding {S = S} {H = H} settings (Answering f true) f client now_state [] a mid) → GivesReadingBehind {S = S} {H = H} settings client first.state a z d
+      → GivesService {S = S} {H = H} settings event s z d
   serves_answer_at_end f client mid d a z is first next = record {
     state = next.state;
     stands = next.stands;
@@ -99,9 +99,9 @@ module _ (S : Type 0) (settings : CoreSettings) (event : Event) (s : State) wher
         owed_by (OriginEnd f) (Answering f true ∷ next.turns) z next.state is (inl (next.turns, refl, r.1)) r.0;
   }
 
-  pub serves_failure_at_end : (f : ℕ) (client : Option ℕ) (mid d : Desk S) (a z : List Action) → event.of ≡ OriginEnd f
-      → (first : GivesEnding {S = S} settings (Failing f IsCutOff) f client now_state [] a mid) → GivesReadingBehind {S = S} settings client first.state a z d
-      → GivesService {S = S} settings event s z d
+  pub serves_failure_at_end : (f : ℕ) (client : Option ℕ) (mid d : Desk S H) (a z : List Action) → event.of ≡ OriginEnd f
+      → (first : GivesEnding {S = S} {H = H} settings (Failing f IsCutOff) f client now_state [] a mid) → GivesReadingBehind {S = S} {H = H} settings client first.state a z d
+      → GivesService {S = S} {H = H} settings event s z d
   serves_failure_at_end f client mid d a z is first next = record {
     state = next.state;
     stands = next.stands;
@@ -109,9 +109,9 @@ module _ (S : Type 0) (settings : CoreSettings) (event : Event) (s : State) wher
         owed_by (OriginEnd f) (Failing f IsCutOff ∷ next.turns) z next.state is (inr (next.turns, refl, r.1)) r.0;
   }
 
-  pub serves_loss : (f : ℕ) (client : Option ℕ) (mid d : Desk S) (a z : List Action) → event.of ≡ OriginFailed f
-      → (first : GivesEnding {S = S} settings (Failing f IsLost) f client now_state [] a mid) → GivesReadingBehind {S = S} settings client first.state a z d
-      → GivesService {S = S} settings event s z d
+  pub serves_loss : (f : ℕ) (client : Option ℕ) (mid d : Desk S H) (a z : List Action) → event.of ≡ OriginFailed f
+      → (first : GivesEnding {S = S} {H = H} settings (Failing f IsLost) f client now_state [] a mid) → GivesReadingBehind {S = S} {H = H} settings client first.state a z d
+      → GivesService {S = S} {H = H} settings event s z d
   serves_loss f client mid d a z is first next = record {
     state = next.state;
     stands = next.stands;
@@ -120,31 +120,31 @@ module _ (S : Type 0) (settings : CoreSettings) (event : Event) (s : State) wher
   }
 
   -- octets of the origin, and behind them the connection of the request that waits for it
-  pub serves_telling : (f : ℕ) (octets : List ℕ) (client : Option ℕ) (mid d : Desk S) (a z : List Action) → event.of ≡ OriginBytes f octets
-      → (first : GivesTelling {S = S} settings f octets client now_state [] a mid) → GivesReadingBehind {S = S} settings client first.state a z d
-      → GivesService {S = S} settings event s z d
+  pub serves_telling : (f : ℕ) (octets : List ℕ) (client : Option ℕ) (mid d : Desk S H) (a z : List Action) → event.of ≡ OriginBytes f octets
+      → (first : GivesTelling {S = S} {H = H} settings f octets client now_state [] a mid) → GivesReadingBehind {S = S} {H = H} settings client first.state a z d
+      → GivesService {S = S} {H = H} settings event s z d
   serves_telling f octets client mid d a z is first next = record {
     state = next.state;
     stands = next.stands;
     serves = λ ready.
         let does = first.does (record { exchanges = ready.exchanges; connections = ready.connections }) in
-        by does.0 (next.runs.1 ∙ ap (λ (l : List Action). l ++ next.runs.0) does.1) does.2;
+        each does.0 (next.runs.1 ∙ ap (λ (l : List Action). l ++ next.runs.0) does.1) does.2;
   }
     where
-      by : (added : List Action) → z ≡ added ++ next.runs.0 → DoesTelling settings f octets client now_state added first.state → Serves settings event s z next.state
-      by added all (inl none) =
+      each : (added : List Action) → z ≡ added ++ next.runs.0 → DoesTelling settings f octets client now_state added first.state → Serves settings event s z next.state
+      each added all (inl none) =
           let no-turns : next.turns ≡ [] = subst (λ (x : Option ℕ). ReadsOn x next.turns next.state) none.1 next.reads in
           let rest = subst (λ (t : List Turn). Run settings t first.state next.runs.0 next.state) no-turns next.runs.2 in
           owed_by (OriginBytes f octets) (Telling f octets ∷ []) z next.state is
           ([], refl, inl (refl, subst (AwaitsStill f) (sym rest.1) none.2))
           (subst (λ (x : List Action × State). Run settings (Telling f octets ∷ []) now_state x.0 x.1)
           (λ i. (sym (all ∙ ap (λ (l : List Action). added ++ l) rest.0 ∙ append-nil added) i, sym rest.1 i)) none.0)
-      by added all (inr (inl answer)) =
+      each added all (inr (inl answer)) =
           owed_by (OriginBytes f octets) (Telling f octets ∷ Answering f false ∷ next.turns) z next.state is
           (Answering f false ∷ next.turns, refl, inr (inl (next.turns, refl, subst (λ (x : Option ℕ). ReadsOn x next.turns next.state) answer.1 next.reads)))
           (subst (λ (l : List Action). Run settings (Telling f octets ∷ Answering f false ∷ next.turns) now_state l next.state) (sym all)
           (runs_on settings (Telling f octets ∷ Answering f false ∷ []) next.turns now_state first.state next.state added next.runs.0 answer.0 next.runs.2))
-      by added all (inr (inr failure)) =
+      each added all (inr (inr failure)) =
           owed_by (OriginBytes f octets) (Telling f octets ∷ Failing f IsBroken ∷ next.turns) z next.state is
           (Failing f IsBroken ∷ next.turns, refl, inr (inr (next.turns, refl, subst (λ (x : Option ℕ). ReadsOn x next.turns next.state) failure.1 next.reads)))
           (subst (λ (l : List Action). Run settings (Telling f octets ∷ Failing f IsBroken ∷ next.turns) now_state l next.state) (sym all)

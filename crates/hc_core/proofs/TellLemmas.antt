@@ -23,8 +23,8 @@ use Rattle.hc_core.proofs.TableLemmas.{get_put, put_back, remove_put}
 one_is : {X : Type 0} (a b : X) → Some a ≡ Some b → a ≡ b
 one_is a b e = cc
 
-module _ (S : Type 0) (settings : CoreSettings) (d : Desk S) (s : State) (f : ℕ) (octets : List ℕ) (awaited : Awaited)
-    (stands : Stands {S = S} settings d s) (there : get s.forwards f ≡ Some awaited) where
+module _ (S H : Type 0) (settings : CoreSettings) (d : Desk S H) (s : State) (f : ℕ) (octets : List ℕ) (awaited : Awaited)
+    (stands : Stands {S = S} {H = H} settings d s) (there : get s.forwards f ≡ Some awaited) where
   -- the state once the octets have come
   abbrev pub told_state : State
   told_state = record {
@@ -52,7 +52,7 @@ module _ (S : Type 0) (settings : CoreSettings) (d : Desk S) (s : State) (f : �
 
   -- without its link, what is kept is that of this state without the forward
   pub told_without : (links : BTreeMap ℕ Link) → AreLinks links (remove s.forwards f)
-      → Stands {S = S} settings (record { alloc = d.alloc; name = d.name; numbers = d.numbers; clients = d.clients; exchanges = d.exchanges; links = links; store = d.store })
+      → Stands {S = S} {H = H} settings (record { alloc = d.alloc; name = d.name; numbers = d.numbers; clients = d.clients; exchanges = d.exchanges; links = links; store = d.store })
       (without_forward f told_state)
   told_without links are = record {
     name = stands.name;
@@ -67,18 +67,18 @@ module _ (S : Type 0) (settings : CoreSettings) (d : Desk S) (s : State) (f : �
   -- the forwards have the same purposes
   pub told_ready : IsReady s → IsReady told_state
   told_ready ready = record {
-    exchanges = λ g a is. by g a (eq_by_cmp nat_cmp g f) refl
+    exchanges = λ g a is. each g a (eq_by_cmp nat_cmp g f) refl
         (sym (get-insert nat_cmp_total s.forwards f (after_hearing octets awaited) g) ∙ is);
     connections = ready.connections;
   }
     where
-      by : (g : ℕ) (a : Awaited) (b : Bool) → eq_by_cmp nat_cmp g f ≡ b → cond (eq_by_cmp nat_cmp g f) (Some (after_hearing octets awaited)) (get s.forwards g) ≡ Some a
+      each : (g : ℕ) (a : Awaited) (b : Bool) → eq_by_cmp nat_cmp g f ≡ b → cond (eq_by_cmp nat_cmp g f) (Some (after_hearing octets awaited)) (get s.forwards g) ≡ Some a
           → HasExchange s.exchanges a.forward.purpose
-      by g a true test is =
+      each g a true test is =
           subst (λ (x : Awaited). HasExchange s.exchanges x.forward.purpose)
           (one_is (after_hearing octets awaited) a (sym (ap (λ (b : Bool). cond b (Some (after_hearing octets awaited)) (get s.forwards g)) test) ∙ is))
           (ready.exchanges f awaited there)
-      by g a false test is = ready.exchanges g a (sym (ap (λ (b : Bool). cond b (Some (after_hearing octets awaited)) (get s.forwards g)) test) ∙ is)
+      each g a false test is = ready.exchanges g a (sym (ap (λ (b : Bool). cond b (Some (after_hearing octets awaited)) (get s.forwards g)) test) ∙ is)
 
   same_client : client_of f told_state ≡ client_of f s
   same_client =
@@ -91,7 +91,7 @@ module _ (S : Type 0) (settings : CoreSettings) (d : Desk S) (s : State) (f : �
   -- nothing more yet
   pub tells_on : (links : BTreeMap ℕ Link) (items : List Action) → AreLinks links (insert (remove s.forwards f) f (after_hearing octets awaited))
       → IsUnfinished (is_head awaited.forward.request.method) (awaited.heard ++ octets)
-      → GivesTelling {S = S} settings f octets None s items items
+      → GivesTelling {S = S} {H = H} settings f octets None s items items
       (record { alloc = d.alloc; name = d.name; numbers = d.numbers; clients = d.clients; exchanges = d.exchanges; links = links; store = d.store })
   tells_on links items are unfinished = record {
     state = told_state;
@@ -116,8 +116,8 @@ module _ (S : Type 0) (settings : CoreSettings) (d : Desk S) (s : State) (f : �
   }
 
   -- a response ends the forward
-  pub tells_answer : (client : Option ℕ) (a z : List Action) (e : Desk S) → GivesEnding {S = S} settings (Answering f false) f client told_state a z e
-      → GivesTelling {S = S} settings f octets client s a z e
+  pub tells_answer : (client : Option ℕ) (a z : List Action) (e : Desk S H) → GivesEnding {S = S} {H = H} settings (Answering f false) f client told_state a z e
+      → GivesTelling {S = S} {H = H} settings f octets client s a z e
   tells_answer client a z e gives = record {
     state = gives.state;
     stands = gives.stands;
@@ -130,8 +130,8 @@ module _ (S : Type 0) (settings : CoreSettings) (d : Desk S) (s : State) (f : �
   }
 
   -- a fault ends it
-  pub tells_failure : (client : Option ℕ) (a z : List Action) (e : Desk S) → GivesEnding {S = S} settings (Failing f IsBroken) f client told_state a z e
-      → GivesTelling {S = S} settings f octets client s a z e
+  pub tells_failure : (client : Option ℕ) (a z : List Action) (e : Desk S H) → GivesEnding {S = S} {H = H} settings (Failing f IsBroken) f client told_state a z e
+      → GivesTelling {S = S} {H = H} settings f octets client s a z e
   tells_failure client a z e gives = record {
     state = gives.state;
     stands = gives.stands;

@@ -48,11 +48,11 @@ abbrev pub is_last : Waiting → Bool
 is_last w = ends_connection w.exchange.request || w.client.leaves
 
 -- the reply that it wants of a cache
-abbrev pub wanted_of : {S : Type 0} → Desk S → Waiting → Wanted
+abbrev pub wanted_of : {S H : Type 0} → Desk S H → Waiting → Wanted
 wanted_of desk w = record { name = desk.name; moment = desk.numbers.moment; asked = w.exchange.request; closes = is_last w }
 
 -- it gets a reply, which is decided by what is stored
-pub record GivesReply {S : Type 0} (w : Waiting) (decides : Message ResponseHead → Holdings → Holdings → Type 0) (before after : List Action) (old new : Desk S) : Type 0 where
+pub record GivesReply {S H : Type 0} (w : Waiting) (decides : Message ResponseHead → Holdings → Holdings → Type 0) (before after : List Action) (old new : Desk S H) : Type 0 where
   pub reply : Message ResponseHead
   pub decided : decides reply old.store new.store
   pub name : new.name ≡ old.name

@@ -9,7 +9,7 @@ use Rattle.hc_core.specs.declared.machine.Core.{Core}
 use Rattle.hc_core.specs.Steps.{StandsFor}
 
 -- each answer stands only where this says so: the name is tested first, then the size, and memory is asked for last
-abbrev pub GivesCore : {S : Type 0} → Result (Core S) CoreFault → CoreSettings → Type 0
+abbrev pub GivesCore : {S H : Type 0} → Result (Core S H) CoreFault → CoreSettings → Type 0
 GivesCore (Ok core) settings = AreGood settings × StandsFor settings core (new_state settings)
 GivesCore (Err faults.Memory) settings = AreGood settings
 GivesCore (Err faults.Name) settings = is_name settings.name ≡ false

@@ -20,7 +20,7 @@ use Rattle.hc_core.specs.Links.{AreClients, AreExchanges, AreLinks}
 -- ---- the state
 
 -- what a cache of those settings keeps is that of the state
-pub record Stands {S : Type 0} (settings : CoreSettings) (desk : Desk S) (s : State) : Type 0 where
+pub record Stands {S H : Type 0} (settings : CoreSettings) (desk : Desk S H) (s : State) : Type 0 where
   pub name : desk.name ≡ settings.name
   pub numbers : desk.numbers ≡ s.numbers
   pub clients : AreClients desk.clients s.connections
@@ -30,7 +30,7 @@ pub record Stands {S : Type 0} (settings : CoreSettings) (desk : Desk S) (s : St
   pub in_time : s.numbers.moment < end_of_moments
 
 -- it is that of some state
-pub record CanServe {S : Type 0} (desk : Desk S) : Type 0 where
+pub record CanServe {S H : Type 0} (desk : Desk S H) : Type 0 where
   pub settings : CoreSettings
   pub state : State
   pub stands : Stands settings desk state
@@ -74,13 +74,13 @@ abbrev pub Adds : List Action → List Action → (List Action → Type 0) → T
 Adds before after Does = (added : List Action) × (after ≡ before ++ added) × Does added
 
 -- the turn leads from the state to one of the cache
-pub record GivesTurn {S : Type 0} (settings : CoreSettings) (turn : Turn) (s : State) (before after : List Action) (desk : Desk S) : Type 0 where
+pub record GivesTurn {S H : Type 0} (settings : CoreSettings) (turn : Turn) (s : State) (before after : List Action) (desk : Desk S H) : Type 0 where
   pub state : State
   pub stands : Stands settings desk state
   pub takes : Adds before after (λ added. Takes settings turn s added state)
 
 -- turns that read the connection do, and nothing more can be read, unless there may be more
-pub record GivesReading {S : Type 0} (settings : CoreSettings) (c : ℕ) (more : Bool) (s : State) (before after : List Action) (desk : Desk S) : Type 0 where
+pub record GivesReading {S H : Type 0} (settings : CoreSettings) (c : ℕ) (more : Bool) (s : State) (before after : List Action) (desk : Desk S H) : Type 0 where
   pub state : State
   pub stands : Stands settings desk state
   pub turns : List Turn
@@ -89,7 +89,7 @@ pub record GivesReading {S : Type 0} (settings : CoreSettings) (c : ℕ) (more :
   pub quiet : more ≡ false → IsQuietAt c state
 
 -- the same on a connection if there is one, until nothing more can be read
-pub record GivesReadingBehind {S : Type 0} (settings : CoreSettings) (client : Option ℕ) (s : State) (before after : List Action) (desk : Desk S) : Type 0 where
+pub record GivesReadingBehind {S H : Type 0} (settings : CoreSettings) (client : Option ℕ) (s : State) (before after : List Action) (desk : Desk S H) : Type 0 where
   pub state : State
   pub stands : Stands settings desk state
   pub turns : List Turn
@@ -97,7 +97,7 @@ pub record GivesReadingBehind {S : Type 0} (settings : CoreSettings) (client : O
   pub runs : Adds before after (λ added. Run settings turns s added state)
 
 -- what the client's end owes
-pub record GivesEnd {S : Type 0} (settings : CoreSettings) (c : ℕ) (k : Connection) (s : State) (before after : List Action) (desk : Desk S) : Type 0 where
+pub record GivesEnd {S H : Type 0} (settings : CoreSettings) (c : ℕ) (k : Connection) (s : State) (before after : List Action) (desk : Desk S H) : Type 0 where
   pub state : State
   pub stands : Stands settings desk state
   pub turns : List Turn
@@ -105,7 +105,7 @@ pub record GivesEnd {S : Type 0} (settings : CoreSettings) (c : ℕ) (k : Connec
   pub runs : Adds before after (λ added. Run settings turns s added state)
 
 -- the turn, which ends the forward, leads to a state of the cache where the forward can end, and the client is that of the request that waits for it
-pub record GivesEnding {S : Type 0} (settings : CoreSettings) (turn : Turn) (f : ℕ) (client : Option ℕ) (s : State) (before after : List Action) (desk : Desk S) : Type 0 where
+pub record GivesEnding {S H : Type 0} (settings : CoreSettings) (turn : Turn) (f : ℕ) (client : Option ℕ) (s : State) (before after : List Action) (desk : Desk S H) : Type 0 where
   pub state : State
   pub stands : Stands settings desk state
   pub takes : IsReady s → Adds before after (λ added. Takes settings turn s added state) × (client ≡ client_of f s)
@@ -118,7 +118,7 @@ DoesTelling settings f octets client s added s' =
     ⊎ (Run settings (Telling f octets ∷ Failing f IsBroken ∷ []) s added s' × (client ≡ client_of f s))
 
 -- what came on a forward leads to a state of the cache where the forward can end
-pub record GivesTelling {S : Type 0} (settings : CoreSettings) (f : ℕ) (octets : List ℕ) (client : Option ℕ) (s : State) (before after : List Action) (desk : Desk S) : Type 0 where
+pub record GivesTelling {S H : Type 0} (settings : CoreSettings) (f : ℕ) (octets : List ℕ) (client : Option ℕ) (s : State) (before after : List Action) (desk : Desk S H) : Type 0 where
   pub state : State
   pub stands : Stands settings desk state
   pub does : IsReady s → Adds before after (λ added. DoesTelling settings f octets client s added state)
@@ -126,7 +126,7 @@ pub record GivesTelling {S : Type 0} (settings : CoreSettings) (f : ℕ) (octets
 -- ---- events
 
 -- the event is served, and leads to a state of the cache, where each forward can end
-pub record GivesService {S : Type 0} (settings : CoreSettings) (event : Event) (s : State) (actions : List Action) (desk : Desk S) : Type 0 where
+pub record GivesService {S H : Type 0} (settings : CoreSettings) (event : Event) (s : State) (actions : List Action) (desk : Desk S H) : Type 0 where
   pub state : State
   pub stands : Stands settings desk state
   pub serves : IsReady s → Serves settings event s actions state

@@ -10,25 +10,25 @@ use Rattle.hc_service.specs.State.{State}
 use Rattle.hc_core.specs.declared.machine.Core.{Core}
 use Rattle.hc_core.specs.Standing.{Stands, CanServe}
 
-abbrev pub has_failed : {S : Type 0} → Core S → Bool
+abbrev pub has_failed : {S H : Type 0} → Core S H → Bool
 has_failed core = core.failed
 
 -- it hasn't failed, and what it keeps is that of the state
-pub record StandsFor {S : Type 0} (settings : CoreSettings) (core : Core S) (s : State) : Type 0 where
+pub record StandsFor {S H : Type 0} (settings : CoreSettings) (core : Core S H) (s : State) : Type 0 where
   pub works : core.failed ≡ false
   pub stands : Stands settings core.desk s
 
 -- it has failed, or stands for some state
-abbrev pub CanStep : {S : Type 0} → Core S → Type 0
+abbrev pub CanStep : {S H : Type 0} → Core S H → Type 0
 CanStep core = (core.failed ≡ true) ⊎ ((core.failed ≡ false) × CanServe core.desk)
 
 -- what is told is the first test that the event fails, and the cache stands for the same state
-pub record IsRefused {S : Type 0} (settings : CoreSettings) (fault : StepFault) (event : Event) (s : State) (core : Core S) : Type 0 where
+pub record IsRefused {S H : Type 0} (settings : CoreSettings) (fault : StepFault) (event : Event) (s : State) (core : Core S H) : Type 0 where
   pub first : first_fault event s ≡ Some fault
   pub stands : StandsFor settings core s
 
 -- each answer stands only where this says so
-abbrev pub GivesStep : {S : Type 0} → StepResult → CoreSettings → Event → State → Core S → Type 0
+abbrev pub GivesStep : {S H : Type 0} → StepResult → CoreSettings → Event → State → Core S H → Type 0
 GivesStep (Ok actions) settings event s core =
     (first_fault event s ≡ None) × (s' : State) × StandsFor settings core s' × Serves settings event s actions.items s'
 GivesStep (Err Memory) settings event s core = (first_fault event s ≡ None) × (core.failed ≡ true)

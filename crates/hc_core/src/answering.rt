@@ -48,7 +48,7 @@ fn take_waiting(
 }
 
 impl<S: BuildHasher> Desk<S> {
-    ghost use Rattle.std.specs.Prelude.{ℕ, Bool, IfOk, OnOk, Some, ◌<◌};
+    ghost use Rattle.std.specs.Prelude.{ℕ, Bool, true, IfOk, OnOk, Some, ◌<◌};
     ghost use Rattle.std.specs.FinMap.{get};
     ghost use Rattle.hc_fields.specs.Numbers.{end_of_moments};
     ghost use Rattle.hc_service.specs.declared.settings.CoreSettings.{CoreSettings};

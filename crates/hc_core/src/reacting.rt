@@ -1,6 +1,7 @@
 //! What a whole request gets at once: a reply, or a forward.
 
 ghost use Rattle.std.specs.Prelude.{◌≡◌, ◌<◌, IfOk};
+ghost use Rattle.std.specs.Option.{option_copied};
 ghost use Rattle.hc_fields.specs.Numbers.{end_of_moments};
 ghost use Rattle.hc_update.specs.declared.stored.Stored.{Stored};
 ghost use Rattle.hc_service.specs.State.{Awaited, Table};
@@ -76,7 +77,7 @@ fn chosen_reaction(
 ) -> Result<Reaction, AllocError>
     requires { wanted.now.moment < end_of_moments }
     ensures { (forwards : Table Awaited) → IfOk result
-        (λ reaction. owed_reaction reaction ≡ chosen_reaction wanted.now target.now request.now forwards chosen.entry case) }
+        (λ reaction. owed_reaction reaction ≡ chosen_reaction wanted.now target.now request.now forwards (option_copied chosen.entry) case) }
 {
     match case {
         Case::Forward(cause) => forward_reaction(alloc, wanted, target, request, cause),

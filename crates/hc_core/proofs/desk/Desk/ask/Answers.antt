@@ -7,7 +7,7 @@ use Rattle.hc_core.proofs.desk.Desk.ask.Goals as goal
 
 pub returns-in_ok-reply_on-in-Replies-clause-turn : goal.returns-in_ok-reply_on-in-Replies-clause-turn
 returns-in_ok-reply_on-in-Replies-clause-turn g c = λ settings s k size stands there is.
-    asks_reply g.row.S.Denot settings c.args.self.now s c.args.c k c.args.client c.args.request c.args.target size
+    asks_reply g.row.S.Denot g.row.S-Hasher.Denot settings c.args.self.now s c.args.c k c.args.client c.args.request c.args.target size
     c.closes_behind.result c.in_ok-exchange.exchange c.record_request.new.numbers c.reply_on.new.numbers c.args.actions.now.items c.record_request.new.actions.items c.reply_on.new.actions.items
     c.in-Replies.reply c.react.new.store c.reply_on.new.clients stands there is
     (record {
@@ -24,7 +24,7 @@ returns-in_ok-reply_on-in-Replies-clause-turn g c = λ settings s k size stands 
 
 pub returns-in_ok-await_reply-in-Sends-clause-turn : goal.returns-in_ok-await_reply-in-Sends-clause-turn
 returns-in_ok-await_reply-in-Sends-clause-turn g c = λ settings s k size stands there is.
-    asks_forward g.row.S.Denot settings c.args.self.now s c.args.c k c.args.client c.args.request c.args.target size
+    asks_forward g.row.S.Denot g.row.S-Hasher.Denot settings c.args.self.now s c.args.c k c.args.client c.args.request c.args.target size
     c.closes_behind.result c.in_ok-exchange.exchange c.record_request.new.numbers c.send_forward.new.numbers c.args.actions.now.items c.record_request.new.actions.items c.send_forward.new.actions.items
     c.in-Sends.forward c.in-Sends.cause c.react.new.store c.await_reply.new.clients c.await_reply.new.exchanges c.send_forward.new.links stands there is
     (record {

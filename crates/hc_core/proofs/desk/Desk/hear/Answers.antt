@@ -15,5 +15,5 @@ returns g c = λ settings s k stands there.
     c.in-Some.ensures.updates c.in-Some.ensures.value c.in-Some.ensures.len in
     let back = alike_put IsClient c.remove.new.self c.insert.new.self (remove s.connections n) n c.hear.new.self (after_octets c.args.octets.now k) c.in_ok-insert.field-0 out
     (c.in_ok-hear.ensures k was) c.in_ok-insert.ensures.updates c.in_ok-insert.ensures.old c.in_ok-insert.ensures.len in
-    heard g.row.S.Denot settings d s n c.args.octets.now k c.insert.new.self stands there
+    heard g.row.S.Denot g.row.S-Hasher.Denot settings d s n c.args.octets.now k c.insert.new.self stands there
     (subst (AreClients c.insert.new.self) (put_back s.connections n (after_octets c.args.octets.now k)) back)

@@ -8,9 +8,9 @@ use Rattle.hc_core.proofs.desk.Desk.read_on.Given as goal
 -- what was read so far
 abbrev pub invariant-loop-self : goal.invariant-loop-self
 invariant-loop-self g l = record {
-  can : CanServe {S = g.row.S.Denot} l.self;
-  so_far : (settings : CoreSettings) (s : State) → Stands {S = g.row.S.Denot} settings l.fn.self s
-      → GivesReading {S = g.row.S.Denot} settings l.c true s l.fn.actions.items l.actions.items l.self;
+  can : CanServe {S = g.row.S.Denot} {H = g.row.S-Hasher.Denot} l.self;
+  so_far : (settings : CoreSettings) (s : State) → Stands {S = g.row.S.Denot} {H = g.row.S-Hasher.Denot} settings l.fn.self s
+      → GivesReading {S = g.row.S.Denot} {H = g.row.S-Hasher.Denot} settings l.c true s l.fn.actions.items l.actions.items l.self;
 }
 
 abbrev pub decreases-loop-self : goal.decreases-loop-self
