@@ -1,5 +1,5 @@
 -- A cache, the state that contracts see, and what a step gives.
-use Rattle.std.specs.Prelude.{◌≡◌, ◌⊎◌, Bool, true, false, Option, Some, None, Result, Ok, Err}
+use Rattle.std.specs.Prelude.{◌≡◌, ◌⊎◌, ℕ, Bool, true, false, Option, Some, None, Result, Ok, Err}
 use Rattle.hc_events.specs.declared.Event.{Event}
 use Rattle.hc_service.specs.declared.fault.StepFault.{StepFault}
 use Rattle.hc_service.specs.declared.fault.StepFault.TheVariants.{Memory, MomentTooLarge, UnknownNumber, TooManyConnections, Failed}
@@ -12,6 +12,10 @@ use Rattle.hc_core.specs.Standing.{Stands, CanServe}
 
 abbrev pub has_failed : {S H : Type 0} → Core S H → Bool
 has_failed core = core.failed
+
+-- how many records it has given out
+abbrev pub records_given : {S H : Type 0} → Core S H → ℕ
+records_given core = core.desk.numbers.records
 
 -- it hasn't failed, and what it keeps is that of the state
 pub record StandsFor {S H : Type 0} (settings : CoreSettings) (core : Core S H) (s : State) : Type 0 where

@@ -52,14 +52,14 @@ impl<S: BuildHasher + Drop> Core<S> {
 }
 
 impl<S: BuildHasher> Core<S> {
-    ghost use Rattle.std.specs.Prelude.{◌≢◌, ◌&&◌, ◌==◌, true, IsErrOf};
+    ghost use Rattle.std.specs.Prelude.{◌≢◌, ◌&&◌, ◌==◌, true, false, IsErrOf, OnErr};
     ghost use Rattle.std.specs.FinMap.{len};
     ghost use Rattle.hc_service.specs.declared.fault.StepFault.TheVariants.{Failed, Memory};
     ghost use Rattle.hc_service.specs.declared.fault.StepFault.{StepFault};
     ghost use Rattle.hc_service.specs.declared.settings.CoreSettings.{CoreSettings};
     ghost use Rattle.hc_service.specs.State.{State};
     ghost use Rattle.hc_core.specs.Standing.{IsReady};
-    ghost use Rattle.hc_core.specs.Steps.{CanStep, GivesStep, StandsFor, has_failed};
+    ghost use Rattle.hc_core.specs.Steps.{CanStep, GivesStep, StandsFor, has_failed, records_given};
 
     /// Something happens. Where memory is refused, no event is served any more; any other fault changes
     /// nothing, and of several the first is told: that it has failed, then those of `first_fault`.
@@ -73,6 +73,7 @@ impl<S: BuildHasher> Core<S> {
         // What stands after a fault.
         ensures failed { IsErrOf result Memory → has_failed self.new ≡ true }
         ensures same { (fault : StepFault) → IsErrOf result fault → fault ≢ Memory → self.new ≡ self.old }
+        ensures given { OnErr result (records_given self.new ≡ records_given self.old) }
         ensures failed_again { has_failed self.old ≡ true → IsErrOf result Failed }
     {
         if self.failed {
@@ -81,10 +82,12 @@ impl<S: BuildHasher> Core<S> {
         if let Some(fault) = self.desk.first_fault(&event) {
             return Err(fault);
         }
+        let given = self.desk.numbers.records;
         match self.desk.serve(event) {
             Ok(actions) => Ok(actions),
             Err(_) => {
                 self.failed = true;
+                self.desk.numbers.records = given;
                 Err(StepFault::Memory)
             }
         }
@@ -92,15 +95,17 @@ impl<S: BuildHasher> Core<S> {
 
     /// How many records were given out.
     pub fn records(&self) -> u64
-        ensures { (settings : CoreSettings) (s : State) → StandsFor settings self.now s → result ≡ s.numbers.records }
+        ensures given { result ≡ records_given self.now }
+        ensures state { (settings : CoreSettings) (s : State) → StandsFor settings self.now s → result ≡ s.numbers.records }
     {
         self.desk.numbers.records
     }
 
     /// Whether it hasn't failed, and no connection or forward is open.
     pub fn idle(&self) -> bool
-        ensures { (settings : CoreSettings) (s : State) → StandsFor settings self.now s
+        ensures state { (settings : CoreSettings) (s : State) → StandsFor settings self.now s
             → result ≡ (len s.connections == 0 && len s.forwards == 0) }
+        ensures failed { has_failed self.now ≡ true → result ≡ false }
     {
         !self.failed && self.desk.clients.is_empty() && self.desk.links.is_empty()
     }
