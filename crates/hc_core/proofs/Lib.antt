@@ -1,0 +1,9 @@
+pub mod TableLemmas
+pub mod LinkLemmas
+pub mod ClientLemmas
+pub mod AskLemmas
+pub mod ReadLemmas
+pub mod EndLemmas
+pub mod CanLemmas
+pub mod TellLemmas
+pub mod ServeLemmas

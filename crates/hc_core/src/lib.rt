@@ -1,0 +1,15 @@
+//! The shared cache as a step function: events in, actions and records out.
+#![tactic(auto)]
+
+mod answering;
+mod clients;
+mod desk;
+mod fault;
+mod links;
+mod machine;
+mod moving;
+mod reading;
+mod serving;
+
+pub use fault::CoreFault;
+pub use machine::Core;

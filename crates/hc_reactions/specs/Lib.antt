@@ -1,0 +1,2 @@
+pub mod Reacting
+pub mod Failing

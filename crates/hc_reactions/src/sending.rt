@@ -1,0 +1,172 @@
+//! Records, and what goes out with them. What is recorded is sent octet by octet: its text is written once, and has two owners.
+
+ghost use Rattle.std.specs.Prelude.{◌≡◌, ◌++◌, ◌<◌, true, IfOk, OnOk};
+ghost use Rattle.hc_fields.specs.Numbers.{end_of_moments};
+ghost use Rattle.hc_head.specs.Methods.{is_head};
+ghost use Rattle.hc_replies.specs.Replies.{generated_reply};
+ghost use Rattle.hc_service.specs.Numbers.{asked, noted, one_more, sent};
+ghost use Rattle.hc_service.specs.Sending.{ask_actions, close_actions, failure_actions, refusal_actions, reply_actions, response_actions, send_actions};
+
+use hc_framing::{Kind, Message, write_message};
+use hc_head::{RequestHead, ResponseHead};
+use hc_replies::generated_reply;
+use hc_service::{Action, Numbers};
+use hc_transcript::{Passed, Record};
+use std::alloc::{AllocError, Global};
+
+/// A reply to a request: the number of its exchange, whether its method is HEAD, its connection, and
+/// whether that closes behind the reply.
+#[derive(Clone, Copy)]
+pub struct Addressee {
+    pub exchange: u64,
+    pub to_head: bool,
+    pub connection: u64,
+    pub closes: bool,
+}
+
+/// Records a client's request, and answers the number of its exchange.
+pub fn record_request(
+    alloc: Global,
+    numbers: &mut Numbers,
+    request: &Message<RequestHead>,
+    actions: &mut Vec<Action>,
+) -> Result<u64, AllocError>
+    ensures number { IfOk result (λ exchange. exchange ≡ one_more numbers.old.exchange) }
+    ensures numbers { OnOk result (numbers.new ≡ asked numbers.old) }
+    ensures actions { OnOk result (actions.new.items
+        ≡ actions.old.items ++ ask_actions (one_more numbers.old.exchange) numbers.old.moment request.now) }
+{
+    let number = numbers.ask();
+    let text = write_message(alloc, request, Kind::Request)?;
+    actions.push(Action::Record(Record {
+        number,
+        moment: numbers.moment,
+        of: Passed::ClientRequest(text),
+    }))?;
+    Ok(number)
+}
+
+/// Sends a request to the origin, and answers the number of its forward.
+pub fn send_request(
+    alloc: Global,
+    numbers: &mut Numbers,
+    request: &Message<RequestHead>,
+    actions: &mut Vec<Action>,
+) -> Result<u64, AllocError>
+    ensures number { IfOk result (λ forward. forward ≡ one_more numbers.old.forward) }
+    ensures numbers { OnOk result (numbers.new ≡ sent numbers.old) }
+    ensures actions { OnOk result (actions.new.items
+        ≡ actions.old.items ++ send_actions (one_more numbers.old.forward) numbers.old.moment request.now) }
+{
+    let number = numbers.send();
+    let text = write_message(alloc, request, Kind::Request)?;
+    actions.push(Action::Record(Record {
+        number,
+        moment: numbers.moment,
+        of: Passed::OriginRequest(text.share()?),
+    }))?;
+    actions.push(Action::Forward(number, text))?;
+    Ok(number)
+}
+
+/// Records what the origin answered to a forward, which closes.
+pub fn record_response(
+    alloc: Global,
+    numbers: &mut Numbers,
+    forward: u64,
+    to_head: bool,
+    response: &Message<ResponseHead>,
+    actions: &mut Vec<Action>,
+) -> Result<(), AllocError>
+    ensures numbers { OnOk result (numbers.new ≡ noted numbers.old) }
+    ensures actions { OnOk result (actions.new.items
+        ≡ actions.old.items ++ response_actions forward numbers.old.moment to_head response.now) }
+{
+    numbers.note();
+    let text = write_message(alloc, response, Kind::Response { to_head })?;
+    actions.push(Action::Record(Record {
+        number: forward,
+        moment: numbers.moment,
+        of: Passed::OriginResponse(text),
+    }))?;
+    actions.push(Action::CloseForward(forward))?;
+    Ok(())
+}
+
+/// Records that a forward failed; `closes` tells whether it is still to be closed.
+pub fn record_failure(
+    numbers: &mut Numbers,
+    forward: u64,
+    closes: bool,
+    actions: &mut Vec<Action>,
+) -> Result<(), AllocError>
+    ensures numbers { OnOk result (numbers.new ≡ noted numbers.old) }
+    ensures actions { OnOk result (actions.new.items
+        ≡ actions.old.items ++ failure_actions forward numbers.old.moment closes) }
+{
+    numbers.note();
+    actions.push(Action::Record(Record {
+        number: forward,
+        moment: numbers.moment,
+        of: Passed::OriginFailure,
+    }))?;
+    if closes {
+        actions.push(Action::CloseForward(forward))?;
+    }
+    Ok(())
+}
+
+/// Closes a connection, where it closes.
+fn close(connection: u64, closes: bool, actions: &mut Vec<Action>) -> Result<(), AllocError>
+    ensures { OnOk result (actions.new.items ≡ actions.old.items ++ close_actions connection closes) }
+{
+    if closes {
+        actions.push(Action::CloseClient(connection))?;
+    }
+    Ok(())
+}
+
+/// Sends a reply to a client.
+pub fn send_reply(
+    alloc: Global,
+    numbers: &mut Numbers,
+    to: Addressee,
+    reply: &Message<ResponseHead>,
+    actions: &mut Vec<Action>,
+) -> Result<(), AllocError>
+    ensures numbers { OnOk result (numbers.new ≡ noted numbers.old) }
+    ensures actions { OnOk result (actions.new.items ≡ actions.old.items
+        ++ reply_actions to.exchange numbers.old.moment to.to_head to.connection to.closes reply.now) }
+{
+    numbers.note();
+    let to_head = to.to_head;
+    let text = write_message(alloc, reply, Kind::Response { to_head })?;
+    actions.push(Action::Record(Record {
+        number: to.exchange,
+        moment: numbers.moment,
+        of: Passed::ClientReply(text.share()?),
+    }))?;
+    actions.push(Action::ToClient(to.connection, text))?;
+    close(to.connection, to.closes, actions)
+}
+
+/// Refuses what came on a connection by a reply of that status, which has no record; the connection
+/// closes.
+pub fn refuse(
+    alloc: Global,
+    moment: u64,
+    connection: u64,
+    status: u16,
+    actions: &mut Vec<Action>,
+) -> Result<(), AllocError>
+    requires { moment < end_of_moments }
+    ensures { OnOk result (actions.new.items
+        ≡ actions.old.items ++ refusal_actions connection (generated_reply status moment true)) }
+{
+    let reply = generated_reply(alloc, status, moment, true)?;
+    let to_head = false;
+    let text = write_message(alloc, &reply, Kind::Response { to_head })?;
+    actions.push(Action::ToClient(connection, text))?;
+    actions.push(Action::CloseClient(connection))?;
+    Ok(())
+}
