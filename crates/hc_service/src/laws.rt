@@ -1,6 +1,6 @@
 //! What holds of every cache that does what it owes.
 
-ghost use Rattle.std.specs.Prelude.{◌≡◌, ℕ, Bool, ◌≤◌, ◌<◌, true, false, List, [], ◌∷◌, drop, Option, Some, None};
+ghost use Rattle.std.specs.Prelude.{◌≡◌, ℕ, Bool, ◌+◌, ◌≤◌, ◌<◌, true, false, List, [], ◌∷◌, ◌++◌, drop, length, Option, Some, None};
 ghost use Rattle.hc_fields.specs.declared.fields.Field.{Field};
 ghost use Rattle.hc_fields.specs.Numbers.{end_of_moments};
 ghost use Rattle.hc_head.specs.declared.head.RequestHead.{RequestHead};
@@ -24,9 +24,9 @@ ghost use Rattle.hc_service.specs.declared.cases.Cause.{Cause};
 ghost use Rattle.hc_service.specs.declared.open.OpenForward.{OpenForward};
 ghost use Rattle.hc_service.specs.Answers.{Renews};
 ghost use Rattle.hc_service.specs.Choices.{Finds, Stores};
-ghost use Rattle.hc_service.specs.Laws.{HasSources, IsReceivedAnswer, IsReceivedAsk, is_response, recorded_forward, with_record, KeepsAll, KeepsOn};
+ghost use Rattle.hc_service.specs.Laws.{HasSources, IsReceivedAnswer, IsReceivedAsk, is_response, recorded_forward, with_record, KeepsAgreement, KeepsAll, KeepsOn};
 ghost use Rattle.hc_service.specs.declared.action.Action.{Action};
-ghost use Rattle.hc_service.specs.Serves.{Run, Takes, Turn};
+ghost use Rattle.hc_service.specs.Serves.{Run, Serves, Takes, Turn};
 ghost use Rattle.hc_events.specs.declared.Event.{Event};
 ghost use Rattle.hc_transcript.specs.declared.record.Record.{Record};
 ghost use Rattle.hc_service.specs.declared.settings.CoreSettings.{CoreSettings};
@@ -34,8 +34,8 @@ ghost use Rattle.std.specs.FinMap.{get, insert, remove};
 ghost use Rattle.hc_rules.specs.Laws.{IsForwardable};
 ghost use Rattle.hc_service.specs.declared.open.OpenExchange.{OpenExchange};
 ghost use Rattle.hc_service.specs.State.{Awaited, Connection, State, Table, new_connection, new_state};
-ghost use Rattle.hc_service.specs.Agreement.{AllHeld, CanReply, AreAsked, AreCounted, AreHeard, AreLinked, Agrees, History, IsReadOf, IsSound, Stands, exchange_for};
-ghost use Rattle.hc_service.specs.Runs.{Runs, nothing_yet, StepResult, strict, with_octets};
+ghost use Rattle.hc_service.specs.Agreement.{AllHeld, CanReply, AreAsked, AreCounted, AreHeard, AreLinked, Agrees, History, IsReadOf, IsReady, IsSound, Stands, exchange_for};
+ghost use Rattle.hc_service.specs.Runs.{Runs, nothing_yet, records_given, IsJudgedRight, StepResult, Steps, StepsRun, strict, with_octets};
 ghost use Rattle.hc_service.specs.Asking.{is_answered_by_store};
 ghost use Rattle.hc_service.specs.Replying.{Wanted, hit_reply, made_reply, passed_reply};
 ghost use Rattle.hc_service.specs.Serving.{may_be_served};
@@ -225,3 +225,51 @@ pub fn runs_of_turns_keep_agreement()
     forwards_are_writable();
     forwards_keep_the_target();
 }
+
+/// A served event keeps agreement, whatever has happened, as far as records can be numbered: its records go
+/// on behind those before, each reply among them is right in the strictest audit, and nothing that has
+/// come can be read yet.
+pub fn events_keep_agreement()
+    ensures { (settings : CoreSettings) → AreGood settings → (event : Event) (s : State) (actions : List Action)
+        (other : State) (h : History) → Agrees s h → Serves settings event s actions other
+        → other.numbers.records ≤ greatest_number → KeepsAgreement event.of actions h other }
+{
+    forwards_are_writable();
+    forwards_keep_the_target();
+}
+
+/// Where a cache agrees with what has happened, each forward can end: the request that waits for it is
+/// open, and so is its connection.
+pub fn agreement_is_ready()
+    ensures { (s : State) (h : History) → Agrees s h → IsReady s }
+{}
+
+/// Steps, one after another, are a run from whatever has happened, as far as records can be numbered:
+/// each state between agrees with what has happened by then.
+pub fn steps_are_runs()
+    ensures { (settings : CoreSettings) → AreGood settings → (events : List Event) (results : List StepResult)
+        (s : State) (h : History) (end : Option State) → Agrees s h → Steps settings s events results end
+        → s.numbers.records + length (records_given results) ≤ greatest_number
+        → StepsRun settings s h events results end }
+{
+    forwards_are_writable();
+    forwards_keep_the_target();
+}
+
+/// The strictest audit says yes to what a new cache records, whatever it is told, as far as records can be
+/// numbered.
+pub fn steps_are_judged_right()
+    ensures { (settings : CoreSettings) → AreGood settings → (events : List Event) (results : List StepResult)
+        (end : Option State) → Steps settings (new_state settings) events results end
+        → length (records_given results) ≤ greatest_number → IsJudgedRight (records_given results) }
+{
+    forwards_are_writable();
+    forwards_keep_the_target();
+}
+
+/// Steps go on where others have led, unless a refused growth has ended them.
+pub fn steps_go_on()
+    ensures { (settings : CoreSettings) (events others : List Event) (results answers : List StepResult)
+        (s mid : State) (end : Option State) → Steps settings s events results (Some mid)
+        → Steps settings mid others answers end → Steps settings s (events ++ others) (results ++ answers) end }
+{}
