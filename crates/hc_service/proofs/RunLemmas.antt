@@ -30,12 +30,13 @@ use Rattle.hc_service.specs.Answers.Outcome.{Replies, GoesAnew}
 use Rattle.hc_service.specs.Turns.{DoesReaction, DoesOutcome, EndsByResponse, EndsByFailure, is_closed, wanted_now}
 use Rattle.hc_service.specs.Serves.{Turn, Takes, Run, Serves, passed_to}
 use Rattle.hc_service.specs.Serves.Turn.{Opening, Hearing, Asking, Refusal, Dropping, Leaving, Closing, Telling, Answering, Failing}
-use Rattle.hc_service.specs.Agreement.{History, Agrees}
+use Rattle.hc_service.specs.Agreement.{History, Agrees, IsReady}
 use Rattle.hc_service.specs.Runs.{Records, AllRightBehind, behind, strict, nothing_yet, StepResult, Steps, records_given, GoesOnWith, EndAgrees, StepsRun, transcript_of, IsJudgedRight}
 use Rattle.hc_service.specs.LowerLaws.{ForwardLaws}
+use Rattle.hc_service.specs.Laws.{IsCountedOn}
 use Rattle.hc_service.proofs.BeginLemmas.{new_agrees}
 use Rattle.hc_service.proofs.StepLemmas.{given_append, behind_append, right_append}
-use Rattle.hc_service.proofs.EventLemmas.{event_keeps}
+use Rattle.hc_service.proofs.EventLemmas.{event_keeps, agreement_ready}
 
 -- ---- how many records are given out
 
@@ -56,21 +57,21 @@ count_failure : (f t : ℕ) (closes : Bool) → count (failure_actions f t close
 count_failure f t true = refl
 count_failure f t false = refl
 
--- the count of records rises by as many, as far as records can be numbered
+-- the count of records rises by as many at most, and by as many as far as records can be numbered
 abbrev Counts : Numbers → Numbers → List Action → Type 0
-Counts n m actions = n.records + count actions ≤ greatest_number → m.records ≡ n.records + count actions
+Counts n m actions = IsCountedOn n.records (count actions) m.records
 
 counts_none : (n m : Numbers) (actions : List Action) → count actions ≡ 0 → m.records ≡ n.records → Counts n m actions
-counts_none n m actions none same = λ le. omega arith
+counts_none n m actions none same = record { most = omega arith; exact = λ le. omega arith }
 
 counts_one : (n m : Numbers) (actions : List Action) → count actions ≡ 1 → m.records ≡ one_more n.records → Counts n m actions
-counts_one n m actions one same = λ le. omega arith
+counts_one n m actions one same = record { most = omega arith; exact = λ le. omega arith }
 
 counts_two : (n m : Numbers) (actions : List Action) → count actions ≡ 2 → m.records ≡ one_more (one_more n.records) → Counts n m actions
-counts_two n m actions two same = λ le. omega arith
+counts_two n m actions two same = record { most = omega arith; exact = λ le. omega arith }
 
 counts_three : (n m : Numbers) (actions : List Action) → count actions ≡ 3 → m.records ≡ one_more (one_more (one_more n.records)) → Counts n m actions
-counts_three n m actions three same = λ le. omega arith
+counts_three n m actions three same = record { most = omega arith; exact = λ le. omega arith }
 
 records_in : (n m : Numbers) → n ≡ m → n.records ≡ m.records
 records_in n m e = ap (λ (n : Numbers). n.records) e
@@ -145,11 +146,14 @@ turn_counts settings (Failing f how) s actions s' t = by_purpose t.awaited.forwa
 
 run_counts : (settings : CoreSettings) (turns : List Turn) (s : State) (actions : List Action) (s' : State) → Run settings turns s actions s' → Counts s.numbers s'.numbers actions
 run_counts settings [] s actions s' r = counts_none s.numbers s'.numbers actions (count_of actions [] r.0) (ap (λ (s : State). s.numbers.records) r.1)
-run_counts settings (turn ∷ turns) s actions s' r = λ le.
+run_counts settings (turn ∷ turns) s actions s' r =
     let both : count actions ≡ count r.1 + count r.2 = count_of actions (r.1 ++ r.2) r.4 ∙ count_append r.1 r.2 in
-    let one = turn_counts settings turn s r.1 r.0 r.3 (omega arith) in
-    let more = run_counts settings turns r.0 r.2 s' r.5 (omega arith) in
-    omega arith
+    let one = turn_counts settings turn s r.1 r.0 r.3 in
+    let more = run_counts settings turns r.0 r.2 s' r.5 in
+    record {
+      most = omega (arith, one.most, more.most, both);
+      exact = λ le. let mid = one.exact (omega (arith, both)) in let last = more.exact (omega (arith, both, mid)) in omega (arith, both, mid, last);
+    }
 
 pub event_counts : (settings : CoreSettings) (event : Event) (s : State) (actions : List Action) (s' : State) → Serves settings event s actions s' → Counts s.numbers s'.numbers actions
 event_counts settings event s actions s' v = run_counts settings v.turns (passed_to event.moment s) actions s' v.run
@@ -183,7 +187,7 @@ module _ (settings : CoreSettings) (good : AreGood settings) (laws : ForwardLaws
   steps_run (event ∷ events) (Ok actions ∷ results) s h end a steps le =
       let mid = steps.0 in
       let all = length-append (records_of actions.items) (records_given results) in
-      let counts = event_counts settings event s actions.items mid steps.1 (omega arith) in
+      let counts = (event_counts settings event s actions.items mid steps.1).most in
       let k = event_keeps settings good laws event s actions.items mid h a steps.1 (omega arith) in
       let more = steps_run events results mid k.later end k.agrees steps.2 (omega arith) in
       record {
@@ -210,6 +214,13 @@ module _ (settings : CoreSettings) (good : AreGood settings) (laws : ForwardLaws
       let more = steps_run events results s h end a steps.1 le in
       record { runs = (a, steps.0, more.runs); later = more.later; goes_on = more.goes_on; are_read = more.are_read; agrees = more.agrees }
   steps_run (event ∷ events) (Err Failed ∷ results) s h end a steps le = absurd steps
+
+  -- where steps have led a new cache, each forward can end
+  pub steps_ready : (events : List Event) (results : List StepResult) (s : State) → Steps settings (new_state settings) events results (Some s)
+      → length (records_given results) ≤ greatest_number → IsReady s
+  steps_ready events results s steps le =
+      let run = steps_run events results (new_state settings) nothing_yet (Some s) (new_agrees settings) steps (omega arith) in
+      agreement_ready s run.later run.agrees
 
   -- ---- what a run records is judged right
 

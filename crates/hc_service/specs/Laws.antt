@@ -1,5 +1,5 @@
 -- What the laws of a cache speak of.
-use Rattle.std.specs.Prelude.{◌≡◌, ℕ, ◌≤◌, Bool, true, false, List, [], ◌∷◌, length}
+use Rattle.std.specs.Prelude.{◌≡◌, ℕ, ◌+◌, ◌≤◌, Bool, true, false, List, [], ◌∷◌, length}
 use Rattle.std.specs.List.{IsDistinct}
 use Rattle.std.specs.Map.{keys_of}
 use Rattle.hc_head.specs.declared.head.RequestHead.{RequestHead}
@@ -16,6 +16,7 @@ use Rattle.hc_framing.specs.Written.{IsReadableRequest}
 use Rattle.hc_rules.specs.Laws.{IsForwardable}
 use Rattle.hc_transcript.specs.declared.record.Record.{Record}
 use Rattle.hc_transcript.specs.Items.{Item, OriginResponse, Forward}
+use Rattle.hc_transcript.specs.Limits.{greatest_number}
 use Rattle.hc_store.specs.Entries.{Holdings}
 use Rattle.hc_service.specs.declared.open.OpenForward.{OpenForward}
 use Rattle.hc_events.specs.declared.Happening.{Happening}
@@ -88,3 +89,8 @@ pub record KeepsAgreement (happening : Happening) (actions : List Action) (h : H
   pub later : History
   pub goes_on : GoesOn happening actions h later
   pub agrees : Agrees s later
+
+-- a count to which so many come: as many more, as far as records can be numbered, and never more
+pub record IsCountedOn (before more after : ℕ) : Type 0 where
+  pub most : after ≤ before + more
+  pub exact : before + more ≤ greatest_number → after ≡ before + more

@@ -16,7 +16,7 @@ ghost use Rattle.hc_transcript.specs.Written.{IsWritableAnswer, IsWritableAsk};
 ghost use Rattle.hc_history.specs.Right.{IsRight};
 ghost use Rattle.hc_service.specs.declared.numbers.Numbers.{Numbers};
 ghost use Rattle.hc_service.specs.Numbers.{asked, is_later, noted, one_more, sent};
-ghost use Rattle.hc_service.specs.Sending.{failure_record, forward_record, reply_record, request_record, response_record};
+ghost use Rattle.hc_service.specs.Sending.{failure_record, forward_record, records_of, reply_record, request_record, response_record};
 ghost use Rattle.hc_store.specs.Choosing.{is_selected};
 ghost use Rattle.hc_links.specs.Requests.{IsRequest};
 ghost use Rattle.hc_store.specs.Entries.{Holdings};
@@ -24,7 +24,7 @@ ghost use Rattle.hc_service.specs.declared.cases.Cause.{Cause};
 ghost use Rattle.hc_service.specs.declared.open.OpenForward.{OpenForward};
 ghost use Rattle.hc_service.specs.Answers.{Renews};
 ghost use Rattle.hc_service.specs.Choices.{Finds, Stores};
-ghost use Rattle.hc_service.specs.Laws.{HasSources, IsReceivedAnswer, IsReceivedAsk, is_response, recorded_forward, with_record, KeepsAgreement, KeepsAll, KeepsOn};
+ghost use Rattle.hc_service.specs.Laws.{HasSources, IsCountedOn, IsReceivedAnswer, IsReceivedAsk, is_response, recorded_forward, with_record, KeepsAgreement, KeepsAll, KeepsOn};
 ghost use Rattle.hc_service.specs.declared.action.Action.{Action};
 ghost use Rattle.hc_service.specs.Serves.{Run, Serves, Takes, Turn};
 ghost use Rattle.hc_events.specs.declared.Event.{Event};
@@ -244,6 +244,13 @@ pub fn agreement_is_ready()
     ensures { (s : State) (h : History) → Agrees s h → IsReady s }
 {}
 
+/// The count of records is that of what was given out, as far as records can be numbered, and never more.
+pub fn records_given_out_are_counted()
+    ensures { (settings : CoreSettings) (event : Event) (s : State) (actions : List Action) (other : State)
+        → Serves settings event s actions other
+        → IsCountedOn s.numbers.records (length (records_of actions)) other.numbers.records }
+{}
+
 /// Steps, one after another, are a run from whatever has happened, as far as records can be numbered:
 /// each state between agrees with what has happened by then.
 pub fn steps_are_runs()
@@ -273,3 +280,13 @@ pub fn steps_go_on()
         (s mid : State) (end : Option State) → Steps settings s events results (Some mid)
         → Steps settings mid others answers end → Steps settings s (events ++ others) (results ++ answers) end }
 {}
+
+/// Where steps have led a new cache, each forward can end, as far as records can be numbered.
+pub fn steps_end_ready()
+    ensures { (settings : CoreSettings) → AreGood settings → (events : List Event) (results : List StepResult)
+        (s : State) → Steps settings (new_state settings) events results (Some s)
+        → length (records_given results) ≤ greatest_number → IsReady s }
+{
+    forwards_are_writable();
+    forwards_keep_the_target();
+}
