@@ -1,16 +1,14 @@
 -- A served event keeps agreement: its turns do, what they heard and told is what the event brought, and nothing that can be read is left.
-use Rattle.std.proofs.Common.{◌≡◌, ℕ, ◌≤◌, ◌<◌, Bool, true, false, cond, not, List, [], ◌∷◌, ◌++◌, length, max, nat_lt, Option, Some, None, refl, sym, ap, ◌∙◌, subst, arith, inl, inr, ⊎_elim, ◌⊎◌}
+use Rattle.std.proofs.Common.{◌≡◌, ℕ, ◌≤◌, Bool, true, false, cond, not, List, [], ◌∷◌, nat_lt, Option, Some, None, refl, sym, ap, ◌∙◌, subst, arith, inl, inr, ⊎_elim}
 use Rattle.std.specs.FinMap.{get, insert, remove}
 use Rattle.std.specs.List.{AllByRecursion}
 use Rattle.std.specs.Option.{IsSome}
 use Rattle.std.proofs.lemmas.Bool.{cases_Bool, cases_eq, ltb-false}
 use Rattle.hc_transcript.specs.Limits.{greatest_number, greatest_moment}
-use Rattle.hc_links.specs.Requests.{IsUnfinished}
 use Rattle.hc_events.specs.declared.Event.{Event}
 use Rattle.hc_events.specs.declared.Happening.{Happening}
 use Rattle.hc_events.specs.declared.Happening.TheVariants.{ClientOpened, ClientBytes, ClientEnd, OriginBytes, OriginEnd, OriginFailed}
 use Rattle.hc_service.specs.declared.action.Action.{Action}
-use Rattle.hc_service.specs.declared.fault.StepFault.{StepFault}
 use Rattle.hc_service.specs.declared.fault.StepFault.TheVariants.{MomentTooLarge, UnknownNumber, TooManyConnections}
 use Rattle.hc_service.specs.declared.open.OpenExchange.{OpenExchange}
 use Rattle.hc_service.specs.declared.open.OpenForward.{OpenForward}
@@ -25,13 +23,13 @@ use Rattle.hc_service.specs.Turns.Failure.{IsBroken, IsCutOff, IsLost}
 use Rattle.hc_service.specs.Serves.{Turn, Takes, Run, Reads, ReadsOn, client_by, client_of, IsQuietAt, IsQuietBy, AwaitsStill, OwesEnd, OwesReply, OwesAnswer, Owes, passed_to, is_known, is_full, first_fault, Serves}
 use Rattle.hc_service.specs.Serves.Turn.{Opening, Hearing, Asking, Refusal, Dropping, Leaving, Closing, Telling, Answering, Failing}
 use Rattle.hc_service.specs.Agreement.{History, AreCounted, KeepsPurpose, Stands, IsQuiet, IsAwaiting, Agrees, HasExchange, IsReady}
-use Rattle.hc_service.specs.Runs.{heard_with, told_with, heard_by, told_by}
+use Rattle.hc_service.specs.Runs.{heard_by, told_by}
 use Rattle.hc_service.specs.LowerLaws.{ForwardLaws}
 use Rattle.hc_service.specs.Laws.{heard_all, told_all, KeepsAgreement}
 use Rattle.hc_service.proofs.TableLemmas.{get_same, get_gone, was_put}
 use Rattle.hc_service.proofs.LinkLemmas.{none_some, one_of}
 use Rattle.hc_service.proofs.StepLemmas.{run_keeps}
-use Rattle.hc_service.proofs.QuietLemmas.{nothing_read, KeepsOthers, KeepsForwards, KeepsBeside, EndsForward, IsAwaitingBut, others_put, others_out, others_then, forwards_same, ended_then, client_keeps, client_is, answering_keeps, failing_keeps, quiet_by, read_quietly, awaiting_by, awaiting_without}
+use Rattle.hc_service.proofs.QuietLemmas.{nothing_read, KeepsOthers, KeepsBeside, IsAwaitingBut, others_put, others_out, others_then, forwards_same, ended_then, client_keeps, client_is, answering_keeps, failing_keeps, quiet_by, read_quietly, awaiting_by, awaiting_without}
 
 -- ---- the moment has come
 

@@ -3,12 +3,9 @@ use Rattle.std.proofs.Common.{◌≡◌, ℕ, ◌≤◌, ◌<◌, Bool, true, fa
 use Rattle.std.specs.FinMap.{get, insert, remove}
 use Rattle.std.specs.List.{AllByRecursion}
 use Rattle.std.proofs.lemmas.Bool.{cases_eq}
-use Rattle.hc_head.specs.declared.head.RequestHead.{RequestHead}
-use Rattle.hc_head.specs.declared.head.ResponseHead.{ResponseHead}
 use Rattle.hc_head.specs.Methods.{is_head}
-use Rattle.hc_framing.specs.declared.kind.Kind.TheVariants.{Request, Response}
 use Rattle.hc_framing.specs.FramingLaws.{request_laws, response_laws}
-use Rattle.hc_links.specs.Requests.{HasHead, IsUnfinished}
+use Rattle.hc_links.specs.Requests.{IsUnfinished}
 use Rattle.hc_links.specs.Responses.{IsUnfinished as IsAwaitedStill}
 use Rattle.hc_service.specs.declared.action.Action.{Action}
 use Rattle.hc_service.specs.declared.cases.Cause.{Cause}
@@ -24,11 +21,11 @@ use Rattle.hc_service.specs.Reactions.{Reaction, forward_anew}
 use Rattle.hc_service.specs.Reactions.Reaction.{Replies as RepliesAtOnce, Sends}
 use Rattle.hc_service.specs.Answers.{Outcome}
 use Rattle.hc_service.specs.Answers.Outcome.{Replies, GoesAnew}
-use Rattle.hc_service.specs.Turns.{after_leaving, after_reply, after_request, sent_forward, replied, wanted_now, Asks, Refuses, Drops, DoesReaction, Answers, Breaks, DoesOutcome, EndsByResponse, EndsByFailure, Failure, is_closed}
+use Rattle.hc_service.specs.Turns.{after_leaving, after_reply, after_request, sent_forward, replied, wanted_now, Asks, DoesReaction, Answers, Breaks, DoesOutcome, EndsByResponse, EndsByFailure, Failure, is_closed}
 use Rattle.hc_service.specs.Serves.{Turn, Takes, Run, Reads, ReadsOn, client_by, client_of, IsQuietAt, AwaitsStill}
 use Rattle.hc_service.specs.Serves.Turn.{Opening, Hearing, Asking, Refusal, Dropping, Leaving, Closing, Telling, Answering, Failing}
 use Rattle.hc_service.specs.Agreement.{IsQuiet, IsAwaiting}
-use Rattle.hc_service.proofs.TableLemmas.{get_same, get_other, get_gone, get_left, was_put, was_left}
+use Rattle.hc_service.proofs.TableLemmas.{get_other, get_left, was_put, was_left}
 use Rattle.hc_service.proofs.LinkLemmas.{none_some, one_of}
 
 -- ---- where nothing has come

@@ -31,7 +31,7 @@ use Rattle.hc_service.specs.Turns.{DoesReaction, DoesOutcome, EndsByResponse, En
 use Rattle.hc_service.specs.Serves.{Turn, Takes, Run, Serves, passed_to}
 use Rattle.hc_service.specs.Serves.Turn.{Opening, Hearing, Asking, Refusal, Dropping, Leaving, Closing, Telling, Answering, Failing}
 use Rattle.hc_service.specs.Agreement.{History, Agrees, IsReady}
-use Rattle.hc_service.specs.Runs.{Records, AllRightBehind, behind, strict, nothing_yet, StepResult, Steps, records_given, GoesOnWith, EndAgrees, StepsRun, transcript_of, IsJudgedRight}
+use Rattle.hc_service.specs.Runs.{Records, AllRightBehind, behind, strict, nothing_yet, StepResult, Steps, records_given, GoesOnWith, EndAgrees, StepsRun, IsJudgedRight}
 use Rattle.hc_service.specs.LowerLaws.{ForwardLaws}
 use Rattle.hc_service.specs.Laws.{IsCountedOn}
 use Rattle.hc_service.proofs.BeginLemmas.{new_agrees}
