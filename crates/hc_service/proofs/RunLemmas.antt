@@ -31,7 +31,7 @@ use Rattle.hc_service.specs.Turns.{DoesReaction, DoesOutcome, EndsByResponse, En
 use Rattle.hc_service.specs.Serves.{Turn, Takes, Run, Serves, passed_to}
 use Rattle.hc_service.specs.Serves.Turn.{Opening, Hearing, Asking, Refusal, Dropping, Leaving, Closing, Telling, Answering, Failing}
 use Rattle.hc_service.specs.Agreement.{History, Agrees, IsReady}
-use Rattle.hc_service.specs.Runs.{Records, AllRightBehind, behind, strict, nothing_yet, StepResult, Steps, records_given, GoesOnWith, EndAgrees, StepsRun, IsJudgedRight}
+use Rattle.hc_service.specs.Runs.{Records, AllRightBehind, behind, strict, nothing_yet, StepResult, Runs, RunsTo, Steps, records_given, GoesOnWith, EndAgrees, IsJudgedRight}
 use Rattle.hc_service.specs.LowerLaws.{ForwardLaws}
 use Rattle.hc_service.specs.Laws.{IsCountedOn}
 use Rattle.hc_service.proofs.BeginLemmas.{new_agrees}
@@ -158,7 +158,7 @@ run_counts settings (turn ∷ turns) s actions s' r =
 pub event_counts : (settings : CoreSettings) (event : Event) (s : State) (actions : List Action) (s' : State) → Serves settings event s actions s' → Counts s.numbers s'.numbers actions
 event_counts settings event s actions s' v = run_counts settings v.turns (passed_to event.moment s) actions s' v.run
 
--- ---- steps are a run
+-- ---- what has happened behind a run
 
 with_more : (actions : List Action) (rest : List Record) (h between later : History) → Records actions h between → GoesOnWith rest between later → GoesOnWith (records_of actions ++ rest) h later
 with_more actions rest h between later one more = record {
@@ -169,19 +169,70 @@ with_more actions rest h between later one more = record {
 }
 
 -- nothing goes on
-stays_with : (records : List Record) (h : History) → records ≡ [] → GoesOnWith records h h
-stays_with records h none = record { newer = []; records_are = sym (ap (λ (rs : List Record). behind rs h.records) none); items_are = refl; right = tt }
+stays_to : (records : List Record) (s : State) (h : History) (end : Option State) → records ≡ [] → Agrees s h → EndAgrees end h → RunsTo records h end
+stays_to records s h end none a agrees = record {
+  later = h;
+  goes_on = record { newer = []; records_are = sym (ap (λ (rs : List Record). behind rs h.records) none); items_are = refl; right = tt };
+  are_read = a.stands.counted.are_read;
+  agrees = agrees;
+}
+
+pub runs_to : (settings : CoreSettings) (events : List Event) (results : List StepResult) (s : State) (h : History) (records : List Record) (end : Option State)
+    → Runs settings s h events results records end → RunsTo records h end
+runs_to settings [] [] s h records end runs = stays_to records s h end runs.1 runs.0 (subst (λ (o : Option State). EndAgrees o h) (sym runs.2) runs.0)
+runs_to settings [] (result ∷ results) s h records end runs = absurd runs
+runs_to settings (event ∷ events) [] s h records end runs = absurd runs
+runs_to settings (event ∷ events) (Ok actions ∷ results) s h records end runs =
+    let between = runs.2 in
+    let rest = runs.3 in
+    let more = runs_to settings events results runs.1 between rest end runs.7 in
+    record {
+      later = more.later;
+      goes_on = subst (λ (rs : List Record). GoesOnWith rs h more.later) (sym runs.6) (with_more actions.items rest h between more.later runs.5.records more.goes_on);
+      are_read = more.are_read;
+      agrees = more.agrees;
+    }
+runs_to settings (event ∷ events) (Err Memory ∷ results) s h records end runs = stays_to records s h end runs.3 runs.0 (subst (λ (o : Option State). EndAgrees o h) (sym runs.4) tt)
+runs_to settings (event ∷ events) (Err MomentTooLarge ∷ results) s h records end runs = runs_to settings events results s h records end runs.2
+runs_to settings (event ∷ events) (Err UnknownNumber ∷ results) s h records end runs = runs_to settings events results s h records end runs.2
+runs_to settings (event ∷ events) (Err TooManyConnections ∷ results) s h records end runs = runs_to settings events results s h records end runs.2
+runs_to settings (event ∷ events) (Err Failed ∷ results) s h records end runs = absurd runs
+
+-- ---- what a run records is judged right
+
+text_behind : (records before : List Record) → records_text (behind records before) ≡ records_text before ++ flat_map record_text records
+text_behind [] before = sym (append-nil (records_text before))
+text_behind (r ∷ records) before = text_behind records (r ∷ before) ∙ append_assoc (records_text before) (record_text r) (flat_map record_text records)
+
+all_right : (newer items : List Item) → AllRight strict items → AllRightBehind newer items → AllRight strict (newer ++ items)
+all_right [] items right more = right
+all_right (item ∷ newer) items right more = (all_right newer items right more.0, more.1)
+
+pub runs_judged : (settings : CoreSettings) (events : List Event) (results : List StepResult) (records : List Record) (end : Option State)
+    → Runs settings (new_state settings) nothing_yet events results records end → IsJudgedRight records
+runs_judged settings events results records end runs =
+    let to = runs_to settings events results (new_state settings) nothing_yet records end runs in
+    let more = to.goes_on in
+    record {
+      counts = counts_of to.later.items;
+      verdict = record {
+        records = to.later.records;
+        history = to.later.items;
+        is_transcript = record {
+          octets_are = ap (λ (text : List ℕ). opening ++ text) (sym (append-nil (records_text to.later.records) ∙ ap records_text more.records_are ∙ text_behind records []));
+          are_read = to.are_read;
+        };
+        all_right = subst (AllRight strict) (sym more.items_are) (all_right more.newer [] tt more.right);
+        counts_are = refl;
+      };
+    }
+
+-- ---- steps are a run
 
 module _ (settings : CoreSettings) (good : AreGood settings) (laws : ForwardLaws) where
   pub steps_run : (events : List Event) (results : List StepResult) (s : State) (h : History) (end : Option State) → Agrees s h → Steps settings s events results end
-      → s.numbers.records + length (records_given results) ≤ greatest_number → StepsRun settings s h events results end
-  steps_run [] [] s h end a steps le = record {
-    runs = (a, refl, steps);
-    later = h;
-    goes_on = stays_with [] h refl;
-    are_read = a.stands.counted.are_read;
-    agrees = subst (λ (o : Option State). EndAgrees o h) (sym steps) a;
-  }
+      → s.numbers.records + length (records_given results) ≤ greatest_number → Runs settings s h events results (records_given results) end
+  steps_run [] [] s h end a steps le = (a, refl, steps)
   steps_run [] (result ∷ results) s h end a steps le = absurd steps
   steps_run (event ∷ events) [] s h end a steps le = absurd steps
   steps_run (event ∷ events) (Ok actions ∷ results) s h end a steps le =
@@ -189,69 +240,20 @@ module _ (settings : CoreSettings) (good : AreGood settings) (laws : ForwardLaws
       let all = length-append (records_of actions.items) (records_given results) in
       let counts = (event_counts settings event s actions.items mid steps.1).most in
       let k = event_keeps settings good laws event s actions.items mid h a steps.1 (omega arith) in
-      let more = steps_run events results mid k.later end k.agrees steps.2 (omega arith) in
-      record {
-        runs = (a, mid, k.later, records_given results, steps.1, k.goes_on, refl, more.runs);
-        later = more.later;
-        goes_on = with_more actions.items (records_given results) h k.later more.later k.goes_on.records more.goes_on;
-        are_read = more.are_read;
-        agrees = more.agrees;
-      }
-  steps_run (event ∷ events) (Err Memory ∷ results) s h end a steps le = record {
-    runs = (a, steps.0, steps.1, ap records_given steps.1, steps.2);
-    later = h;
-    goes_on = stays_with (records_given results) h (ap records_given steps.1);
-    are_read = a.stands.counted.are_read;
-    agrees = subst (λ (o : Option State). EndAgrees o h) (sym steps.2) tt;
-  }
-  steps_run (event ∷ events) (Err MomentTooLarge ∷ results) s h end a steps le =
-      let more = steps_run events results s h end a steps.1 le in
-      record { runs = (a, steps.0, more.runs); later = more.later; goes_on = more.goes_on; are_read = more.are_read; agrees = more.agrees }
-  steps_run (event ∷ events) (Err UnknownNumber ∷ results) s h end a steps le =
-      let more = steps_run events results s h end a steps.1 le in
-      record { runs = (a, steps.0, more.runs); later = more.later; goes_on = more.goes_on; are_read = more.are_read; agrees = more.agrees }
-  steps_run (event ∷ events) (Err TooManyConnections ∷ results) s h end a steps le =
-      let more = steps_run events results s h end a steps.1 le in
-      record { runs = (a, steps.0, more.runs); later = more.later; goes_on = more.goes_on; are_read = more.are_read; agrees = more.agrees }
+      (a, mid, k.later, records_given results, steps.1, k.goes_on, refl, steps_run events results mid k.later end k.agrees steps.2 (omega arith))
+  steps_run (event ∷ events) (Err Memory ∷ results) s h end a steps le = (a, steps.0, steps.1, ap records_given steps.1, steps.2)
+  steps_run (event ∷ events) (Err MomentTooLarge ∷ results) s h end a steps le = (a, steps.0, steps_run events results s h end a steps.1 le)
+  steps_run (event ∷ events) (Err UnknownNumber ∷ results) s h end a steps le = (a, steps.0, steps_run events results s h end a steps.1 le)
+  steps_run (event ∷ events) (Err TooManyConnections ∷ results) s h end a steps le = (a, steps.0, steps_run events results s h end a steps.1 le)
   steps_run (event ∷ events) (Err Failed ∷ results) s h end a steps le = absurd steps
 
   -- where steps have led a new cache, each forward can end
   pub steps_ready : (events : List Event) (results : List StepResult) (s : State) → Steps settings (new_state settings) events results (Some s)
       → length (records_given results) ≤ greatest_number → IsReady s
   steps_ready events results s steps le =
-      let run = steps_run events results (new_state settings) nothing_yet (Some s) (new_agrees settings) steps (omega arith) in
-      agreement_ready s run.later run.agrees
-
-  -- ---- what a run records is judged right
-
-  pub steps_judged : (events : List Event) (results : List StepResult) (end : Option State) → Steps settings (new_state settings) events results end
-      → length (records_given results) ≤ greatest_number → IsJudgedRight (records_given results)
-  steps_judged events results end steps le =
-      let run = steps_run events results (new_state settings) nothing_yet end (new_agrees settings) steps (omega arith) in
-      let more = run.goes_on in
-      record {
-        counts = counts_of run.later.items;
-        verdict = record {
-          records = run.later.records;
-          history = run.later.items;
-          is_transcript = record {
-            octets_are = ap (λ (text : List ℕ). opening ++ text)
-                (sym (append-nil (records_text run.later.records) ∙ ap records_text more.records_are ∙ text_behind (records_given results) []));
-            are_read = run.are_read;
-          };
-          all_right = subst (AllRight strict) (sym more.items_are) (all_right more.newer [] tt more.right);
-          counts_are = refl;
-        };
-      }
-    where
-      text_behind : (records before : List Record) → records_text (behind records before) ≡ records_text before ++ flat_map record_text records
-      text_behind [] before = sym (append-nil (records_text before))
-      text_behind (r ∷ records) before =
-          text_behind records (r ∷ before) ∙ append_assoc (records_text before) (record_text r) (flat_map record_text records)
-
-      all_right : (newer items : List Item) → AllRight strict items → AllRightBehind newer items → AllRight strict (newer ++ items)
-      all_right [] items right more = right
-      all_right (item ∷ newer) items right more = (all_right newer items right more.0, more.1)
+      let runs = steps_run events results (new_state settings) nothing_yet (Some s) (new_agrees settings) steps (omega arith) in
+      let to = runs_to settings events results (new_state settings) nothing_yet (records_given results) (Some s) runs in
+      agreement_ready s to.later to.agrees
 
 -- ---- steps, one after another
 

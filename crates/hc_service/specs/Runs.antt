@@ -141,6 +141,8 @@ records_given [] = []
 records_given (Ok actions ∷ results) = records_of actions.items ++ records_given results
 records_given (Err fault ∷ results) = records_given results
 
+-- ---- what has happened behind a run
+
 -- the records stand behind the others, and each reply among them is right
 pub record GoesOnWith (records : List Record) (old new : History) : Type 0 where
   pub newer : List Item
@@ -153,11 +155,10 @@ abbrev pub EndAgrees : Option State → History → Type 0
 EndAgrees None h = Unit {0}
 EndAgrees (Some s) h = Agrees s h
 
--- steps are a run: each state between agrees with what has happened by then, and the records go on behind those before
-pub record StepsRun (settings : CoreSettings) (s : State) (h : History) (events : List Event) (results : List StepResult) (end : Option State) : Type 0 where
-  pub runs : Runs settings s h events results (records_given results) end
+-- what has happened behind a run: the records are read, go on behind those before, and each reply among them is right; and a cache that was led to agrees
+pub record RunsTo (records : List Record) (h : History) (end : Option State) : Type 0 where
   pub later : History
-  pub goes_on : GoesOnWith (records_given results) h later
+  pub goes_on : GoesOnWith records h later
   pub are_read : AreReadAs later.records later.items
   pub agrees : EndAgrees end later
 

@@ -35,7 +35,7 @@ ghost use Rattle.hc_rules.specs.Laws.{IsForwardable};
 ghost use Rattle.hc_service.specs.declared.open.OpenExchange.{OpenExchange};
 ghost use Rattle.hc_service.specs.State.{Awaited, Connection, State, Table, new_connection, new_state};
 ghost use Rattle.hc_service.specs.Agreement.{AllHeld, CanReply, AreAsked, AreCounted, AreHeard, AreLinked, Agrees, History, IsReadOf, IsReady, IsSound, Stands, exchange_for};
-ghost use Rattle.hc_service.specs.Runs.{Runs, nothing_yet, records_given, IsJudgedRight, StepResult, Steps, StepsRun, strict, with_octets};
+ghost use Rattle.hc_service.specs.Runs.{Runs, RunsTo, nothing_yet, records_given, IsJudgedRight, StepResult, Steps, strict, with_octets};
 ghost use Rattle.hc_service.specs.Asking.{is_answered_by_store};
 ghost use Rattle.hc_service.specs.Replying.{Wanted, hit_reply, made_reply, passed_reply};
 ghost use Rattle.hc_service.specs.Serving.{may_be_served};
@@ -257,22 +257,26 @@ pub fn steps_are_runs()
     ensures { (settings : CoreSettings) → AreGood settings → (events : List Event) (results : List StepResult)
         (s : State) (h : History) (end : Option State) → Agrees s h → Steps settings s events results end
         → s.numbers.records + length (records_given results) ≤ greatest_number
-        → StepsRun settings s h events results end }
+        → Runs settings s h events results (records_given results) end }
 {
     forwards_are_writable();
     forwards_keep_the_target();
 }
 
-/// The strictest audit says yes to what a new cache records, whatever it is told, as far as records can be
-/// numbered.
-pub fn steps_are_judged_right()
-    ensures { (settings : CoreSettings) → AreGood settings → (events : List Event) (results : List StepResult)
-        (end : Option State) → Steps settings (new_state settings) events results end
-        → length (records_given results) ≤ greatest_number → IsJudgedRight (records_given results) }
-{
-    forwards_are_writable();
-    forwards_keep_the_target();
-}
+/// Behind a run what has happened has gone on by its records, each reply among them is right, and a cache
+/// that is left agrees with it.
+pub fn runs_keep_agreement()
+    ensures { (settings : CoreSettings) (events : List Event) (results : List StepResult) (s : State)
+        (h : History) (records : List Record) (end : Option State)
+        → Runs settings s h events results records end → RunsTo records h end }
+{}
+
+/// The strictest audit says yes to what a new cache records.
+pub fn runs_are_judged_right()
+    ensures { (settings : CoreSettings) (events : List Event) (results : List StepResult) (records : List Record)
+        (end : Option State) → Runs settings (new_state settings) nothing_yet events results records end
+        → IsJudgedRight records }
+{}
 
 /// Steps go on where others have led, unless a refused growth has ended them.
 pub fn steps_go_on()
