@@ -1,5 +1,5 @@
 -- Reading a connection as far as can be.
-use Rattle.std.proofs.Common.{append_assoc, append-nil, ◌≡◌, ◌<◌, ◌≤◌, ℕ, ◌+◌, Bool, true, false, List, [], ◌∷◌, ◌++◌, length, nat_lt, Option, Some, None, Ok, refl, sym, ap, ◌∙◌, subst, arith}
+use Rattle.std.proofs.Common.{append_assoc, append-nil, ◌≡◌, ◌<◌, ℕ, ◌+◌, Bool, true, false, List, [], ◌∷◌, ◌++◌, length, nat_lt, Option, Some, None, Ok, refl, sym, ap, ◌∙◌, subst, arith}
 use Rattle.std.proofs.lemmas.Bool.{ltb-false, ltb-true}
 use Rattle.std.specs.BTreeMap.{BTreeMap, Updates, btree_map_len, get as kept_at}
 use Rattle.std.specs.FinMap.{get, insert, remove}
@@ -19,13 +19,13 @@ use Rattle.hc_service.specs.declared.settings.CoreSettings.{CoreSettings}
 use Rattle.hc_service.specs.Sending.{refusal_actions}
 use Rattle.hc_service.specs.Serves.{IsQuietAt, IsQuietBy, Reads, Run, Turn}
 use Rattle.hc_service.specs.Serves.Turn.{Asking, Dropping, Refusal}
-use Rattle.hc_service.specs.State.{State, Table, Connection}
+use Rattle.hc_service.specs.State.{State, Connection}
 use Rattle.hc_service.specs.Turns.{after_leaving, most_waiting}
 use Rattle.hc_core.specs.declared.desk.Desk.{Desk}
 use Rattle.hc_core.specs.declared.links.Client.{Client}
 use Rattle.hc_core.specs.Links.{AreClients, IsClient, IsTrimmed, WaitsWhole}
 use Rattle.hc_core.specs.Reading.{IsAsked}
-use Rattle.hc_core.specs.Standing.{Adds, GivesReading, GivesTurn, Stands, without_connection}
+use Rattle.hc_core.specs.Standing.{GivesReading, GivesTurn, Stands, without_connection}
 use Rattle.hc_core.proofs.TableLemmas.{alike_taken, found, get_gone, get_put, gone_same, put_back, put_same}
 
 some_one : {X : Type 0} (a b : X) → Some a ≡ Some b → a ≡ b
@@ -81,6 +81,11 @@ module _ (S H : Type 0) (settings : CoreSettings) (c : ℕ) where
     );
     quiet = next.quiet;
   }
+
+  -- where it is known whether there may be more
+  pub reads_as : (d : Desk S H) (given known : Bool) (s : State) (a z : List Action) → given ≡ known → GivesReading {S = S} {H = H} settings c given s a z d
+      → GivesReading {S = S} {H = H} settings c known s a z d
+  reads_as d given known s a z is gives = subst (λ (b : Bool). GivesReading {S = S} {H = H} settings c b s a z d) is gives
 
   -- nothing was read yet
   pub reads_none : (d : Desk S H) (s : State) (items : List Action) → Stands {S = S} {H = H} settings d s → GivesReading {S = S} {H = H} settings c true s items items d

@@ -1,7 +1,6 @@
 use Rattle.std.proofs.Common.{ℕ, ap, ◌∙◌, subst}
 use Rattle.std.specs.FinMap.{insert}
 use Rattle.hc_head.specs.Methods.{is_head}
-use Rattle.hc_service.specs.Numbers.{one_more}
 use Rattle.hc_service.specs.Turns.{sent_forward}
 use Rattle.hc_core.specs.Links.{AreLinks, IsLink}
 use Rattle.hc_core.proofs.TableLemmas.{alike_put}
