@@ -4,12 +4,14 @@
 mod answering;
 mod clients;
 mod desk;
+mod ending;
 mod fault;
 mod links;
 mod machine;
 mod moving;
 mod reading;
 mod serving;
+mod telling;
 
 pub use fault::CoreFault;
 pub use machine::Core;
