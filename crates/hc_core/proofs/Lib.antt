@@ -6,4 +6,7 @@ pub mod ReadLemmas
 pub mod EndLemmas
 pub mod CanLemmas
 pub mod TellLemmas
+pub mod StartLemmas
+pub mod EventLemmas
+pub mod LeaveLemmas
 pub mod ServeLemmas

@@ -31,6 +31,14 @@ pub record StandsFor (settings : CoreSettings) (cache : Cache) (s : State) : Typ
   pub works : cache.failed ≡ false
   pub stands : IsKept settings cache.kept s
 
+-- a fault that a test of the event tells
+abbrev pub IsOfTest : StepFault → Type 0
+IsOfTest MomentTooLarge = Unit {0}
+IsOfTest UnknownNumber = Unit {0}
+IsOfTest TooManyConnections = Unit {0}
+IsOfTest Memory = ⊥
+IsOfTest Failed = ⊥
+
 -- what is told is the first test that the event fails
 abbrev pub IsRefused : StepFault → Event → State → Type 0
 IsRefused fault event s = first_fault event s ≡ Some fault

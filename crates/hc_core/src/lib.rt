@@ -1,10 +1,12 @@
 //! The shared cache as a step function: events in, actions and records out.
 #![tactic(auto)]
 
+mod admission;
 mod answering;
 mod clients;
 mod desk;
 mod fault;
+mod leaving;
 mod links;
 mod machine;
 mod moving;

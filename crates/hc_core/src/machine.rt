@@ -20,9 +20,13 @@ pub struct Core<S: BuildHasher = DefaultHasher> {
 }
 
 impl<S: BuildHasher> Model for Core<S> {
+    ghost use Rattle.std.specs.Coded.{codes};
+    ghost use Rattle.std_collections.specs.Layout.BTreeMap.{btree_map_code};
     ghost use Rattle.hc_core.specs.Steps.{CanStep, Cache, cache_of};
 
     ghost Value = { Cache };
+
+    ghost coded = { Prim.hlevel (codes, btree_map_code) };
 
     ghost view = { λ c. cache_of c.failed c.desk };
 
@@ -115,6 +119,6 @@ impl<S: BuildHasher> Core<S> {
             → result ≡ (len s.connections == 0 && len s.forwards == 0) }
         ensures failed { self.now.failed ≡ true → result ≡ false }
     {
-        !self.failed && self.desk.clients.is_empty() && self.desk.links.is_empty()
+        !self.failed && self.desk.is_idle()
     }
 }
