@@ -1,9 +1,5 @@
 -- Which events are served, and what that makes of what happens then.
-use Rattle.std.proofs.Common.{◌≡◌, ◌<◌, ◌≤◌, ◌⊎◌, ℕ, Bool, true, false, not, max, nat_lt, nat_le, List, Option, Some, None, Err, refl, sym, ap, ◌∙◌, subst, inl, inr, arith, if◌then◌else◌}
-use Rattle.std.specs.BTreeMap.{BTreeMap, btree_map_len, get as kept_at}
-use Rattle.std.specs.FinMap.{get, len}
-use Rattle.std.specs.Option.{is_some}
-use Rattle.std.specs.Ordering.{nat_cmp}
+use Rattle.std.proofs.Common.{◌≡◌, ◌<◌, ◌≤◌, ◌⊎◌, ℕ, Bool, true, false, not, max, nat_lt, List, Option, Some, None, Err, refl, sym, ap, ◌∙◌, subst, inl, inr, arith, if◌then◌else◌}
 use Rattle.hc_events.specs.declared.Event.{Event}
 use Rattle.hc_events.specs.declared.Happening.{Happening}
 use Rattle.hc_events.specs.declared.Happening.TheVariants.{ClientOpened, ClientBytes, ClientEnd, OriginBytes, OriginEnd, OriginFailed}
@@ -13,17 +9,14 @@ use Rattle.hc_service.specs.declared.fault.StepFault.{StepFault}
 use Rattle.hc_service.specs.declared.fault.StepFault.TheVariants.{Memory, MomentTooLarge, UnknownNumber, TooManyConnections, Failed}
 use Rattle.hc_service.specs.declared.numbers.Numbers.{Numbers}
 use Rattle.hc_service.specs.declared.settings.CoreSettings.{CoreSettings}
-use Rattle.hc_service.specs.Numbers.{at_moment, is_later}
+use Rattle.hc_service.specs.Numbers.{at_moment}
 use Rattle.hc_service.specs.Serves.{Owes, Turn, first_fault, is_full, is_known, passed_to}
 use Rattle.hc_service.specs.State.{State}
-use Rattle.hc_service.specs.Turns.{most_connections}
 use Rattle.hc_transcript.specs.Limits.{greatest_moment}
 use Rattle.hc_core.specs.declared.desk.Desk.{Desk}
 use Rattle.hc_core.specs.Happenings.{CanTake, Does, GivesDoing}
-use Rattle.hc_core.specs.Links.{IsClient, IsLink}
-use Rattle.hc_core.specs.Standing.{CanServe, GivesService, Stands}
-use Rattle.hc_core.specs.Steps.{Cache, GivesStep, IsOfTest}
-use Rattle.hc_core.proofs.TableLemmas.{both_there}
+use Rattle.hc_core.specs.Standing.{CanServe, GivesService, IsKept, Stands}
+use Rattle.hc_core.specs.Steps.{Cache, CanStep, GivesStep, IsOfTest, StandsFor, cache_of}
 
 -- ---- tests
 
@@ -41,28 +34,16 @@ none_by false false full none = absurd (cc)
 pub passes_tests : (event : Event) (s : State) → first_fault event s ≡ None → (is_known event.of s ≡ true) × (is_full event.of s ≡ false)
 passes_tests event s none = none_by (nat_lt greatest_moment event.moment) (is_known event.of s) (is_full event.of s) none
 
-tests_by : (late known full late' known' full' : Bool) → late ≡ late' → known ≡ known' → full ≡ full' → first_of_tests late known full ≡ first_of_tests late' known' full'
-tests_by late known full late' known' full' a b c i = first_of_tests (a i) (b i) (c i)
-
--- the answer of the tests
-pub tested : (event : Event) (s : State) (late known full : Bool) → nat_lt greatest_moment event.moment ≡ late → is_known event.of s ≡ known → is_full event.of s ≡ full
-    → first_of_tests late known full ≡ first_fault event s
-tested event s late known full a b c = tests_by late known full _ _ _ (sym a) (sym b) (sym c)
-
-module _ (S H : Type 0) (settings : CoreSettings) (d : Desk S H) (s : State) (stands : Stands {S = S} {H = H} settings d s) where
-  pub has_client : (c : ℕ) (found : Bool) → found ≡ is_some (kept_at nat_cmp d.clients c) → found ≡ is_some (get s.connections c)
-  has_client c found is = is ∙ both_there IsClient _ _ (stands.clients.at c)
-
-  pub has_link : (f : ℕ) (found : Bool) → found ≡ is_some (kept_at nat_cmp d.links f) → found ≡ is_some (get s.forwards f)
-  has_link f found is = is ∙ both_there IsLink _ _ (stands.links.at f)
-
-  pub comes_later : (c : ℕ) (later : Bool) → later ≡ is_later c d.numbers.connection → later ≡ is_later c s.numbers.connection
-  comes_later c later is = is ∙ ap (λ (n : Numbers). is_later c n.connection) stands.numbers
-
-  pub has_no_place : (many : ℕ) (full : Bool) → many ≡ btree_map_len d.clients → full ≡ nat_le most_connections many → full ≡ nat_le most_connections (len s.connections)
-  has_no_place many full count is = is ∙ ap (nat_le most_connections) (count ∙ stands.clients.many)
-
 -- ---- steps
+
+-- what it keeps is that of some state, since it hasn't failed
+pub can_step : {S H : Type 0} (failed : Bool) (d : Desk S H) → CanStep failed d → failed ≡ false → CanServe d
+can_step failed d (inl has) hasnt = absurd (cc)
+can_step failed d (inr can) hasnt = can
+
+-- a cache that stands for a state keeps what that state has
+pub keeps : {S H : Type 0} (settings : CoreSettings) (s : State) (failed : Bool) (d : Desk S H) (cache : Cache) → cache_of failed d ≡ cache → StandsFor settings cache s → Stands settings d s
+keeps settings s failed d cache is stands = subst (λ (x : Cache). IsKept settings x.kept s) (sym is) stands.stands
 
 -- what a test tells is what a step answers
 pub refused : (fault : StepFault) (settings : CoreSettings) (event : Event) (s : State) (cache : Cache) → IsOfTest fault → Some fault ≡ first_fault event s

@@ -14,6 +14,6 @@ module _ {X Y : Type 0} (IsLike : X → Y → Type 0) where
   -- a map and a table of nothing
   pub none_alike : (m : BTreeMap ℕ X) → IsEmpty m → AreAlike IsLike m empty
   none_alike m is = record {
-    at = λ n. none_at (kept_at nat_cmp m n) (get (empty {X = Y} {R = nat_cmp}) n) (ap (λ (es : List (ℕ × X)). lookup (is_at (nat_cmp n)) es) is) (get-empty n);
+    at = λ n. none_at (kept_at nat_cmp m n) (get (empty {X = Y} {R = nat_cmp}) n) (ap (λ (es : List (ℕ × X)). lookup (is_at (nat_cmp n)) es) is) (get-empty nat_cmp n);
     many = ap length is ∙ sym (len-empty nat_cmp Y);
   }
