@@ -1,3 +1,12 @@
 pub mod TableLemmas
+pub mod LinkLemmas
+pub mod ClientLemmas
+pub mod AskLemmas
+pub mod ReadLemmas
+pub mod EndLemmas
+pub mod CanLemmas
+pub mod TellLemmas
 pub mod StartLemmas
 pub mod EventLemmas
+pub mod LeaveLemmas
+pub mod ServeLemmas

@@ -1,6 +1,8 @@
 pub mod Names
 pub mod Tables
 pub mod Links
+pub mod Reading
+pub mod Ending
 pub mod Standing
 pub mod Happenings
 pub mod Steps

@@ -2,10 +2,15 @@
 #![tactic(auto)]
 
 mod admission;
+mod answering;
+mod clients;
 mod desk;
 mod fault;
+mod leaving;
 mod links;
 mod machine;
+mod moving;
+mod reading;
 mod serving;
 
 pub use fault::CoreFault;

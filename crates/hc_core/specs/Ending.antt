@@ -1,0 +1,64 @@
+-- A request that waits for a reply, taken out with its connection.
+use Rattle.std.specs.Prelude.{◌≡◌, ℕ, Bool, ◌||◌, List, ◌++◌, Option, Some, None, if◌then◌else◌}
+use Rattle.std.specs.BTreeMap.{BTreeMap}
+use Rattle.std.specs.FinMap.{get, insert, remove}
+use Rattle.hc_head.specs.declared.head.RequestHead.{RequestHead}
+use Rattle.hc_head.specs.declared.head.ResponseHead.{ResponseHead}
+use Rattle.hc_head.specs.Methods.{is_head}
+use Rattle.hc_framing.specs.declared.message.Message.{Message}
+use Rattle.hc_store.specs.Entries.{Holdings}
+use Rattle.hc_service.specs.declared.action.Action.{Action}
+use Rattle.hc_service.specs.declared.open.OpenExchange.{OpenExchange}
+use Rattle.hc_service.specs.Asking.{ends_connection}
+use Rattle.hc_service.specs.Numbers.{noted}
+use Rattle.hc_service.specs.Replying.{Wanted}
+use Rattle.hc_service.specs.Sending.{reply_actions}
+use Rattle.hc_service.specs.State.{Table, Connection}
+use Rattle.hc_core.specs.declared.desk.Desk.{Desk}
+use Rattle.hc_core.specs.declared.links.Client.{Client}
+use Rattle.hc_core.specs.declared.answering.Waiting.{Waiting}
+use Rattle.hc_core.specs.Links.{AreClients, AreExchanges, IsClient, IsIdle}
+
+-- the exchange and its connection were there, and are taken out
+pub record IsTaken (number : ℕ) (w : Waiting) (waiting : Table OpenExchange) (connections : Table Connection) (exchanges : BTreeMap ℕ OpenExchange) (clients : BTreeMap ℕ Client) : Type 0 where
+  pub number_is : w.number ≡ number
+  pub connection : Connection
+  pub waits : get waiting number ≡ Some w.exchange
+  pub there : get connections w.exchange.connection ≡ Some connection
+  pub is_client : IsClient w.client connection
+  pub are_exchanges : AreExchanges exchanges (remove waiting number)
+  pub are_clients : AreClients clients (remove connections w.exchange.connection)
+
+-- one of both isn't there; what is left is that of some tables
+pub record IsMissing (number : ℕ) (waiting : Table OpenExchange) (connections : Table Connection) (exchanges : BTreeMap ℕ OpenExchange) (clients : BTreeMap ℕ Client) : Type 0 where
+  pub no_connection : (exchange : OpenExchange) → get waiting number ≡ Some exchange → get connections exchange.connection ≡ None
+  pub waiting_left : Table OpenExchange
+  pub connections_left : Table Connection
+  pub are_exchanges : AreExchanges exchanges waiting_left
+  pub are_clients : AreClients clients connections_left
+
+abbrev pub TakesWaiting : ℕ → Option Waiting → Table OpenExchange → Table Connection → BTreeMap ℕ OpenExchange → BTreeMap ℕ Client → Type 0
+TakesWaiting number (Some w) waiting connections exchanges clients = IsTaken number w waiting connections exchanges clients
+TakesWaiting number None waiting connections exchanges clients = IsMissing number waiting connections exchanges clients
+
+-- ---- its reply
+
+-- its connection closes behind the reply
+abbrev pub is_last : Waiting → Bool
+is_last w = ends_connection w.exchange.request || w.client.leaves
+
+-- the reply that it wants of a cache
+abbrev pub wanted_of : {S H : Type 0} → Desk S H → Waiting → Wanted
+wanted_of desk w = record { name = desk.name; moment = desk.numbers.moment; asked = w.exchange.request; closes = is_last w }
+
+-- it gets a reply, which is decided by what is stored
+pub record GivesReply {S H : Type 0} (w : Waiting) (decides : Message ResponseHead → Holdings → Holdings → Type 0) (before after : List Action) (old new : Desk S H) : Type 0 where
+  pub reply : Message ResponseHead
+  pub decided : decides reply old.store new.store
+  pub name : new.name ≡ old.name
+  pub numbers : new.numbers ≡ noted old.numbers
+  pub clients : (connections : Table Connection) (k : Connection) → AreClients old.clients connections → IsIdle w.client k
+      → AreClients new.clients (if is_last w then connections else insert connections w.exchange.connection k)
+  pub exchanges : new.exchanges ≡ old.exchanges
+  pub links : new.links ≡ old.links
+  pub actions : after ≡ before ++ reply_actions w.number old.numbers.moment (is_head w.exchange.request.method) w.exchange.connection (is_last w) reply
