@@ -1,5 +1,8 @@
 -- Which events are served, and what that makes of what happens then.
-use Rattle.std.proofs.Common.{◌≡◌, ◌<◌, ◌≤◌, ◌⊎◌, ℕ, Bool, true, false, not, max, nat_lt, List, Option, Some, None, Err, refl, sym, ap, ◌∙◌, subst, inl, inr, arith, if◌then◌else◌}
+use Rattle.std.proofs.Common.{◌≡◌, ◌<◌, ℕ, Bool, true, false, not, max, nat_lt, List, Option, Some, None, Result, Ok, Err, IfOk, refl, sym, ap, ◌∙◌, subst, inl, inr, arith, if◌then◌else◌}
+use Rattle.std.specs.Global.{Global}
+use Rattle.std.specs.declared.alloc.AllocError.{AllocError}
+use Rattle.std.specs.declared.vec.Vec.{Vec}
 use Rattle.hc_events.specs.declared.Event.{Event}
 use Rattle.hc_events.specs.declared.Happening.{Happening}
 use Rattle.hc_events.specs.declared.Happening.TheVariants.{ClientOpened, ClientBytes, ClientEnd, OriginBytes, OriginEnd, OriginFailed}
@@ -14,7 +17,7 @@ use Rattle.hc_service.specs.Serves.{Owes, Turn, first_fault, is_full, is_known, 
 use Rattle.hc_service.specs.State.{State}
 use Rattle.hc_transcript.specs.Limits.{greatest_moment}
 use Rattle.hc_core.specs.declared.desk.Desk.{Desk}
-use Rattle.hc_core.specs.Happenings.{CanTake, Does, GivesDoing}
+use Rattle.hc_core.specs.Happenings.{CanTake, GivesDoing, TakesOn}
 use Rattle.hc_core.specs.Standing.{CanServe, GivesService, IsKept, Stands}
 use Rattle.hc_core.specs.Steps.{Cache, CanStep, GivesStep, IsOfTest, StandsFor, cache_of}
 
@@ -119,7 +122,7 @@ module _ (S H : Type 0) where
   pub can_serve : (of : Happening) (d : Desk S H) → CanTake {S = S} {H = H} of d → CanServe {S = S} {H = H} d
   can_serve of d can = record { settings = can.settings; state = can.state; stands = can.stands }
 
-  pub serves_event : (settings : CoreSettings) (event : Event) (s : State) (actions : List Action) (d : Desk S H) → first_fault event s ≡ None
+  serves_event : (settings : CoreSettings) (event : Event) (s : State) (actions : List Action) (d : Desk S H) → first_fault event s ≡ None
       → GivesDoing {S = S} {H = H} settings event.of (passed_to event.moment s) actions d → GivesService {S = S} {H = H} settings event s actions d
   serves_event settings event s actions d none gives = record {
     state = gives.state;
@@ -133,3 +136,16 @@ module _ (S H : Type 0) where
           run = does.run;
         };
   }
+
+  -- it is served by what is owed for what happens
+  pub served : (settings : CoreSettings) (event : Event) (s : State) (result : Result (Vec Action Global) AllocError) (mid d : Desk S H) → first_fault event s ≡ None
+      → Stands {S = S} {H = H} settings mid (passed_to event.moment s) → TakesOn {S = S} {H = H} event.of mid result d
+      → IfOk result (λ (actions : Vec Action Global). GivesService {S = S} {H = H} settings event s actions.items d)
+  served settings event s result mid d none stands takes =
+      let tests = passes_tests event s none in
+      each result (takes settings (passed_to event.moment s) stands (known_then event.moment s event.of tests.0) (place_then event.moment s event.of tests.1))
+    where
+      each : (r : Result (Vec Action Global) AllocError) → IfOk r (λ (actions : Vec Action Global). GivesDoing {S = S} {H = H} settings event.of (passed_to event.moment s) actions.items d)
+          → IfOk r (λ (actions : Vec Action Global). GivesService {S = S} {H = H} settings event s actions.items d)
+      each (Ok actions) gives = serves_event settings event s actions.items d none gives
+      each (Err fault) gives = tt

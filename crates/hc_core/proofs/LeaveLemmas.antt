@@ -1,7 +1,8 @@
 -- The end of what a client sends, put together of its turns.
-use Rattle.std.proofs.Common.{append-nil, ◌≡◌, ℕ, Bool, true, false, List, [], ◌∷◌, ◌++◌, Option, Some, None, refl, sym, ap, ◌∙◌, subst, inl, inr}
+use Rattle.std.proofs.Common.{append-nil, ◌≡◌, ℕ, Bool, true, false, List, [], ◌∷◌, ◌++◌, Option, Some, None, Result, Ok, Err, OnOk, refl, sym, ap, ◌∙◌, subst, inl, inr}
 use Rattle.std.specs.BTreeMap.{BTreeMap}
 use Rattle.std.specs.FinMap.{get, insert, remove}
+use Rattle.hc_links.specs.RequestReading as requests
 use Rattle.hc_links.specs.Requests.{IsGivenUp, IsRefused}
 use Rattle.hc_replies.specs.Replies.{generated_reply}
 use Rattle.hc_service.specs.declared.action.Action.{Action}
@@ -18,6 +19,18 @@ use Rattle.hc_core.specs.declared.links.Client.{Client}
 use Rattle.hc_core.specs.Links.{AreClients}
 use Rattle.hc_core.specs.Standing.{GivesEnd, Stands, without_connection}
 use Rattle.hc_core.proofs.TableLemmas.{put_back, put_same}
+
+-- what holds where it succeeds
+pub on_ok : {A E P Q : Type 0} (result : Result A E) → (P → Q) → OnOk result P → OnOk result Q
+on_ok (Ok x) f p = f p
+on_ok (Err e) f p = tt
+
+-- what a reader says of the client's end
+pub refused_at_end : (answer : Option ℕ) (status : ℕ) (octets : List ℕ) → answer ≡ Some status → requests.GivesEnd (Ok answer) octets → IsRefused octets status
+refused_at_end answer status octets is gives = subst (λ (o : Option ℕ). requests.GivesEnd (Ok o) octets) is gives
+
+pub given_up_at_end : (answer : Option ℕ) (octets : List ℕ) → answer ≡ None → requests.GivesEnd (Ok answer) octets → IsGivenUp octets
+given_up_at_end answer octets is gives = subst (λ (o : Option ℕ). requests.GivesEnd (Ok o) octets) is gives
 
 module _ (S H : Type 0) (settings : CoreSettings) (c : ℕ) where
   -- a client that is taken out leaves what the state without it has

@@ -1,5 +1,6 @@
 -- What is owed for what happens at a cache's links, put together of its turns.
-use Rattle.std.proofs.Common.{append_assoc, append-nil, ◌≡◌, ℕ, Bool, true, false, List, [], ◌∷◌, ◌++◌, Option, Some, None, refl, sym, ap, ◌∙◌, subst, inl, inr}
+use Rattle.std.proofs.Common.{append_assoc, append-nil, ◌≡◌, ◌<◌, ◌⊎◌, nat_le, ℕ, true, false, List, [], ◌∷◌, ◌++◌, Option, Some, None, refl, sym, ap, ◌∙◌, subst, inl, inr}
+use Rattle.std.proofs.lemmas.Bool.{leb-false}
 use Rattle.std.specs.FinMap.{get}
 use Rattle.std.specs.Option.{is_some}
 use Rattle.hc_events.specs.declared.Happening.TheVariants.{ClientOpened, ClientBytes, ClientEnd, OriginBytes, OriginEnd, OriginFailed}
@@ -18,6 +19,10 @@ pub there : {X : Type 0} (o : Option X) → is_some o ≡ true → (x : X) × (o
 there None is = absurd (cc)
 there (Some x) is = (x, refl)
 
+-- fewer than the most
+pub has_place : (most many : ℕ) → nat_le most many ≡ false → many < most
+has_place most many full = leb-false most many full
+
 -- turns, and others behind them
 pub run_then : (settings : CoreSettings) (turns more : List Turn) (s mid s' : State) (first rest : List Action) → Run settings turns s first mid → Run settings more mid rest s'
     → Run settings (turns ++ more) s (first ++ rest) s'
@@ -27,21 +32,52 @@ run_then settings (turn ∷ turns) more s mid s' first rest run on =
     (run.0, run.1, run.2 ++ rest, run.3, ap (λ (l : List Action). l ++ rest) run.4 ∙ append_assoc run.1 run.2 rest, run_then settings turns more run.0 mid s' run.2 rest run.5 on)
 
 module _ (S H : Type 0) (settings : CoreSettings) (s : State) where
+  -- ---- reading a connection behind a reply
+
+  pub reads_no_client : (d : Desk S H) (client : Option ℕ) (items : List Action) → client ≡ None → Stands {S = S} {H = H} settings d s
+      → GivesReadingBehind {S = S} {H = H} settings client s items items d
+  reads_no_client d client items is stands = record {
+    state = s;
+    stands = stands;
+    turns = [];
+    reads = subst (λ (x : Option ℕ). ReadsOn x [] s) (sym is) refl;
+    runs = ([], sym (append-nil items), (refl, refl));
+  }
+
+  pub reads_client : (d : Desk S H) (client : Option ℕ) (c : ℕ) (before after : List Action) → client ≡ Some c → GivesReading {S = S} {H = H} settings c false s before after d
+      → GivesReadingBehind {S = S} {H = H} settings client s before after d
+  reads_client d client c before after is gives = record {
+    state = gives.state;
+    stands = gives.stands;
+    turns = gives.turns;
+    reads = subst (λ (x : Option ℕ). ReadsOn x gives.turns gives.state) (sym is) (gives.reads, gives.quiet refl);
+    runs = gives.runs;
+  }
+
+-- behind the end of what the origin sends the cache is that of a state
+pub can_behind_end_of_origin : (S H : Type 0) (settings : CoreSettings) (s : State) (f : ℕ) (client : Option ℕ) (a z : List Action) (d : Desk S H)
+    → GivesEnding {S = S} {H = H} settings (Answering f true) f client s a z d ⊎ GivesEnding {S = S} {H = H} settings (Failing f IsCutOff) f client s a z d
+    → CanServe {S = S} {H = H} d
+can_behind_end_of_origin S H settings s f client a z d (inl gives) = record { settings = settings; state = gives.state; stands = gives.stands }
+can_behind_end_of_origin S H settings s f client a z d (inr gives) = record { settings = settings; state = gives.state; stands = gives.stands }
+
+-- no actions are there before the first turn
+module _ (S H : Type 0) (settings : CoreSettings) (s : State) (start : List Action) (none : start ≡ []) where
   -- ---- clients
 
-  pub does_opening : (c : ℕ) (d : Desk S H) → GivesTurn {S = S} {H = H} settings (Opening c) s [] [] d → GivesDoing {S = S} {H = H} settings (ClientOpened c) s [] d
+  pub does_opening : (c : ℕ) (d : Desk S H) → GivesTurn {S = S} {H = H} settings (Opening c) s [] [] d → GivesDoing {S = S} {H = H} settings (ClientOpened c) s start d
   does_opening c d gives = record {
     state = gives.state;
     stands = gives.stands;
     does = λ ready. record {
       turns = Opening c ∷ [];
       owes = refl;
-      run = (gives.state, gives.takes.0, [], gives.takes.2, gives.takes.1 ∙ sym (append-nil gives.takes.0), (refl, refl));
+      run = (gives.state, gives.takes.0, [], gives.takes.2, none ∙ gives.takes.1 ∙ sym (append-nil gives.takes.0), (refl, refl));
     };
   }
 
   pub does_hearing : (c : ℕ) (octets : List ℕ) (mid d : Desk S H) (actions : List Action)
-      → (first : GivesTurn {S = S} {H = H} settings (Hearing c octets) s [] [] mid) → GivesReading {S = S} {H = H} settings c false first.state [] actions d
+      → (first : GivesTurn {S = S} {H = H} settings (Hearing c octets) s [] [] mid) → GivesReading {S = S} {H = H} settings c false first.state start actions d
       → GivesDoing {S = S} {H = H} settings (ClientBytes c octets) s actions d
   does_hearing c octets mid d actions first next = record {
     state = next.state;
@@ -49,57 +85,36 @@ module _ (S H : Type 0) (settings : CoreSettings) (s : State) where
     does = λ ready. record {
       turns = Hearing c octets ∷ next.turns;
       owes = (next.turns, refl, (next.reads, next.quiet refl));
-      run = (first.state, first.takes.0, next.runs.0, first.takes.2, next.runs.1 ∙ ap (λ (l : List Action). l ++ next.runs.0) first.takes.1, next.runs.2);
+      run = (first.state, first.takes.0, next.runs.0, first.takes.2, next.runs.1 ∙ ap (λ (l : List Action). l ++ next.runs.0) (none ∙ first.takes.1), next.runs.2);
     };
   }
 
   pub does_end : (c : ℕ) (k : Connection) (d : Desk S H) (actions : List Action) → get s.connections c ≡ Some k
-      → GivesEnd {S = S} {H = H} settings c k s [] actions d → GivesDoing {S = S} {H = H} settings (ClientEnd c) s actions d
+      → GivesEnd {S = S} {H = H} settings c k s start actions d → GivesDoing {S = S} {H = H} settings (ClientEnd c) s actions d
   does_end c k d actions is gives = record {
     state = gives.state;
     stands = gives.stands;
     does = λ ready. record {
       turns = gives.turns;
       owes = (k, is, gives.owes);
-      run = subst (λ (l : List Action). Run settings gives.turns s l gives.state) (sym gives.runs.1) gives.runs.2;
+      run = subst (λ (l : List Action). Run settings gives.turns s l gives.state) (sym (gives.runs.1 ∙ ap (λ (l : List Action). l ++ gives.runs.0) none)) gives.runs.2;
     };
-  }
-
-  -- ---- reading a connection behind a reply
-
-  pub reads_no_client : (d : Desk S H) (items : List Action) → Stands {S = S} {H = H} settings d s → GivesReadingBehind {S = S} {H = H} settings None s items items d
-  reads_no_client d items stands = record {
-    state = s;
-    stands = stands;
-    turns = [];
-    reads = refl;
-    runs = ([], sym (append-nil items), (refl, refl));
-  }
-
-  pub reads_client : (d : Desk S H) (c : ℕ) (before after : List Action) → GivesReading {S = S} {H = H} settings c false s before after d
-      → GivesReadingBehind {S = S} {H = H} settings (Some c) s before after d
-  reads_client d c before after gives = record {
-    state = gives.state;
-    stands = gives.stands;
-    turns = gives.turns;
-    reads = (gives.reads, gives.quiet refl);
-    runs = gives.runs;
   }
 
   -- ---- the origin
 
   -- a forward ends by one turn, and behind it a connection is read on
-  ends_then : (turn : Turn) (f : ℕ) (client : Option ℕ) (mid d : Desk S H) (a z : List Action) (first : GivesEnding {S = S} {H = H} settings turn f client s [] a mid)
+  ends_then : (turn : Turn) (f : ℕ) (client : Option ℕ) (mid d : Desk S H) (a z : List Action) (first : GivesEnding {S = S} {H = H} settings turn f client s start a mid)
       → (next : GivesReadingBehind {S = S} {H = H} settings client first.state a z d) → IsReady s
       → Run settings (turn ∷ next.turns) s z next.state × ReadsOn (client_of f s) next.turns next.state
   ends_then turn f client mid d a z first next ready =
       let t = first.takes ready in (
-        (first.state, t.0.0, next.runs.0, t.0.2, next.runs.1 ∙ ap (λ (l : List Action). l ++ next.runs.0) t.0.1, next.runs.2),
+        (first.state, t.0.0, next.runs.0, t.0.2, next.runs.1 ∙ ap (λ (l : List Action). l ++ next.runs.0) (t.0.1 ∙ ap (λ (l : List Action). l ++ t.0.0) none), next.runs.2),
         subst (λ (x : Option ℕ). ReadsOn x next.turns next.state) t.1 next.reads,
       )
 
-  pub does_answer_at_end : (f : ℕ) (client : Option ℕ) (mid d : Desk S H) (a z : List Action)
-      → (first : GivesEnding {S = S} {H = H} settings (Answering f true) f client s [] a mid) → GivesReadingBehind {S = S} {H = H} settings client first.state a z d
+  does_answer_at_end : (f : ℕ) (client : Option ℕ) (mid d : Desk S H) (a z : List Action)
+      → (first : GivesEnding {S = S} {H = H} settings (Answering f true) f client s start a mid) → GivesReadingBehind {S = S} {H = H} settings client first.state a z d
       → GivesDoing {S = S} {H = H} settings (OriginEnd f) s z d
   does_answer_at_end f client mid d a z first next = record {
     state = next.state;
@@ -111,8 +126,8 @@ module _ (S H : Type 0) (settings : CoreSettings) (s : State) where
     };
   }
 
-  pub does_failure_at_end : (f : ℕ) (client : Option ℕ) (mid d : Desk S H) (a z : List Action)
-      → (first : GivesEnding {S = S} {H = H} settings (Failing f IsCutOff) f client s [] a mid) → GivesReadingBehind {S = S} {H = H} settings client first.state a z d
+  does_failure_at_end : (f : ℕ) (client : Option ℕ) (mid d : Desk S H) (a z : List Action)
+      → (first : GivesEnding {S = S} {H = H} settings (Failing f IsCutOff) f client s start a mid) → GivesReadingBehind {S = S} {H = H} settings client first.state a z d
       → GivesDoing {S = S} {H = H} settings (OriginEnd f) s z d
   does_failure_at_end f client mid d a z first next = record {
     state = next.state;
@@ -124,8 +139,16 @@ module _ (S H : Type 0) (settings : CoreSettings) (s : State) where
     };
   }
 
+  -- the origin sends no more: a response has come by then, or the forward fails
+  pub does_end_of_origin : (f : ℕ) (client : Option ℕ) (mid d : Desk S H) (a z : List Action)
+      → GivesEnding {S = S} {H = H} settings (Answering f true) f client s start a mid ⊎ GivesEnding {S = S} {H = H} settings (Failing f IsCutOff) f client s start a mid
+      → ((q : State) → Stands {S = S} {H = H} settings mid q → GivesReadingBehind {S = S} {H = H} settings client q a z d)
+      → GivesDoing {S = S} {H = H} settings (OriginEnd f) s z d
+  does_end_of_origin f client mid d a z (inl first) next = does_answer_at_end f client mid d a z first (next first.state first.stands)
+  does_end_of_origin f client mid d a z (inr first) next = does_failure_at_end f client mid d a z first (next first.state first.stands)
+
   pub does_loss : (f : ℕ) (client : Option ℕ) (mid d : Desk S H) (a z : List Action)
-      → (first : GivesEnding {S = S} {H = H} settings (Failing f IsLost) f client s [] a mid) → GivesReadingBehind {S = S} {H = H} settings client first.state a z d
+      → (first : GivesEnding {S = S} {H = H} settings (Failing f IsLost) f client s start a mid) → GivesReadingBehind {S = S} {H = H} settings client first.state a z d
       → GivesDoing {S = S} {H = H} settings (OriginFailed f) s z d
   does_loss f client mid d a z first next = record {
     state = next.state;
@@ -170,12 +193,12 @@ module _ (S H : Type 0) (settings : CoreSettings) (s : State) where
 
   -- octets of the origin, and behind them the connection of the request that waits for it
   pub does_telling : (f : ℕ) (octets : List ℕ) (client : Option ℕ) (mid d : Desk S H) (a z : List Action)
-      → (first : GivesTelling {S = S} {H = H} settings f octets client s [] a mid) → GivesReadingBehind {S = S} {H = H} settings client first.state a z d
+      → (first : GivesTelling {S = S} {H = H} settings f octets client s start a mid) → GivesReadingBehind {S = S} {H = H} settings client first.state a z d
       → GivesDoing {S = S} {H = H} settings (OriginBytes f octets) s z d
   does_telling f octets client mid d a z first next = record {
     state = next.state;
     stands = next.stands;
     does = λ ready.
         let does = first.does ready in
-        does_telling_by f octets client next.state next.turns first.state does.0 next.runs.0 z (next.runs.1 ∙ ap (λ (l : List Action). l ++ next.runs.0) does.1) next.reads next.runs.2 does.2;
+        does_telling_by f octets client next.state next.turns first.state does.0 next.runs.0 z (next.runs.1 ∙ ap (λ (l : List Action). l ++ next.runs.0) (does.1 ∙ ap (λ (l : List Action). l ++ does.0) none)) next.reads next.runs.2 does.2;
   }

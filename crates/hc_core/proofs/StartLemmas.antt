@@ -1,10 +1,9 @@
 -- A cache to which nothing has happened.
-use Rattle.std.proofs.Common.{◌≡◌, ℕ, List, length, Option, None, refl, sym, ap, ◌∙◌, subst}
+use Rattle.std.proofs.Common.{◌≡◌, ℕ, List, length, Option, None, sym, ap, ◌∙◌, subst}
 use Rattle.std.specs.BTreeMap.{BTreeMap, IsEmpty, is_at, get as kept_at}
 use Rattle.std.specs.FinMap.{empty, get, get-empty, len-empty}
 use Rattle.std.specs.Map.{lookup}
 use Rattle.std.specs.Ordering.{nat_cmp}
-use Rattle.hc_service.specs.State.{Table}
 use Rattle.hc_core.specs.Tables.{AreAlike, AreAlikeAt}
 
 module _ {X Y : Type 0} (IsLike : X → Y → Type 0) where
