@@ -60,4 +60,5 @@ new_agrees settings = record {
     few = rw len-empty (omega arith);
   };
   quiet = λ c k is. nothing_there c k is;
+  awaiting = λ f a is. nothing_there f a is;
 }

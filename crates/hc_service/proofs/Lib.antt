@@ -14,3 +14,6 @@ pub mod EntryLemmas
 pub mod OutcomeLemmas
 pub mod TurnLemmas
 pub mod StepLemmas
+pub mod QuietLemmas
+pub mod EventLemmas
+pub mod RunLemmas

@@ -96,7 +96,7 @@ run_rises settings (turn ∷ turns) s actions s' le r =
 
 -- ---- one after another
 
-given_append : (xs ys : List Action) → records_of (xs ++ ys) ≡ records_of xs ++ records_of ys
+pub given_append : (xs ys : List Action) → records_of (xs ++ ys) ≡ records_of xs ++ records_of ys
 given_append [] ys = refl
 given_append (action.Record r ∷ xs) ys = ap (λ (rs : List Record). r ∷ rs) (given_append xs ys)
 given_append (action.ToClient c octets ∷ xs) ys = given_append xs ys
@@ -104,11 +104,11 @@ given_append (action.CloseClient c ∷ xs) ys = given_append xs ys
 given_append (action.Forward f octets ∷ xs) ys = given_append xs ys
 given_append (action.CloseForward f ∷ xs) ys = given_append xs ys
 
-behind_append : (xs ys records : List Record) → behind (xs ++ ys) records ≡ behind ys (behind xs records)
+pub behind_append : (xs ys records : List Record) → behind (xs ++ ys) records ≡ behind ys (behind xs records)
 behind_append [] ys records = refl
 behind_append (r ∷ xs) ys records = behind_append xs ys (r ∷ records)
 
-right_append : (newer older items : List Item) → AllRightBehind newer (older ++ items) → AllRightBehind older items → AllRightBehind (newer ++ older) items
+pub right_append : (newer older items : List Item) → AllRightBehind newer (older ++ items) → AllRightBehind older items → AllRightBehind (newer ++ older) items
 right_append [] older items new old = old
 right_append (item ∷ newer) older items new old =
     (right_append newer older items new.0 old, subst (λ (before : List Item). IsRight strict before item) (sym (append_assoc newer older items)) new.1)

@@ -3,6 +3,7 @@ use Rattle.std.specs.Prelude.{◌≡◌, ℕ, zero, suc, ◌<◌, ◌≤◌, ◌
 use Rattle.std.specs.FinMap.{get, len}
 use Rattle.std.specs.List.{AllByRecursion, IsDistinct}
 use Rattle.std.specs.Map.{keys_of}
+use Rattle.std.specs.Option.{IsSome}
 use Rattle.hc_fields.specs.Values.{has_name}
 use Rattle.hc_head.specs.declared.head.RequestHead.{RequestHead}
 use Rattle.hc_head.specs.declared.head.Target.{Target}
@@ -33,7 +34,7 @@ use Rattle.hc_service.specs.Cases.{asks_store}
 use Rattle.hc_service.specs.Numbers.{is_later}
 use Rattle.hc_service.specs.State.{State, Table, Connection, Awaited}
 use Rattle.hc_service.specs.Choices.{OnTest}
-use Rattle.hc_service.specs.Serves.{IsQuietAt}
+use Rattle.hc_service.specs.Serves.{IsQuietAt, AwaitsStill}
 use Rattle.hc_service.specs.Turns.{most_connections}
 
 -- what has happened so far: the records, the newest first, and what they mean; and the octets that came on each connection and from the origin on each forward
@@ -193,7 +194,24 @@ pub record Stands (s : State) (h : History) : Type 0 where
 abbrev pub IsQuiet : State → Type 0
 IsQuiet s = (c : ℕ) → IsQuietAt c s
 
--- the cache agrees with what has happened
+-- 6: on no open forward has a whole response come, or what makes it fail
+abbrev pub IsAwaiting : State → Type 0
+IsAwaiting s = (f : ℕ) → AwaitsStill f s
+
+-- the cache agrees with what has happened, between steps
 pub record Agrees (s : State) (h : History) : Type 0 where
   pub stands : Stands s h
   pub quiet : IsQuiet s
+  pub awaiting : IsAwaiting s
+
+-- ---- states in which each forward can end
+
+-- the exchange for which a forward is open is open
+abbrev pub HasExchange : Table OpenExchange → Purpose → Type 0
+HasExchange exchanges purpose.Background = Unit {0}
+HasExchange exchanges (purpose.Reply e cause conditional) = IsSome (get exchanges e)
+
+-- each forward that a request waits for has its exchange, and that its connection
+pub record IsReady (s : State) : Type 0 where
+  pub exchanges : (f : ℕ) (a : Awaited) → get s.forwards f ≡ Some a → HasExchange s.exchanges a.forward.purpose
+  pub connections : (e : ℕ) (x : OpenExchange) → get s.exchanges e ≡ Some x → IsSome (get s.connections x.connection)

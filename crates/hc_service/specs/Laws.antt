@@ -1,5 +1,5 @@
 -- What the laws of a cache speak of.
-use Rattle.std.specs.Prelude.{◌≡◌, ℕ, ◌≤◌, Bool, true, false, List, [], ◌∷◌, length}
+use Rattle.std.specs.Prelude.{◌≡◌, ℕ, ◌+◌, ◌≤◌, Bool, true, false, List, [], ◌∷◌, length}
 use Rattle.std.specs.List.{IsDistinct}
 use Rattle.std.specs.Map.{keys_of}
 use Rattle.hc_head.specs.declared.head.RequestHead.{RequestHead}
@@ -16,11 +16,13 @@ use Rattle.hc_framing.specs.Written.{IsReadableRequest}
 use Rattle.hc_rules.specs.Laws.{IsForwardable}
 use Rattle.hc_transcript.specs.declared.record.Record.{Record}
 use Rattle.hc_transcript.specs.Items.{Item, OriginResponse, Forward}
+use Rattle.hc_transcript.specs.Limits.{greatest_number}
 use Rattle.hc_store.specs.Entries.{Holdings}
 use Rattle.hc_service.specs.declared.open.OpenForward.{OpenForward}
-use Rattle.hc_service.specs.Agreement.{AllHeld, HasSource, History, Stands}
+use Rattle.hc_events.specs.declared.Happening.{Happening}
+use Rattle.hc_service.specs.Agreement.{Agrees, AllHeld, HasSource, History, Stands}
 use Rattle.hc_service.specs.declared.action.Action.{Action}
-use Rattle.hc_service.specs.Runs.{GoesOnBy, Records, heard_with, told_with}
+use Rattle.hc_service.specs.Runs.{GoesOn, GoesOnBy, Records, heard_with, told_with}
 use Rattle.hc_service.specs.Serves.{Turn}
 use Rattle.hc_service.specs.State.{State}
 
@@ -81,3 +83,14 @@ pub record KeepsAll (turns : List Turn) (actions : List Action) (h : History) (s
   pub later : History
   pub goes_on : GoesOnByAll turns actions h later
   pub stands : Stands s later
+
+-- what has happened goes on by a step, and the cache agrees with it then
+pub record KeepsAgreement (happening : Happening) (actions : List Action) (h : History) (s : State) : Type 0 where
+  pub later : History
+  pub goes_on : GoesOn happening actions h later
+  pub agrees : Agrees s later
+
+-- a count to which so many come: as many more, as far as records can be numbered, and never more
+pub record IsCountedOn (before more after : ℕ) : Type 0 where
+  pub most : after ≤ before + more
+  pub exact : before + more ≤ greatest_number → after ≡ before + more

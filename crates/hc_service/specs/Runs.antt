@@ -1,12 +1,18 @@
 -- Runs: events, one after another, from a cache and what has happened before.
 use Rattle.std.specs.Prelude.{◌≡◌, ℕ, ◌==◌, List, [], ◌∷◌, ◌++◌, Option, Some, None, Result, Ok, Err, if◌then◌else◌}
 use Rattle.std.specs.Global.{Global}
+use Rattle.std.specs.List.{flat_map}
 use Rattle.std.specs.declared.vec.Vec.{Vec}
 use Rattle.hc_transcript.specs.declared.record.Record.{Record}
 use Rattle.hc_transcript.specs.Items.{Item}
+use Rattle.hc_transcript.specs.Records.{opening, record_text}
+use Rattle.hc_transcript.specs.Transcript.{AreReadAs}
 use Rattle.hc_history.specs.declared.settings.Settings.{Settings}
 use Rattle.hc_history.specs.declared.settings.UnmarkedReplies.TheVariants.{ErrorsOnly}
+use Rattle.hc_history.specs.declared.verdicts.Counts.{Counts}
+use Rattle.hc_history.specs.declared.verdicts.Verdict.TheVariants.{Yes}
 use Rattle.hc_history.specs.Right.{IsRight}
+use Rattle.hc_history.specs.Verdicts.{IsVerdict}
 use Rattle.hc_events.specs.declared.Event.{Event}
 use Rattle.hc_events.specs.declared.Happening.{Happening}
 use Rattle.hc_events.specs.declared.Happening.TheVariants.{ClientBytes, OriginBytes}
@@ -112,3 +118,57 @@ Runs settings s h (event ∷ events) (Err TooManyConnections ∷ results) record
 Runs settings s h (event ∷ events) (Err Failed ∷ results) records end = ⊥
 Runs settings s h [] (result ∷ results) records end = ⊥
 Runs settings s h (event ∷ events) [] records end = ⊥
+
+-- ---- steps, without what has happened
+
+-- from a cache the events lead with these answers to that cache. A refused growth ends them, and leaves none
+abbrev pub Steps : CoreSettings → State → List Event → List StepResult → Option State → Type 0
+Steps settings s [] [] end = end ≡ Some s
+Steps settings s (event ∷ events) (Ok actions ∷ results) end =
+    (mid : State) × Serves settings event s actions.items mid × Steps settings mid events results end
+Steps settings s (event ∷ events) (Err Memory ∷ results) end = (first_fault event s ≡ None) × (results ≡ []) × (end ≡ None)
+Steps settings s (event ∷ events) (Err MomentTooLarge ∷ results) end = IsRefusedBy MomentTooLarge event s × Steps settings s events results end
+Steps settings s (event ∷ events) (Err UnknownNumber ∷ results) end = IsRefusedBy UnknownNumber event s × Steps settings s events results end
+Steps settings s (event ∷ events) (Err TooManyConnections ∷ results) end =
+    IsRefusedBy TooManyConnections event s × Steps settings s events results end
+Steps settings s (event ∷ events) (Err Failed ∷ results) end = ⊥
+Steps settings s [] (result ∷ results) end = ⊥
+Steps settings s (event ∷ events) [] end = ⊥
+
+-- the records that the answers give out, the oldest first
+abbrev pub records_given : List StepResult → List Record
+records_given [] = []
+records_given (Ok actions ∷ results) = records_of actions.items ++ records_given results
+records_given (Err fault ∷ results) = records_given results
+
+-- ---- what has happened behind a run
+
+-- the records stand behind the others, and each reply among them is right
+pub record GoesOnWith (records : List Record) (old new : History) : Type 0 where
+  pub newer : List Item
+  pub records_are : new.records ≡ behind records old.records
+  pub items_are : new.items ≡ newer ++ old.items
+  pub right : AllRightBehind newer old.items
+
+-- a cache that was led to, if one is left, agrees with what has happened
+abbrev pub EndAgrees : Option State → History → Type 0
+EndAgrees None h = Unit {0}
+EndAgrees (Some s) h = Agrees s h
+
+-- what has happened behind a run: the records are read, go on behind those before, and each reply among them is right; and a cache that was led to agrees
+pub record RunsTo (records : List Record) (h : History) (end : Option State) : Type 0 where
+  pub later : History
+  pub goes_on : GoesOnWith records h later
+  pub are_read : AreReadAs later.records later.items
+  pub agrees : EndAgrees end later
+
+-- ---- the transcript of a run
+
+-- records, the oldest first, as they are written
+abbrev pub transcript_of : List Record → List ℕ
+transcript_of records = opening ++ flat_map record_text records
+
+-- the audit that lets nothing pass says yes to it
+pub record IsJudgedRight (records : List Record) : Type 0 where
+  pub counts : Counts
+  pub verdict : IsVerdict (transcript_of records) strict (Yes counts)

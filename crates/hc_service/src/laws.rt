@@ -1,6 +1,6 @@
 //! What holds of every cache that does what it owes.
 
-ghost use Rattle.std.specs.Prelude.{◌≡◌, ℕ, Bool, ◌≤◌, ◌<◌, true, false, List, [], ◌∷◌, drop, Option, Some, None};
+ghost use Rattle.std.specs.Prelude.{◌≡◌, ℕ, Bool, ◌+◌, ◌≤◌, ◌<◌, true, false, List, [], ◌∷◌, ◌++◌, drop, length, Option, Some, None};
 ghost use Rattle.hc_fields.specs.declared.fields.Field.{Field};
 ghost use Rattle.hc_fields.specs.Numbers.{end_of_moments};
 ghost use Rattle.hc_head.specs.declared.head.RequestHead.{RequestHead};
@@ -16,7 +16,7 @@ ghost use Rattle.hc_transcript.specs.Written.{IsWritableAnswer, IsWritableAsk};
 ghost use Rattle.hc_history.specs.Right.{IsRight};
 ghost use Rattle.hc_service.specs.declared.numbers.Numbers.{Numbers};
 ghost use Rattle.hc_service.specs.Numbers.{asked, is_later, noted, one_more, sent};
-ghost use Rattle.hc_service.specs.Sending.{failure_record, forward_record, reply_record, request_record, response_record};
+ghost use Rattle.hc_service.specs.Sending.{failure_record, forward_record, records_of, reply_record, request_record, response_record};
 ghost use Rattle.hc_store.specs.Choosing.{is_selected};
 ghost use Rattle.hc_links.specs.Requests.{IsRequest};
 ghost use Rattle.hc_store.specs.Entries.{Holdings};
@@ -24,9 +24,9 @@ ghost use Rattle.hc_service.specs.declared.cases.Cause.{Cause};
 ghost use Rattle.hc_service.specs.declared.open.OpenForward.{OpenForward};
 ghost use Rattle.hc_service.specs.Answers.{Renews};
 ghost use Rattle.hc_service.specs.Choices.{Finds, Stores};
-ghost use Rattle.hc_service.specs.Laws.{HasSources, IsReceivedAnswer, IsReceivedAsk, is_response, recorded_forward, with_record, KeepsAll, KeepsOn};
+ghost use Rattle.hc_service.specs.Laws.{HasSources, IsCountedOn, IsReceivedAnswer, IsReceivedAsk, is_response, recorded_forward, with_record, KeepsAgreement, KeepsAll, KeepsOn};
 ghost use Rattle.hc_service.specs.declared.action.Action.{Action};
-ghost use Rattle.hc_service.specs.Serves.{Run, Takes, Turn};
+ghost use Rattle.hc_service.specs.Serves.{Run, Serves, Takes, Turn};
 ghost use Rattle.hc_events.specs.declared.Event.{Event};
 ghost use Rattle.hc_transcript.specs.declared.record.Record.{Record};
 ghost use Rattle.hc_service.specs.declared.settings.CoreSettings.{CoreSettings};
@@ -34,8 +34,8 @@ ghost use Rattle.std.specs.FinMap.{get, insert, remove};
 ghost use Rattle.hc_rules.specs.Laws.{IsForwardable};
 ghost use Rattle.hc_service.specs.declared.open.OpenExchange.{OpenExchange};
 ghost use Rattle.hc_service.specs.State.{Awaited, Connection, State, Table, new_connection, new_state};
-ghost use Rattle.hc_service.specs.Agreement.{AllHeld, CanReply, AreAsked, AreCounted, AreHeard, AreLinked, Agrees, History, IsReadOf, IsSound, Stands, exchange_for};
-ghost use Rattle.hc_service.specs.Runs.{Runs, nothing_yet, StepResult, strict, with_octets};
+ghost use Rattle.hc_service.specs.Agreement.{AllHeld, CanReply, AreAsked, AreCounted, AreHeard, AreLinked, Agrees, History, IsReadOf, IsReady, IsSound, Stands, exchange_for};
+ghost use Rattle.hc_service.specs.Runs.{Runs, RunsTo, nothing_yet, records_given, IsJudgedRight, StepResult, Steps, strict, with_octets};
 ghost use Rattle.hc_service.specs.Asking.{is_answered_by_store};
 ghost use Rattle.hc_service.specs.Replying.{Wanted, hit_reply, made_reply, passed_reply};
 ghost use Rattle.hc_service.specs.Serving.{may_be_served};
@@ -221,6 +221,75 @@ pub fn runs_of_turns_keep_agreement()
     ensures { (settings : CoreSettings) → AreGood settings → (turns : List Turn) (s : State) (actions : List Action)
         (other : State) (h : History) → Stands s h → Run settings turns s actions other
         → other.numbers.records ≤ greatest_number → KeepsAll turns actions h other }
+{
+    forwards_are_writable();
+    forwards_keep_the_target();
+}
+
+/// A served event keeps agreement, whatever has happened, as far as records can be numbered: its records go
+/// on behind those before, each reply among them is right in the strictest audit, and nothing that has
+/// come can be read yet.
+pub fn events_keep_agreement()
+    ensures { (settings : CoreSettings) → AreGood settings → (event : Event) (s : State) (actions : List Action)
+        (other : State) (h : History) → Agrees s h → Serves settings event s actions other
+        → other.numbers.records ≤ greatest_number → KeepsAgreement event.of actions h other }
+{
+    forwards_are_writable();
+    forwards_keep_the_target();
+}
+
+/// Where a cache agrees with what has happened, each forward can end: the request that waits for it is
+/// open, and so is its connection.
+pub fn agreement_is_ready()
+    ensures { (s : State) (h : History) → Agrees s h → IsReady s }
+{}
+
+/// The count of records is that of what was given out, as far as records can be numbered, and never more.
+pub fn records_given_out_are_counted()
+    ensures { (settings : CoreSettings) (event : Event) (s : State) (actions : List Action) (other : State)
+        → Serves settings event s actions other
+        → IsCountedOn s.numbers.records (length (records_of actions)) other.numbers.records }
+{}
+
+/// Steps, one after another, are a run from whatever has happened, as far as records can be numbered:
+/// each state between agrees with what has happened by then.
+pub fn steps_are_runs()
+    ensures { (settings : CoreSettings) → AreGood settings → (events : List Event) (results : List StepResult)
+        (s : State) (h : History) (end : Option State) → Agrees s h → Steps settings s events results end
+        → s.numbers.records + length (records_given results) ≤ greatest_number
+        → Runs settings s h events results (records_given results) end }
+{
+    forwards_are_writable();
+    forwards_keep_the_target();
+}
+
+/// Behind a run what has happened has gone on by its records, each reply among them is right, and a cache
+/// that is left agrees with it.
+pub fn runs_keep_agreement()
+    ensures { (settings : CoreSettings) (events : List Event) (results : List StepResult) (s : State)
+        (h : History) (records : List Record) (end : Option State)
+        → Runs settings s h events results records end → RunsTo records h end }
+{}
+
+/// The strictest audit says yes to what a new cache records.
+pub fn runs_are_judged_right()
+    ensures { (settings : CoreSettings) (events : List Event) (results : List StepResult) (records : List Record)
+        (end : Option State) → Runs settings (new_state settings) nothing_yet events results records end
+        → IsJudgedRight records }
+{}
+
+/// Steps go on where others have led, unless a refused growth has ended them.
+pub fn steps_go_on()
+    ensures { (settings : CoreSettings) (events others : List Event) (results answers : List StepResult)
+        (s mid : State) (end : Option State) → Steps settings s events results (Some mid)
+        → Steps settings mid others answers end → Steps settings s (events ++ others) (results ++ answers) end }
+{}
+
+/// Where steps have led a new cache, each forward can end, as far as records can be numbered.
+pub fn steps_end_ready()
+    ensures { (settings : CoreSettings) → AreGood settings → (events : List Event) (results : List StepResult)
+        (s : State) → Steps settings (new_state settings) events results (Some s)
+        → length (records_given results) ≤ greatest_number → IsReady s }
 {
     forwards_are_writable();
     forwards_keep_the_target();

@@ -1,0 +1,290 @@
+-- A served event keeps agreement: its turns do, what they heard and told is what the event brought, and nothing that can be read is left.
+use Rattle.std.proofs.Common.{◌≡◌, ℕ, ◌≤◌, Bool, true, false, cond, not, List, [], ◌∷◌, nat_lt, Option, Some, None, refl, sym, ap, ◌∙◌, subst, arith, inl, inr, ⊎_elim}
+use Rattle.std.specs.FinMap.{get, insert, remove}
+use Rattle.std.specs.List.{AllByRecursion}
+use Rattle.std.specs.Option.{IsSome}
+use Rattle.std.proofs.lemmas.Bool.{cases_Bool, cases_eq, ltb-false}
+use Rattle.hc_transcript.specs.Limits.{greatest_number, greatest_moment}
+use Rattle.hc_events.specs.declared.Event.{Event}
+use Rattle.hc_events.specs.declared.Happening.{Happening}
+use Rattle.hc_events.specs.declared.Happening.TheVariants.{ClientOpened, ClientBytes, ClientEnd, OriginBytes, OriginEnd, OriginFailed}
+use Rattle.hc_service.specs.declared.action.Action.{Action}
+use Rattle.hc_service.specs.declared.fault.StepFault.TheVariants.{MomentTooLarge, UnknownNumber, TooManyConnections}
+use Rattle.hc_service.specs.declared.open.OpenExchange.{OpenExchange}
+use Rattle.hc_service.specs.declared.open.OpenForward.{OpenForward}
+use Rattle.hc_service.specs.declared.open.Purpose.{Purpose}
+use Rattle.hc_service.specs.declared.open.Purpose.TheVariants as purpose
+use Rattle.hc_service.specs.declared.settings.CoreSettings.{CoreSettings}
+use Rattle.hc_service.specs.Settings.{AreGood}
+use Rattle.hc_service.specs.Numbers.{at_moment}
+use Rattle.hc_service.specs.State.{State, Table, Connection, Awaited, new_connection}
+use Rattle.hc_service.specs.Turns.{after_octets, after_hearing, after_leaving, Tells, Failure}
+use Rattle.hc_service.specs.Turns.Failure.{IsBroken, IsCutOff, IsLost}
+use Rattle.hc_service.specs.Serves.{Turn, Takes, Run, Reads, ReadsOn, client_by, client_of, IsQuietAt, IsQuietBy, AwaitsStill, OwesEnd, OwesReply, OwesAnswer, Owes, passed_to, is_known, is_full, first_fault, Serves}
+use Rattle.hc_service.specs.Serves.Turn.{Opening, Hearing, Asking, Refusal, Dropping, Leaving, Closing, Telling, Answering, Failing}
+use Rattle.hc_service.specs.Agreement.{History, AreCounted, KeepsPurpose, Stands, IsQuiet, IsAwaiting, Agrees, HasExchange, IsReady}
+use Rattle.hc_service.specs.Runs.{heard_by, told_by}
+use Rattle.hc_service.specs.LowerLaws.{ForwardLaws}
+use Rattle.hc_service.specs.Laws.{heard_all, told_all, KeepsAgreement}
+use Rattle.hc_service.proofs.TableLemmas.{get_same, get_gone, was_put}
+use Rattle.hc_service.proofs.LinkLemmas.{none_some, one_of}
+use Rattle.hc_service.proofs.StepLemmas.{run_keeps}
+use Rattle.hc_service.proofs.QuietLemmas.{nothing_read, KeepsOthers, KeepsBeside, IsAwaitingBut, others_put, others_out, others_then, forwards_same, ended_then, client_keeps, client_is, answering_keeps, failing_keeps, quiet_by, read_quietly, awaiting_by, awaiting_without}
+
+-- ---- the moment has come
+
+in_time : (event : Event) (s : State) → first_fault event s ≡ None → event.moment ≤ greatest_moment
+in_time event s none =
+    ⊎_elim
+    (λ (late : nat_lt greatest_moment event.moment ≡ true). absurd (none_some (first_fault event s) MomentTooLarge none
+    (ap (λ (b : Bool). cond b (Some MomentTooLarge) (cond (not (is_known event.of s)) (Some UnknownNumber) (cond (is_full event.of s) (Some TooManyConnections) None))) late)))
+    (λ (early : nat_lt greatest_moment event.moment ≡ false). let le = ltb-false greatest_moment event.moment early in omega arith)
+    (cases_Bool (nat_lt greatest_moment event.moment))
+
+passed_counted : (moment : ℕ) (s : State) (h : History) → moment ≤ greatest_moment → AreCounted s.numbers h → AreCounted (at_moment moment s.numbers) h
+passed_counted moment s h le a = record {
+  are_read = a.are_read;
+  records = a.records;
+  exchange = a.exchange;
+  forward = a.forward;
+  moment = omega (arith, a.moment);
+  exchanges = a.exchanges;
+  forwards = a.forwards;
+  in_range = a.in_range;
+  in_time = omega (arith, a.in_time);
+}
+
+passed_stands : (moment : ℕ) (s : State) (h : History) → moment ≤ greatest_moment → Stands s h → Stands (passed_to moment s) h
+passed_stands moment s h le a = record {
+  counted = passed_counted moment s h le a.counted;
+  entries = a.entries;
+  keys = a.keys;
+  heard = a.heard;
+  asked = a.asked;
+  linked = a.linked;
+  few = a.few;
+}
+
+-- ---- what turns heard and told
+
+abbrev HearNothing : List Turn → Type 0
+HearNothing turns = ((before : ℕ → List ℕ) → heard_all turns before ≡ before) × ((before : ℕ → List ℕ) → told_all turns before ≡ before)
+
+readings_hear : (c : ℕ) (turns : List Turn) → AllByRecursion (Reads c) turns → HearNothing turns
+readings_hear c [] reads = (λ before. refl, λ before. refl)
+readings_hear c (Asking d ∷ turns) reads = readings_hear c turns reads.1
+readings_hear c (Refusal d status ∷ turns) reads = readings_hear c turns reads.1
+readings_hear c (Dropping d ∷ turns) reads = readings_hear c turns reads.1
+readings_hear c (Opening d ∷ turns) reads = absurd reads.0
+readings_hear c (Hearing d octets ∷ turns) reads = absurd reads.0
+readings_hear c (Leaving d ∷ turns) reads = absurd reads.0
+readings_hear c (Closing d ∷ turns) reads = absurd reads.0
+readings_hear c (Telling f octets ∷ turns) reads = absurd reads.0
+readings_hear c (Answering f ended ∷ turns) reads = absurd reads.0
+readings_hear c (Failing f how ∷ turns) reads = absurd reads.0
+
+client_hears : (client : Option ℕ) (turns : List Turn) (s' : State) → ReadsOn client turns s' → HearNothing turns
+client_hears None turns s' reads = subst HearNothing (sym reads) (λ before. refl, λ before. refl)
+client_hears (Some c) turns s' reads = readings_hear c turns reads.0
+
+-- the turns heard and told what has happened
+record HearThat (happening : Happening) (turns : List Turn) : Type 0 where
+  heard : (before : ℕ → List ℕ) → heard_all turns before ≡ heard_by happening before
+  told : (before : ℕ → List ℕ) → told_all turns before ≡ told_by happening before
+
+end_hears : (c : ℕ) (leaves : Bool) (exchange : Option ℕ) (turns : List Turn) → OwesEnd c leaves exchange turns → HearNothing turns
+end_hears c true exchange turns owes = subst HearNothing (sym owes) (λ before. refl, λ before. refl)
+end_hears c false (Some e) turns owes = subst HearNothing (sym owes) (λ before. refl, λ before. refl)
+end_hears c false None turns (inl owes) = subst HearNothing (sym owes) (λ before. refl, λ before. refl)
+end_hears c false None turns (inr owes) = subst HearNothing (sym owes.1) (λ before. refl, λ before. refl)
+
+answer_hears : (f : ℕ) (ended : Bool) (turns : List Turn) (s s' : State) → OwesReply f (Answering f ended) turns s s' → HearNothing turns
+answer_hears f ended turns s s' owes = subst HearNothing (sym owes.1) (let more = client_hears (client_of f s) owes.0 s' owes.2 in (more.0, more.1))
+
+failure_hears : (f : ℕ) (how : Failure) (turns : List Turn) (s s' : State) → OwesReply f (Failing f how) turns s s' → HearNothing turns
+failure_hears f how turns s s' owes = subst HearNothing (sym owes.1) (let more = client_hears (client_of f s) owes.0 s' owes.2 in (more.0, more.1))
+
+more_hears : (f : ℕ) (turns : List Turn) (s s' : State) → OwesAnswer f turns s s' → HearNothing turns
+more_hears f turns s s' (inl none) = subst HearNothing (sym none.0) (λ before. refl, λ before. refl)
+more_hears f turns s s' (inr (inl owes)) = answer_hears f false turns s s' owes
+more_hears f turns s s' (inr (inr owes)) = failure_hears f IsBroken turns s s' owes
+
+event_hears : (happening : Happening) (turns : List Turn) (s s' : State) → Owes happening turns s s' → HearThat happening turns
+event_hears (ClientOpened c) turns s s' owes = subst (HearThat (ClientOpened c)) (sym owes) (record { heard = λ before. refl; told = λ before. refl })
+event_hears (ClientBytes c octets) turns s s' owes =
+    let more = readings_hear c owes.0 owes.2.0 in
+    subst (HearThat (ClientBytes c octets)) (sym owes.1)
+    (record { heard = λ before. more.0 (heard_by (ClientBytes c octets) before); told = λ before. more.1 before })
+event_hears (ClientEnd c) turns s s' owes = let none = end_hears c owes.0.leaves owes.0.exchange turns owes.2 in record { heard = none.0; told = none.1 }
+event_hears (OriginBytes f octets) turns s s' owes =
+    let more = more_hears f owes.0 s s' owes.2 in
+    subst (HearThat (OriginBytes f octets)) (sym owes.1)
+    (record { heard = λ before. more.0 before; told = λ before. more.1 (told_by (OriginBytes f octets) before) })
+event_hears (OriginEnd f) turns s s' (inl owes) = let none = answer_hears f true turns s s' owes in record { heard = none.0; told = none.1 }
+event_hears (OriginEnd f) turns s s' (inr owes) = let none = failure_hears f IsCutOff turns s s' owes in record { heard = none.0; told = none.1 }
+event_hears (OriginFailed f) turns s s' owes = let none = failure_hears f IsLost turns s s' owes in record { heard = none.0; told = none.1 }
+
+-- ---- nothing is left unread
+
+abbrev IsRead : State → Type 0
+IsRead s = IsQuiet s × IsAwaiting s
+
+-- one turn alone
+one_turn : (settings : CoreSettings) (turn : Turn) (turns : List Turn) (s : State) (actions : List Action) (s' : State) → turns ≡ turn ∷ [] → Run settings turns s actions s'
+    → (first : List Action) × Takes settings turn s first s'
+one_turn settings turn turns s actions s' is r =
+    let one = subst (λ (turns : List Turn). Run settings turns s actions s') is r in
+    (one.1, subst (λ (mid : State). Takes settings turn s one.1 mid) (sym one.5.1) one.3)
+
+no_turn : (settings : CoreSettings) (turns : List Turn) (s : State) (actions : List Action) (s' : State) → turns ≡ [] → Run settings turns s actions s' → s' ≡ s
+no_turn settings turns s actions s' is r = (subst (λ (turns : List Turn). Run settings turns s actions s') is r).1
+
+quiet_put : (c : ℕ) (k : Connection) (s s' : State) → s'.connections ≡ insert s.connections c k → IsQuietBy k.exchange k.unread → IsQuietAt c s'
+quiet_put c k s s' same quiet q is =
+    subst (λ (z : Connection). IsQuietBy z.exchange z.unread)
+    (one_of (get (insert s.connections c k) c) k q (get_same s.connections c k) (sym (ap (λ (t : Table Connection). get t c) same) ∙ is)) quiet
+
+quiet_out : (c : ℕ) (s s' : State) → s'.connections ≡ remove s.connections c → IsQuietAt c s'
+quiet_out c s s' same q is = absurd (none_some (get (remove s.connections c) c) q (get_gone s.connections c) (sym (ap (λ (t : Table Connection). get t c) same) ∙ is))
+
+quiet_at : (c : ℕ) (s s' : State) → KeepsOthers (Some c) s s' → IsQuiet s → IsQuietAt c s' → IsQuiet s'
+quiet_at c s s' keeps quiet there = quiet_by (Some c) s s' keeps quiet (λ d is. subst (λ (n : ℕ). IsQuietAt n s') (one_of (Some c) c d refl is) there)
+
+-- a connection opens
+opened_read : (settings : CoreSettings) (c : ℕ) (turns : List Turn) (s : State) (actions : List Action) (s' : State) → turns ≡ Opening c ∷ [] → Run settings turns s actions s'
+    → IsQuiet s → IsAwaiting s → IsRead s'
+opened_read settings c turns s actions s' is r quiet awaiting =
+    let t = (one_turn settings (Opening c) turns s actions s' is r).1 in (
+      quiet_at c s s' (others_put c new_connection s s' t.connections) quiet (quiet_put c new_connection s s' t.connections nothing_read),
+      awaiting_by s s' (forwards_same s s' t.forwards) awaiting,
+    )
+
+-- octets come on it
+heard_read : (settings : CoreSettings) (c : ℕ) (octets : List ℕ) (readings : List Turn) (s : State) (actions : List Action) (s' : State) → ReadsOn (Some c) readings s'
+    → Run settings (Hearing c octets ∷ readings) s actions s' → IsQuiet s → IsAwaiting s → IsRead s'
+heard_read settings c octets readings s actions s' reads r quiet awaiting =
+    let more = client_keeps settings (Some c) readings r.0 r.2 s' reads r.5 in (
+      quiet_at c s s' (others_then (Some c) s r.0 s' (others_put c (after_octets octets r.3.connection) s r.0 r.3.connections) more.0) quiet reads.1,
+      awaiting_by r.0 s' more.1 (awaiting_by s r.0 (forwards_same s r.0 r.3.forwards) awaiting),
+    )
+
+-- it ends
+left_read : (settings : CoreSettings) (c : ℕ) (leaves : Bool) (exchange : Option ℕ) (turns : List Turn) (s : State) (actions : List Action) (s' : State) → OwesEnd c leaves exchange turns
+    → Run settings turns s actions s' → IsQuiet s → IsAwaiting s → IsRead s'
+left_read settings c true exchange turns s actions s' owes r quiet awaiting = subst IsRead (sym (no_turn settings turns s actions s' owes r)) (quiet, awaiting)
+left_read settings c false (Some e) turns s actions s' owes r quiet awaiting =
+    let t = (one_turn settings (Leaving c) turns s actions s' owes r).1 in (
+      quiet_at c s s' (others_put c (after_leaving t.connection) s s' t.connections) quiet
+          (quiet_put c (after_leaving t.connection) s s' t.connections (subst (λ (o : Option ℕ). IsQuietBy o []) (sym t.waits) (omega arith))),
+      awaiting_by s s' (forwards_same s s' t.forwards) awaiting,
+    )
+left_read settings c false None turns s actions s' (inl owes) r quiet awaiting =
+    let t = (one_turn settings (Closing c) turns s actions s' owes r).1 in
+    (quiet_at c s s' (others_out c s s' t.connections) quiet (quiet_out c s s' t.connections), awaiting_by s s' (forwards_same s s' t.forwards) awaiting)
+left_read settings c false None turns s actions s' (inr owes) r quiet awaiting =
+    let t = (one_turn settings (Refusal c owes.0) turns s actions s' owes.1 r).1 in
+    (quiet_at c s s' (others_out c s s' t.connections) quiet (quiet_out c s s' t.connections), awaiting_by s s' (forwards_same s s' t.forwards) awaiting)
+
+-- a forward ends, and behind it the client that waited is read
+ended_read : (settings : CoreSettings) (f : ℕ) (turn : Turn) (readings : List Turn) (s : State) (actions : List Action) (s' : State)
+    → ((first : List Action) (mid : State) → Takes settings turn s first mid → KeepsBeside f s mid) → ReadsOn (client_of f s) readings s' → Run settings (turn ∷ readings) s actions s'
+    → IsQuiet s → IsAwaitingBut f s → IsRead s'
+ended_read settings f turn readings s actions s' ends reads r quiet awaiting =
+    let one = ends r.1 r.0 r.3 in
+    let more = client_keeps settings (client_of f s) readings r.0 r.2 s' reads r.5 in (
+      quiet_by (client_of f s) s s' (others_then (client_of f s) s r.0 s' one.0 more.0) quiet (read_quietly (client_of f s) readings s' reads),
+      awaiting_without f s s' (ended_then f s r.0 s' one.1 more.1) awaiting,
+    )
+
+answered_read : (settings : CoreSettings) (f : ℕ) (ended : Bool) (turns readings : List Turn) (s : State) (actions : List Action) (s' : State) → turns ≡ Answering f ended ∷ readings
+    → ReadsOn (client_of f s) readings s' → Run settings turns s actions s' → IsQuiet s → IsAwaitingBut f s → IsRead s'
+answered_read settings f ended turns readings s actions s' is reads r quiet awaiting =
+    ended_read settings f (Answering f ended) readings s actions s' (λ first mid t. answering_keeps settings f ended s first mid t) reads
+    (subst (λ (turns : List Turn). Run settings turns s actions s') is r) quiet awaiting
+
+failed_read : (settings : CoreSettings) (f : ℕ) (how : Failure) (turns readings : List Turn) (s : State) (actions : List Action) (s' : State) → turns ≡ Failing f how ∷ readings
+    → ReadsOn (client_of f s) readings s' → Run settings turns s actions s' → IsQuiet s → IsAwaitingBut f s → IsRead s'
+failed_read settings f how turns readings s actions s' is reads r quiet awaiting =
+    ended_read settings f (Failing f how) readings s actions s' (λ first mid t. failing_keeps settings f how s first mid t) reads
+    (subst (λ (turns : List Turn). Run settings turns s actions s') is r) quiet awaiting
+
+-- octets come from the origin
+module _ (f : ℕ) (octets : List ℕ) (s : State) (given : List Action) (mid : State) (t : Tells f octets s given mid) where
+  told_quiet : IsQuiet s → IsQuiet mid
+  told_quiet quiet c k is = quiet c k (sym (ap (λ (t : Table Connection). get t c) t.connections) ∙ is)
+
+  told_awaiting : IsAwaiting s → IsAwaitingBut f mid
+  told_awaiting awaiting g other a is =
+      ⊎_elim
+      (λ (p : (f ≡ g) × (after_hearing octets t.awaited ≡ a)). absurd (other p.0))
+      (λ (p : (f ≡ g → ⊥) × (get s.forwards g ≡ Some a)). awaiting g a p.1)
+      (was_put s.forwards f (after_hearing octets t.awaited) g a (sym (ap (λ (t : Table Awaited). get t g) t.forwards) ∙ is))
+
+  told_client : client_of f s ≡ client_of f mid
+  told_client =
+      client_is f s t.awaited t.is_open
+      ∙ sym (client_is f mid (after_hearing octets t.awaited) (ap (λ (t : Table Awaited). get t f) t.forwards ∙ get_same s.forwards f (after_hearing octets t.awaited))
+      ∙ ap (λ (xs : Table OpenExchange). client_by xs t.awaited.forward.purpose) t.exchanges)
+
+  -- what is owed then
+  told_then : (settings : CoreSettings) (more : List Turn) (rest : List Action) (s' : State) → OwesAnswer f more s s' → Run settings more mid rest s' → IsQuiet s → IsAwaiting s → IsRead s'
+  told_then settings more rest s' (inl none) r quiet awaiting =
+      let same = no_turn settings more mid rest s' none.0 r in (
+        subst IsQuiet (sym same) (told_quiet quiet),
+        λ g a is.
+            ⊎_elim
+            (λ (here : f ≡ g). subst (λ (n : ℕ). AwaitsStill n s') here none.1 a is)
+            (λ (other : f ≡ g → ⊥). subst (IsAwaitingBut f) (sym same) (told_awaiting awaiting) g other a is)
+            (cases_eq f g),
+      )
+  told_then settings more rest s' (inr (inl owes)) r quiet awaiting =
+      answered_read settings f false more owes.0 mid rest s' owes.1 (subst (λ (client : Option ℕ). ReadsOn client owes.0 s') told_client owes.2) r (told_quiet quiet) (told_awaiting awaiting)
+  told_then settings more rest s' (inr (inr owes)) r quiet awaiting =
+      failed_read settings f IsBroken more owes.0 mid rest s' owes.1 (subst (λ (client : Option ℕ). ReadsOn client owes.0 s') told_client owes.2) r (told_quiet quiet) (told_awaiting awaiting)
+
+event_read : (settings : CoreSettings) (moment : ℕ) (happening : Happening) (turns : List Turn) (s : State) (actions : List Action) (s' : State) → Owes happening turns s s'
+    → Run settings turns (passed_to moment s) actions s' → IsQuiet s → IsAwaiting s → IsRead s'
+event_read settings moment (ClientOpened c) turns s actions s' owes r quiet awaiting = opened_read settings c turns (passed_to moment s) actions s' owes r quiet awaiting
+event_read settings moment (ClientBytes c octets) turns s actions s' owes r quiet awaiting =
+    heard_read settings c octets owes.0 (passed_to moment s) actions s' owes.2 (subst (λ (turns : List Turn). Run settings turns (passed_to moment s) actions s') owes.1 r) quiet awaiting
+event_read settings moment (ClientEnd c) turns s actions s' owes r quiet awaiting =
+    left_read settings c owes.0.leaves owes.0.exchange turns (passed_to moment s) actions s' owes.2 r quiet awaiting
+event_read settings moment (OriginBytes f octets) turns s actions s' owes r quiet awaiting =
+    let run = subst (λ (turns : List Turn). Run settings turns (passed_to moment s) actions s') owes.1 r in
+    told_then f octets (passed_to moment s) run.1 run.0 run.3 settings owes.0 run.2 s' owes.2 run.5 quiet awaiting
+event_read settings moment (OriginEnd f) turns s actions s' (inl owes) r quiet awaiting =
+    answered_read settings f true turns owes.0 (passed_to moment s) actions s' owes.1 owes.2 r quiet (λ g other. awaiting g)
+event_read settings moment (OriginEnd f) turns s actions s' (inr owes) r quiet awaiting =
+    failed_read settings f IsCutOff turns owes.0 (passed_to moment s) actions s' owes.1 owes.2 r quiet (λ g other. awaiting g)
+event_read settings moment (OriginFailed f) turns s actions s' owes r quiet awaiting =
+    failed_read settings f IsLost turns owes.0 (passed_to moment s) actions s' owes.1 owes.2 r quiet (λ g other. awaiting g)
+
+-- ---- all
+
+pub event_keeps : (settings : CoreSettings) → AreGood settings → ForwardLaws → (event : Event) (s : State) (actions : List Action) (s' : State) (h : History) → Agrees s h
+    → Serves settings event s actions s' → s'.numbers.records ≤ greatest_number → KeepsAgreement event.of actions h s'
+event_keeps settings good laws event s actions s' h a v le =
+    let ks = run_keeps settings good laws v.turns (passed_to event.moment s) actions s' h (passed_stands event.moment s h (in_time event s v.is_served) a.stands) v.run le in
+    let hears = event_hears event.of v.turns s s' v.owes in
+    let read = event_read settings event.moment event.of v.turns s actions s' v.owes v.run a.quiet a.awaiting in
+    record {
+      later = ks.later;
+      goes_on = record {
+        records = ks.goes_on.records;
+        heard = ks.goes_on.heard ∙ hears.heard h.heard;
+        told = ks.goes_on.told ∙ hears.told h.told;
+      };
+      agrees = record { stands = ks.stands; quiet = read.0; awaiting = read.1 };
+    }
+
+-- ---- what a cache that agrees is ready for
+
+pub agreement_ready : (s : State) (h : History) → Agrees s h → IsReady s
+agreement_ready s h a = record {
+  exchanges = λ f w is. by_purpose w.forward.purpose w.forward (a.stands.asked.purposes f w is);
+  connections = λ e x is. let on = a.stands.linked.waiting e x is in subst IsSome (sym on.is_open) refl;
+}
+  where
+    by_purpose : (p : Purpose) (forward : OpenForward) → KeepsPurpose s.exchanges p forward → HasExchange s.exchanges p
+    by_purpose purpose.Background forward keeps = tt
+    by_purpose (purpose.Reply e why conditional) forward keeps = subst IsSome (sym keeps.waits) refl

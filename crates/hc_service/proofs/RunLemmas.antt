@@ -1,0 +1,280 @@
+-- Steps are a run, and what a run records is judged right.
+use Rattle.std.proofs.Common.{◌≡◌, ℕ, ◌+◌, ◌≤◌, Bool, true, false, List, [], ◌∷◌, ◌++◌, length, drop, Option, Some, None, Ok, Err, refl, sym, ap, ◌∙◌, subst, arith, append_assoc, append-nil, length-append, flat_map}
+use Rattle.hc_head.specs.Methods.{is_head}
+use Rattle.hc_head.specs.declared.head.ResponseHead.{ResponseHead}
+use Rattle.hc_framing.specs.declared.message.Message.{Message}
+use Rattle.hc_transcript.specs.declared.record.Record.{Record}
+use Rattle.hc_transcript.specs.Limits.{greatest_number}
+use Rattle.hc_transcript.specs.Records.{opening, record_text, records_text}
+use Rattle.hc_transcript.specs.Items.{Item}
+use Rattle.hc_history.specs.Counting.{counts_of}
+use Rattle.hc_history.specs.Right.{AllRight}
+use Rattle.hc_events.specs.declared.Event.{Event}
+use Rattle.hc_service.specs.declared.action.Action.{Action}
+use Rattle.hc_service.specs.declared.cases.Cause.{Cause}
+use Rattle.hc_service.specs.declared.fault.StepFault.TheVariants.{Memory, MomentTooLarge, UnknownNumber, TooManyConnections, Failed}
+use Rattle.hc_service.specs.declared.numbers.Numbers.{Numbers}
+use Rattle.hc_service.specs.declared.open.OpenExchange.{OpenExchange}
+use Rattle.hc_service.specs.declared.open.Purpose.{Purpose}
+use Rattle.hc_service.specs.declared.open.Purpose.TheVariants as purpose
+use Rattle.hc_service.specs.declared.settings.CoreSettings.{CoreSettings}
+use Rattle.hc_service.specs.Settings.{AreGood}
+use Rattle.hc_service.specs.Numbers.{one_more}
+use Rattle.hc_service.specs.Replying.{Wanted}
+use Rattle.hc_service.specs.State.{State, Connection, new_state}
+use Rattle.hc_service.specs.Sending.{records_of, ask_actions, send_actions, reply_actions, response_actions, failure_actions}
+use Rattle.hc_service.specs.Reactions.{Reaction, forward_anew}
+use Rattle.hc_service.specs.Reactions.Reaction.{Replies as RepliesAtOnce, Sends}
+use Rattle.hc_service.specs.Answers.{Outcome}
+use Rattle.hc_service.specs.Answers.Outcome.{Replies, GoesAnew}
+use Rattle.hc_service.specs.Turns.{DoesReaction, DoesOutcome, EndsByResponse, EndsByFailure, is_closed, wanted_now}
+use Rattle.hc_service.specs.Serves.{Turn, Takes, Run, Serves, passed_to}
+use Rattle.hc_service.specs.Serves.Turn.{Opening, Hearing, Asking, Refusal, Dropping, Leaving, Closing, Telling, Answering, Failing}
+use Rattle.hc_service.specs.Agreement.{History, Agrees, IsReady}
+use Rattle.hc_service.specs.Runs.{Records, AllRightBehind, behind, strict, nothing_yet, StepResult, Runs, RunsTo, Steps, records_given, GoesOnWith, EndAgrees, IsJudgedRight}
+use Rattle.hc_service.specs.LowerLaws.{ForwardLaws}
+use Rattle.hc_service.specs.Laws.{IsCountedOn}
+use Rattle.hc_service.proofs.BeginLemmas.{new_agrees}
+use Rattle.hc_service.proofs.StepLemmas.{given_append, behind_append, right_append}
+use Rattle.hc_service.proofs.EventLemmas.{event_keeps, agreement_ready}
+
+-- ---- how many records are given out
+
+abbrev count : List Action → ℕ
+count actions = length (records_of actions)
+
+count_of : (actions given : List Action) → actions ≡ given → count actions ≡ count given
+count_of actions given is = ap count is
+
+count_append : (xs ys : List Action) → count (xs ++ ys) ≡ count xs + count ys
+count_append xs ys = ap (λ (rs : List Record). length rs) (given_append xs ys) ∙ length-append (records_of xs) (records_of ys)
+
+count_reply : (e t : ℕ) (to_head : Bool) (c : ℕ) (closes : Bool) (reply : Message ResponseHead) → count (reply_actions e t to_head c closes reply) ≡ 1
+count_reply e t to_head c true reply = refl
+count_reply e t to_head c false reply = refl
+
+count_failure : (f t : ℕ) (closes : Bool) → count (failure_actions f t closes) ≡ 1
+count_failure f t true = refl
+count_failure f t false = refl
+
+-- the count of records rises by as many at most, and by as many as far as records can be numbered
+abbrev Counts : Numbers → Numbers → List Action → Type 0
+Counts n m actions = IsCountedOn n.records (count actions) m.records
+
+counts_none : (n m : Numbers) (actions : List Action) → count actions ≡ 0 → m.records ≡ n.records → Counts n m actions
+counts_none n m actions none same = record { most = omega arith; exact = λ le. omega arith }
+
+counts_one : (n m : Numbers) (actions : List Action) → count actions ≡ 1 → m.records ≡ one_more n.records → Counts n m actions
+counts_one n m actions one same = record { most = omega arith; exact = λ le. omega arith }
+
+counts_two : (n m : Numbers) (actions : List Action) → count actions ≡ 2 → m.records ≡ one_more (one_more n.records) → Counts n m actions
+counts_two n m actions two same = record { most = omega arith; exact = λ le. omega arith }
+
+counts_three : (n m : Numbers) (actions : List Action) → count actions ≡ 3 → m.records ≡ one_more (one_more (one_more n.records)) → Counts n m actions
+counts_three n m actions three same = record { most = omega arith; exact = λ le. omega arith }
+
+records_in : (n m : Numbers) → n ≡ m → n.records ≡ m.records
+records_in n m e = ap (λ (n : Numbers). n.records) e
+
+-- one record, and then a reply
+then_reply : (given : List Action) (e t : ℕ) (to_head : Bool) (c : ℕ) (closes : Bool) (reply : Message ResponseHead) → count given ≡ 1
+    → count (given ++ reply_actions e t to_head c closes reply) ≡ 2
+then_reply given e t to_head c closes reply one =
+    let both = count_append given (reply_actions e t to_head c closes reply) in
+    let two = count_reply e t to_head c closes reply in
+    omega arith
+
+-- a forward that ends for a request
+outcome_counts : (settings : CoreSettings) (f e : ℕ) (x : OpenExchange) (k : Connection) (why : Cause) (given : List Action) (wanted : Wanted) (o : Outcome) (s : State) (actions : List Action) (s' : State)
+    → count given ≡ 1 → DoesOutcome o settings f e x k why given wanted s actions s' → Counts s.numbers s'.numbers actions
+outcome_counts settings f e x k why given wanted (Replies reply) s actions s' one d =
+    counts_two s.numbers s'.numbers actions
+    (count_of actions _ d.actions_are ∙ then_reply given e s.numbers.moment (is_head x.request.method) x.connection wanted.closes reply one) (records_in s'.numbers _ d.numbers)
+outcome_counts settings f e x k why given wanted GoesAnew s actions s' one d =
+    let sends = send_actions (one_more s.numbers.forward) s.numbers.moment (forward_anew settings.name x.target x.request) in
+    let both = count_append given sends in
+    let last : count sends ≡ 1 = refl in
+    let all : count (given ++ sends) ≡ 2 = omega arith in
+    counts_two s.numbers s'.numbers actions (count_of actions (given ++ sends) d.actions_are ∙ all) (records_in s'.numbers _ d.numbers)
+
+turn_counts : (settings : CoreSettings) (turn : Turn) (s : State) (actions : List Action) (s' : State) → Takes settings turn s actions s' → Counts s.numbers s'.numbers actions
+turn_counts settings (Opening c) s actions s' t = counts_none s.numbers s'.numbers actions (count_of actions [] t.actions_are) (records_in s'.numbers _ t.numbers)
+turn_counts settings (Hearing c octets) s actions s' t = counts_none s.numbers s'.numbers actions (count_of actions [] t.actions_are) (records_in s'.numbers _ t.numbers)
+turn_counts settings (Asking c) s actions s' t = by_reaction t.reaction t.does
+  where
+    by_reaction : (r : Reaction) → DoesReaction r c t.connection (drop t.size t.connection.unread) t.request t.target (wanted_now settings s t.request.head t.connection) s actions s' → Counts s.numbers s'.numbers actions
+    by_reaction (RepliesAtOnce reply None) d =
+        let e = one_more s.numbers.exchange in
+        counts_two s.numbers s'.numbers actions
+        (count_of actions _ d.actions_are
+        ∙ then_reply (ask_actions e s.numbers.moment t.request) e s.numbers.moment (is_head t.request.head.method) c (wanted_now settings s t.request.head t.connection).closes reply refl)
+        (records_in s'.numbers _ d.numbers)
+    by_reaction (RepliesAtOnce reply (Some validation)) d =
+        let e = one_more s.numbers.exchange in
+        let first = ask_actions e s.numbers.moment t.request ++ reply_actions e s.numbers.moment (is_head t.request.head.method) c (wanted_now settings s t.request.head t.connection).closes reply in
+        let sends = send_actions (one_more s.numbers.forward) s.numbers.moment validation in
+        let one = then_reply (ask_actions e s.numbers.moment t.request) e s.numbers.moment (is_head t.request.head.method) c (wanted_now settings s t.request.head t.connection).closes reply refl in
+        let both = count_append first sends in
+        let last : count sends ≡ 1 = refl in
+        let all : count (first ++ sends) ≡ 3 = omega arith in
+        counts_three s.numbers s'.numbers actions (count_of actions (first ++ sends) d.actions_are ∙ all) (records_in s'.numbers _ d.numbers)
+    by_reaction (Sends forward why conditional) d = counts_two s.numbers s'.numbers actions (count_of actions _ d.actions_are) (records_in s'.numbers _ d.numbers)
+turn_counts settings (Refusal c status) s actions s' t = counts_none s.numbers s'.numbers actions (count_of actions _ t.actions_are) (records_in s'.numbers _ t.numbers)
+turn_counts settings (Dropping c) s actions s' t = counts_none s.numbers s'.numbers actions (count_of actions [] t.actions_are) (records_in s'.numbers _ t.numbers)
+turn_counts settings (Leaving c) s actions s' t = counts_none s.numbers s'.numbers actions (count_of actions [] t.actions_are) (records_in s'.numbers _ t.numbers)
+turn_counts settings (Closing c) s actions s' t = counts_none s.numbers s'.numbers actions (count_of actions _ t.actions_are) (records_in s'.numbers _ t.numbers)
+turn_counts settings (Telling f octets) s actions s' t = counts_none s.numbers s'.numbers actions (count_of actions [] t.actions_are) (records_in s'.numbers _ t.numbers)
+turn_counts settings (Answering f ended) s actions s' t = by_purpose t.awaited.forward.purpose t.ends
+  where
+    given : List Action
+    given = response_actions f s.numbers.moment (is_head t.awaited.forward.request.method) t.response
+
+    by_purpose : (p : Purpose) → EndsByResponse p settings f t.awaited.forward t.response t.told given s actions s' → Counts s.numbers s'.numbers actions
+    by_purpose purpose.Background d = counts_one s.numbers s'.numbers actions (count_of actions given d.1.actions_are) (records_in s'.numbers _ d.1.numbers)
+    by_purpose (purpose.Reply e why conditional) d =
+        outcome_counts settings f e d.exchange d.connection why given (wanted_now settings s d.exchange.request d.connection) d.outcome s actions s' refl d.does
+turn_counts settings (Failing f how) s actions s' t = by_purpose t.awaited.forward.purpose t.ends
+  where
+    given : List Action
+    given = failure_actions f s.numbers.moment (is_closed how)
+
+    by_purpose : (p : Purpose) → EndsByFailure p settings f t.awaited.forward given s actions s' → Counts s.numbers s'.numbers actions
+    by_purpose purpose.Background d =
+        counts_one s.numbers s'.numbers actions (count_of actions given d.1.actions_are ∙ count_failure f s.numbers.moment (is_closed how)) (records_in s'.numbers _ d.1.numbers)
+    by_purpose (purpose.Reply e why conditional) d =
+        outcome_counts settings f e d.exchange d.connection why given (wanted_now settings s d.exchange.request d.connection) d.outcome s actions s' (count_failure f s.numbers.moment (is_closed how)) d.does
+
+run_counts : (settings : CoreSettings) (turns : List Turn) (s : State) (actions : List Action) (s' : State) → Run settings turns s actions s' → Counts s.numbers s'.numbers actions
+run_counts settings [] s actions s' r = counts_none s.numbers s'.numbers actions (count_of actions [] r.0) (ap (λ (s : State). s.numbers.records) r.1)
+run_counts settings (turn ∷ turns) s actions s' r =
+    let both : count actions ≡ count r.1 + count r.2 = count_of actions (r.1 ++ r.2) r.4 ∙ count_append r.1 r.2 in
+    let one = turn_counts settings turn s r.1 r.0 r.3 in
+    let more = run_counts settings turns r.0 r.2 s' r.5 in
+    record {
+      most = omega (arith, one.most, more.most, both);
+      exact = λ le. let mid = one.exact (omega (arith, both)) in let last = more.exact (omega (arith, both, mid)) in omega (arith, both, mid, last);
+    }
+
+pub event_counts : (settings : CoreSettings) (event : Event) (s : State) (actions : List Action) (s' : State) → Serves settings event s actions s' → Counts s.numbers s'.numbers actions
+event_counts settings event s actions s' v = run_counts settings v.turns (passed_to event.moment s) actions s' v.run
+
+-- ---- what has happened behind a run
+
+with_more : (actions : List Action) (rest : List Record) (h between later : History) → Records actions h between → GoesOnWith rest between later → GoesOnWith (records_of actions ++ rest) h later
+with_more actions rest h between later one more = record {
+  newer = more.newer ++ one.newer;
+  records_are = more.records_are ∙ ap (behind rest) one.records_are ∙ sym (behind_append (records_of actions) rest h.records);
+  items_are = more.items_are ∙ ap (λ (items : List Item). more.newer ++ items) one.items_are ∙ sym (append_assoc more.newer one.newer h.items);
+  right = right_append more.newer one.newer h.items (subst (AllRightBehind more.newer) one.items_are more.right) one.right;
+}
+
+-- nothing goes on
+stays_to : (records : List Record) (s : State) (h : History) (end : Option State) → records ≡ [] → Agrees s h → EndAgrees end h → RunsTo records h end
+stays_to records s h end none a agrees = record {
+  later = h;
+  goes_on = record { newer = []; records_are = sym (ap (λ (rs : List Record). behind rs h.records) none); items_are = refl; right = tt };
+  are_read = a.stands.counted.are_read;
+  agrees = agrees;
+}
+
+pub runs_to : (settings : CoreSettings) (events : List Event) (results : List StepResult) (s : State) (h : History) (records : List Record) (end : Option State)
+    → Runs settings s h events results records end → RunsTo records h end
+runs_to settings [] [] s h records end runs = stays_to records s h end runs.1 runs.0 (subst (λ (o : Option State). EndAgrees o h) (sym runs.2) runs.0)
+runs_to settings [] (result ∷ results) s h records end runs = absurd runs
+runs_to settings (event ∷ events) [] s h records end runs = absurd runs
+runs_to settings (event ∷ events) (Ok actions ∷ results) s h records end runs =
+    let between = runs.2 in
+    let rest = runs.3 in
+    let more = runs_to settings events results runs.1 between rest end runs.7 in
+    record {
+      later = more.later;
+      goes_on = subst (λ (rs : List Record). GoesOnWith rs h more.later) (sym runs.6) (with_more actions.items rest h between more.later runs.5.records more.goes_on);
+      are_read = more.are_read;
+      agrees = more.agrees;
+    }
+runs_to settings (event ∷ events) (Err Memory ∷ results) s h records end runs = stays_to records s h end runs.3 runs.0 (subst (λ (o : Option State). EndAgrees o h) (sym runs.4) tt)
+runs_to settings (event ∷ events) (Err MomentTooLarge ∷ results) s h records end runs = runs_to settings events results s h records end runs.2
+runs_to settings (event ∷ events) (Err UnknownNumber ∷ results) s h records end runs = runs_to settings events results s h records end runs.2
+runs_to settings (event ∷ events) (Err TooManyConnections ∷ results) s h records end runs = runs_to settings events results s h records end runs.2
+runs_to settings (event ∷ events) (Err Failed ∷ results) s h records end runs = absurd runs
+
+-- ---- what a run records is judged right
+
+text_behind : (records before : List Record) → records_text (behind records before) ≡ records_text before ++ flat_map record_text records
+text_behind [] before = sym (append-nil (records_text before))
+text_behind (r ∷ records) before = text_behind records (r ∷ before) ∙ append_assoc (records_text before) (record_text r) (flat_map record_text records)
+
+all_right : (newer items : List Item) → AllRight strict items → AllRightBehind newer items → AllRight strict (newer ++ items)
+all_right [] items right more = right
+all_right (item ∷ newer) items right more = (all_right newer items right more.0, more.1)
+
+pub runs_judged : (settings : CoreSettings) (events : List Event) (results : List StepResult) (records : List Record) (end : Option State)
+    → Runs settings (new_state settings) nothing_yet events results records end → IsJudgedRight records
+runs_judged settings events results records end runs =
+    let to = runs_to settings events results (new_state settings) nothing_yet records end runs in
+    let more = to.goes_on in
+    record {
+      counts = counts_of to.later.items;
+      verdict = record {
+        records = to.later.records;
+        history = to.later.items;
+        is_transcript = record {
+          octets_are = ap (λ (text : List ℕ). opening ++ text) (sym (append-nil (records_text to.later.records) ∙ ap records_text more.records_are ∙ text_behind records []));
+          are_read = to.are_read;
+        };
+        all_right = subst (AllRight strict) (sym more.items_are) (all_right more.newer [] tt more.right);
+        counts_are = refl;
+      };
+    }
+
+-- ---- steps are a run
+
+module _ (settings : CoreSettings) (good : AreGood settings) (laws : ForwardLaws) where
+  pub steps_run : (events : List Event) (results : List StepResult) (s : State) (h : History) (end : Option State) → Agrees s h → Steps settings s events results end
+      → s.numbers.records + length (records_given results) ≤ greatest_number → Runs settings s h events results (records_given results) end
+  steps_run [] [] s h end a steps le = (a, refl, steps)
+  steps_run [] (result ∷ results) s h end a steps le = absurd steps
+  steps_run (event ∷ events) [] s h end a steps le = absurd steps
+  steps_run (event ∷ events) (Ok actions ∷ results) s h end a steps le =
+      let mid = steps.0 in
+      let all = length-append (records_of actions.items) (records_given results) in
+      let counts = (event_counts settings event s actions.items mid steps.1).most in
+      let k = event_keeps settings good laws event s actions.items mid h a steps.1 (omega arith) in
+      (a, mid, k.later, records_given results, steps.1, k.goes_on, refl, steps_run events results mid k.later end k.agrees steps.2 (omega arith))
+  steps_run (event ∷ events) (Err Memory ∷ results) s h end a steps le = (a, steps.0, steps.1, ap records_given steps.1, steps.2)
+  steps_run (event ∷ events) (Err MomentTooLarge ∷ results) s h end a steps le = (a, steps.0, steps_run events results s h end a steps.1 le)
+  steps_run (event ∷ events) (Err UnknownNumber ∷ results) s h end a steps le = (a, steps.0, steps_run events results s h end a steps.1 le)
+  steps_run (event ∷ events) (Err TooManyConnections ∷ results) s h end a steps le = (a, steps.0, steps_run events results s h end a steps.1 le)
+  steps_run (event ∷ events) (Err Failed ∷ results) s h end a steps le = absurd steps
+
+  -- where steps have led a new cache, each forward can end
+  pub steps_ready : (events : List Event) (results : List StepResult) (s : State) → Steps settings (new_state settings) events results (Some s)
+      → length (records_given results) ≤ greatest_number → IsReady s
+  steps_ready events results s steps le =
+      let runs = steps_run events results (new_state settings) nothing_yet (Some s) (new_agrees settings) steps (omega arith) in
+      let to = runs_to settings events results (new_state settings) nothing_yet (records_given results) (Some s) runs in
+      agreement_ready s to.later to.agrees
+
+-- ---- steps, one after another
+
+pub steps_append : (settings : CoreSettings) (events others : List Event) (results answers : List StepResult) (s mid : State) (end : Option State) → Steps settings s events results (Some mid)
+    → Steps settings mid others answers end → Steps settings s (events ++ others) (results ++ answers) end
+steps_append settings [] others [] answers s mid end steps more = subst (λ (s : State). Steps settings s others answers end) (some_one mid s steps) more
+  where
+    some_one : (a b : State) → Some a ≡ Some b → a ≡ b
+    some_one a b e = cc
+steps_append settings [] others (result ∷ results) answers s mid end steps more = absurd steps
+steps_append settings (event ∷ events) others [] answers s mid end steps more = absurd steps
+steps_append settings (event ∷ events) others (Ok actions ∷ results) answers s mid end steps more =
+    (steps.0, steps.1, steps_append settings events others results answers steps.0 mid end steps.2 more)
+steps_append settings (event ∷ events) others (Err Memory ∷ results) answers s mid end steps more = absurd (not_none mid steps.2)
+  where
+    not_none : (a : State) → Some a ≡ None → ⊥
+    not_none a e = cc
+steps_append settings (event ∷ events) others (Err MomentTooLarge ∷ results) answers s mid end steps more =
+    (steps.0, steps_append settings events others results answers s mid end steps.1 more)
+steps_append settings (event ∷ events) others (Err UnknownNumber ∷ results) answers s mid end steps more =
+    (steps.0, steps_append settings events others results answers s mid end steps.1 more)
+steps_append settings (event ∷ events) others (Err TooManyConnections ∷ results) answers s mid end steps more =
+    (steps.0, steps_append settings events others results answers s mid end steps.1 more)
+steps_append settings (event ∷ events) others (Err Failed ∷ results) answers s mid end steps more = absurd steps
