@@ -1,6 +1,7 @@
 //! What a request that waits for a forward gets once the forward ends, and what the store is told.
 
-ghost use Rattle.std.specs.Prelude.{◌≡◌, ◌<◌, ℕ, Bool, false, IfOk, OnOk};
+ghost use Rattle.std.specs.Prelude.{◌≡◌, ◌<◌, ◌||◌, ℕ, Bool, false, IfOk, OnOk};
+ghost use Rattle.hc_head.specs.Methods.{is_get, is_head};
 ghost use Rattle.hc_fields.specs.Numbers.{end_of_moments};
 ghost use Rattle.hc_service.specs.declared.cases.Cause.{Cause};
 ghost use Rattle.hc_service.specs.declared.open.OpenForward.{OpenForward};
@@ -29,13 +30,10 @@ fn may_update(forward: &OpenForward, response: &ResponseHead) -> bool
     response.status == NOT_MODIFIED && is_get(forward.request.method.as_slice())
 }
 
-/// Tells the store of a response: what is stored of its target goes where the response invalidates it,
-/// or would freshen it.
-pub fn renew<S: BuildHasher>(
-    store: &mut Store<S>,
-    forward: &OpenForward,
-    response: &ResponseHead,
-)
+/// Tells the store of a response to the forward, whomever it is for: what is stored of its target goes where
+/// the response invalidates it (RFC 9111 section 4.4), and where it is a 304 to a GET, which would
+/// freshen it.
+pub fn renew<S: BuildHasher>(store: &mut Store<S>, forward: &OpenForward, response: &ResponseHead)
     ensures { (moment position : ℕ) → Renews forward.now moment position response.now store.old store.new }
 {
     if invalidates(forward.request.method.as_slice(), response.status) {
@@ -92,7 +90,9 @@ fn is_news(response: &ResponseHead) -> bool
     !matches!(response.status, 304 | 500 | 502 | 503 | 504)
 }
 
-/// Stores the response to a forward for the store alone.
+/// Stores the response to a forward for the store alone, which came at that moment, in whole seconds since
+/// 1970 and before the year 10000: where it is no 304 and no error that says that the origin can't
+/// answer now, and where it may be stored (RFC 9111 section 3). The body is shared.
 pub fn store_behind<S: BuildHasher>(
     alloc: Global,
     store: &mut Store<S>,
@@ -117,14 +117,24 @@ fn has_condition(sent: &RequestHead) -> bool
     sent.fields.contains(b"if-none-match") || sent.fields.contains(b"if-modified-since")
 }
 
+/// Whether a method reads what a target is.
+fn is_get_or_head(method: &[u8]) -> bool
+    ensures { result ≡ (is_get method.now || is_head method.now) }
+{
+    is_get(method) || is_head(method)
+}
+
 /// Whether a response is a 304 that the forward didn't ask for.
 fn is_unasked(forward: &OpenForward, response: &ResponseHead) -> bool
     ensures { (wanted : Wanted) (cause : Cause) → result ≡ is_unasked wanted forward.now cause response.now }
 {
-    let method = forward.request.method.as_slice();
-    response.status == NOT_MODIFIED
-        && (is_get(method) || is_head(method))
-        && !has_condition(&forward.request)
+    if response.status != NOT_MODIFIED {
+        return false;
+    }
+    if !is_get_or_head(forward.request.method.as_slice()) {
+        return false;
+    }
+    !has_condition(&forward.request)
 }
 
 /// Stores a response where the store was asked and it may be stored, and tells whether it was.
@@ -162,7 +172,10 @@ fn pass<S: BuildHasher>(
     passed_reply(alloc, wanted, cause, stored, response)
 }
 
-/// The reply that a response makes of a request that waits for it.
+/// The reply to the request that waits for a forward, by the response to it: the response itself, which is put
+/// first where the store was asked before the request went out, for that cause, and where it may be
+/// stored (RFC 9111 section 3); or a 502 where it is a 304 that the forward didn't ask for. The
+/// moment of the reply, which is also that of the response, lies before the year 10000.
 pub fn respond<S: BuildHasher>(
     alloc: Global,
     store: &mut Store<S>,
@@ -189,7 +202,9 @@ fn status_by_store<S: BuildHasher>(
     Err(AllocError)
 }
 
-/// The reply to a request whose forward failed.
+/// The reply to a request whose forward failed: a 504 where the store was asked before the request went out,
+/// for that cause, and where what it chooses now must not be served stale (RFC 9111 section 5.2.2.2);
+/// else a 502. The moment of the reply lies before the year 10000.
 pub fn fail<S: BuildHasher>(
     alloc: Global,
     store: &mut Store<S>,

@@ -1,13 +1,12 @@
 //! What a whole request gets at once: a reply, or a forward.
 
-ghost use Rattle.std.specs.Prelude.{◌≡◌, ◌<◌, IfOk};
+ghost use Rattle.std.specs.Prelude.{◌≡◌, ◌<◌, IfOk, Option};
 ghost use Rattle.std.specs.Option.{option_copied};
 ghost use Rattle.hc_fields.specs.Numbers.{end_of_moments};
 ghost use Rattle.hc_update.specs.declared.stored.Stored.{Stored};
 ghost use Rattle.hc_service.specs.State.{Awaited, Table};
 ghost use Rattle.hc_service.specs.Reactions.{Reacts, ReactsByStore, chosen_reaction, forward_reaction, plain_forward};
 ghost use Rattle.hc_service.specs.Replying.{Wanted};
-ghost use Rattle.std.specs.Prelude.{Option};
 ghost use Rattle.hc_reactions.specs.Reacting.{owed_reaction};
 
 use crate::asking::wants_no_forward;
@@ -26,7 +25,7 @@ use std::hash::BuildHasher;
 /// What a whole request gets at once.
 #[derive(Drop)]
 pub enum Reaction {
-    /// A reply.
+    /// A reply: a hit, or a 504 where the client wants no forward (RFC 9111 section 5.2.1.7).
     Replies(Message<ResponseHead>),
     /// A request to the origin, and why it goes there.
     Sends(Message<RequestHead>, Cause),
@@ -103,8 +102,9 @@ fn react_by_store<S: BuildHasher>(
     Err(AllocError)
 }
 
-/// What a request gets: the first case that holds decides, and the store is asked where no earlier one
-/// does. The moment of the reply that is wanted lies before the year 10000.
+/// What a request for that target gets: the first case that holds decides, and the store is asked where no
+/// earlier one does. A hit shares the body of the stored response. The moment of the reply that is wanted
+/// is in whole seconds since 1970, and lies before the year 10000.
 pub fn react<S: BuildHasher>(
     alloc: Global,
     store: &mut Store<S>,

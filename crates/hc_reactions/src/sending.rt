@@ -1,4 +1,5 @@
-//! Records, and what goes out with them. What is recorded is sent octet by octet: its text is written once, and has two owners.
+//! Records, and what goes out with them. What is recorded is sent octet by octet: its text is written once,
+//! and has two owners.
 
 ghost use Rattle.std.specs.Prelude.{◌≡◌, ◌++◌, ◌<◌, true, IfOk, OnOk};
 ghost use Rattle.hc_fields.specs.Numbers.{end_of_moments};
@@ -14,17 +15,21 @@ use hc_service::{Action, Numbers};
 use hc_transcript::{Passed, Record};
 use std::alloc::{AllocError, Global};
 
-/// A reply to a request: the number of its exchange, whether its method is HEAD, its connection, and
-/// whether that closes behind the reply.
+/// Whom a reply goes to.
 #[derive(Clone, Copy)]
 pub struct Addressee {
+    /// The number of the request's exchange.
     pub exchange: u64,
+    /// Whether the request's method is HEAD, so that no body goes out with the reply.
     pub to_head: bool,
+    /// The number of the connection on which the request came.
     pub connection: u64,
+    /// Whether the connection closes behind the reply.
     pub closes: bool,
 }
 
-/// Records a client's request, and answers the number of its exchange.
+/// Records a client's request at the last moment of the numbers, in whole seconds since 1970, and answers
+/// the number of its exchange. The body is shared.
 pub fn record_request(
     alloc: Global,
     numbers: &mut Numbers,
@@ -46,7 +51,8 @@ pub fn record_request(
     Ok(number)
 }
 
-/// Sends a request to the origin, and answers the number of its forward.
+/// Records a request at the last moment and sends it to the origin, and answers the number of its forward.
+/// The body is shared.
 pub fn send_request(
     alloc: Global,
     numbers: &mut Numbers,
@@ -69,7 +75,8 @@ pub fn send_request(
     Ok(number)
 }
 
-/// Records what the origin answered to a forward, which closes.
+/// Records at the last moment what the origin answered to the forward of that number, which closes.
+/// `to_head` tells whether the forward's method is HEAD, so that the response has no body.
 pub fn record_response(
     alloc: Global,
     numbers: &mut Numbers,
@@ -93,7 +100,8 @@ pub fn record_response(
     Ok(())
 }
 
-/// Records that a forward failed; `closes` tells whether it is still to be closed.
+/// Records at the last moment that the forward of that number failed: that it had no response. `closes`
+/// tells whether it is still to be closed, since one that broke by itself is closed already.
 pub fn record_failure(
     numbers: &mut Numbers,
     forward: u64,
@@ -126,7 +134,8 @@ fn close(connection: u64, closes: bool, actions: &mut Vec<Action>) -> Result<(),
     Ok(())
 }
 
-/// Sends a reply to a client.
+/// Records a reply at the last moment and sends it to the client; the connection closes behind it, where
+/// it does. The body is shared.
 pub fn send_reply(
     alloc: Global,
     numbers: &mut Numbers,
@@ -150,8 +159,25 @@ pub fn send_reply(
     close(to.connection, to.closes, actions)
 }
 
-/// Refuses what came on a connection by a reply of that status, which has no record; the connection
-/// closes.
+/// Sends a reply that has no record to the client of a connection, which closes.
+fn send_refusal(
+    alloc: Global,
+    connection: u64,
+    reply: &Message<ResponseHead>,
+    actions: &mut Vec<Action>,
+) -> Result<(), AllocError>
+    ensures { OnOk result (actions.new.items ≡ actions.old.items ++ refusal_actions connection reply.now) }
+{
+    let to_head = false;
+    let text = write_message(alloc, reply, Kind::Response { to_head })?;
+    actions.push(Action::ToClient(connection, text))?;
+    actions.push(Action::CloseClient(connection))?;
+    Ok(())
+}
+
+/// Refuses what came on the connection of that number, which can't be read as a request, by a reply of that
+/// status, which has no record; the connection closes. The moment is in whole seconds since 1970, and lies
+/// before the year 10000.
 pub fn refuse(
     alloc: Global,
     moment: u64,
@@ -164,9 +190,5 @@ pub fn refuse(
         ≡ actions.old.items ++ refusal_actions connection (generated_reply status moment true)) }
 {
     let reply = generated_reply(alloc, status, moment, true)?;
-    let to_head = false;
-    let text = write_message(alloc, &reply, Kind::Response { to_head })?;
-    actions.push(Action::ToClient(connection, text))?;
-    actions.push(Action::CloseClient(connection))?;
-    Ok(())
+    send_refusal(alloc, connection, &reply, actions)
 }

@@ -1,0 +1,2 @@
+pub mod ReactingLemmas
+pub mod OutcomeLemmas

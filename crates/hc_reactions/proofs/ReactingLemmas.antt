@@ -1,0 +1,57 @@
+-- What a request gets at once.
+use Rattle.std.proofs.Common.{◌≡◌, ◌∙◌, ℕ, Bool, Option, Some, None, IfOk, Ok, Err, Result, ap, subst}
+use Rattle.hc_head.specs.declared.head.RequestHead.{RequestHead}
+use Rattle.hc_head.specs.declared.head.Target.{Target}
+use Rattle.hc_framing.specs.declared.message.Message.{Message}
+use Rattle.hc_update.specs.declared.stored.Stored.{Stored}
+use Rattle.hc_store.specs.Entries.{Holdings, knows}
+use Rattle.hc_service.specs.declared.cases.Case.{Case}
+use Rattle.hc_service.specs.declared.cases.Cause.{Cause}
+use Rattle.hc_service.specs.Cases.{case_before_store, case_by_store}
+use Rattle.hc_service.specs.Choices.{Finds}
+use Rattle.hc_service.specs.Reactions.{Reacts, ReactsBy, ReactsByStore, chosen_reaction, forward_reaction}
+use Rattle.hc_service.specs.Replying.{Wanted}
+use Rattle.hc_service.specs.State.{Awaited, Table}
+use Rattle.hc_reactions.specs.declared.reacting.Reaction.{Reaction}
+use Rattle.hc_reactions.specs.Reacting.{owed_reaction}
+
+-- by what is stored: the store's answer decides the case, and the case what the request gets
+pub reacts_by_store : {E : Type 0} (wanted : Wanted) (target : Target) (request : Message RequestHead) (forwards : Table Awaited) (old new : Holdings)
+    (chosen : Option Stored) (known : Bool) (moment : ℕ) (case : Case) (answer : Result Reaction E)
+    → Finds target request.head.fields old chosen new
+    → known ≡ knows target old.entries
+    → moment ≡ wanted.moment
+    → case ≡ case_by_store request.head.fields known chosen moment
+    → IfOk answer (λ reaction. owed_reaction reaction ≡ chosen_reaction wanted target request forwards chosen case)
+    → IfOk answer (λ reaction. ReactsByStore wanted target request forwards old (owed_reaction reaction) new)
+reacts_by_store wanted target request forwards old new chosen known moment case (Ok reaction) finds is this decides gives = record {
+  chosen = chosen;
+  finds = finds;
+  reaction_is = gives
+      ∙ ap (λ (c : Case). chosen_reaction wanted target request forwards chosen c)
+      (decides
+      ∙ ap (λ (k : Bool). case_by_store request.head.fields k chosen moment) is
+      ∙ ap (λ (m : ℕ). case_by_store request.head.fields (knows target old.entries) chosen m) this);
+}
+reacts_by_store wanted target request forwards old new chosen known moment case (Err e) finds is this decides gives = gives
+
+-- a case that holds before the store is asked
+pub reacts_before : {E : Type 0} (wanted : Wanted) (target : Target) (request : Message RequestHead) (forwards : Table Awaited) (old new : Holdings)
+    (why : Cause) (answer : Result Reaction E)
+    → Some why ≡ case_before_store request
+    → new ≡ old
+    → IfOk answer (λ reaction. owed_reaction reaction ≡ forward_reaction wanted target request None why)
+    → IfOk answer (λ reaction. Reacts wanted target request forwards old (owed_reaction reaction) new)
+reacts_before wanted target request forwards old new why (Ok reaction) is same gives =
+    subst (λ (case : Option Cause). ReactsBy case wanted target request forwards old (owed_reaction reaction) new) is (gives, same)
+reacts_before wanted target request forwards old new why (Err e) is same gives = gives
+
+-- none does, so the store is asked
+pub reacts_asking : {E : Type 0} (wanted : Wanted) (target : Target) (request : Message RequestHead) (forwards : Table Awaited) (old new : Holdings)
+    (answer : Result Reaction E)
+    → None ≡ case_before_store request
+    → IfOk answer (λ reaction. ReactsByStore wanted target request forwards old (owed_reaction reaction) new)
+    → IfOk answer (λ reaction. Reacts wanted target request forwards old (owed_reaction reaction) new)
+reacts_asking wanted target request forwards old new (Ok reaction) is gives =
+    subst (λ (case : Option Cause). ReactsBy case wanted target request forwards old (owed_reaction reaction) new) is gives
+reacts_asking wanted target request forwards old new (Err e) is gives = gives
