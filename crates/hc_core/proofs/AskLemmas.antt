@@ -1,5 +1,5 @@
 -- A whole request: what it gets at once, and what that makes of each part.
-use Rattle.std.proofs.Common.{append_assoc, ◌≡◌, ℕ, Bool, true, false, ◌||◌, cond, List, ◌++◌, drop, Option, Some, None, refl, sym, ap, ◌∙◌, subst}
+use Rattle.std.proofs.Common.{append_assoc, ◌≡◌, ℕ, Bool, false, ◌||◌, cond, List, ◌++◌, drop, Some, None, refl, ap, ◌∙◌, subst}
 use Rattle.std.specs.BTreeMap.{BTreeMap}
 use Rattle.std.specs.FinMap.{get, insert, remove}
 use Rattle.hc_head.specs.declared.head.RequestHead.{RequestHead}
@@ -11,7 +11,6 @@ use Rattle.hc_store.specs.Entries.{Holdings}
 use Rattle.hc_service.specs.declared.action.Action.{Action}
 use Rattle.hc_service.specs.declared.cases.Cause.{Cause}
 use Rattle.hc_service.specs.declared.numbers.Numbers.{Numbers}
-use Rattle.hc_service.specs.declared.open.OpenExchange.{OpenExchange}
 use Rattle.hc_service.specs.declared.open.Purpose.TheVariants as purpose
 use Rattle.hc_service.specs.declared.settings.CoreSettings.{CoreSettings}
 use Rattle.hc_service.specs.Asking.{ends_connection}
@@ -23,17 +22,25 @@ use Rattle.hc_service.specs.Sending.{ask_actions, reply_actions, send_actions}
 use Rattle.hc_service.specs.Serves.Turn.{Asking}
 use Rattle.hc_service.specs.State.{State, Table, Connection, Awaited}
 use Rattle.hc_service.specs.Turns.{after_reply, after_request, closes_behind, replied, sent_forward, wanted_now}
+use Rattle.hc_reactions.specs.declared.reacting.Reaction.{Reaction as GivenReaction}
+use Rattle.hc_reactions.specs.Reacting.{owed_reaction}
 use Rattle.hc_core.specs.declared.desk.Desk.{Desk}
 use Rattle.hc_core.specs.declared.links.Client.{Client}
-use Rattle.hc_core.specs.declared.links.Link.{Link}
 use Rattle.hc_core.specs.Links.{AreClients, AreExchanges, AreLinks}
-use Rattle.hc_core.specs.Reading.{IsAsked}
+use Rattle.hc_core.specs.Reading.{GivesForward, IsAsked}
 use Rattle.hc_core.specs.Standing.{GivesTurn, Stands, without_connection}
 use Rattle.hc_core.proofs.TableLemmas.{put_back}
 
 -- a reply that is wanted
 abbrev pub wanted_by : List ℕ → ℕ → RequestHead → Bool → Wanted
 wanted_by name moment request closes = record { name = name; moment = moment; asked = request; closes = closes }
+
+-- a reaction of the code, and the same where it is known which it is
+pub reacts_as : (wanted : Wanted) (target : Target) (request : Message RequestHead) (old new : Holdings) (given known : GivenReaction) → given ≡ known
+    → ((forwards : Table Awaited) → Reacts wanted target request forwards old (owed_reaction given) new)
+    → (forwards : Table Awaited) → Reacts wanted target request forwards old (owed_reaction known) new
+reacts_as wanted target request old new given known is reacts forwards =
+    subst (λ (r : GivenReaction). Reacts wanted target request forwards old (owed_reaction r) new) is (reacts forwards)
 
 module _ (S H : Type 0) (settings : CoreSettings) (d : Desk S H) (s : State) (c : ℕ) (k : Connection) (client : Client) (request : Message RequestHead) (target : Target) (size : ℕ) where
   -- the request has its record, and its reaction
@@ -79,15 +86,15 @@ module _ (S H : Type 0) (settings : CoreSettings) (d : Desk S H) (s : State) (c 
         are ∙ ap (λ (l : List Action). l ++ more) asked_now ∙ append_assoc before _ more
         ∙ ap (λ (l : List Action). before ++ (ask_actions (one_more s.numbers.exchange) s.numbers.moment request ++ l)) same
 
-  pub asks_reply : (closes : Bool) (exchange : ℕ) (n m : Numbers) (before mid after : List Action) (reply : Message ResponseHead) (store : Holdings) (clients : BTreeMap ℕ Client)
+  pub asks_reply : (closes : Bool) (exchange : ℕ) (n m : Numbers) (before mid after : List Action) (reply : Message ResponseHead) (store : Holdings) (clients : BTreeMap ℕ Client) (to_head : Bool)
       → Stands {S = S} {H = H} settings d (without_connection c s) → get s.connections c ≡ Some k → IsAsked client k request target size
       → HasReaction closes exchange n before mid (Replies reply None) store
       → m ≡ noted n
       → AreClients clients (cond closes (remove s.connections c) (insert (remove s.connections c) c (after_reply (drop size k.unread) k)))
-      → after ≡ mid ++ reply_actions exchange n.moment (is_head request.head.method) c closes reply
+      → to_head ≡ is_head request.head.method → after ≡ mid ++ reply_actions exchange n.moment to_head c closes reply
       → GivesTurn {S = S} {H = H} settings (Asking c) s before after
       (record { alloc = d.alloc; name = d.name; numbers = m; clients = clients; exchanges = d.exchanges; links = d.links; store = store })
-  asks_reply closes exchange n m before mid after reply store clients stands there is has noted-are are actions =
+  asks_reply closes exchange n m before mid after reply store clients to_head stands there is has noted-are are head-is actions =
       let e = exchange_now closes exchange n before mid (Replies reply None) store stands there is has in
       let t = moment_now closes exchange n before mid (Replies reply None) store stands there is has in
       let b = closes_now closes exchange n before mid (Replies reply None) store stands there is has in
@@ -112,8 +119,8 @@ module _ (S H : Type 0) (settings : CoreSettings) (d : Desk S H) (s : State) (c 
         };
         takes = (
           ask_actions (one_more s.numbers.exchange) s.numbers.moment request ++ answer,
-          behind_asked closes exchange n before mid (Replies reply None) store stands there is has after (reply_actions exchange n.moment (is_head request.head.method) c closes reply) answer actions
-              (λ i. reply_actions (e i) (t i) (is_head request.head.method) c (b i) reply),
+          behind_asked closes exchange n before mid (Replies reply None) store stands there is has after (reply_actions exchange n.moment to_head c closes reply) answer actions
+              (λ i. reply_actions (e i) (t i) (head-is i) c (b i) reply),
           record {
             connection = k;
             is_open = there;
@@ -129,18 +136,13 @@ module _ (S H : Type 0) (settings : CoreSettings) (d : Desk S H) (s : State) (c 
         );
       }
 
-  pub asks_forward : (closes : Bool) (exchange : ℕ) (n m : Numbers) (before mid after : List Action) (forward : Message RequestHead) (why : Cause) (store : Holdings)
-      (clients : BTreeMap ℕ Client) (exchanges : BTreeMap ℕ OpenExchange) (links : BTreeMap ℕ Link)
+  pub asks_forward : (closes : Bool) (exchange : ℕ) (n : Numbers) (before mid after : List Action) (forward : Message RequestHead) (why : Cause) (store : Holdings) (new : Desk S H)
       → Stands {S = S} {H = H} settings d (without_connection c s) → get s.connections c ≡ Some k → IsAsked client k request target size
       → HasReaction closes exchange n before mid (Sends forward why false) store
-      → m ≡ sent n
-      → AreLinks links (insert s.forwards (one_more n.forward) (sent_forward forward.head target n.moment (purpose.Reply exchange why false)))
-      → AreExchanges exchanges (insert s.exchanges exchange (record { connection = c; request = request.head; target = target }))
-      → AreClients clients (insert (remove s.connections c) c (after_request exchange (drop size k.unread) k))
-      → after ≡ mid ++ send_actions (one_more n.forward) n.moment forward
-      → GivesTurn {S = S} {H = H} settings (Asking c) s before after
-      (record { alloc = d.alloc; name = d.name; numbers = m; clients = clients; exchanges = exchanges; links = links; store = store })
-  asks_forward closes exchange n m before mid after forward why store clients exchanges links stands there is has sent-are are-links are-exchanges are actions =
+      → GivesForward {S = S} {H = H} exchange (record { connection = c; request = request.head; target = target }) client forward why mid after
+      (record { alloc = d.alloc; name = d.name; numbers = n; clients = d.clients; exchanges = d.exchanges; links = d.links; store = store }) new
+      → GivesTurn {S = S} {H = H} settings (Asking c) s before after new
+  asks_forward closes exchange n before mid after forward why store new stands there is has gives =
       let e = exchange_now closes exchange n before mid (Sends forward why false) store stands there is has in
       let t = moment_now closes exchange n before mid (Sends forward why false) store stands there is has in
       let f = forward_now closes exchange n before mid (Sends forward why false) store stands there is has in
@@ -156,18 +158,21 @@ module _ (S H : Type 0) (settings : CoreSettings) (d : Desk S H) (s : State) (c 
           store = store;
         };
         stands = record {
-          name = stands.name;
-          numbers = sent-are ∙ ap sent (numbers_now closes exchange n before mid (Sends forward why false) store stands there is has);
-          clients = subst (AreClients clients) (put_back s.connections c (after_request exchange behind k)
-              ∙ ap (λ (x : ℕ). insert s.connections c (after_request x behind k)) e) are;
-          exchanges = subst (λ (x : ℕ). AreExchanges exchanges (insert s.exchanges x (record { connection = c; request = request.head; target = target }))) e are-exchanges;
-          links = subst (AreLinks links) (λ i. insert s.forwards (f i) (sent_forward forward.head target (t i) (purpose.Reply (e i) why false))) are-links;
-          store = refl;
+          name = gives.name ∙ stands.name;
+          numbers = gives.numbers ∙ ap sent (numbers_now closes exchange n before mid (Sends forward why false) store stands there is has);
+          clients = subst (AreClients new.clients) (put_back s.connections c (after_request exchange behind k)
+              ∙ ap (λ (x : ℕ). insert s.connections c (after_request x behind k)) e)
+              (gives.clients (remove s.connections c) (after_request exchange behind k) stands.clients (record { reads = is.behind; exchange_is = refl; leaves = is.leaves }));
+          exchanges = subst (λ (x : ℕ). AreExchanges new.exchanges (insert s.exchanges x (record { connection = c; request = request.head; target = target }))) e
+              (gives.exchanges s.exchanges stands.exchanges);
+          links = subst (AreLinks new.links) (λ i. insert s.forwards (f i) (sent_forward forward.head target (t i) (purpose.Reply (e i) why false)))
+              (gives.links s.forwards stands.links);
+          store = gives.store;
           in_time = stands.in_time;
         };
         takes = (
           ask_actions (one_more s.numbers.exchange) s.numbers.moment request ++ sends,
-          behind_asked closes exchange n before mid (Sends forward why false) store stands there is has after (send_actions (one_more n.forward) n.moment forward) sends actions
+          behind_asked closes exchange n before mid (Sends forward why false) store stands there is has after (send_actions (one_more n.forward) n.moment forward) sends gives.actions
               (λ i. send_actions (f i) (t i) forward),
           record {
             connection = k;

@@ -1,10 +1,9 @@
 -- What is open at a cache's links.
-use Rattle.std.proofs.Common.{◌≡◌, ℕ, Bool, true, false, cond, List, [], ◌++◌, Option, Some, None, refl, sym, subst}
+use Rattle.std.proofs.Common.{◌≡◌, ℕ, Bool, false, cond, [], Option, Some, None, refl, sym, subst}
 use Rattle.std.specs.BTreeMap.{BTreeMap}
 use Rattle.hc_head.specs.declared.head.RequestHead.{RequestHead}
 use Rattle.hc_head.specs.declared.head.Target.{Target}
 use Rattle.hc_head.specs.Methods.{is_head}
-use Rattle.hc_links.specs.declared.requests.RequestReader.{RequestReader}
 use Rattle.hc_links.specs.declared.responses.ResponseReader.{ResponseReader}
 use Rattle.hc_links.specs.ResponseReading.{Agrees}
 use Rattle.hc_service.specs.declared.open.Purpose.{Purpose}

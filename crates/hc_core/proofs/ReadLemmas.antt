@@ -1,10 +1,17 @@
 -- Reading a connection as far as can be.
-use Rattle.std.proofs.Common.{append_assoc, append-nil, ◌≡◌, ◌<◌, ◌≤◌, ℕ, Bool, true, false, List, [], ◌∷◌, ◌++◌, length, nat_lt, Option, Some, None, refl, sym, ap, ◌∙◌, subst, arith}
+use Rattle.std.proofs.Common.{append_assoc, append-nil, ◌≡◌, ◌<◌, ℕ, ◌+◌, Bool, true, false, List, [], ◌∷◌, ◌++◌, length, nat_lt, Option, Some, None, Ok, refl, sym, ap, ◌∙◌, subst, arith}
 use Rattle.std.proofs.lemmas.Bool.{ltb-false, ltb-true}
-use Rattle.std.specs.BTreeMap.{BTreeMap}
+use Rattle.std.specs.BTreeMap.{BTreeMap, Updates, btree_map_len, get as kept_at}
 use Rattle.std.specs.FinMap.{get, insert, remove}
 use Rattle.std.specs.List.{AllByRecursion}
-use Rattle.hc_links.specs.Requests.{IsRefused}
+use Rattle.std.specs.Ordering.{nat_cmp}
+use Rattle.hc_head.specs.declared.head.RequestHead.{RequestHead}
+use Rattle.hc_head.specs.declared.head.Target.{Target}
+use Rattle.hc_framing.specs.declared.message.Message.{Message}
+use Rattle.hc_links.specs.declared.arrival.Arrival.{Arrival}
+use Rattle.hc_links.specs.declared.requests.RequestReader.{RequestReader}
+use Rattle.hc_links.specs.RequestReading.{GivesNext, HasRead, TakesRequest}
+use Rattle.hc_links.specs.Requests.{IsRefused, IsUnfinished}
 use Rattle.hc_replies.specs.Replies.{generated_reply}
 use Rattle.hc_service.specs.declared.action.Action.{Action}
 use Rattle.hc_service.specs.declared.numbers.Numbers.{Numbers}
@@ -12,16 +19,38 @@ use Rattle.hc_service.specs.declared.settings.CoreSettings.{CoreSettings}
 use Rattle.hc_service.specs.Sending.{refusal_actions}
 use Rattle.hc_service.specs.Serves.{IsQuietAt, IsQuietBy, Reads, Run, Turn}
 use Rattle.hc_service.specs.Serves.Turn.{Asking, Dropping, Refusal}
-use Rattle.hc_service.specs.State.{State, Table, Connection}
+use Rattle.hc_service.specs.State.{State, Connection}
 use Rattle.hc_service.specs.Turns.{after_leaving, most_waiting}
 use Rattle.hc_core.specs.declared.desk.Desk.{Desk}
 use Rattle.hc_core.specs.declared.links.Client.{Client}
-use Rattle.hc_core.specs.Links.{AreClients, IsClient, IsTrimmed}
-use Rattle.hc_core.specs.Standing.{Adds, GivesReading, GivesTurn, Stands, without_connection}
-use Rattle.hc_core.proofs.TableLemmas.{get_gone, get_put, gone_same, put_back, put_same}
+use Rattle.hc_core.specs.Links.{AreClients, IsClient, IsTrimmed, WaitsWhole}
+use Rattle.hc_core.specs.Reading.{IsAsked}
+use Rattle.hc_core.specs.Standing.{GivesReading, GivesTurn, Stands, without_connection}
+use Rattle.hc_core.proofs.TableLemmas.{alike_taken, found, get_gone, get_put, gone_same, put_back, put_same}
 
 some_one : {X : Type 0} (a b : X) → Some a ≡ Some b → a ≡ b
 some_one a b e = cc
+
+-- ---- what arrives
+
+pub gives_as : (given known : Arrival) (r : RequestReader) (octets : List ℕ) → given ≡ known → GivesNext (Ok given) r octets → GivesNext (Ok known) r octets
+gives_as given known r octets is gives = subst (λ (a : Arrival). GivesNext (Ok a) r octets) is gives
+
+-- nothing whole, and all of it is read
+pub still_idle : (client : Client) (reader : RequestReader) (k : Connection) → IsClient client k → k.exchange ≡ None → HasRead reader k.unread
+    → IsClient (record { reader = reader; exchange = client.exchange; leaves = client.leaves }) k
+still_idle client reader k is idle read = record {
+  reads = read.agrees;
+  waits = subst (λ (e : Option ℕ). WaitsWhole e reader k.unread) (sym idle) tt;
+  exchange = is.exchange;
+  leaves = is.leaves;
+}
+
+-- a whole request
+pub asked_of : (client : Client) (reader : RequestReader) (k : Connection) (request : Message RequestHead) (target : Target) → IsClient client k → k.exchange ≡ None
+    → (takes : TakesRequest reader k.unread request target)
+    → IsAsked (record { reader = reader; exchange = client.exchange; leaves = client.leaves }) k request target takes.len
+asked_of client reader k request target is idle takes = record { idle = idle; arrives = takes.is_request; behind = takes.behind; leaves = is.leaves }
 
 -- ---- turns one after another
 
@@ -53,6 +82,11 @@ module _ (S H : Type 0) (settings : CoreSettings) (c : ℕ) where
     quiet = next.quiet;
   }
 
+  -- where it is known whether there may be more
+  pub reads_as : (d : Desk S H) (given known : Bool) (s : State) (a z : List Action) → given ≡ known → GivesReading {S = S} {H = H} settings c given s a z d
+      → GivesReading {S = S} {H = H} settings c known s a z d
+  reads_as d given known s a z is gives = subst (λ (b : Bool). GivesReading {S = S} {H = H} settings c b s a z d) is gives
+
   -- nothing was read yet
   pub reads_none : (d : Desk S H) (s : State) (items : List Action) → Stands {S = S} {H = H} settings d s → GivesReading {S = S} {H = H} settings c true s items items d
   reads_none d s items stands = record {
@@ -76,6 +110,10 @@ module _ (S H : Type 0) (settings : CoreSettings) (c : ℕ) where
     quiet = quiet;
   }
 
+  -- a whole request was read, and there may be more
+  pub reads_asking : (d : Desk S H) (s : State) (a z : List Action) → GivesTurn {S = S} {H = H} settings (Asking c) s a z d → GivesReading {S = S} {H = H} settings c true s a z d
+  reads_asking d s a z gives = reads_one d (Asking c) true s a z gives refl (λ not. absurd (cc))
+
   module _ (d : Desk S H) (s : State) (k : Connection) (stands : Stands {S = S} {H = H} settings d (without_connection c s)) (there : get s.connections c ≡ Some k) where
     -- a connection that is put back as it was
     pub reads_nothing : (clients : BTreeMap ℕ Client) (items : List Action) → AreClients clients (insert (remove s.connections c) c k) → IsQuietBy k.exchange k.unread
@@ -97,6 +135,13 @@ module _ (S H : Type 0) (settings : CoreSettings) (c : ℕ) where
       runs = ([], sym (append-nil items), (refl, refl));
       quiet = λ _ q is. subst (λ (x : Connection). IsQuietBy x.exchange x.unread) (some_one k q (sym there ∙ is)) quiet;
     }
+
+    -- what came is no whole request yet
+    pub reads_unfinished : (clients : BTreeMap ℕ Client) (items : List Action) → AreClients clients (insert (remove s.connections c) c k) → k.exchange ≡ None → IsUnfinished k.unread
+        → GivesReading {S = S} {H = H} settings c false s items items
+        (record { alloc = d.alloc; name = d.name; numbers = d.numbers; clients = clients; exchanges = d.exchanges; links = d.links; store = d.store })
+    reads_unfinished clients items are idle unfinished =
+        reads_nothing clients items are (subst (λ (e : Option ℕ). IsQuietBy e k.unread) (sym idle) unfinished)
 
     -- octets that waited are dropped
     pub reads_dropping : (clients : BTreeMap ℕ Client) (items : List Action) (exchange : ℕ) → AreClients clients (insert (remove s.connections c) c (after_leaving k))
@@ -211,6 +256,16 @@ module _ (S H : Type 0) (settings : CoreSettings) (c : ℕ) where
     store = stands.store;
     in_time = stands.in_time;
   }
+
+  -- a client that was there is that of a connection
+  pub taken_with : (d : Desk S H) (s : State) (client : Client) (clients : BTreeMap ℕ Client) → Stands {S = S} {H = H} settings d s
+      → Updates nat_cmp d.clients clients c None → Some client ≡ kept_at nat_cmp d.clients c → btree_map_len clients + 1 ≡ btree_map_len d.clients
+      → (k : Connection) × (get s.connections c ≡ Some k) × IsClient client k
+      × Stands {S = S} {H = H} settings (record { alloc = d.alloc; name = d.name; numbers = d.numbers; clients = clients; exchanges = d.exchanges; links = d.links; store = d.store })
+      (without_connection c s)
+  taken_with d s client clients stands updates value many =
+      let seen = found IsClient (kept_at nat_cmp d.clients c) (get s.connections c) client (stands.clients.at c) (sym value) in
+      (seen.0, seen.1, seen.2, taken_out d s clients stands (alike_taken IsClient d.clients clients s.connections c (Some client) stands.clients updates value many))
 
   -- what a connection that was trimmed gives
   pub reads_trimmed : (d : Desk S H) (s : State) (k : Connection) (client : Client) (clients : BTreeMap ℕ Client) (items : List Action) (exchange : ℕ) (over : Bool)

@@ -11,7 +11,7 @@ use std::hash::BuildHasher;
 const MOST_WAITING: usize = 65_536;
 
 impl Client {
-    ghost use Rattle.std.specs.Prelude.{◌≡◌, List, ℕ, OnOk, Some, length, nat_lt};
+    ghost use Rattle.std.specs.Prelude.{◌≡◌, ℕ, OnOk, Some, length, nat_lt};
     ghost use Rattle.hc_service.specs.State.{Connection};
     ghost use Rattle.hc_service.specs.Turns.{after_leaving, after_octets, most_waiting};
     ghost use Rattle.hc_core.specs.Links.{IsClient, IsTrimmed};
@@ -63,7 +63,7 @@ impl<S: BuildHasher> Desk<S> {
     ghost use Rattle.hc_service.specs.State.{State, Connection};
     ghost use Rattle.hc_service.specs.Serves.Turn.{Opening, Hearing};
     ghost use Rattle.hc_service.specs.Turns.{most_connections};
-    ghost use Rattle.hc_core.specs.Standing.{CanServe, GivesTurn, Stands};
+    ghost use Rattle.hc_core.specs.Standing.{GivesTurn, Stands};
 
     /// A connection opens, of a number greater than all before.
     pub(crate) fn open(&mut self, c: u64) -> Result<(), AllocError>

@@ -14,10 +14,10 @@ ghost use Rattle.hc_core.specs.Reading.{waiting_at};
 ghost use Rattle.hc_core.specs.Links.{AreClients, AreExchanges, AreLinks, IsIdle, WillWait};
 
 use crate::links::{Client, Link};
-use hc_reactions::{Addressee, send_reply, send_request};
 use hc_framing::Message;
 use hc_head::{RequestHead, ResponseHead, Target, is_head};
 use hc_links::ResponseReader;
+use hc_reactions::{Addressee, send_reply, send_request};
 use hc_service::{Action, Numbers, OpenExchange, OpenForward, Purpose};
 use std::alloc::{AllocError, Global};
 use std::collections::BTreeMap;

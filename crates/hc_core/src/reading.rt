@@ -6,12 +6,11 @@ ghost use Rattle.hc_service.specs.Asking.{ends_connection};
 use crate::desk::Desk;
 use crate::links::Client;
 use crate::moving::{await_reply, reply_on, send_forward};
-use hc_reactions::{Reaction, react};
-use hc_reactions::{Addressee, record_request, refuse};
 use hc_framing::Message;
 use hc_head::{RequestHead, Target, is_head};
 use hc_links::Arrival;
-use hc_service::{Action, OpenExchange, Purpose, WantedReply, ends_connection};
+use hc_reactions::{Addressee, Reaction, react, record_request, refuse};
+use hc_service::{Action, Cause, OpenExchange, Purpose, WantedReply, ends_connection};
 use std::alloc::AllocError;
 use std::hash::BuildHasher;
 
@@ -34,7 +33,7 @@ impl<S: BuildHasher> Desk<S> {
     ghost use Rattle.hc_service.specs.Serves.Turn.{Asking};
     ghost use Rattle.hc_links.specs.RequestReading.{CanRead, waiting};
     ghost use Rattle.hc_core.specs.Links.{IsClient};
-    ghost use Rattle.hc_core.specs.Reading.{IsAsked, waiting_at};
+    ghost use Rattle.hc_core.specs.Reading.{GivesForward, IsAsked, waiting_at};
     ghost use Rattle.hc_core.specs.Standing.{CanServe, GivesReading, GivesTurn, Stands, without_connection};
 
     /// Reads a connection until nothing more can be read.
@@ -142,12 +141,12 @@ impl<S: BuildHasher> Desk<S> {
             asked: &request.head,
             closes,
         };
-        match react(self.alloc, &mut self.store, &wanted, &target, &request)? {
+        let reaction = react(self.alloc, &mut self.store, &wanted, &target, &request)?;
+        match reaction {
             Reaction::Replies(reply) => {
-                let to_head = is_head(request.head.method.as_slice());
                 let to = Addressee {
                     exchange,
-                    to_head,
+                    to_head: is_head(request.head.method.as_slice()),
                     connection: c,
                     closes,
                 };
@@ -163,34 +162,53 @@ impl<S: BuildHasher> Desk<S> {
                 Ok(())
             }
             Reaction::Sends(forward, cause) => {
-                let purpose = Purpose::Reply {
-                    exchange,
-                    cause,
-                    conditional: false,
-                };
-                send_forward(
-                    self.alloc,
-                    &mut self.numbers,
-                    &mut self.links,
-                    forward,
-                    target.copy(self.alloc)?,
-                    purpose,
-                    actions,
-                )?;
                 let open = OpenExchange {
                     connection: c,
                     request: request.head,
                     target,
                 };
-                await_reply(
-                    &mut self.exchanges,
-                    &mut self.clients,
-                    exchange,
-                    client,
-                    open,
-                )?;
+                self.go_forward(exchange, open, client, forward, cause, actions)?;
                 Ok(())
             }
         }
+    }
+
+    /// A request that was read of a connection, which was taken out, goes to the origin, and waits for
+    /// its reply.
+    fn go_forward(
+        &mut self,
+        number: u64,
+        exchange: OpenExchange,
+        client: Client,
+        forward: Message<RequestHead>,
+        cause: Cause,
+        actions: &mut Vec<Action>,
+    ) -> Result<(), AllocError>
+        ensures goes { OnOk result (GivesForward number exchange client forward cause actions.old.items actions.new.items self.old self.new) }
+        ensures waits { OnOk result (waiting_at exchange.connection self.new.clients ≤ length (waiting client.reader)) }
+    {
+        let target = exchange.target.copy(self.alloc)?;
+        let purpose = Purpose::Reply {
+            exchange: number,
+            cause,
+            conditional: false,
+        };
+        send_forward(
+            self.alloc,
+            &mut self.numbers,
+            &mut self.links,
+            forward,
+            target,
+            purpose,
+            actions,
+        )?;
+        await_reply(
+            &mut self.exchanges,
+            &mut self.clients,
+            number,
+            client,
+            exchange,
+        )?;
+        Ok(())
     }
 }

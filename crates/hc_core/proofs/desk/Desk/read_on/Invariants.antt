@@ -6,12 +6,12 @@ use Rattle.hc_core.specs.Standing.{CanServe, GivesReading, Stands}
 use Rattle.hc_core.proofs.desk.Desk.read_on.Given as goal
 
 -- what was read so far
-abbrev pub invariant-loop-self : goal.invariant-loop-self
-invariant-loop-self g l = record {
+abbrev pub invariant-loop : goal.invariant-loop
+invariant-loop g l = record {
   can : CanServe {S = g.row.S.Denot} {H = g.row.S-Hasher.Denot} l.self;
   so_far : (settings : CoreSettings) (s : State) → Stands {S = g.row.S.Denot} {H = g.row.S-Hasher.Denot} settings l.fn.self s
       → GivesReading {S = g.row.S.Denot} {H = g.row.S-Hasher.Denot} settings l.c true s l.fn.actions.items l.actions.items l.self;
 }
 
-abbrev pub decreases-loop-self : goal.decreases-loop-self
-decreases-loop-self g l = waiting_at l.c l.self.clients
+abbrev pub decreases-loop : goal.decreases-loop
+decreases-loop g l = waiting_at l.c l.self.clients
