@@ -5,6 +5,7 @@ mod admission;
 mod answering;
 mod clients;
 mod desk;
+mod ending;
 mod fault;
 mod leaving;
 mod links;
@@ -12,6 +13,7 @@ mod machine;
 mod moving;
 mod reading;
 mod serving;
+mod telling;
 
 pub use fault::CoreFault;
 pub use machine::Core;
