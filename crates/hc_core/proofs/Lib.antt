@@ -14,3 +14,4 @@ pub mod StartLemmas
 pub mod EventLemmas
 pub mod LeaveLemmas
 pub mod ServeLemmas
+pub mod StepLemmas

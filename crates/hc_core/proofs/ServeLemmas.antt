@@ -6,13 +6,14 @@ use Rattle.std.specs.Option.{is_some}
 use Rattle.hc_events.specs.declared.Happening.TheVariants.{ClientOpened, ClientBytes, ClientEnd, OriginBytes, OriginEnd, OriginFailed}
 use Rattle.hc_service.specs.declared.action.Action.{Action}
 use Rattle.hc_service.specs.declared.settings.CoreSettings.{CoreSettings}
+use Rattle.hc_service.specs.Agreement.{IsReady}
 use Rattle.hc_service.specs.Serves.{AwaitsStill, ReadsOn, Run, Turn, client_of}
 use Rattle.hc_service.specs.Serves.Turn.{Opening, Hearing, Answering, Failing, Telling}
 use Rattle.hc_service.specs.State.{State, Connection}
 use Rattle.hc_service.specs.Turns.Failure.{IsBroken, IsCutOff, IsLost}
 use Rattle.hc_core.specs.declared.desk.Desk.{Desk}
 use Rattle.hc_core.specs.Happenings.{Does, GivesDoing}
-use Rattle.hc_core.specs.Standing.{CanServe, DoesTelling, GivesEnd, GivesEnding, GivesReading, GivesReadingBehind, GivesTelling, GivesTurn, IsReady, Stands}
+use Rattle.hc_core.specs.Standing.{CanServe, DoesTelling, GivesEnd, GivesEnding, GivesReading, GivesReadingBehind, GivesTelling, GivesTurn, Stands}
 
 -- something is there
 pub there : {X : Type 0} (o : Option X) → is_some o ≡ true → (x : X) × (o ≡ Some x)

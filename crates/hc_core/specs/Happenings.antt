@@ -6,10 +6,11 @@ use Rattle.std.specs.declared.vec.Vec.{Vec}
 use Rattle.hc_events.specs.declared.Happening.{Happening}
 use Rattle.hc_service.specs.declared.action.Action.{Action}
 use Rattle.hc_service.specs.declared.settings.CoreSettings.{CoreSettings}
+use Rattle.hc_service.specs.Agreement.{IsReady}
 use Rattle.hc_service.specs.Serves.{Owes, Run, Turn, is_full, is_known}
 use Rattle.hc_service.specs.State.{State}
 use Rattle.hc_core.specs.declared.desk.Desk.{Desk}
-use Rattle.hc_core.specs.Standing.{IsReady, Stands}
+use Rattle.hc_core.specs.Standing.{Stands}
 
 -- it is that of some state in which it may happen
 pub record CanTake {S H : Type 0} (of : Happening) (desk : Desk S H) : Type 0 where

@@ -1,9 +1,12 @@
 -- A cache, as contracts see it, and what a step gives.
-use Rattle.std.specs.Prelude.{◌≡◌, ◌⊎◌, ℕ, Bool, true, false, Some, None, Ok, Err}
+use Rattle.std.specs.Prelude.{◌≡◌, ◌≤◌, ◌⊎◌, ℕ, Bool, true, false, Some, None, Ok, Err}
+use Rattle.hc_transcript.specs.Limits.{greatest_number}
 use Rattle.hc_events.specs.declared.Event.{Event}
 use Rattle.hc_service.specs.declared.fault.StepFault.{StepFault}
 use Rattle.hc_service.specs.declared.fault.StepFault.TheVariants.{Memory, MomentTooLarge, UnknownNumber, TooManyConnections, Failed}
 use Rattle.hc_service.specs.declared.settings.CoreSettings.{CoreSettings}
+use Rattle.hc_service.specs.Agreement.{History}
+use Rattle.hc_service.specs.Laws.{KeepsAgreement}
 use Rattle.hc_service.specs.Runs.{StepResult}
 use Rattle.hc_service.specs.Serves.{Serves, first_fault}
 use Rattle.hc_service.specs.State.{State}
@@ -51,3 +54,10 @@ GivesStep (Err MomentTooLarge) settings event s cache = IsRefused MomentTooLarge
 GivesStep (Err UnknownNumber) settings event s cache = IsRefused UnknownNumber event s
 GivesStep (Err TooManyConnections) settings event s cache = IsRefused TooManyConnections event s
 GivesStep (Err Failed) settings event s cache = ⊥
+
+-- the same of a cache that agrees with what has happened: it agrees with what has happened then, as far as records can be numbered
+abbrev pub GivesAgreement : StepResult → CoreSettings → Event → State → History → Cache → Type 0
+GivesAgreement (Ok actions) settings event s h cache =
+    (s' : State) × StandsFor settings cache s' × Serves settings event s actions.items s'
+    × (s'.numbers.records ≤ greatest_number → KeepsAgreement event.of actions.items h s')
+GivesAgreement (Err fault) settings event s h cache = GivesStep (Err fault) settings event s cache

@@ -7,6 +7,7 @@ mod clients;
 mod desk;
 mod ending;
 mod fault;
+mod keeping;
 mod leaving;
 mod links;
 mod machine;
