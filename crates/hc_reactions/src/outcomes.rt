@@ -188,7 +188,10 @@ pub fn respond<S: BuildHasher>(
     ensures { (conditional : Bool) (position : ℕ) → IfOk result
         (λ reply. Responds wanted.now forward cause conditional position response store.old (Replies reply) store.new) }
 {
-    Err(AllocError)
+    if is_unasked(&forward, &response.head) {
+        return made_reply(alloc, wanted, BAD_GATEWAY);
+    }
+    pass(alloc, store, wanted, forward, cause, response)
 }
 
 /// The status of the reply to a request whose forward failed; the store is asked once more.
@@ -199,7 +202,7 @@ fn status_by_store<S: BuildHasher>(
 ) -> Result<u16, AllocError>
     ensures { IfOk result (λ status. GivesStatus wanted.now forward.now store.old status store.new) }
 {
-    Err(AllocError)
+    Ok(failure_status(store.choose(&forward.target, &wanted.asked.fields)?))
 }
 
 /// The reply to a request whose forward failed: a 504 where the store was asked before the request went out,

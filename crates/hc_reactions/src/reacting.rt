@@ -99,7 +99,10 @@ fn react_by_store<S: BuildHasher>(
     ensures { (forwards : Table Awaited) → IfOk result (λ reaction. ReactsByStore wanted.now target.now request.now forwards
         store.old (owed_reaction reaction) store.new) }
 {
-    Err(AllocError)
+    let known = store.knows(target);
+    let chosen = store.choose(target, &request.head.fields)?;
+    let case = case_by_store(&request.head.fields, known, chosen, wanted.moment);
+    chosen_reaction(alloc, wanted, target, request, chosen, case)
 }
 
 /// What a request for that target gets: the first case that holds decides, and the store is asked where no
