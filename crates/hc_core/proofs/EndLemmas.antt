@@ -30,7 +30,8 @@ use Rattle.hc_core.specs.declared.links.Client.{Client}
 use Rattle.hc_core.specs.declared.links.Link.{Link}
 use Rattle.hc_core.specs.Ending.{GivesReply, IsMissing, IsTaken, is_last, wanted_of}
 use Rattle.hc_core.specs.Links.{AreClients, AreExchanges, AreLinks}
-use Rattle.hc_core.specs.Standing.{GivesEnding, HasExchange, IsReady, Stands, without_forward}
+use Rattle.hc_service.specs.Agreement.{HasExchange, IsReady}
+use Rattle.hc_core.specs.Standing.{GivesEnding, Stands, without_forward}
 use Rattle.hc_core.proofs.TableLemmas.{put_back}
 
 -- what is there is something

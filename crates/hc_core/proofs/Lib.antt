@@ -10,4 +10,8 @@ pub mod OutcomeLemmas
 pub mod HeardLemmas
 pub mod CanLemmas
 pub mod TellLemmas
+pub mod StartLemmas
+pub mod EventLemmas
+pub mod LeaveLemmas
 pub mod ServeLemmas
+pub mod StepLemmas

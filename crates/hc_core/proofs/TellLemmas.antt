@@ -17,7 +17,8 @@ use Rattle.hc_service.specs.Turns.Failure.{IsBroken}
 use Rattle.hc_core.specs.declared.desk.Desk.{Desk}
 use Rattle.hc_core.specs.declared.links.Link.{Link}
 use Rattle.hc_core.specs.Links.{AreLinks}
-use Rattle.hc_core.specs.Standing.{GivesEnding, GivesTelling, HasExchange, IsReady, Stands, without_forward}
+use Rattle.hc_service.specs.Agreement.{HasExchange, IsReady}
+use Rattle.hc_core.specs.Standing.{GivesEnding, GivesTelling, Stands, without_forward}
 use Rattle.hc_core.proofs.TableLemmas.{get_put, put_back, remove_put}
 
 one_is : {X : Type 0} (a b : X) → Some a ≡ Some b → a ≡ b
