@@ -17,7 +17,7 @@ pub invariant_of-self : goal.invariant_of-self
 invariant_of-self g c =
     let can = can_step c.self.inside.failed c.self.inside.desk c.self.invariant c.if-self.false in
     let gives = c.in-Ok.ensures can.settings can.state can.stands
-        (sym (c.first_fault.ensures.tests can.settings can.state can.stands) ∙ c.in_default.is) in
+    (sym (c.first_fault.ensures.tests can.settings can.state can.stands) ∙ c.in_default.is) in
     inr (record { settings = can.settings; state = gives.state; stands = gives.stands })
 
 pub returns-in-Ok-clause-gives : goal.returns-in-Ok-clause-gives
