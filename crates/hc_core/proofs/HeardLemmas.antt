@@ -1,5 +1,5 @@
 -- The link of a forward is taken out: what is left, and what came on it.
-use Rattle.std.proofs.Common.{◌≡◌, ◌⊎◌, ℕ, Bool, List, ◌++◌, Option, Some, None, Result, Ok, Err, IfOk, sym, subst, inl, inr}
+use Rattle.std.proofs.Common.{◌≡◌, ◌⊎◌, ℕ, Bool, List, ◌++◌, Some, Result, Ok, Err, IfOk, sym, subst, inl, inr}
 use Rattle.std.specs.BTreeMap.{BTreeMap, get as kept_at}
 use Rattle.std.specs.FinMap.{get, remove}
 use Rattle.std.specs.Ordering.{nat_cmp}
@@ -16,7 +16,7 @@ use Rattle.hc_core.specs.declared.desk.Desk.{Desk}
 use Rattle.hc_core.specs.declared.links.Link.{Link}
 use Rattle.hc_core.specs.Links.{AreLinks, IsLink}
 use Rattle.hc_core.specs.Standing.{Stands, without_forward}
-use Rattle.hc_core.proofs.TableLemmas.{found_for, found_none}
+use Rattle.hc_core.proofs.TableLemmas.{found_for}
 
 -- one of two ways
 pub left_way : {A E : Type 0} (r : Result A E) (P Q : A → Type 0) → IfOk r P → IfOk r (λ x. P x ⊎ Q x)
@@ -27,15 +27,9 @@ pub right_way : {A E : Type 0} (r : Result A E) (P Q : A → Type 0) → IfOk r 
 right_way (Ok x) P Q q = inr q
 right_way (Err e) P Q q = tt
 
-none_or_some : (o : Option Awaited) (a : Awaited) → o ≡ None → o ≡ Some a → ⊥
-none_or_some o a none some = cc
-
 module _ (S H : Type 0) (settings : CoreSettings) (d : Desk S H) (s : State) (f : ℕ) (awaited : Awaited)
     (stands : Stands {S = S} {H = H} settings d s) (there : get s.forwards f ≡ Some awaited) where
-  -- its link is there
-  pub has_link : kept_at nat_cmp d.links f ≡ None → ⊥
-  has_link none = none_or_some (get s.forwards f) awaited (found_none IsLink _ _ (stands.links.at f) none) there
-
+  -- its link
   pub link_of : (link : Link) → kept_at nat_cmp d.links f ≡ Some link → IsLink link awaited
   link_of link is = found_for IsLink _ _ link awaited (stands.links.at f) is there
 

@@ -46,13 +46,6 @@ module _ {X Y : Type 0} (IsLike : X → Y → Type 0) where
   found_none None (Some y) like is = absurd like
   found_none (Some a) p like is = absurd (cc)
 
-  -- something is there in both, or in none
-  pub both_there : (o : Option X) (p : Option Y) → AreAlikeAt IsLike o p → is_some o ≡ is_some p
-  both_there None None like = refl
-  both_there None (Some y) like = absurd like
-  both_there (Some x) None like = absurd like
-  both_there (Some x) (Some y) like = refl
-
   -- ---- how many
 
   one_more_at : (o : Option X) (p : Option Y) (many new : ℕ) → AreAlikeAt IsLike o p → new ≡ many + cond (is_some o) 0 1 → new ≡ cond (is_some p) many (many + 1)
