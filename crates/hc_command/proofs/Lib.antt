@@ -1,3 +1,4 @@
 pub mod ArgumentLemmas
 pub mod AuditLemmas
 pub mod NameLemmas
+pub mod ReplayLemmas

@@ -47,7 +47,7 @@ abbrev pub AnswersFor : Settings → Option (List ℕ) → Option (List ℕ) →
 AnswersFor settings input left status old new faults_old faults_new =
     (status ≡ 3) ⊎ (SaysVerdict settings input left status old new × Keeps faults_old faults_new)
 
--- ---- how the program ends
+-- ---- where the input isn't known
 
 -- the writer got the line of some verdict, and nothing else, and this is its status
 pub record SaysSome (status : ℕ) (old new : Option (List ℕ)) : Type 0 where
@@ -58,13 +58,6 @@ pub record SaysSome (status : ℕ) (old new : Option (List ℕ)) : Type 0 where
 abbrev pub Answers : ℕ → Option (List ℕ) → Option (List ℕ) → Option (List ℕ) → Option (List ℕ) → Type 0
 Answers status old new faults_old faults_new =
     (status ≡ 3) ⊎ (SaysSome status old new × Keeps faults_old faults_new)
-
--- an audit answers, help or the version is shown, or the words are refused
--- with nothing on the output
-abbrev pub Ends : ℕ → Option (List ℕ) → Option (List ℕ) → Option (List ℕ) → Option (List ℕ)
-    → Type 0
-Ends status old new faults_old faults_new = Answers status old new faults_old faults_new
-    ⊎ ((status ≡ 0) × Keeps faults_old faults_new) ⊎ ((status ≡ 64) × Keeps old new)
 
 -- ---- what private functions promise
 

@@ -1,6 +1,7 @@
 -- The command line of `hcache`, as a parse sees it.
 use Rattle.std.specs.Prelude.{◌≡◌, ◌≢◌, ◌⊎◌, ⊤, ℕ, List, Option, None, Some, true, codes}
-use Rattle.std.specs.Prelude.{option_and_then, slice_get}
+use Rattle.std.specs.Prelude.{Bool, false, option_and_then, slice_get}
+use Rattle.std.specs.Str.{bytes_eq}
 use Rattle.clap.specs.Words.{App, HasKind, Row, Rule, Text, fault_of, first_of, kind_of, new_app, new_rule}
 use Rattle.clap.specs.Words.{subcommand_of, with_rule, with_subcommand}
 use Rattle.clap.specs.Simple.{on_top}
@@ -9,13 +10,15 @@ use Rattle.clap.specs.declared.error.Error.{Error}
 use Rattle.clap.specs.declared.error.ErrorKind.{ErrorKind}
 use Rattle.clap.specs.declared.error.ErrorKind.TheVariants as kind
 use Rattle.hc_history.specs.declared.settings.Settings.{Settings}
+use Rattle.hc_command.specs.declared.arguments.Task.{Task}
+use Rattle.hc_command.specs.declared.arguments.Task.TheVariants.{Audit, Replay}
 use Rattle.hc_command.specs.declared.refusal.Refusal.{Refusal}
 use Rattle.hc_command.specs.declared.refusal.Refusal.TheVariants.{Memory, File, Slack, Ignore}
 use Rattle.hc_command.specs.Values.{ignored_by, slack_by, unmarked_by}
 
 -- ---- what the command takes
 
--- the argument of `audit`
+-- the argument of each command
 abbrev pub file_rule : Rule
 file_rule = record (new_rule (codes "FILE")) { required = true }
 
@@ -31,9 +34,12 @@ abbrev pub audit : App
 audit = with_rule (with_rule (with_rule (with_rule (new_app (codes "audit")) file_rule) (option_rule (codes "slack")))
     (option_rule (codes "ignore"))) (flag_rule (codes "errors-only"))
 
+abbrev pub replay : App
+replay = with_rule (new_app (codes "replay")) file_rule
+
 abbrev pub hcache : App
-hcache = with_subcommand (on_top (λ s. record s { has_version = true; subcommand_required = true })
-    (new_app (codes "hcache"))) audit.top
+hcache = with_subcommand (with_subcommand (on_top (λ s. record s { has_version = true; subcommand_required = true })
+    (new_app (codes "hcache"))) audit.top) replay.top
 
 -- ---- what the words say
 
@@ -41,15 +47,30 @@ hcache = with_subcommand (on_top (λ s. record s { has_version = true; subcomman
 abbrev pub value_in : Text → Option (Text × List Row) → Option Text
 value_in name given = option_and_then (λ p. first_of name p.1) given
 
+-- whether the subcommand is `replay`
+abbrev pub is_replay : Option (Text × List Row) → Bool
+is_replay None = false
+is_replay (Some p) = bytes_eq p.0 (codes "replay")
+
 -- the values behind the subcommand ask to audit that file by those settings
-pub record AsksIn (given : Option (Text × List Row)) (file : Text) (settings : Settings) : Type 0 where
+pub record AuditsIn (given : Option (Text × List Row)) (file : Text) (settings : Settings) : Type 0 where
+  pub command_is : is_replay given ≡ false
   pub file_is : value_in (codes "FILE") given ≡ Some file
   pub slack_is : slack_by (value_in (codes "slack") given) ≡ Some settings.slack
   pub ignored_is : ignored_by (value_in (codes "ignore") given) ≡ Some settings.ignored
   pub unmarked_is : unmarked_by (value_in (codes "errors-only") given) ≡ settings.unmarked
 
+-- or to replay it
+pub record ReplaysIn (given : Option (Text × List Row)) (file : Text) : Type 0 where
+  pub command_is : is_replay given ≡ true
+  pub file_is : value_in (codes "FILE") given ≡ Some file
+
+abbrev pub AsksIn : Option (Text × List Row) → Text → Task → Type 0
+AsksIn given file (Audit settings) = AuditsIn given file settings
+AsksIn given file Replay = ReplaysIn given file
+
 -- the words, of which the first is the program's name, ask that
-abbrev pub Asks : List Text → Text → Settings → Type 0
+abbrev pub Asks : List Text → Text → Task → Type 0
 Asks words = AsksIn (subcommand_of hcache words)
 
 -- ---- why words are refused
@@ -58,8 +79,8 @@ Asks words = AsksIn (subcommand_of hcache words)
 abbrev pub RefusesIn : Option (Text × List Row) → Refusal → Type 0
 RefusesIn given Memory = ⊤
 RefusesIn given File = value_in (codes "FILE") given ≡ None
-RefusesIn given Slack = slack_by (value_in (codes "slack") given) ≡ None
-RefusesIn given Ignore = ignored_by (value_in (codes "ignore") given) ≡ None
+RefusesIn given Slack = (is_replay given ≡ false) × (slack_by (value_in (codes "slack") given) ≡ None)
+RefusesIn given Ignore = (is_replay given ≡ false) × (ignored_by (value_in (codes "ignore") given) ≡ None)
 
 -- the kind of the error that says it; none says the want of memory
 abbrev pub refused_kind : Refusal → Option ErrorKind

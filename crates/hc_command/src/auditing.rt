@@ -102,8 +102,8 @@ fn judged_by<I: Index + Drop, R: Read>(
     }
 }
 
-// Room for one read.
-fn buffer(alloc: Global) -> Result<Vec<u8>, AllocError>
+/// Room for one read.
+pub(crate) fn buffer(alloc: Global) -> Result<Vec<u8>, AllocError>
     ensures { IfOk result (λ piece. vec_len piece ≡ PIECE) }
 {
     vec![in alloc; 0u8; PIECE]
@@ -168,7 +168,8 @@ fn said<W: Write>(alloc: Global, verdict: &Verdict, output: &mut W) -> Result<u8
     }
 }
 
-fn status(verdict: &Verdict) -> u8
+/// The exit status of a verdict.
+pub(crate) fn status(verdict: &Verdict) -> u8
     ensures { result ≡ status_of verdict.now }
 {
     match verdict {

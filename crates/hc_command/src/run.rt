@@ -2,22 +2,25 @@
 ghost use Rattle.std.specs.Prelude.{◌≡◌, ◌∷◌, [], codes, map};
 ghost use Rattle.std.specs.Io.KnownBytes.{Keeps};
 ghost use Rattle.clap.specs.Words.{Text, fault_of, kind_of};
-ghost use Rattle.hc_history.specs.declared.settings.Settings.{Settings};
-ghost use Rattle.hc_command.specs.Audit.{Answers, Ends};
+ghost use Rattle.hc_command.specs.declared.arguments.Task.{Task};
+ghost use Rattle.hc_command.specs.Audit.{Answers};
 ghost use Rattle.hc_command.specs.Command.{Asks, IsErrorStatus, IsFileWord, hcache};
+ghost use Rattle.hc_command.specs.Replay.{Does, Ends, Played};
 
-use crate::arguments::{Order, not_text, parsed};
+use crate::arguments::{Order, Task, not_text, parsed};
 use crate::auditing::audit;
 use crate::print::printed;
+use crate::replaying::replay;
 use crate::trouble::Trouble;
 use clap::Error;
 use clap::error::ErrorKind;
+use hc_history::Settings;
 use std::convert::AsStr;
 use std::io::Write;
 use std::rt::{Env, Files};
 use std::{env, fs, io};
 
-const USAGE: &str = "\nUsage: hcache audit [OPTIONS] <FILE>\n";
+const USAGE: &str = "\nUsage: hcache audit [OPTIONS] <FILE>\n       hcache replay <FILE>\n";
 
 /// Does what the program's own arguments ask, and answers its exit status.
 pub fn status<R, W: Write, E: Write>(rt: &R, output: &mut W, faults: &mut E) -> u8
@@ -45,8 +48,8 @@ fn arguments<R: Env + AllocGlobal>(rt: &R) -> io::Result<Vec<String>> {
 
 /// Does what the words ask, of which the first is the program's name, and answers the exit status.
 ///
-/// A transcript is read from the system, a verdict, help or the version goes to `output`, and what
-/// went wrong goes to `faults`.
+/// A transcript or a script is read from the system. A verdict, the transcript of a script, help or the
+/// version goes to `output`, and what went wrong, or the verdict on the transcript of a script, to `faults`.
 pub fn answered<R, S: AsStr, W: Write, E: Write>(
     rt: &R,
     words: &[S],
@@ -61,28 +64,53 @@ where
         → Answers result (W.contents output.old) (W.contents output.new)
         (E.contents faults.old) (E.contents faults.new) }
 
-    // So are other words that ask for one, and have no fault.
-    ensures asked { (file : Text) (settings : Settings) → fault_of hcache (map S.text words.now) ≡ []
-        → Asks (map S.text words.now) file settings
-        → Answers result (W.contents output.old) (W.contents output.new)
+    // And `replay FILE` by a replay.
+    ensures replay { (name file : Text) → IsFileWord file
+        → map S.text words.now ≡ name ∷ codes "replay" ∷ file ∷ []
+        → Played result (W.contents output.old) (W.contents output.new)
+        (E.contents faults.old) (E.contents faults.new) }
+
+    // So are other words that ask for one of both, and have no fault.
+    ensures asked { (file : Text) (task : Task) → fault_of hcache (map S.text words.now) ≡ []
+        → Asks (map S.text words.now) file task
+        → Does task result (W.contents output.old) (W.contents output.new)
         (E.contents faults.old) (E.contents faults.new) }
     ensures ends { Ends result (W.contents output.old) (W.contents output.new)
         (E.contents faults.old) (E.contents faults.new) }
 {
     match parsed(rt.alloc(), words) {
-        Ok(order) => audited(rt, order, output, faults),
+        Ok(order) => done(rt, order, output, faults),
         Err(error) => shown(&error, output, faults),
     }
 }
 
+// Does what is asked with the file.
+fn done<R, W: Write, E: Write>(rt: &R, order: Order<'_>, output: &mut W, faults: &mut E) -> u8
+where
+    R: Files + Input + AllocGlobal,
+    ensures { Does order.entry.task result (W.contents output.old) (W.contents output.new)
+        (E.contents faults.old) (E.contents faults.new) }
+{
+    let Order { file, task } = order;
+    match task {
+        Task::Audit(settings) => audited(rt, file, settings, output, faults),
+        Task::Replay => replayed(rt, file, output, faults),
+    }
+}
+
 // Audits the file, or standard input for `-`.
-fn audited<R, W: Write, E: Write>(rt: &R, order: Order<'_>, output: &mut W, faults: &mut E) -> u8
+fn audited<R, W: Write, E: Write>(
+    rt: &R,
+    file: &str,
+    settings: Settings,
+    output: &mut W,
+    faults: &mut E,
+) -> u8
 where
     R: Files + Input + AllocGlobal,
     ensures { Answers result (W.contents output.old) (W.contents output.new)
         (E.contents faults.old) (E.contents faults.new) }
 {
-    let Order { file, settings } = order;
     if file == "-" {
         return audit(
             rt.alloc(),
@@ -95,6 +123,19 @@ where
     }
     match fs::open(rt, file) {
         Ok(mut opened) => audit(rt.alloc(), settings, file, &mut opened, output, faults),
+        Err(error) => Trouble::Input(error).told(file, faults),
+    }
+}
+
+// Replays the script of the file.
+fn replayed<R, W: Write, E: Write>(rt: &R, file: &str, output: &mut W, faults: &mut E) -> u8
+where
+    R: Files + AllocGlobal,
+    ensures { Played result (W.contents output.old) (W.contents output.new)
+        (E.contents faults.old) (E.contents faults.new) }
+{
+    match fs::open(rt, file) {
+        Ok(mut opened) => replay(rt.alloc(), file, &mut opened, output, faults),
         Err(error) => Trouble::Input(error).told(file, faults),
     }
 }

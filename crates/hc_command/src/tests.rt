@@ -1,6 +1,7 @@
 //! What no clause says: the text that is printed, readers and writers that fail, and how far a reader is read.
-use crate::arguments::parsed;
+use crate::arguments::{Task, parsed};
 use crate::auditing::audit;
+use crate::replaying::replay;
 use crate::run::answered;
 use hc_history::{FieldNames, Settings, UnmarkedReplies};
 use std::io;
@@ -241,13 +242,15 @@ fn answers(
 }
 
 const HELP: &str = "\
-Audits the transcripts of a cache: whether every reply in them is right
+Audits the transcripts of a cache, and plays scripts to a cache that records one
 
 Usage: hcache <COMMAND>
 
 Commands:
-  audit  Says whether every reply in a transcript is right, in one line
-  help   Print this message or the help of the given subcommand(s)
+  audit   Says whether every reply in a transcript is right, in one line
+  replay  Plays a script of events to a new cache: standard output gets the transcript that it records, \
+    and standard error the line of the verdict on that
+  help    Print this message or the help of the given subcommand(s)
 
 Options:
   -h, --help     Print help
@@ -277,6 +280,25 @@ Exit status:
   64  the command line is wrong: standard error says how
 ";
 
+const REPLAY_HELP: &str = "\
+Plays a script of events to a new cache: standard output gets the transcript that it records, \
+    and standard error the line of the verdict on that
+
+Usage: hcache replay <FILE>
+
+Arguments:
+  <FILE>  The script: the settings of the cache, and what happens to it
+
+Options:
+  -h, --help  Print help
+
+Exit status:
+  0   yes: the script was played, and every reply in the transcript is right
+  2   the script breaks, or no cache has its settings, by this fault
+  3   no transcript: standard error says `error: memory` or `error: device`
+  64  the command line is wrong: standard error says how
+";
+
 #[test]
 fn help_and_version_end_well(rt: HostRuntime) {
     for (words, output) in [
@@ -285,6 +307,7 @@ fn help_and_version_end_well(rt: HostRuntime) {
         (["hcache", "help"].as_slice(), HELP),
         (["hcache", "audit", "--help"].as_slice(), AUDIT_HELP),
         (["hcache", "help", "audit"].as_slice(), AUDIT_HELP),
+        (["hcache", "replay", "--help"].as_slice(), REPLAY_HELP),
         (["hcache", "--version"].as_slice(), "hcache 0.1.0\n"),
         (["hcache", "-V"].as_slice(), "hcache 0.1.0\n"),
     ] {
@@ -294,7 +317,7 @@ fn help_and_version_end_well(rt: HostRuntime) {
 
 const NO_COMMAND: &str = "\
 error: 'hcache' requires a subcommand but one was not provided
-  [subcommands: audit, help]
+  [subcommands: audit, replay, help]
 
 Usage: hcache <COMMAND>
 
@@ -314,6 +337,15 @@ error: the following required arguments were not provided:
   <FILE>
 
 Usage: hcache audit <FILE>
+
+For more information, try '--help'.
+";
+
+const NO_SCRIPT: &str = "\
+error: the following required arguments were not provided:
+  <FILE>
+
+Usage: hcache replay <FILE>
 
 For more information, try '--help'.
 ";
@@ -340,6 +372,7 @@ fn a_mistake_ends_with_its_own_status(rt: HostRuntime) {
         (["hcache"].as_slice(), NO_COMMAND),
         (["hcache", "watch"].as_slice(), UNKNOWN_COMMAND),
         (["hcache", "audit"].as_slice(), NO_FILE),
+        (["hcache", "replay"].as_slice(), NO_SCRIPT),
         (
             ["hcache", "audit", "--slack", "+5", "a"].as_slice(),
             BAD_SLACK,
@@ -403,9 +436,12 @@ fn is_ordered(
 ) {
     let order = parsed(rt.alloc(), words).expect(rt, "an order");
     assert_eq!(rt; order.file, "a", "{words:?}");
-    assert_eq!(rt; order.settings.slack, slack, "{words:?}");
-    assert!(rt; order.settings.ignored.contains(ignored), "{words:?}");
-    assert_eq!(rt; order.settings.unmarked, unmarked, "{words:?}");
+    let Task::Audit(settings) = order.task else {
+        panic!(rt; "a replay");
+    };
+    assert_eq!(rt; settings.slack, slack, "{words:?}");
+    assert!(rt; settings.ignored.contains(ignored), "{words:?}");
+    assert_eq!(rt; settings.unmarked, unmarked, "{words:?}");
 }
 
 // Options may stand on either side of FILE, and a value behind `=`.
@@ -455,4 +491,76 @@ no/such/file: No such file or directory (os error 2)
 fn a_file_that_is_not_there(rt: HostRuntime) {
     let words = ["hcache", "audit", "no/such/file"];
     answers(&rt, words.as_slice(), 3, "", NO_SUCH_FILE);
+    let words = ["hcache", "replay", "no/such/file"];
+    answers(&rt, words.as_slice(), 3, "", NO_SUCH_FILE);
+}
+
+// A client that asks nothing.
+const SCRIPT: &[u8] = b"HCS1\nsettings 1 1\nopen 1 1000\nend 1 1000\n";
+
+const NOTHING: &[u8] = b"HCT1\n";
+
+const NOTHING_LINE: &[u8] = b"yes records=0 replies=0 hits=0 forwarded=0 unmarked=0\n";
+
+// Replays what `input` gives, and wants this status and these octets on the two writers.
+fn plays<R: Read>(
+    rt: &(impl Abort + AllocGlobal),
+    input: &mut R,
+    status: u8,
+    output: &[u8],
+    faults: &[u8],
+) {
+    let mut written = Vec::new(rt.alloc());
+    let mut said = Vec::new(rt.alloc());
+    assert_eq!(rt;
+        replay(rt.alloc(), "a.hcs", input, &mut written, &mut said),
+        status
+    );
+    assert_eq!(rt; written.as_slice(), output);
+    assert_eq!(rt; said.as_slice(), faults);
+}
+
+#[test]
+fn a_script_is_replayed(rt: HostRuntime) {
+    for most in [1, 5, 64] {
+        let mut reader = in_pieces(SCRIPT, most, Some(2), ErrorKind::Interrupted);
+        plays(&rt, &mut reader, 0, NOTHING, NOTHING_LINE);
+    }
+    for (script, line) in [
+        (b"HCS2\n".as_slice(), b"script 1 Opening\n".as_slice()),
+        (
+            b"HCS1\nsettings 0 1\n".as_slice(),
+            b"script 5 Settings\n".as_slice(),
+        ),
+    ] {
+        let mut input = script;
+        plays(&rt, &mut input, 2, b"", line);
+    }
+}
+
+#[test]
+fn a_failed_device_stops_a_replay(rt: HostRuntime) {
+    for bad in [0, 1, 41] {
+        let mut reader = in_pieces(SCRIPT, 1, Some(bad), ErrorKind::Other);
+        plays(
+            &rt,
+            &mut reader,
+            3,
+            b"",
+            b"error: device\na.hcs: other error\n",
+        );
+    }
+    for takes_writes in [false, true] {
+        let mut input = SCRIPT;
+        let mut full = Full { takes_writes };
+        let mut said = Vec::new(rt.alloc());
+        assert_eq!(rt;
+            replay(rt.alloc(), "a.hcs", &mut input, &mut full, &mut said),
+            3
+        );
+        assert_eq!(rt;
+            said.as_slice(),
+            b"error: device\nstandard output: no storage space\n".as_slice()
+        );
+    }
 }

@@ -1,9 +1,9 @@
 //! What others than the program say of a transcript: judge, and an auditor whose index keeps lists.
 
 use crate::lines::line_of;
+use crate::words::settings_of;
 use hc_audit::{AuditFault, Auditor};
 use hc_cases::Unanswered;
-use hc_command::parsed;
 use hc_history::{Settings, Verdict};
 use hc_index::{Index, ListIndex};
 use hc_judge::judge;
@@ -22,11 +22,9 @@ pub struct Others {
 impl Others {
     /// The verdicts on the transcript that the pieces make, as the words ask.
     pub fn by(alloc: Global, words: &[&str], pieces: &[&[u8]]) -> Result<Self, Unanswered> {
-        let Ok(order) = parsed(alloc, words) else {
-            return Err(Unanswered::Unknown);
-        };
-        let judged = judged_line(alloc, &order.settings, pieces)?;
-        let listed = listed_line(alloc, order.settings, pieces)?;
+        let settings = settings_of(alloc, words)?;
+        let judged = judged_line(alloc, &settings, pieces)?;
+        let listed = listed_line(alloc, settings, pieces)?;
         Ok(Others { judged, listed })
     }
 

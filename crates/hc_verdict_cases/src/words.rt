@@ -1,7 +1,8 @@
 //! The words of command lines.
 
 use hc_cases::Unanswered;
-use hc_command::parsed;
+use hc_command::{Task, parsed};
+use hc_history::Settings;
 use std::alloc::{AllocError, Global};
 
 /// What the transcript is called, where the program has to name it.
@@ -28,6 +29,17 @@ pub fn words_of(alloc: Global, parts: &[Vec<u8>]) -> Result<Vec<&str>, Unanswere
     Ok(words)
 }
 
+/// What the words, which ask for an audit, let pass.
+pub fn settings_of(alloc: Global, words: &[&str]) -> Result<Settings, Unanswered> {
+    let Ok(order) = parsed(alloc, words) else {
+        return Err(Unanswered::Unknown);
+    };
+    match order.task {
+        Task::Audit(settings) => Ok(settings),
+        Task::Replay => Err(Unanswered::Unknown),
+    }
+}
+
 /// Writes whether a name is among those that the words, the parts, ignore.
 pub fn say_ignored(
     alloc: Global,
@@ -36,10 +48,8 @@ pub fn say_ignored(
     out: &mut String,
 ) -> Result<(), Unanswered> {
     let words = words_of(alloc, parts)?;
-    let Ok(order) = parsed(alloc, words.as_slice()) else {
-        return Err(Unanswered::Unknown);
-    };
-    let answer = if order.settings.ignored.contains(name) {
+    let settings = settings_of(alloc, words.as_slice())?;
+    let answer = if settings.ignored.contains(name) {
         "yes"
     } else {
         "no"

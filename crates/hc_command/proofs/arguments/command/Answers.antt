@@ -11,5 +11,7 @@ returns c =
     let named_is = ap app_of_fields c.in_ok-bin_name.ensures.0 ∙ c.new.ensures.app in
     let above_is = ap app_of_fields c.subcommand_required.ensures
     ∙ ap requiring (ap app_of_fields c.about.ensures ∙ ap app_of_fields c.version.ensures ∙ ap versioned named_is) in
-    IfOk-weaker c.subcommand.result _ _ (λ r adds. adds.shape c.in_ok-audit.ensures.local
-    ∙ ap₂ with_subcommand above_is (ap (λ (a : App). a.top) c.in_ok-audit.ensures.app)) c.subcommand.ensures
+    let with_audit = c.in_ok-subcommand.ensures.shape c.in_ok-audit.ensures.local
+    ∙ ap₂ with_subcommand above_is (ap (λ (a : App). a.top) c.in_ok-audit.ensures.app) in
+    IfOk-weaker c.subcommand-2.result _ _ (λ r adds. adds.shape c.in_ok-replay.ensures.local
+    ∙ ap₂ with_subcommand with_audit (ap (λ (a : App). a.top) c.in_ok-replay.ensures.app)) c.subcommand-2.ensures

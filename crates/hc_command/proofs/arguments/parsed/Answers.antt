@@ -1,7 +1,7 @@
 use Rattle.std.proofs.Common.{map}
 use Rattle.std.proofs.lemmas.Result.{err_from_is_err_and}
 use Rattle.clap.specs.Words.{subcommand_rows_of}
-use Rattle.hc_command.proofs.ArgumentLemmas.{asks_from, audit_at_err, audit_at_ok, given_from, outside_from, refused_from, taken_from}
+use Rattle.hc_command.proofs.ArgumentLemmas.{asks_from, audit_at_err, audit_at_ok, given_from, outside_from, refused_from, replay_at_err, replay_at_ok, taken_from}
 use Rattle.hc_command.proofs.arguments.parsed.Goals as goal
 
 pub returns-in_err-matches-clause-audit : goal.returns-in_err-matches-clause-audit
@@ -9,6 +9,13 @@ returns-in_err-matches-clause-audit g c = λ name file word same.
     let p = err_from_is_err_and c.from_residual-in_err-matches.result c.from_residual-in_err-matches.ensures.1 in
     let words = map g.S.AsStr.text c.args.words.now in
     rw (p.1, p.2) (audit_at_err name file words c.in_err-matches.field-0.0 word same
+    (refused_from c.in_ok-command.command words c.in_err-matches.field-0.0 c.in_ok-command.ensures c.in_err-matches.ensures.kinds))
+
+pub returns-in_err-matches-clause-replay : goal.returns-in_err-matches-clause-replay
+returns-in_err-matches-clause-replay g c = λ name file word same.
+    let p = err_from_is_err_and c.from_residual-in_err-matches.result c.from_residual-in_err-matches.ensures.1 in
+    let words = map g.S.AsStr.text c.args.words.now in
+    rw (p.1, p.2) (replay_at_err name file words c.in_err-matches.field-0.0 word same
     (refused_from c.in_ok-command.command words c.in_err-matches.field-0.0 c.in_ok-command.ensures c.in_err-matches.ensures.kinds))
 
 pub returns-in_err-matches-clause-refused : goal.returns-in_err-matches-clause-refused
@@ -22,8 +29,15 @@ pub returns-in-Ok-clause-audit : goal.returns-in-Ok-clause-audit
 returns-in-Ok-clause-audit g c = λ name file word same.
     let words = map g.S.AsStr.text c.args.words.now in
     let given = given_from c.in_ok-command.command words c.in_ok-matches.matches c.in_ok-command.ensures c.in_ok-matches.ensures.ok.2 in
-    audit_at_ok name file words c.in-Ok.order.file.now c.in-Ok.order.settings word same
-    (asks_from (subcommand_rows_of c.in_ok-matches.matches) words c.in-Ok.order.file.now c.in-Ok.order.settings given c.in-Ok.ensures.ok)
+    audit_at_ok name file words c.in-Ok.order.file.now c.in-Ok.order.task word same
+    (asks_from (subcommand_rows_of c.in_ok-matches.matches) words c.in-Ok.order.file.now c.in-Ok.order.task given c.in-Ok.ensures.ok)
+
+pub returns-in-Ok-clause-replay : goal.returns-in-Ok-clause-replay
+returns-in-Ok-clause-replay g c = λ name file word same.
+    let words = map g.S.AsStr.text c.args.words.now in
+    let given = given_from c.in_ok-command.command words c.in_ok-matches.matches c.in_ok-command.ensures c.in_ok-matches.ensures.ok.2 in
+    replay_at_ok name file words c.in-Ok.order.file.now c.in-Ok.order.task word same
+    (asks_from (subcommand_rows_of c.in_ok-matches.matches) words c.in-Ok.order.file.now c.in-Ok.order.task given c.in-Ok.ensures.ok)
 
 pub returns-in-Ok-clause-taken : goal.returns-in-Ok-clause-taken
 returns-in-Ok-clause-taken g c =
@@ -34,6 +48,13 @@ returns-clause-audit g c = λ name file word same.
     let words = map g.S.AsStr.text c.args.words.now in
     let given = given_from c.in_ok-command.command words c.in_ok-matches.matches c.in_ok-command.ensures c.in_ok-matches.ensures.ok.2 in
     audit_at_err name file words c.in_ok-error-in-Err.field-0 word same
+    (outside_from (subcommand_rows_of c.in_ok-matches.matches) words c.in-Err.refusal c.in_ok-error-in-Err.field-0 given c.in-Err.ensures.err c.in_ok-error-in-Err.ensures)
+
+pub returns-clause-replay : goal.returns-clause-replay
+returns-clause-replay g c = λ name file word same.
+    let words = map g.S.AsStr.text c.args.words.now in
+    let given = given_from c.in_ok-command.command words c.in_ok-matches.matches c.in_ok-command.ensures c.in_ok-matches.ensures.ok.2 in
+    replay_at_err name file words c.in_ok-error-in-Err.field-0 word same
     (outside_from (subcommand_rows_of c.in_ok-matches.matches) words c.in-Err.refusal c.in_ok-error-in-Err.field-0 given c.in-Err.ensures.err c.in_ok-error-in-Err.ensures)
 
 pub returns-clause-refused : goal.returns-clause-refused

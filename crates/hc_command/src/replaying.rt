@@ -1,0 +1,140 @@
+//! The replay of one script: from a reader to a transcript on a writer, a line on another, and an exit status.
+ghost use Rattle.std.specs.Prelude.{◌≡◌, ◌<◌, length, Some, IfOk, IfSome, OnOk};
+ghost use Rattle.std.specs.Io.KnownBytes.{Appends, Consumes, IsAtEnd, Keeps};
+ghost use Rattle.hc_command.specs.Audit.{SaysLine};
+ghost use Rattle.hc_command.specs.Replay.{ReplaysFor, refusal_status};
+
+use crate::auditing::{READS, buffer, status};
+use crate::line::verdict_line;
+use crate::print::printed;
+use crate::trouble::Trouble;
+use hc_drive::ScriptFault;
+use hc_history::Verdict;
+use std::alloc::Global;
+use std::io;
+use std::io::{ErrorKind, Read, Write};
+
+/// The exit status of a script that can't be played.
+const REFUSED: u8 = 2;
+
+/// Replays the script that `input` gives up to its end, and answers the exit status. `name` is what the
+/// input is called where it fails.
+///
+/// The transcript goes to `output`, and the line of the verdict on it to `faults`. Of a script that can't be
+/// played a line on `faults` tells, and the status is 2. Where there is no transcript, by a read or a write
+/// that fails or by memory, the status is 3, and one line on `faults` says why. A write of either of these to
+/// `faults` that fails is passed over.
+pub fn replay<R: Read, W: Write, E: Write>(
+    alloc: Global,
+    name: &str,
+    input: &mut R,
+    output: &mut W,
+    faults: &mut E,
+) -> u8
+    ensures { ReplaysFor (R.remaining input.old) result (W.contents output.old) (W.contents output.new)
+        (E.contents faults.old) (E.contents faults.new) }
+{
+    match script_of(alloc, input) {
+        Ok(script) => played(alloc, script.as_slice(), output, faults),
+        Err(trouble) => trouble.told(name, faults),
+    }
+}
+
+// What `input` gives up to its end.
+fn script_of<R: Read>(alloc: Global, input: &mut R) -> Result<Vec<u8>, Trouble>
+    ensures consumed { IfOk result (λ script. Consumes (R.remaining input.old) (R.remaining input.new) script.items) }
+    ensures end { OnOk result (IsAtEnd (R.remaining input.new)) }
+{
+    let mut piece = buffer(alloc)?;
+    read_all(alloc, input, piece.as_mut_slice())
+}
+
+// The same, read a piece at a time.
+fn read_all<R: Read>(alloc: Global, input: &mut R, piece: &mut [u8]) -> Result<Vec<u8>, Trouble>
+    requires { 0 < length piece.old }
+    ensures consumed { IfOk result (λ octets. Consumes (R.remaining input.old) (R.remaining input.new) octets.items) }
+    ensures end { OnOk result (IsAtEnd (R.remaining input.new)) }
+{
+    let mut octets = Vec::new(alloc);
+    'pieces: for _ in 0..READS {
+        match input.read(piece) {
+            Ok(0) => return Ok(octets),
+            Ok(count) => octets.extend_from_slice(&piece[..count])?,
+            Err(error) if error.kind() == ErrorKind::Interrupted => {}
+            Err(error) => return Err(Trouble::Input(error)),
+        }
+    }
+    Err(Trouble::Input(io::Error::other("too many reads")))
+}
+
+// Replays the script.
+fn played<W: Write, E: Write>(alloc: Global, script: &[u8], output: &mut W, faults: &mut E) -> u8
+    ensures { ReplaysFor (Some script.now) result (W.contents output.old) (W.contents output.new)
+        (E.contents faults.old) (E.contents faults.new) }
+{
+    match hc_drive::replay(alloc, script) {
+        Ok((transcript, verdict)) => {
+            match said(alloc, transcript.as_slice(), &verdict, output, faults) {
+                Ok(status) => status,
+                Err(trouble) => trouble.told("", faults),
+            }
+        }
+        Err(fault) => refused(fault, faults),
+    }
+}
+
+// Writes the transcript on `output` and the verdict's line on `faults`, and answers its status.
+fn said<W: Write, E: Write>(
+    alloc: Global,
+    transcript: &[u8],
+    verdict: &Verdict,
+    output: &mut W,
+    faults: &mut E,
+) -> Result<u8, Trouble>
+    ensures transcript { OnOk result (Appends (W.contents output.old) (W.contents output.new) transcript.now) }
+    ensures line { IfOk result (λ status. SaysLine verdict.now status (E.contents faults.old) (E.contents faults.new)) }
+{
+    let line = verdict_line(alloc, verdict)?;
+    match written(transcript, line.as_str(), output, faults) {
+        Ok(()) => Ok(status(verdict)),
+        Err(error) => Err(Trouble::Output(error)),
+    }
+}
+
+fn written<W: Write, E: Write>(
+    transcript: &[u8],
+    line: &str,
+    output: &mut W,
+    faults: &mut E,
+) -> io::Result<()>
+    ensures transcript { OnOk result (Appends (W.contents output.old) (W.contents output.new) transcript.now) }
+    ensures line { OnOk result (Appends (E.contents faults.old) (E.contents faults.new) line.now) }
+{
+    output.write_all(transcript)?;
+    output.flush()?;
+    printed(line, faults)
+}
+
+// Says why there is no transcript, and answers the exit status.
+fn refused<E: Write>(fault: ScriptFault, faults: &mut E) -> u8
+    ensures { result ≡ refusal_status fault }
+{
+    match fault {
+        ScriptFault::Memory => Trouble::Memory.told("", faults),
+        ScriptFault::Opening => blamed(fault, faults),
+        ScriptFault::Line => blamed(fault, faults),
+        ScriptFault::Torn => blamed(fault, faults),
+        ScriptFault::Settings => blamed(fault, faults),
+    }
+}
+
+// Says by which fault the script can't be played, and answers the exit status.
+fn blamed<E: Write>(fault: ScriptFault, faults: &mut E) -> u8
+    ensures { result ≡ 2 }
+{
+    let number = fault.number();
+    let name = fault.name();
+    let _ = writeln!(faults, "script {number} {name}");
+    let _ = faults.flush();
+    REFUSED
+}

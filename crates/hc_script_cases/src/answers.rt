@@ -1,0 +1,60 @@
+//! The questions of the cases.
+
+use crate::fronts::say_fronts;
+use crate::names::{say_run_faults, say_script_faults};
+use crate::played::Played;
+use crate::steps::say_steps;
+use hc_cases::{Ask, Unanswered};
+use std::alloc::Global;
+
+/// What is asked of scripts.
+pub struct Scripts;
+
+impl Ask for Scripts {
+    fn answer(
+        &self,
+        alloc: Global,
+        question: &str,
+        about: &[Vec<u8>],
+        out: &mut String,
+    ) -> Result<(), Unanswered> {
+        match question {
+            "run faults" => Ok(say_run_faults(out)?),
+            "script faults" => Ok(say_script_faults(out)?),
+            _ => answer_of(alloc, question, about, out),
+        }
+    }
+}
+
+// Answers a question of a script, the first part of the case.
+fn answer_of(
+    alloc: Global,
+    question: &str,
+    about: &[Vec<u8>],
+    out: &mut String,
+) -> Result<(), Unanswered> {
+    let (script, parts) = about.split_first().ok_or(Unanswered::Unknown)?;
+    let script = script.as_slice();
+    match question {
+        "replay" => say_replay(alloc, script, parts, out),
+        "steps" => say_steps(alloc, script, out),
+        "fronts" => say_fronts(alloc, script, out),
+        _ => Err(Unanswered::Unknown),
+    }
+}
+
+// Writes what comes of the script, whose wanted transcript is the only part, or of which none is wanted.
+fn say_replay(
+    alloc: Global,
+    script: &[u8],
+    parts: &[Vec<u8>],
+    out: &mut String,
+) -> Result<(), Unanswered> {
+    let played = Played::of(alloc, script)?;
+    let wanted = match parts.first() {
+        Some(wanted) => wanted.as_slice(),
+        None => b"",
+    };
+    played.say_of(wanted, out)?;
+    Ok(())
+}
