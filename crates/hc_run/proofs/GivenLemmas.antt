@@ -1,12 +1,9 @@
 -- The records that answers give out, and their texts.
-use Rattle.std.proofs.Common.{◌≡◌, ◌∙◌, ℕ, List, [], ◌∷◌, ◌++◌, Result, Ok, Err, ap, append_assoc, append-nil, refl, sym}
+use Rattle.std.proofs.Common.{◌≡◌, ◌∙◌, ℕ, List, [], ◌∷◌, ◌++◌, Ok, Err, ap, append_assoc, append-nil, refl, sym}
 use Rattle.std.proofs.lemmas.Grind.{flat_map-append}
 use Rattle.hc_transcript.specs.declared.record.Record.{Record}
 use Rattle.hc_transcript.specs.Records.{opening, record_text}
-use Rattle.hc_service.specs.declared.action.Action.{Action}
-use Rattle.hc_service.specs.declared.action.Action.TheVariants as action
 use Rattle.hc_service.specs.Runs.{StepResult, records_given, transcript_of}
-use Rattle.hc_service.specs.Sending.{records_of}
 use Rattle.hc_run.specs.Results.{records_in, texts_of}
 
 -- ---- texts

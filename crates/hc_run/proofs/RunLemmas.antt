@@ -1,5 +1,5 @@
 -- A run so far, and what it comes to.
-use Rattle.std.proofs.Common.{◌≡◌, ◌≢◌, ◌∙◌, ℕ, ◌+◌, ◌≤◌, Bool, true, false, not, List, [], ◌∷◌, ◌++◌, length, Option, Some, None, Result, Ok, Err, ap, arith, append_assoc, append-nil, length-append, refl, subst, sym}
+use Rattle.std.proofs.Common.{◌≡◌, ◌≢◌, ℕ, ◌+◌, ◌≤◌, Bool, true, false, not, List, [], ◌∷◌, ◌++◌, length, Option, Some, None, Ok, Err, ap, arith, length-append, refl, subst, sym}
 use Rattle.hc_transcript.specs.Limits.{greatest_number}
 use Rattle.hc_history.specs.declared.verdicts.Verdict.TheVariants.{Yes}
 use Rattle.hc_history.specs.Verdicts.{IsVerdict}
@@ -15,8 +15,8 @@ use Rattle.hc_service.proofs.BeginLemmas.{new_agrees}
 use Rattle.hc_service.proofs.RunLemmas.{runs_judged, steps_append}
 use Rattle.hc_core.specs.Steps.{Cache, GivesStep, StandsFor}
 use Rattle.hc_run.specs.Recordings.{TakesStep}
-use Rattle.hc_run.specs.Results.{is_refusal, records_in, texts_of}
-use Rattle.hc_run.specs.Runs.{IsRight, IsRunOf}
+use Rattle.hc_run.specs.Results.{is_refusal, records_in}
+use Rattle.hc_run.specs.Runs.{IsRunOf}
 use Rattle.hc_run.proofs.GivenLemmas.{given_more, longer_transcript}
 
 -- ---- a run so far

@@ -1,5 +1,5 @@
 -- What the steps of a run answer.
-use Rattle.std.specs.Prelude.{ℕ, Bool, true, false, List, [], ◌∷◌, ◌++◌, Result, Ok, Err}
+use Rattle.std.specs.Prelude.{ℕ, Bool, true, false, List, [], ◌∷◌, Ok, Err}
 use Rattle.std.specs.List.{flat_map}
 use Rattle.hc_transcript.specs.declared.record.Record.{Record}
 use Rattle.hc_transcript.specs.Records.{record_text}

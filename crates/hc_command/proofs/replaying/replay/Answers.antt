@@ -1,5 +1,3 @@
-use Rattle.std.proofs.Common.{Some, subst, ℕ, List}
-use Rattle.hc_command.specs.Replay.{ReplaysFor}
 use Rattle.hc_command.proofs.ReplayLemmas.{replays_input}
 use Rattle.hc_command.proofs.replaying.replay.Goals as goal
 

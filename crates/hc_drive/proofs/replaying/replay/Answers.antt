@@ -1,7 +1,4 @@
-use Rattle.std.proofs.Common.{◌≡◌, ◌∙◌, ap, rules, inl, false, subst, sym}
-use Rattle.hc_history.specs.Verdicts.{IsVerdict}
-use Rattle.hc_service.specs.Runs.{strict}
-use Rattle.hc_drive.specs.Replays.{settings_of}
+use Rattle.std.proofs.Common.{◌∙◌, sym}
 use Rattle.hc_drive.proofs.ReplayLemmas.{broken, replayed}
 use Rattle.hc_drive.proofs.replaying.replay.Goals as goal
 

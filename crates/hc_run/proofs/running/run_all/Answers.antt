@@ -1,4 +1,4 @@
-use Rattle.std.proofs.Common.{◌≡◌, ◌∙◌, ◌++◌, ◌∷◌, List, [], ap, append_assoc, append-nil, rules, subst, sym, true, false}
+use Rattle.std.proofs.Common.{◌≡◌, ◌∙◌, ◌++◌, ◌∷◌, List, [], ap, append_assoc, append-nil, rules, subst, sym, true}
 use Rattle.hc_events.specs.declared.Event.{Event}
 use Rattle.hc_run.specs.Runs.{IsRunOf}
 use Rattle.hc_run.proofs.RunLemmas.{begins, ended, leads_to_runs, none_left, went_on, was_cut_off}
