@@ -37,8 +37,9 @@ audit_line targets body rate =
     ++ (codes " octets=" ++ (decimal rate.octets ++ (codes " records_per_second=" ++ (decimal (count_per_second rate)
     ++ (codes " octets_per_second=" ++ (decimal (octets_per_second rate) ++ 10 ∷ [])))))))
 
--- how fast calls of both kinds were, of a store of so many keys
-abbrev pub store_line : ℕ → Rate → Rate → List ℕ
-store_line keys choose put =
-    codes "store keys=" ++ (decimal keys ++ (codes " choose_per_second=" ++ (decimal (count_per_second choose)
-    ++ (codes " put_per_second=" ++ (decimal (count_per_second put) ++ 10 ∷ [])))))
+-- how fast as many calls of both kinds were, of a store of so many keys of which so many were used in turn
+abbrev pub store_line : ℕ → ℕ → Rate → Rate → List ℕ
+store_line keys used choose put =
+    codes "store keys=" ++ (decimal keys ++ (codes " used=" ++ (decimal used ++ (codes " calls=" ++ (decimal choose.count
+    ++ (codes " choose_per_second=" ++ (decimal (count_per_second choose)
+    ++ (codes " put_per_second=" ++ (decimal (count_per_second put) ++ 10 ∷ [])))))))))

@@ -77,18 +77,21 @@ pub fn audit_line(
     )
 }
 
-/// How fast calls of `choose` and of `put` were, of a store of so many keys.
+/// How fast as many calls of `choose` and of `put` were, of a store of so many keys of which so many were
+/// used in turn.
 pub fn store_line(
     alloc: Global,
     keys: usize,
+    used: usize,
     choose: &Rate,
     put: &Rate,
 ) -> Result<String, AllocError>
-    ensures { IfOk result (λ line. string_bytes line ≡ store_line keys choose.now put.now) }
+    ensures { IfOk result (λ line. string_bytes line ≡ store_line keys used choose.now put.now) }
 {
+    let calls = choose.count;
     let choose_speed = choose.count_per_second();
     let put_speed = put.count_per_second();
     format!(in alloc;
-        "store keys={keys} choose_per_second={choose_speed} put_per_second={put_speed}\n"
+        "store keys={keys} used={used} calls={calls} choose_per_second={choose_speed} put_per_second={put_speed}\n"
     )
 }

@@ -22,33 +22,46 @@ const ROUNDS: u32 = 9;
 /// How many keys the stores have.
 const SIZES: [usize; 3] = [10, 1_000, 65_536];
 
-/// How many calls are timed together.
+/// How many calls for all keys in turn are timed together.
 const CALLS: usize = 65_536;
 
-/// Asks stores for responses and puts others in their place, and says how fast that was.
+/// How many keys are in use where not all are.
+const IN_USE: usize = 10;
+
+/// How many calls for the keys in use are timed together: few, so that also the responses that are put lie
+/// in the processor's caches.
+const FEW_CALLS: usize = 256;
+
+/// Asks stores for responses and puts others in their place, for few of their keys in turn and for all, and
+/// says how fast that was.
 pub fn store<C: Clock, W: Write>(alloc: Global, clock: &C, output: &mut W) -> Result<(), Trouble> {
     for keys in SIZES {
-        store_sized(alloc, clock, keys, CALLS, output)?;
+        store_sized(alloc, clock, keys, IN_USE, FEW_CALLS, output)?;
+        store_sized(alloc, clock, keys, keys, CALLS, output)?;
     }
     Ok(())
 }
 
-/// Fills a store of so many keys, and says how fast so many calls of each kind were.
+/// Fills a store of so many keys, and says how fast so many calls of each kind were, for the first so many
+/// of its keys in turn.
 pub fn store_sized<C: Clock, W: Write>(
     alloc: Global,
     clock: &C,
     keys: usize,
+    used: usize,
     calls: usize,
     output: &mut W,
 ) -> Result<(), Trouble>
     requires some { 0 < keys }
     requires few { keys ≤ 65536 }
+    requires some_used { 0 < used }
     requires few_calls { calls ≤ 65536 }
 {
     let mut store = filled(alloc, keys)?;
-    let choose = fastest_choose(alloc, clock, &mut store, keys, calls)?;
-    let put = fastest_put(alloc, clock, &mut store, keys, calls)?;
-    printed(store_line(alloc, keys, &choose, &put)?.as_str(), output)?;
+    let choose = fastest_choose(alloc, clock, &mut store, used, calls)?;
+    let put = fastest_put(alloc, clock, &mut store, used, calls)?;
+    let line = store_line(alloc, keys, used, &choose, &put)?;
+    printed(line.as_str(), output)?;
     Ok(())
 }
 

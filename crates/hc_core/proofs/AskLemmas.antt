@@ -1,5 +1,5 @@
 -- A whole request: what it gets at once, and what that makes of each part.
-use Rattle.std.proofs.Common.{append_assoc, ◌≡◌, ℕ, Bool, false, ◌||◌, cond, List, ◌++◌, drop, Some, None, refl, ap, ◌∙◌, subst}
+use Rattle.std.proofs.Common.{append_assoc, ◌≡◌, ℕ, Bool, false, ◌||◌, cond, List, ◌++◌, drop, Some, None, refl, sym, ap, ◌∙◌, subst}
 use Rattle.std.specs.BTreeMap.{BTreeMap}
 use Rattle.std.specs.FinMap.{get, insert, remove}
 use Rattle.hc_head.specs.declared.head.RequestHead.{RequestHead}
@@ -11,6 +11,7 @@ use Rattle.hc_store.specs.Entries.{Holdings}
 use Rattle.hc_service.specs.declared.action.Action.{Action}
 use Rattle.hc_service.specs.declared.cases.Cause.{Cause}
 use Rattle.hc_service.specs.declared.numbers.Numbers.{Numbers}
+use Rattle.hc_service.specs.declared.open.OpenExchange.{OpenExchange}
 use Rattle.hc_service.specs.declared.open.Purpose.TheVariants as purpose
 use Rattle.hc_service.specs.declared.settings.CoreSettings.{CoreSettings}
 use Rattle.hc_service.specs.Asking.{ends_connection}
@@ -26,8 +27,9 @@ use Rattle.hc_reactions.specs.declared.reacting.Reaction.{Reaction as GivenReact
 use Rattle.hc_reactions.specs.Reacting.{owed_reaction}
 use Rattle.hc_core.specs.declared.desk.Desk.{Desk}
 use Rattle.hc_core.specs.declared.links.Client.{Client}
+use Rattle.hc_core.specs.declared.links.Link.{Link}
 use Rattle.hc_core.specs.Links.{AreClients, AreExchanges, AreLinks}
-use Rattle.hc_core.specs.Reading.{GivesForward, IsAsked}
+use Rattle.hc_core.specs.Reading.{GivesForward, GivesReplyAtOnce, IsAsked}
 use Rattle.hc_core.specs.Standing.{GivesTurn, Stands, without_connection}
 use Rattle.hc_core.proofs.TableLemmas.{put_back}
 
@@ -86,15 +88,13 @@ module _ (S H : Type 0) (settings : CoreSettings) (d : Desk S H) (s : State) (c 
         are ∙ ap (λ (l : List Action). l ++ more) asked_now ∙ append_assoc before _ more
         ∙ ap (λ (l : List Action). before ++ (ask_actions (one_more s.numbers.exchange) s.numbers.moment request ++ l)) same
 
-  pub asks_reply : (closes : Bool) (exchange : ℕ) (n m : Numbers) (before mid after : List Action) (reply : Message ResponseHead) (store : Holdings) (clients : BTreeMap ℕ Client) (to_head : Bool)
+  pub asks_reply : (closes : Bool) (exchange : ℕ) (n : Numbers) (before mid after : List Action) (reply : Message ResponseHead) (store : Holdings) (new : Desk S H)
       → Stands {S = S} {H = H} settings d (without_connection c s) → get s.connections c ≡ Some k → IsAsked client k request target size
       → HasReaction closes exchange n before mid (Replies reply None) store
-      → m ≡ noted n
-      → AreClients clients (cond closes (remove s.connections c) (insert (remove s.connections c) c (after_reply (drop size k.unread) k)))
-      → to_head ≡ is_head request.head.method → after ≡ mid ++ reply_actions exchange n.moment to_head c closes reply
-      → GivesTurn {S = S} {H = H} settings (Asking c) s before after
-      (record { alloc = d.alloc; name = d.name; numbers = m; clients = clients; exchanges = d.exchanges; links = d.links; store = store })
-  asks_reply closes exchange n m before mid after reply store clients to_head stands there is has noted-are are head-is actions =
+      → GivesReplyAtOnce {S = S} {H = H} exchange (record { connection = c; request = request.head; target = target }) client closes reply mid after
+      (record { alloc = d.alloc; name = d.name; numbers = n; clients = d.clients; exchanges = d.exchanges; links = d.links; store = store }) new
+      → GivesTurn {S = S} {H = H} settings (Asking c) s before after new
+  asks_reply closes exchange n before mid after reply store new stands there is has gives =
       let e = exchange_now closes exchange n before mid (Replies reply None) store stands there is has in
       let t = moment_now closes exchange n before mid (Replies reply None) store stands there is has in
       let b = closes_now closes exchange n before mid (Replies reply None) store stands there is has in
@@ -109,18 +109,19 @@ module _ (S H : Type 0) (settings : CoreSettings) (d : Desk S H) (s : State) (c 
           store = store;
         };
         stands = record {
-          name = stands.name;
-          numbers = noted-are ∙ ap noted (numbers_now closes exchange n before mid (Replies reply None) store stands there is has);
-          clients = subst (AreClients clients) (λ i. cond (b i) (remove s.connections c) (put_back s.connections c (after_reply behind k) i)) are;
-          exchanges = stands.exchanges;
-          links = stands.links;
-          store = refl;
+          name = gives.name ∙ stands.name;
+          numbers = gives.numbers ∙ ap noted (numbers_now closes exchange n before mid (Replies reply None) store stands there is has);
+          clients = subst (AreClients new.clients) (λ i. cond (b i) (remove s.connections c) (put_back s.connections c (after_reply behind k) i))
+              (gives.clients (remove s.connections c) (after_reply behind k) stands.clients (record { reads = is.behind.agrees; exchange = refl; leaves = is.leaves }));
+          exchanges = subst (λ (m : BTreeMap ℕ OpenExchange). AreExchanges m s.exchanges) (sym gives.exchanges) stands.exchanges;
+          links = subst (λ (m : BTreeMap ℕ Link). AreLinks m s.forwards) (sym gives.links) stands.links;
+          store = gives.store;
           in_time = stands.in_time;
         };
         takes = (
           ask_actions (one_more s.numbers.exchange) s.numbers.moment request ++ answer,
-          behind_asked closes exchange n before mid (Replies reply None) store stands there is has after (reply_actions exchange n.moment to_head c closes reply) answer actions
-              (λ i. reply_actions (e i) (t i) (head-is i) c (b i) reply),
+          behind_asked closes exchange n before mid (Replies reply None) store stands there is has after (reply_actions exchange n.moment (is_head request.head.method) c closes reply) answer gives.actions
+              (λ i. reply_actions (e i) (t i) (is_head request.head.method) c (b i) reply),
           record {
             connection = k;
             is_open = there;

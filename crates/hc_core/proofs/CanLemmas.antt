@@ -1,5 +1,5 @@
 -- What a cache that keeps what some state has can do.
-use Rattle.std.proofs.Common.{◌≡◌, ◌<◌, ◌⊎◌, ℕ, Bool, List, Option, Some, refl, sym, ap, subst, inl, inr}
+use Rattle.std.proofs.Common.{◌≡◌, ◌<◌, ℕ, Bool, List, Option, Some, sym, subst, inl}
 use Rattle.std.specs.BTreeMap.{get as kept_at}
 use Rattle.std.specs.Ordering.{nat_cmp}
 use Rattle.hc_fields.specs.Numbers.{end_of_moments}
@@ -18,7 +18,7 @@ use Rattle.hc_core.specs.declared.desk.Desk.{Desk}
 use Rattle.hc_core.specs.declared.links.Client.{Client}
 use Rattle.hc_core.specs.declared.links.Link.{Link}
 use Rattle.hc_core.specs.Links.{IsClient, IsLink}
-use Rattle.hc_core.specs.Standing.{CanServe, GivesEnding, GivesReading, GivesTelling, GivesTurn, Stands}
+use Rattle.hc_core.specs.Standing.{CanServe, GivesEnding, GivesReading, GivesTelling, GivesTurn}
 use Rattle.hc_core.proofs.TableLemmas.{found}
 
 -- a reader that agrees with some octets can read on

@@ -1,7 +1,7 @@
 -- A forward ends: what that makes of each part.
-use Rattle.std.proofs.Common.{append_assoc, ◌≡◌, ℕ, Bool, true, false, ◌||◌, cond, List, ◌++◌, Option, Some, None, refl, sym, ap, ◌∙◌, subst}
+use Rattle.std.proofs.Common.{append_assoc, ◌≡◌, ℕ, Bool, ◌||◌, cond, List, ◌++◌, Option, Some, None, refl, sym, ap, ◌∙◌, subst}
 use Rattle.std.specs.BTreeMap.{BTreeMap}
-use Rattle.std.specs.FinMap.{get, insert, remove}
+use Rattle.std.specs.FinMap.{get, remove}
 use Rattle.std.specs.Option.{IsSome, option_map, option_and_then}
 use Rattle.hc_head.specs.declared.head.ResponseHead.{ResponseHead}
 use Rattle.hc_head.specs.Methods.{is_head}
@@ -22,8 +22,7 @@ use Rattle.hc_service.specs.Numbers.{noted, one_more}
 use Rattle.hc_service.specs.Replying.{Wanted}
 use Rattle.hc_service.specs.Sending.{failure_actions, reply_actions, response_actions}
 use Rattle.hc_service.specs.Serves.{Turn, Takes, client_by, client_of}
-use Rattle.hc_service.specs.Serves.Turn.{Answering, Failing}
-use Rattle.hc_service.specs.State.{State, Connection, Awaited}
+use Rattle.hc_service.specs.State.{State, Awaited}
 use Rattle.hc_service.specs.Turns.{Answers, Breaks, EndsBehind, EndsByFailure, EndsByResponse, EndsFor, Failure, HasFailure, IsAnswer, after_reply, closes_behind, is_closed, replied, wanted_now}
 use Rattle.hc_core.specs.declared.answering.Waiting.{Waiting}
 use Rattle.hc_core.specs.declared.desk.Desk.{Desk}
@@ -31,7 +30,8 @@ use Rattle.hc_core.specs.declared.links.Client.{Client}
 use Rattle.hc_core.specs.declared.links.Link.{Link}
 use Rattle.hc_core.specs.Ending.{GivesReply, IsMissing, IsTaken, is_last, wanted_of}
 use Rattle.hc_core.specs.Links.{AreClients, AreExchanges, AreLinks}
-use Rattle.hc_core.specs.Standing.{GivesEnding, HasExchange, IsReady, Stands, without_forward}
+use Rattle.hc_service.specs.Agreement.{HasExchange, IsReady}
+use Rattle.hc_core.specs.Standing.{GivesEnding, Stands, without_forward}
 use Rattle.hc_core.proofs.TableLemmas.{put_back}
 
 -- what is there is something

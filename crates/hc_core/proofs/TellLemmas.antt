@@ -1,5 +1,5 @@
 -- Octets come from the origin: what that gives with what they make of the forward.
-use Rattle.std.proofs.Common.{append-nil, ◌≡◌, ◌⊎◌, ℕ, Bool, true, false, cond, List, [], ◌∷◌, ◌++◌, Option, Some, None, refl, sym, ap, ◌∙◌, subst, inl, inr}
+use Rattle.std.proofs.Common.{append-nil, ◌≡◌, ℕ, Bool, true, false, cond, List, [], ◌∷◌, ◌++◌, Option, Some, None, Result, Ok, Err, IfOk, refl, sym, ap, ◌∙◌, subst, inl, inr}
 use Rattle.std.specs.BTreeMap.{BTreeMap}
 use Rattle.std.specs.Cmp.{nat_cmp_total}
 use Rattle.std.specs.FinMap.{get, insert, remove, get-insert}
@@ -9,7 +9,7 @@ use Rattle.hc_head.specs.Methods.{is_head}
 use Rattle.hc_links.specs.Responses.{IsUnfinished}
 use Rattle.hc_service.specs.declared.action.Action.{Action}
 use Rattle.hc_service.specs.declared.settings.CoreSettings.{CoreSettings}
-use Rattle.hc_service.specs.Serves.{AwaitsStill, Run, Turn, client_by, client_of}
+use Rattle.hc_service.specs.Serves.{Run, Turn, client_by, client_of}
 use Rattle.hc_service.specs.Serves.Turn.{Telling, Answering, Failing}
 use Rattle.hc_service.specs.State.{State, Awaited}
 use Rattle.hc_service.specs.Turns.{Tells, after_hearing}
@@ -17,7 +17,8 @@ use Rattle.hc_service.specs.Turns.Failure.{IsBroken}
 use Rattle.hc_core.specs.declared.desk.Desk.{Desk}
 use Rattle.hc_core.specs.declared.links.Link.{Link}
 use Rattle.hc_core.specs.Links.{AreLinks}
-use Rattle.hc_core.specs.Standing.{Adds, DoesTelling, GivesEnding, GivesTelling, HasExchange, IsReady, Stands, without_forward}
+use Rattle.hc_service.specs.Agreement.{HasExchange, IsReady}
+use Rattle.hc_core.specs.Standing.{GivesEnding, GivesTelling, Stands, without_forward}
 use Rattle.hc_core.proofs.TableLemmas.{get_put, put_back, remove_put}
 
 one_is : {X : Type 0} (a b : X) → Some a ≡ Some b → a ≡ b
@@ -142,3 +143,16 @@ module _ (S H : Type 0) (settings : CoreSettings) (d : Desk S H) (s : State) (f 
           inr (inr (told_then (Failing f IsBroken) t.0.0 gives.state (gives.state, t.0.0, [], t.0.2, sym (append-nil t.0.0), (refl, refl)), t.1 ∙ same_client)),
         );
   }
+
+  -- the same, unless memory runs out
+  pub tells_answers : {E : Type 0} (r : Result (Option ℕ) E) (a z : List Action) (e : Desk S H)
+      → IfOk r (λ client. GivesEnding {S = S} {H = H} settings (Answering f false) f client told_state a z e)
+      → IfOk r (λ client. GivesTelling {S = S} {H = H} settings f octets client s a z e)
+  tells_answers (Ok client) a z e gives = tells_answer client a z e gives
+  tells_answers (Err fault) a z e gives = tt
+
+  pub tells_failures : {E : Type 0} (r : Result (Option ℕ) E) (a z : List Action) (e : Desk S H)
+      → IfOk r (λ client. GivesEnding {S = S} {H = H} settings (Failing f IsBroken) f client told_state a z e)
+      → IfOk r (λ client. GivesTelling {S = S} {H = H} settings f octets client s a z e)
+  tells_failures (Ok client) a z e gives = tells_failure client a z e gives
+  tells_failures (Err fault) a z e gives = tt

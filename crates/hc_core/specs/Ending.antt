@@ -2,7 +2,6 @@
 use Rattle.std.specs.Prelude.{◌≡◌, ℕ, Bool, ◌||◌, List, ◌++◌, Option, Some, None, if◌then◌else◌}
 use Rattle.std.specs.BTreeMap.{BTreeMap}
 use Rattle.std.specs.FinMap.{get, insert, remove}
-use Rattle.hc_head.specs.declared.head.RequestHead.{RequestHead}
 use Rattle.hc_head.specs.declared.head.ResponseHead.{ResponseHead}
 use Rattle.hc_head.specs.Methods.{is_head}
 use Rattle.hc_framing.specs.declared.message.Message.{Message}
@@ -14,6 +13,7 @@ use Rattle.hc_service.specs.Numbers.{noted}
 use Rattle.hc_service.specs.Replying.{Wanted}
 use Rattle.hc_service.specs.Sending.{reply_actions}
 use Rattle.hc_service.specs.State.{Table, Connection}
+use Rattle.hc_reactions.specs.declared.sending.Addressee.{Addressee}
 use Rattle.hc_core.specs.declared.desk.Desk.{Desk}
 use Rattle.hc_core.specs.declared.links.Client.{Client}
 use Rattle.hc_core.specs.declared.answering.Waiting.{Waiting}
@@ -47,6 +47,11 @@ TakesWaiting number None waiting connections exchanges clients = IsMissing numbe
 abbrev pub is_last : Waiting → Bool
 is_last w = ends_connection w.exchange.request || w.client.leaves
 
+-- to whom its reply goes
+abbrev pub addressee_of : Waiting → Bool → Addressee
+addressee_of w closes =
+    record { exchange = w.number; to_head = is_head w.exchange.request.method; connection = w.exchange.connection; closes = closes }
+
 -- the reply that it wants of a cache
 abbrev pub wanted_of : {S H : Type 0} → Desk S H → Waiting → Wanted
 wanted_of desk w = record { name = desk.name; moment = desk.numbers.moment; asked = w.exchange.request; closes = is_last w }
@@ -62,3 +67,14 @@ pub record GivesReply {S H : Type 0} (w : Waiting) (decides : Message ResponseHe
   pub exchanges : new.exchanges ≡ old.exchanges
   pub links : new.links ≡ old.links
   pub actions : after ≡ before ++ reply_actions w.number old.numbers.moment (is_head w.exchange.request.method) w.exchange.connection (is_last w) reply
+
+-- the reply goes out, behind which its connection goes on unless it closes, and nothing else changes
+pub record SendsReply {S H : Type 0} (w : Waiting) (closes : Bool) (reply : Message ResponseHead) (before after : List Action) (old new : Desk S H) : Type 0 where
+  pub name : new.name ≡ old.name
+  pub numbers : new.numbers ≡ noted old.numbers
+  pub clients : (connections : Table Connection) (k : Connection) → AreClients old.clients connections → IsIdle w.client k
+      → AreClients new.clients (if closes then connections else insert connections w.exchange.connection k)
+  pub exchanges : new.exchanges ≡ old.exchanges
+  pub links : new.links ≡ old.links
+  pub store : new.store ≡ old.store
+  pub actions : after ≡ before ++ reply_actions w.number old.numbers.moment (is_head w.exchange.request.method) w.exchange.connection closes reply

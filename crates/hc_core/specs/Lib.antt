@@ -4,5 +4,6 @@ pub mod Links
 pub mod Reading
 pub mod Ending
 pub mod Standing
+pub mod Happenings
 pub mod Steps
 pub mod Settings

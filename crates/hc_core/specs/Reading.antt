@@ -1,10 +1,12 @@
 -- A whole request that was read of a connection.
-use Rattle.std.specs.Prelude.{◌≡◌, ℕ, false, List, ◌++◌, length, drop, Option, Some, None}
+use Rattle.std.specs.Prelude.{◌≡◌, ℕ, Bool, false, List, ◌++◌, length, drop, Option, Some, None, if◌then◌else◌}
 use Rattle.std.specs.BTreeMap.{BTreeMap, get as kept_at}
 use Rattle.std.specs.FinMap.{insert}
 use Rattle.std.specs.Ordering.{nat_cmp}
 use Rattle.hc_head.specs.declared.head.RequestHead.{RequestHead}
+use Rattle.hc_head.specs.declared.head.ResponseHead.{ResponseHead}
 use Rattle.hc_head.specs.declared.head.Target.{Target}
+use Rattle.hc_head.specs.Methods.{is_head}
 use Rattle.hc_framing.specs.declared.message.Message.{Message}
 use Rattle.hc_links.specs.Requests.{IsRequest}
 use Rattle.hc_links.specs.RequestReading.{HasUnread, waiting}
@@ -12,13 +14,13 @@ use Rattle.hc_service.specs.declared.action.Action.{Action}
 use Rattle.hc_service.specs.declared.cases.Cause.{Cause}
 use Rattle.hc_service.specs.declared.open.OpenExchange.{OpenExchange}
 use Rattle.hc_service.specs.declared.open.Purpose.TheVariants as purpose
-use Rattle.hc_service.specs.Numbers.{one_more, sent}
-use Rattle.hc_service.specs.Sending.{send_actions}
+use Rattle.hc_service.specs.Numbers.{noted, one_more, sent}
+use Rattle.hc_service.specs.Sending.{reply_actions, send_actions}
 use Rattle.hc_service.specs.State.{Table, Connection, Awaited}
 use Rattle.hc_service.specs.Turns.{sent_forward}
 use Rattle.hc_core.specs.declared.desk.Desk.{Desk}
 use Rattle.hc_core.specs.declared.links.Client.{Client}
-use Rattle.hc_core.specs.Links.{AreClients, AreExchanges, AreLinks, WillWait}
+use Rattle.hc_core.specs.Links.{AreClients, AreExchanges, AreLinks, IsIdle, WillWait}
 
 -- the request begins what was unread of the connection, on which none waits for its reply, and the reader has all behind it still to read
 pub record IsAsked (client : Client) (k : Connection) (request : Message RequestHead) (target : Target) (size : ℕ) : Type 0 where
@@ -26,6 +28,17 @@ pub record IsAsked (client : Client) (k : Connection) (request : Message Request
   pub arrives : IsRequest k.unread request target size
   pub behind : HasUnread client.reader (drop size k.unread)
   pub leaves : client.leaves ≡ k.leaves
+
+-- the request gets its reply, and its connection goes on, unless it closes
+pub record GivesReplyAtOnce {S H : Type 0} (number : ℕ) (exchange : OpenExchange) (client : Client) (closes : Bool) (reply : Message ResponseHead) (before after : List Action) (old new : Desk S H) : Type 0 where
+  pub name : new.name ≡ old.name
+  pub numbers : new.numbers ≡ noted old.numbers
+  pub clients : (connections : Table Connection) (k : Connection) → AreClients old.clients connections → IsIdle client k
+      → AreClients new.clients (if closes then connections else insert connections exchange.connection k)
+  pub exchanges : new.exchanges ≡ old.exchanges
+  pub links : new.links ≡ old.links
+  pub store : new.store ≡ old.store
+  pub actions : after ≡ before ++ reply_actions number old.numbers.moment (is_head exchange.request.method) exchange.connection closes reply
 
 -- the request goes to the origin, and waits for its reply on its connection
 pub record GivesForward {S H : Type 0} (number : ℕ) (exchange : OpenExchange) (client : Client) (forward : Message RequestHead) (why : Cause) (before after : List Action) (old new : Desk S H) : Type 0 where

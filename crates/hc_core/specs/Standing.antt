@@ -1,18 +1,16 @@
 -- What a cache keeps, and the state that contracts see.
-use Rattle.std.specs.Prelude.{◌≡◌, ◌<◌, ◌⊎◌, ℕ, Bool, true, false, List, [], ◌∷◌, ◌++◌, Option, Some, None}
+use Rattle.std.specs.Prelude.{◌≡◌, ◌<◌, ◌⊎◌, ℕ, Bool, false, List, [], ◌∷◌, ◌++◌, Option, None}
 use Rattle.std.specs.BTreeMap.{BTreeMap}
-use Rattle.std.specs.FinMap.{get, remove}
+use Rattle.std.specs.FinMap.{remove}
 use Rattle.std.specs.List.{AllByRecursion}
-use Rattle.std.specs.Option.{IsSome}
 use Rattle.hc_fields.specs.Numbers.{end_of_moments}
 use Rattle.hc_store.specs.Entries.{Holdings}
 use Rattle.hc_service.specs.declared.action.Action.{Action}
 use Rattle.hc_service.specs.declared.numbers.Numbers.{Numbers}
 use Rattle.hc_service.specs.declared.open.OpenExchange.{OpenExchange}
-use Rattle.hc_service.specs.declared.open.Purpose.{Purpose}
-use Rattle.hc_service.specs.declared.open.Purpose.TheVariants as purpose
 use Rattle.hc_service.specs.declared.settings.CoreSettings.{CoreSettings}
-use Rattle.hc_service.specs.State.{State, Table, Connection, Awaited}
+use Rattle.hc_service.specs.Agreement.{IsReady}
+use Rattle.hc_service.specs.State.{State, Connection}
 use Rattle.hc_events.specs.declared.Event.{Event}
 use Rattle.hc_service.specs.Serves.{Turn, Takes, Run, Reads, Serves, IsQuietAt, AwaitsStill, OwesEnd, ReadsOn, client_of}
 use Rattle.hc_service.specs.Serves.Turn.{Telling, Answering, Failing}
@@ -81,18 +79,6 @@ without_forward f s = record {
   forwards = remove s.forwards f;
   store = s.store;
 }
-
--- ---- states in which each forward can end
-
--- the exchange for which a forward is open is open
-abbrev pub HasExchange : Table OpenExchange → Purpose → Type 0
-HasExchange exchanges purpose.Background = Unit {0}
-HasExchange exchanges (purpose.Reply e cause conditional) = IsSome (get exchanges e)
-
--- each forward that a request waits for has its exchange, and that its connection
-pub record IsReady (s : State) : Type 0 where
-  pub exchanges : (f : ℕ) (a : Awaited) → get s.forwards f ≡ Some a → HasExchange s.exchanges a.forward.purpose
-  pub connections : (e : ℕ) (x : OpenExchange) → get s.exchanges e ≡ Some x → IsSome (get s.connections x.connection)
 
 -- ---- turns
 

@@ -1,9 +1,12 @@
 -- A cache, as contracts see it, and what a step gives.
-use Rattle.std.specs.Prelude.{◌≡◌, ◌⊎◌, ℕ, Bool, true, false, Option, Some, None, Result, Ok, Err}
+use Rattle.std.specs.Prelude.{◌≡◌, ◌≤◌, ◌⊎◌, ℕ, Bool, true, false, Some, None, Ok, Err}
+use Rattle.hc_transcript.specs.Limits.{greatest_number}
 use Rattle.hc_events.specs.declared.Event.{Event}
 use Rattle.hc_service.specs.declared.fault.StepFault.{StepFault}
 use Rattle.hc_service.specs.declared.fault.StepFault.TheVariants.{Memory, MomentTooLarge, UnknownNumber, TooManyConnections, Failed}
 use Rattle.hc_service.specs.declared.settings.CoreSettings.{CoreSettings}
+use Rattle.hc_service.specs.Agreement.{History}
+use Rattle.hc_service.specs.Laws.{KeepsAgreement}
 use Rattle.hc_service.specs.Runs.{StepResult}
 use Rattle.hc_service.specs.Serves.{Serves, first_fault}
 use Rattle.hc_service.specs.State.{State}
@@ -31,6 +34,14 @@ pub record StandsFor (settings : CoreSettings) (cache : Cache) (s : State) : Typ
   pub works : cache.failed ≡ false
   pub stands : IsKept settings cache.kept s
 
+-- a fault that a test of the event tells
+abbrev pub IsOfTest : StepFault → Type 0
+IsOfTest MomentTooLarge = Unit {0}
+IsOfTest UnknownNumber = Unit {0}
+IsOfTest TooManyConnections = Unit {0}
+IsOfTest Memory = ⊥
+IsOfTest Failed = ⊥
+
 -- what is told is the first test that the event fails
 abbrev pub IsRefused : StepFault → Event → State → Type 0
 IsRefused fault event s = first_fault event s ≡ Some fault
@@ -43,3 +54,10 @@ GivesStep (Err MomentTooLarge) settings event s cache = IsRefused MomentTooLarge
 GivesStep (Err UnknownNumber) settings event s cache = IsRefused UnknownNumber event s
 GivesStep (Err TooManyConnections) settings event s cache = IsRefused TooManyConnections event s
 GivesStep (Err Failed) settings event s cache = ⊥
+
+-- the same of a cache that agrees with what has happened: it agrees with what has happened then, as far as records can be numbered
+abbrev pub GivesAgreement : StepResult → CoreSettings → Event → State → History → Cache → Type 0
+GivesAgreement (Ok actions) settings event s h cache =
+    (s' : State) × StandsFor settings cache s' × Serves settings event s actions.items s'
+    × (s'.numbers.records ≤ greatest_number → KeepsAgreement event.of actions.items h s')
+GivesAgreement (Err fault) settings event s h cache = GivesStep (Err fault) settings event s cache

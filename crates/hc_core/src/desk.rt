@@ -24,8 +24,10 @@ pub(crate) struct Desk<S: BuildHasher> {
 }
 
 impl<S: BuildHasher> Desk<S> {
+    ghost use Rattle.std.specs.Prelude.{◌≡◌, ◌&&◌, ◌==◌};
+    ghost use Rattle.std.specs.FinMap.{len};
     ghost use Rattle.hc_service.specs.declared.settings.CoreSettings.{CoreSettings};
-    ghost use Rattle.hc_service.specs.State.{new_state};
+    ghost use Rattle.hc_service.specs.State.{State, new_state};
     ghost use Rattle.hc_core.specs.Standing.{Stands};
 
     /// That of a cache to which nothing has happened, with an empty store.
@@ -42,5 +44,13 @@ impl<S: BuildHasher> Desk<S> {
             links: BTreeMap::new(alloc),
             store,
         }
+    }
+
+    /// Whether no connection or forward is open.
+    pub(crate) fn is_idle(&self) -> bool
+        ensures { (settings : CoreSettings) (s : State) → Stands settings self.now s
+            → result ≡ (len s.connections == 0 && len s.forwards == 0) }
+    {
+        self.clients.len() == 0 && self.links.len() == 0
     }
 }

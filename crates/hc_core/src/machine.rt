@@ -4,6 +4,7 @@ ghost use Rattle.std.specs.Prelude.{◌≡◌};
 
 use crate::desk::Desk;
 use crate::fault::CoreFault;
+use crate::keeping::steps_keep_agreement;
 use hc_events::Event;
 use hc_service::{Action, CoreSettings, StepFault, is_name, is_size};
 use hc_store::Store;
@@ -20,9 +21,13 @@ pub struct Core<S: BuildHasher = DefaultHasher> {
 }
 
 impl<S: BuildHasher> Model for Core<S> {
+    ghost use Rattle.std.specs.Coded.{codes};
+    ghost use Rattle.std_collections.specs.Layout.BTreeMap.{btree_map_code};
     ghost use Rattle.hc_core.specs.Steps.{CanStep, Cache, cache_of};
 
     ghost Value = { Cache };
+
+    ghost coded = { Prim.hlevel (codes, btree_map_code) };
 
     ghost view = { λ c. cache_of c.failed c.desk };
 
@@ -68,17 +73,35 @@ impl<S: BuildHasher> Core<S> {
     ghost use Rattle.hc_service.specs.declared.fault.StepFault.TheVariants.{Failed, Memory};
     ghost use Rattle.hc_service.specs.declared.fault.StepFault.{StepFault};
     ghost use Rattle.hc_service.specs.declared.settings.CoreSettings.{CoreSettings};
+    ghost use Rattle.hc_service.specs.Agreement.{Agrees, History, IsReady};
+    ghost use Rattle.hc_service.specs.Settings.{AreGood};
     ghost use Rattle.hc_service.specs.State.{State};
-    ghost use Rattle.hc_core.specs.Standing.{IsReady};
-    ghost use Rattle.hc_core.specs.Steps.{GivesStep, StandsFor, records_given};
+    ghost use Rattle.hc_core.specs.Steps.{GivesAgreement, GivesStep, StandsFor, records_given};
 
     /// Something happens. Where memory is refused, no event is served any more; any other fault changes
     /// nothing, and of several the first is told: that it has failed, then those of `first_fault`.
     pub fn step(&mut self, event: Event) -> Result<Vec<Action>, StepFault>
-        // Whatever state it stands for, it does what it owes for the event.
+        // Where it agrees with what has happened, the records that it gives out are a transcript behind those
+        // before, each reply among them is right, and it agrees with what has happened then.
+        ensures agrees { (settings : CoreSettings) (s : State) (h : History) → AreGood settings
+            → StandsFor settings self.old s → Agrees s h → GivesAgreement result settings event s h self.new }
+        // Whatever state it stands for, if each forward can end there, it does what it owes for the event.
         ensures gives { (settings : CoreSettings) (s : State) → StandsFor settings self.old s → IsReady s
             → GivesStep result settings event s self.new }
         // What stands after a fault.
+        ensures failed { IsErrOf result Memory → self.new.failed ≡ true }
+        ensures same { (fault : StepFault) → IsErrOf result fault → fault ≢ Memory → self.new ≡ self.old }
+        ensures given { OnErr result (records_given self.new ≡ records_given self.old) }
+        ensures failed_again { self.old.failed ≡ true → IsErrOf result Failed }
+    {
+        steps_keep_agreement();
+        self.serve(event)
+    }
+
+    /// Does what is owed for an event that no test refuses.
+    fn serve(&mut self, event: Event) -> Result<Vec<Action>, StepFault>
+        ensures gives { (settings : CoreSettings) (s : State) → StandsFor settings self.old s → IsReady s
+            → GivesStep result settings event s self.new }
         ensures failed { IsErrOf result Memory → self.new.failed ≡ true }
         ensures same { (fault : StepFault) → IsErrOf result fault → fault ≢ Memory → self.new ≡ self.old }
         ensures given { OnErr result (records_given self.new ≡ records_given self.old) }
@@ -115,6 +138,6 @@ impl<S: BuildHasher> Core<S> {
             → result ≡ (len s.connections == 0 && len s.forwards == 0) }
         ensures failed { self.now.failed ≡ true → result ≡ false }
     {
-        !self.failed && self.desk.clients.is_empty() && self.desk.links.is_empty()
+        !self.failed && self.desk.is_idle()
     }
 }

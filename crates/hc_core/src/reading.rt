@@ -7,7 +7,7 @@ use crate::desk::Desk;
 use crate::links::Client;
 use crate::moving::{await_reply, reply_on, send_forward};
 use hc_framing::Message;
-use hc_head::{RequestHead, Target, is_head};
+use hc_head::{RequestHead, ResponseHead, Target, is_head};
 use hc_links::Arrival;
 use hc_reactions::{Addressee, Reaction, react, record_request, refuse};
 use hc_service::{Action, Cause, OpenExchange, Purpose, WantedReply, ends_connection};
@@ -33,7 +33,7 @@ impl<S: BuildHasher> Desk<S> {
     ghost use Rattle.hc_service.specs.Serves.Turn.{Asking};
     ghost use Rattle.hc_links.specs.RequestReading.{CanRead, waiting};
     ghost use Rattle.hc_core.specs.Links.{IsClient};
-    ghost use Rattle.hc_core.specs.Reading.{GivesForward, IsAsked, waiting_at};
+    ghost use Rattle.hc_core.specs.Reading.{GivesForward, GivesReplyAtOnce, IsAsked, waiting_at};
     ghost use Rattle.hc_core.specs.Standing.{CanServe, GivesReading, GivesTurn, Stands, without_connection};
 
     /// Reads a connection until nothing more can be read.
@@ -134,7 +134,7 @@ impl<S: BuildHasher> Desk<S> {
             → OnOk result (waiting_at c self.new.clients ≤ length (waiting client.reader)) }
     {
         let closes = closes_behind(&request.head, client.leaves);
-        let exchange = record_request(self.alloc, &mut self.numbers, &request, actions)?;
+        let number = record_request(self.alloc, &mut self.numbers, &request, actions)?;
         let wanted = WantedReply {
             name: &self.name,
             moment: self.numbers.moment,
@@ -142,35 +142,53 @@ impl<S: BuildHasher> Desk<S> {
             closes,
         };
         let reaction = react(self.alloc, &mut self.store, &wanted, &target, &request)?;
+        let exchange = OpenExchange {
+            connection: c,
+            request: request.head,
+            target,
+        };
         match reaction {
             Reaction::Replies(reply) => {
-                let to = Addressee {
-                    exchange,
-                    to_head: is_head(request.head.method.as_slice()),
-                    connection: c,
-                    closes,
-                };
-                reply_on(
-                    self.alloc,
-                    &mut self.numbers,
-                    &mut self.clients,
-                    to,
-                    client,
-                    &reply,
-                    actions,
-                )?;
+                self.reply_at_once(number, &exchange, client, closes, &reply, actions)?;
                 Ok(())
             }
             Reaction::Sends(forward, cause) => {
-                let open = OpenExchange {
-                    connection: c,
-                    request: request.head,
-                    target,
-                };
-                self.go_forward(exchange, open, client, forward, cause, actions)?;
+                self.go_forward(number, exchange, client, forward, cause, actions)?;
                 Ok(())
             }
         }
+    }
+
+    /// A request that was read of a connection, which was taken out, gets its reply.
+    fn reply_at_once(
+        &mut self,
+        number: u64,
+        exchange: &OpenExchange,
+        client: Client,
+        closes: bool,
+        reply: &Message<ResponseHead>,
+        actions: &mut Vec<Action>,
+    ) -> Result<(), AllocError>
+        ensures replies { OnOk result (GivesReplyAtOnce number exchange.now client closes reply.now actions.old.items actions.new.items self.old self.new) }
+        ensures waits { kept_at nat_cmp self.old.clients exchange.now.connection ≡ None
+            → OnOk result (waiting_at exchange.now.connection self.new.clients ≤ length (waiting client.reader)) }
+    {
+        let to = Addressee {
+            exchange: number,
+            to_head: is_head(exchange.request.method.as_slice()),
+            connection: exchange.connection,
+            closes,
+        };
+        reply_on(
+            self.alloc,
+            &mut self.numbers,
+            &mut self.clients,
+            to,
+            client,
+            reply,
+            actions,
+        )?;
+        Ok(())
     }
 
     /// A request that was read of a connection, which was taken out, goes to the origin, and waits for

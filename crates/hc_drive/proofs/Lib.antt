@@ -3,3 +3,4 @@ pub mod ScriptLineLemmas
 pub mod ScriptEventLemmas
 pub mod ScriptOnceLemmas
 pub mod ScriptFrontLemmas
+pub mod ReplayLemmas

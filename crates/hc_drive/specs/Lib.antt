@@ -3,3 +3,4 @@ pub mod ScriptLimits
 pub mod Scripts
 pub mod ScriptFaults
 pub mod ScriptParts
+pub mod Replays

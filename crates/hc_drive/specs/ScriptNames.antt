@@ -1,5 +1,7 @@
 -- The numbers and the names of the faults of a script.
 use Rattle.std.specs.Prelude.{ℕ, List, codes}
+use Rattle.hc_run.specs.declared.fault.RunFault.{RunFault}
+use Rattle.hc_run.specs.declared.fault.RunFault.TheVariants as run
 use Rattle.hc_drive.specs.declared.fault.ScriptFault.{ScriptFault}
 use Rattle.hc_drive.specs.declared.fault.ScriptFault.TheVariants.{Opening, Line, Torn, Memory, Settings}
 
@@ -16,3 +18,8 @@ fault_name Line = codes "Line"
 fault_name Torn = codes "Torn"
 fault_name Memory = codes "Memory"
 fault_name Settings = codes "Settings"
+
+-- what it is to a script that there is no run of it
+abbrev pub script_fault : RunFault → ScriptFault
+script_fault run.Memory = Memory
+script_fault run.Settings = Settings

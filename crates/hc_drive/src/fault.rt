@@ -2,7 +2,10 @@
 
 ghost use Rattle.std.specs.Prelude.{◌≡◌};
 ghost use Rattle.hc_drive.specs.declared.fault.ScriptFault.TheVariants.{Memory};
+ghost use Rattle.hc_drive.specs.ScriptNames.{script_fault};
 
+use hc_audit::AuditFault;
+use hc_run::RunFault;
 use std::alloc::{AllocError, AllocFailed};
 use thiserror::Error;
 
@@ -70,5 +73,25 @@ impl<T: Drop> From<AllocFailed<T>> for ScriptFault {
 
     fn from(_e: AllocFailed<T>) -> ScriptFault {
         ScriptFault::Memory
+    }
+}
+
+impl From<AuditFault> for ScriptFault {
+    ghost from_gives = { λ _ e. e ≡ Memory };
+
+    // An auditor that has failed was refused memory before.
+    fn from(_fault: AuditFault) -> ScriptFault {
+        ScriptFault::Memory
+    }
+}
+
+impl From<RunFault> for ScriptFault {
+    ghost from_gives = { λ fault e. e ≡ script_fault fault };
+
+    fn from(fault: RunFault) -> ScriptFault {
+        match fault {
+            RunFault::Memory => ScriptFault::Memory,
+            RunFault::Settings => ScriptFault::Settings,
+        }
     }
 }

@@ -1,4 +1,4 @@
-//! What drives a cache: scripts of events.
+//! What drives a cache: scripts of events, and what a cache makes of them.
 #![tactic(auto)]
 
 mod event_line;
@@ -10,6 +10,7 @@ mod limits;
 mod numeral;
 mod opening;
 mod reading;
+mod replaying;
 mod script;
 mod settings_line;
 mod splitting;
@@ -20,6 +21,7 @@ pub use kind::EventKind;
 pub use laws::{breaks_once, broken_is_no_script, fronts_are_torn, octets_alone_break, one_script};
 pub use limits::{GREATEST_COUNT, GREATEST_KEYS};
 pub use opening::OPENING;
+pub use replaying::replay;
 pub use script::{Script, read_script};
 
 #[cfg(test)]

@@ -1,11 +1,17 @@
-//! What a cache does for a request, and for what the origin answers: what it records and sends, which reaction the
-//! first case is, which outcome the first rule has. Each call changes the parts that it is given, and no other.
+//! What a cache does for a request, and for what the origin answers: whether a request gets a reply from the store
+//! or goes to the origin, what a response or a failure makes of the store and of the reply, and which records and
+//! which octets go out. Each call changes the parts that it is given, and no other.
+//!
+//! A call fails only where memory is refused. What it was given to change may be changed in part then, so nobody goes
+//! on with that.
 #![tactic(auto)]
 
 mod asking;
 mod outcomes;
 mod reacting;
 mod sending;
+#[cfg(test)]
+mod tests;
 
 pub use outcomes::{fail, renew, respond, store_behind};
 pub use reacting::{Reaction, react};

@@ -1,4 +1,4 @@
-use Rattle.std.proofs.Common.{refl, sym, None}
+use Rattle.std.proofs.Common.{refl, None}
 use Rattle.hc_reactions.proofs.ReactingLemmas.{reacts_asking, reacts_before}
 use Rattle.hc_reactions.proofs.reacting.react.Goals as goal
 

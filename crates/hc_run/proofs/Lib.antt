@@ -1,0 +1,3 @@
+pub mod GivenLemmas
+pub mod CutLemmas
+pub mod RunLemmas

@@ -1,0 +1,4 @@
+pub mod Names
+pub mod Results
+pub mod Runs
+pub mod Recordings
