@@ -34,9 +34,15 @@ pub fn filled(alloc: Global, size: Size) -> Result<Core, Trouble> {
         happen(&mut core, Happening::ClientOpened(connection))?;
     }
     for number in 0..size.keys {
-        happen(&mut core, Happening::ClientBytes(0, request(alloc, number)?))?;
+        happen(
+            &mut core,
+            Happening::ClientBytes(0, request(alloc, number)?),
+        )?;
         let forward = number.saturating_add(1);
-        happen(&mut core, Happening::OriginBytes(forward, response(alloc, size.body)?))?;
+        happen(
+            &mut core,
+            Happening::OriginBytes(forward, response(alloc, size.body)?),
+        )?;
     }
     Ok(core)
 }

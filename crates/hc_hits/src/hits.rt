@@ -17,42 +17,53 @@ const ROUNDS: u32 = 9;
 /// How many hits are timed together.
 const HITS: u64 = 20_000;
 
-/// The sizes that are measured.
-const SIZES: [Size; 8] = [
-    sized(1_024, 10, 1),
-    sized(1_024, 10, 1_000),
-    sized(1_024, 1_000, 1),
-    sized(1_024, 1_000, 1_000),
-    sized(65_536, 10, 1),
-    sized(65_536, 10, 1_000),
-    sized(65_536, 1_000, 1),
-    sized(65_536, 1_000, 1_000),
+/// The sizes that are measured: octets of a body, keys and connections.
+const SIZES: [(usize, u64, u64); 8] = [
+    (1_024, 10, 1),
+    (1_024, 10, 1_000),
+    (1_024, 1_000, 1),
+    (1_024, 1_000, 1_000),
+    (65_536, 10, 1),
+    (65_536, 10, 1_000),
+    (65_536, 1_000, 1),
+    (65_536, 1_000, 1_000),
 ];
-
-const fn sized(body: usize, keys: u64, connections: u64) -> Size {
-    Size {
-        body,
-        keys,
-        connections,
-    }
-}
 
 /// Says how many hits a few requests are.
 pub fn count<W: Write>(alloc: Global, output: &mut W) -> Result<(), Trouble> {
-    let mut core = filled(alloc, sized(1_024, 3, 2))?;
-    let asked = requests(alloc, sized(1_024, 3, 2), 6)?;
+    let size = Size {
+        body: 1_024,
+        keys: 3,
+        connections: 2,
+    };
+    let mut core = filled(alloc, size)?;
+    let asked = requests(alloc, size, 6)?;
     let hits = serve_all(&mut core, asked)?;
     writeln!(output, "hits={hits} of=6")?;
     Ok(output.flush()?)
 }
 
 /// Says how many hits a second are served, for each size.
-pub fn measure<C: Clock, W: Write>(alloc: Global, clock: &C, output: &mut W) -> Result<(), Trouble> {
-    for size in SIZES {
-        let nanoseconds = fastest(alloc, clock, size)?;
+pub fn measure<C: Clock, W: Write>(
+    alloc: Global,
+    clock: &C,
+    output: &mut W,
+) -> Result<(), Trouble> {
+    for (body, keys, connections) in SIZES {
+        let nanoseconds = fastest(
+            alloc,
+            clock,
+            Size {
+                body,
+                keys,
+                connections,
+            },
+        )?;
         let rate = u128::from(HITS) * 1_000_000_000 / nanoseconds.max(1);
-        let (body, keys, connections) = (size.body, size.keys, size.connections);
-        writeln!(output, "body={body} keys={keys} connections={connections} hits/s={rate}")?;
+        writeln!(
+            output,
+            "body={body} keys={keys} connections={connections} hits/s={rate}"
+        )?;
         output.flush()?;
     }
     Ok(())
@@ -105,5 +116,8 @@ fn serve_all(core: &mut Core, asked: Vec<Happening>) -> Result<u64, Trouble> {
 
 // Whether the actions are the records of a request and its reply, and the reply.
 fn is_hit(actions: &[Action]) -> bool {
-    matches!(actions, [Action::Record(_), Action::Record(_), Action::ToClient(_, _)])
+    matches!(
+        actions,
+        [Action::Record(_), Action::Record(_), Action::ToClient(_, _)]
+    )
 }
