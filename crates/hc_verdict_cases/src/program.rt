@@ -4,7 +4,7 @@ use crate::lines::without_line_feed;
 use crate::others::Others;
 use crate::pieces::Pieces;
 use hc_cases::Unanswered;
-use hc_command::{Task, audit, parsed, shown};
+use hc_command::{Order, Task, audit, parsed, shown};
 use std::alloc::{AllocError, Global};
 use std::fmt::Write;
 
@@ -32,14 +32,15 @@ impl Audited {
                 return Ok(Self::refused(alloc, status)?);
             }
         };
-        let Task::Audit(settings) = order.task else {
+        let Order { file, task } = order;
+        let Task::Audit(settings) = task else {
             return Err(Unanswered::Unknown);
         };
         let others = Others::by(alloc, words, pieces)?;
         let status = audit(
             alloc,
             settings,
-            order.file,
+            file,
             &mut Pieces::new(pieces),
             &mut output,
             &mut faults,
