@@ -30,6 +30,9 @@ pub use numbers::Numbers;
 pub use open::{OpenExchange, OpenForward, Purpose};
 pub use replying::{
     BAD_GATEWAY, GATEWAY_TIMEOUT, WantedReply, failure_status, hit_reply, made_reply, passed_reply,
+    replacing_reply,
 };
-pub use serving::{age_at, is_fresh, lifetime_of, may_be_served, ttl_at};
+pub use serving::{
+    age_at, has_still, is_fresh, lifetime_of, may_be_served, may_replace, ttl_at, while_revalidating,
+};
 pub use settings::{CoreSettings, is_name, is_size};
