@@ -5,6 +5,7 @@ pub mod SourceLemmas
 pub mod NameLemmas
 pub mod UsableLemmas
 pub mod RightLemmas
+pub mod ForbiddenLemmas
 pub mod PassedLemmas
 pub mod ReplacingLemmas
 pub mod ReceivedLemmas

@@ -1,6 +1,6 @@
 -- Replies from the store in place of what the origin answered are right.
-use Rattle.std.proofs.Common.{◌≡◌, ℕ, ◌+◌, ◌≤◌, ◌<◌, Bool, true, false, ◌&&◌, ◌||◌, List, ◌∷◌, length, Option, Some, None, nat_eq, refl, sym, subst, arith, ⊎_elim}
-use Rattle.std.specs.Prelude.{◌==◌, nat_lt}
+use Rattle.std.proofs.Common.{◌≡◌, ℕ, ◌≤◌, ◌<◌, Bool, true, false, ◌||◌, List, ◌∷◌, length, Option, Some, None, nat_eq, sym, subst, arith, ⊎_elim}
+use Rattle.std.specs.Prelude.{◌==◌}
 use Rattle.std.specs.Option.{option_eq}
 use Rattle.std.proofs.lemmas.Bool.{and_from, and_parts, or_left, or_right, lt-ltb, eqb-true}
 use Rattle.hc_head.specs.declared.head.ResponseHead.{ResponseHead}
@@ -21,7 +21,7 @@ use Rattle.hc_service.specs.declared.open.OpenForward.{OpenForward}
 use Rattle.hc_service.specs.Settings.{is_name}
 use Rattle.hc_service.specs.Cases.{word_of}
 use Rattle.hc_service.specs.Agreement.{HasSource, CanReply}
-use Rattle.hc_service.specs.Laws.{IsToldStatus, recorded_forward}
+use Rattle.hc_service.specs.Laws.{recorded_forward}
 use Rattle.hc_service.specs.Replying.{Wanted, entry_status, status_told, replacing_reply}
 use Rattle.hc_service.specs.Runs.{strict}
 use Rattle.hc_service.specs.Serving.{may_replace}

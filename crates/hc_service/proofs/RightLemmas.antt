@@ -1,5 +1,5 @@
 -- The replies of a cache from what it stores are right.
-use Rattle.std.proofs.Common.{◌≡◌, ℕ, ◌+◌, ◌<◌, Bool, true, false, cond, ◌&&◌, ◌||◌, List, [], ◌∷◌, ◌++◌, length, take, ℤ, pos, ◌-ℤ◌, nat_abs, Option, Some, refl, sym, ap, ◌∙◌, subst, arith, inr, ⊎_elim}
+use Rattle.std.proofs.Common.{◌≡◌, ℕ, ◌+◌, Bool, true, false, cond, ◌&&◌, ◌||◌, List, [], ◌∷◌, ◌++◌, length, take, ℤ, pos, ◌-ℤ◌, nat_abs, Option, Some, refl, sym, ap, ◌∙◌, subst, arith, inr, ⊎_elim}
 use Rattle.std.specs.Prelude.{◌==◌, nat_le, not, codes, option_and_then, if◌then◌else◌}
 use Rattle.std.specs.Cmp.Lexicographic.{pointwise}
 use Rattle.std.specs.List.{list_all}
@@ -10,7 +10,6 @@ use Rattle.std.proofs.lemmas.Slice.Eq.{bytes_eq-Decides}
 use Rattle.hc_fields.specs.declared.fields.Field.{Field}
 use Rattle.hc_fields.specs.Numbers.{number_of}
 use Rattle.hc_fields.specs.Values.{values_of, only_value, has_name}
-use Rattle.hc_head.specs.declared.head.RequestHead.{RequestHead}
 use Rattle.hc_head.specs.declared.head.ResponseHead.{ResponseHead}
 use Rattle.hc_head.specs.Methods.{is_get, is_head}
 use Rattle.hc_head.specs.Statuses.{partial_content}
@@ -28,7 +27,7 @@ use Rattle.hc_replies.specs.Laws.{is_own_name, is_repeated, IsPlainStatus}
 use Rattle.hc_replies.proofs.ReplyLemmas.{stored_marked, stored_values, stored_age_told, not_modified_marked, not_modified_age_told, repeated_values, no_other_values}
 use Rattle.hc_transcript.specs.Items.{Item, ClientReply, Exchange}
 use Rattle.hc_transcript.specs.History.{exchange_of}
-use Rattle.hc_history.specs.Claims.{Claim, claim_of, ttl_of}
+use Rattle.hc_history.specs.Claims.{claim_of, ttl_of}
 use Rattle.hc_history.specs.Filters.{within, is_age, is_ttl, is_exempt, same_values, compared_names, names_of, has_its_body, has_its_fields, has_its_age, has_its_ttl}
 use Rattle.hc_history.specs.Marks.{reply_mark, judged_mark}
 use Rattle.hc_history.specs.Reused.{Pass, IsReused, anywhere, forwarded_count}

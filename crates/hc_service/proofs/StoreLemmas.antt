@@ -1,6 +1,6 @@
 -- What a store holds after each call was held before, or was put.
 use Rattle.std.proofs.Common.{◌≡◌, ℕ, zero, suc, ◌-◌, Bool, true, false, cond, List, [], ◌∷◌, ◌++◌, map, Some, refl, sym, ap, subst, ⊎_elim}
-use Rattle.std.specs.Prelude.{filter, take, drop, not, nat_le, ◌⊎◌}
+use Rattle.std.specs.Prelude.{filter, take, drop, not, nat_le}
 use Rattle.std.specs.List.{AllByRecursion, IsDistinct, best_of, list_any}
 use Rattle.std.specs.Map.{keys_of, set_value}
 use Rattle.std.proofs.lemmas.Bool.{cases_Bool, or_parts}

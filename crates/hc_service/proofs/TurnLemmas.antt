@@ -25,7 +25,7 @@ use Rattle.hc_service.specs.declared.open.OpenExchange.{OpenExchange}
 use Rattle.hc_service.specs.declared.open.Purpose.{Purpose}
 use Rattle.hc_service.specs.declared.open.Purpose.TheVariants as purpose
 use Rattle.hc_service.specs.declared.settings.CoreSettings.{CoreSettings}
-use Rattle.hc_service.specs.Settings.{AreGood, is_name}
+use Rattle.hc_service.specs.Settings.{AreGood}
 use Rattle.hc_service.specs.Asking.{ends_connection, is_answered_by_store}
 use Rattle.hc_service.specs.Cases.{asks_store, is_of_stored}
 use Rattle.hc_service.specs.Numbers.{one_more, after_opening, asked, sent, noted, is_later}

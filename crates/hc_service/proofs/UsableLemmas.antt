@@ -1,6 +1,6 @@
 -- What a cache serves may be used for the reply, in the strictest audit.
 use Rattle.std.proofs.Common.{◌≡◌, ℕ, ◌+◌, ◌<◌, Bool, true, false, ◌&&◌, ◌||◌, List, Option, Some, None, refl, sym, subst, arith, inl, inr, ⊎_elim, nat_eq, ap}
-use Rattle.std.specs.Prelude.{◌⊎◌, not, nat_le, codes}
+use Rattle.std.specs.Prelude.{◌⊎◌, not, codes}
 use Rattle.std.specs.Option.{option_eq}
 use Rattle.std.proofs.lemmas.Bool.{and_from, and_parts, or_left, or_right, le-leb, leb-true, lt-ltb, ltb-true, eqb-true}
 use Rattle.hc_directives.specs.declared.cache_control.Seconds.{Seconds}
@@ -13,7 +13,7 @@ use Rattle.hc_transcript.specs.Items.{Item, Exchange}
 use Rattle.hc_history.specs.Claims.{Claim, claim_of}
 use Rattle.hc_history.specs.Usable.{lifetime_of, seconds_said, validated_since, is_usable, permits_stale}
 use Rattle.hc_history.specs.Usable as audit
-use Rattle.hc_service.specs.Asking.{allows_age, allows_left, asks_for_fresh}
+use Rattle.hc_service.specs.Asking.{allows_age, asks_for_fresh}
 use Rattle.hc_service.specs.Runs.{strict}
 use Rattle.hc_service.specs.Serving.{age_at, is_fresh, staleness_at, permits, max_stale_permits, while_revalidating, on_error, may_be_used, is_fresh_enough, is_permitted_stale, may_be_served, may_replace}
 

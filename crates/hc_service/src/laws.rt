@@ -1,6 +1,6 @@
 //! What holds of every cache that does what it owes.
 
-ghost use Rattle.std.specs.Prelude.{◌≡◌, ℕ, Bool, ◌+◌, ◌≤◌, ◌<◌, true, false, List, [], ◌∷◌, ◌++◌, drop, length, Option, Some, None};
+ghost use Rattle.std.specs.Prelude.{◌≡◌, ℕ, Bool, ◌+◌, ◌≤◌, ◌<◌, true, false, List, [], ◌∷◌, ◌++◌, drop, length, Option, Some, None, codes};
 ghost use Rattle.hc_fields.specs.declared.fields.Field.{Field};
 ghost use Rattle.hc_fields.specs.Numbers.{end_of_moments};
 ghost use Rattle.hc_head.specs.declared.head.RequestHead.{RequestHead};
@@ -9,12 +9,14 @@ ghost use Rattle.hc_head.specs.declared.head.Target.{Target};
 ghost use Rattle.hc_head.specs.Methods.{is_head};
 ghost use Rattle.hc_head.specs.Statuses.{not_modified};
 ghost use Rattle.hc_framing.specs.declared.message.Message.{Message};
+ghost use Rattle.hc_fresh.specs.Lifetimes.{says, stale_forbidden};
 ghost use Rattle.hc_update.specs.declared.stored.Stored.{Stored};
 ghost use Rattle.hc_transcript.specs.Items.{ClientReply, ClientRequest, Exchange, Forward, Item, OriginFailure, OriginRequest, OriginResponse};
 ghost use Rattle.hc_transcript.specs.History.{exchange_of, forward_of, next_position};
 ghost use Rattle.hc_transcript.specs.Limits.{greatest_number};
 ghost use Rattle.hc_transcript.specs.Written.{IsWritableAnswer, IsWritableAsk};
 ghost use Rattle.hc_history.specs.Right.{IsRight};
+ghost use Rattle.hc_history.specs.Usable.{seconds_said};
 ghost use Rattle.hc_history.specs.Windows.{is_error_status};
 ghost use Rattle.hc_store.specs.Calls.{Freshens};
 ghost use Rattle.hc_service.specs.declared.numbers.Numbers.{Numbers};
@@ -39,9 +41,9 @@ ghost use Rattle.hc_service.specs.declared.open.OpenExchange.{OpenExchange};
 ghost use Rattle.hc_service.specs.State.{Awaited, Connection, State, Table, new_connection, new_state};
 ghost use Rattle.hc_service.specs.Agreement.{AllHeld, CanReply, AreAsked, AreCounted, AreHeard, AreLinked, Agrees, History, IsReadOf, IsReady, IsSound, Stands, exchange_for};
 ghost use Rattle.hc_service.specs.Runs.{Runs, RunsTo, nothing_yet, records_given, IsJudgedRight, StepResult, Steps, strict, with_octets};
-ghost use Rattle.hc_service.specs.Asking.{is_answered_by_store};
+ghost use Rattle.hc_service.specs.Asking.{allows_age, asks_for_fresh, is_answered_by_store};
 ghost use Rattle.hc_service.specs.Replying.{Wanted, hit_reply, made_reply, passed_reply, replacing_reply};
-ghost use Rattle.hc_service.specs.Serving.{may_be_served, may_replace};
+ghost use Rattle.hc_service.specs.Serving.{age_at, is_fresh, may_be_served, may_replace};
 ghost use Rattle.hc_service.specs.Turns.{IsAnswer, after_hearing, after_octets, after_request, replied};
 ghost use Rattle.hc_service.specs.Settings.{AreGood, is_name};
 
@@ -96,6 +98,28 @@ pub fn hits_are_right()
         → is_answered_by_store x.request.method ≡ true → is_selected x.request.fields stored ≡ true
         → may_be_served x.request.fields stored wanted.moment ≡ true
         → IsRight strict items (ClientReply x.number wanted.moment (hit_reply wanted stored)) }
+{}
+
+/// What forbids that a stored response is served, or takes the place of an error, is obeyed whatever else
+/// the request and the response say: `no-cache` of either (RFC 9111 sections 5.2.1.4 and 5.2.2.4), what
+/// forbids a stale one (section 4.2.4), `min-fresh` (section 5.2.1.3) and `max-age` of the request
+/// (section 5.2.1.1).
+pub fn what_forbids_serving_is_obeyed()
+    ensures no_cache { (asked : List Field) (stored : Stored) (moment : ℕ)
+        → says (codes "no-cache") stored.fields ≡ true
+        → (may_be_served asked stored moment ≡ false) × (may_replace asked stored moment ≡ false) }
+    ensures no_cache_of_the_request { (asked : List Field) (stored : Stored) (moment : ℕ)
+        → says (codes "no-cache") asked ≡ true
+        → (may_be_served asked stored moment ≡ false) × (may_replace asked stored moment ≡ false) }
+    ensures stale { (asked : List Field) (stored : Stored) (moment : ℕ)
+        → is_fresh stored moment ≡ false → stale_forbidden stored.fields ≡ true
+        → (may_be_served asked stored moment ≡ false) × (may_replace asked stored moment ≡ false) }
+    ensures min_fresh { (asked : List Field) (stored : Stored) (moment : ℕ)
+        → is_fresh stored moment ≡ false → asks_for_fresh (seconds_said (codes "min-fresh") asked) ≡ true
+        → may_be_served asked stored moment ≡ false }
+    ensures max_age { (asked : List Field) (stored : Stored) (moment : ℕ)
+        → allows_age (age_at stored moment) (seconds_said (codes "max-age") asked) ≡ false
+        → may_be_served asked stored moment ≡ false }
 {}
 
 /// What the origin answered to a forward of the request is a right reply, and so is one of status 400
