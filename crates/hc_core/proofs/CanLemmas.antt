@@ -38,9 +38,9 @@ module _ (S H : Type 0) (d : Desk S H) where
   can_read_client c client can is =
       let k = found IsClient _ _ client (can.stands.clients.at c) (sym is) in request_can_read client.reader k.0.unread k.2.reads
 
-  pub can_read_link : (f : ℕ) (link : Link) → CanServe {S = S} {H = H} d → Some link ≡ kept_at nat_cmp d.links f → responses.CanRead link.reader
+  pub can_read_link : (f : ℕ) (link : Link) → CanServe {S = S} {H = H} d → Some link ≡ kept_at nat_cmp d.links.by_number f → responses.CanRead link.reader
   can_read_link f link can is =
-      let a = found IsLink _ _ link (can.stands.links.at f) (sym is) in response_can_read _ link.reader a.0.heard a.2.reads
+      let a = found IsLink _ _ link (can.stands.links.by_number.at f) (sym is) in response_can_read _ link.reader a.0.heard a.2.reads
 
   -- behind turns
   pub can_behind_turn : (settings : CoreSettings) (turn : Turn) (s : State) (a z : List Action) → GivesTurn {S = S} {H = H} settings turn s a z d → CanServe {S = S} {H = H} d

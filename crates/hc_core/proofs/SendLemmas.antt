@@ -7,6 +7,7 @@ use Rattle.hc_head.specs.Methods.{is_head}
 use Rattle.hc_framing.specs.declared.message.Message.{Message}
 use Rattle.hc_store.specs.Entries.{Holdings}
 use Rattle.hc_service.specs.declared.action.Action.{Action}
+use Rattle.hc_service.specs.declared.cases.Cause.{Cause}
 use Rattle.hc_service.specs.declared.numbers.Numbers.{Numbers}
 use Rattle.hc_service.specs.Numbers.{noted}
 use Rattle.hc_service.specs.Replying.{Wanted}
@@ -16,7 +17,7 @@ use Rattle.hc_reactions.specs.declared.sending.Addressee.{Addressee}
 use Rattle.hc_core.specs.declared.answering.Waiting.{Waiting}
 use Rattle.hc_core.specs.declared.desk.Desk.{Desk}
 use Rattle.hc_core.specs.declared.links.Client.{Client}
-use Rattle.hc_core.specs.Ending.{GivesReply, SendsReply, addressee_of, is_last, wanted_of}
+use Rattle.hc_core.specs.Ending.{GivesForwardAnew, GivesReply, SendsAnew, SendsReply, addressee_of, is_last, wanted_of}
 use Rattle.hc_core.specs.Links.{AreClients, IsIdle}
 
 -- what follows from an `Ok` follows from the same `Ok`
@@ -78,4 +79,20 @@ sends_reply S H w to closes reply before after d numbers clients to_is numbers_a
   store = refl;
   actions = actions_are
       ∙ ap (λ (t : Addressee). before ++ reply_actions t.exchange d.numbers.moment t.to_head t.connection t.closes reply) to_is;
+}
+
+-- the request goes to the origin anew, as was decided
+pub gives_anew : (S H : Type 0) (w : Waiting) (why : Cause) (decides : Holdings → Holdings → Type 0) (before after : List Action) (d new : Desk S H) (store : Holdings)
+    → decides d.store store
+    → SendsAnew {S = S} {H = H} w why before after
+    (record { alloc = d.alloc; name = d.name; numbers = d.numbers; clients = d.clients; exchanges = d.exchanges; links = d.links; store = store }) new
+    → GivesForwardAnew {S = S} {H = H} w why decides before after d new
+gives_anew S H w why decides before after d new store decided sends = record {
+  decided = subst (λ (h : Holdings). decides d.store h) (sym sends.store) decided;
+  name = sends.name;
+  numbers = sends.numbers;
+  clients = sends.clients;
+  exchanges = sends.exchanges;
+  links = sends.links;
+  actions = sends.actions;
 }
