@@ -349,3 +349,19 @@ reply_then_behind S H number exchange client closes reply validation before betw
       ∙ append_assoc before _ _
       ∙ ap (λ (n : Numbers). before ++ (reply_actions number old.numbers.moment (is_head exchange.request.method) exchange.connection closes reply ++ send_actions (one_more n.forward) n.moment validation)) replies.numbers;
 }
+
+-- what is behind it may be nothing
+pub replies_alone : (S H : Type 0) (number : ℕ) (exchange : OpenExchange) (client : Client) (closes : Bool) (reply : Message ResponseHead) (behind : Option (Message RequestHead))
+    (before after : List Action) (old new : Desk S H) → behind ≡ None → GivesReplyAtOnce {S = S} {H = H} number exchange client closes reply before after old new
+    → GivesReplies {S = S} {H = H} number exchange client closes reply behind before after old new
+replies_alone S H number exchange client closes reply behind before after old new is replies =
+    subst (λ (o : Option (Message RequestHead)). GivesReplies {S = S} {H = H} number exchange client closes reply o before after old new) (sym is) replies
+
+pub replies_then : (S H : Type 0) (number : ℕ) (exchange : OpenExchange) (client : Client) (closes : Bool) (reply : Message ResponseHead) (behind : Option (Message RequestHead))
+    (validation : Message RequestHead) (before between after : List Action) (old mid new : Desk S H) → behind ≡ Some validation
+    → GivesReplyAtOnce {S = S} {H = H} number exchange client closes reply before between old mid
+    → SendsBehind {S = S} {H = H} exchange.target validation between after mid new
+    → GivesReplies {S = S} {H = H} number exchange client closes reply behind before after old new
+replies_then S H number exchange client closes reply behind validation before between after old mid new is replies sends =
+    subst (λ (o : Option (Message RequestHead)). GivesReplies {S = S} {H = H} number exchange client closes reply o before after old new) (sym is)
+    (reply_then_behind S H number exchange client closes reply validation before between after old mid new replies sends)

@@ -20,8 +20,12 @@ use Rattle.hc_service.specs.State.{Awaited, Table}
 use Rattle.hc_service.specs.Turns.{sent_forward}
 use Rattle.hc_reactions.specs.declared.reacting.OpenBehind.{OpenBehind}
 use Rattle.hc_reactions.specs.Reacting.{IsOpenBehind}
-use Rattle.hc_core.specs.Links.{AreBehind, HasPlace, by_target, is_behind}
+use Rattle.hc_core.specs.declared.links.Link.{Link}
+use Rattle.hc_core.specs.declared.open_links.OpenLinks.{OpenLinks}
+use Rattle.hc_core.specs.Links.{AreBehind, AreLinks, HasPlace, IsLink, TakesLink, by_target, is_behind}
+use Rattle.hc_core.specs.Tables.{AreAlike}
 use Rattle.hc_core.proofs.CountLemmas.{any_of_count, count_empty, count_gone, count_put, count_same}
+use Rattle.hc_core.proofs.TableLemmas.{alike_put, alike_taken, found, found_none, get_gone, gone_same, put_back}
 
 -- ---- targets
 
@@ -204,3 +208,73 @@ reply_has_place request target moment e why conditional forwards for_store = abs
   where
     no_such : false ≡ true → ⊥
     no_such e = cc
+
+-- ---- links are taken out and put in
+
+module _ (links : OpenLinks) (forwards : Table Awaited) (f : ℕ) where
+  -- none is there
+  pub misses_link : (by_number : BTreeMap ℕ Link) → AreLinks links forwards → kept_at nat_cmp links.by_number f ≡ None → Updates nat_cmp links.by_number by_number f None
+      → None ≡ kept_at nat_cmp links.by_number f → btree_map_len by_number + cond (is_some (None {X = Link})) 1 0 ≡ btree_map_len links.by_number
+      → TakesLink f None forwards (record { by_number = by_number; behind = links.behind })
+  misses_link by_number are none updates old-is len =
+      let absent = found_none IsLink _ _ (are.by_number.at f) none in (
+        absent,
+        record {
+          by_number = subst (AreAlike IsLink by_number) (gone_same forwards f absent) (alike_taken IsLink links.by_number by_number forwards f None are.by_number updates old-is len);
+          behind = are.behind;
+        },
+      )
+
+  -- one is, whose place is free then
+  pub takes_link : (link : Link) (by_number : BTreeMap ℕ Link) (new : OpenLinks) → AreLinks links forwards → kept_at nat_cmp links.by_number f ≡ Some link
+      → Updates nat_cmp links.by_number by_number f None → Some link ≡ kept_at nat_cmp links.by_number f
+      → btree_map_len by_number + cond (is_some (Some link)) 1 0 ≡ btree_map_len links.by_number → new.by_number ≡ by_number
+      → ((table : Table Awaited) (g : ℕ) (a : Awaited) → AreBehind links.behind table → get table g ≡ Some a → a.forward ≡ link.forward → AreBehind new.behind (remove table g))
+      → TakesLink f (Some link) forwards new
+  takes_link link by_number new are there updates old-is len by_number-is forgets =
+      let a = found IsLink _ _ link (are.by_number.at f) there in (
+        a.0,
+        a.1,
+        a.2,
+        record {
+          by_number = subst (λ (m : BTreeMap ℕ Link). AreAlike IsLink m (remove forwards f)) (sym by_number-is)
+              (alike_taken IsLink links.by_number by_number forwards f (Some link) are.by_number updates old-is len);
+          behind = forgets forwards f a.0 are.behind a.1 (sym a.2.forward);
+        },
+      )
+
+-- none is there then
+pub taken_left : (forwards : Table Awaited) (f : ℕ) (links : OpenLinks) (o : Option Link) → TakesLink f o forwards links → AreLinks links (remove forwards f)
+taken_left forwards f links None taken = subst (AreLinks links) (sym (gone_same forwards f taken.0)) taken.1
+taken_left forwards f links (Some link) taken = taken.3
+
+-- where one goes, the others have no less place
+place_without : (forwards : Table Awaited) (f : ℕ) (a : Awaited) → HasPlace a forwards → HasPlace a (remove forwards f)
+place_without forwards f a place for_store = each (get forwards f) refl
+  where
+    no_more : (b : Bool) (rest : ℕ) → nat_lt 0 (cond b 1 0 + rest) ≡ false → nat_lt 0 rest ≡ false
+    no_more true rest none = absurd (cc)
+    no_more false rest none = none
+
+    each : (o : Option Awaited) → get forwards f ≡ o → list_any (is_behind a.forward.target) (values (remove forwards f)) ≡ false
+    each None gone = subst (λ (t : Table Awaited). list_any (is_behind a.forward.target) (values t) ≡ false) (sym (gone_same forwards f gone)) (place for_store)
+    each (Some x) there =
+        any_of_count (is_behind a.forward.target) (values (remove forwards f))
+        ∙ no_more (is_behind a.forward.target x) _
+        (ap (nat_lt 0) (sym (count_gone (is_behind a.forward.target) forwards f x there)) ∙ sym (any_of_count (is_behind a.forward.target) (values forwards)) ∙ place for_store)
+
+-- one is put in
+pub puts_link : (taken noted : OpenLinks) (forwards : Table Awaited) (f : ℕ) (link : Link) (a : Awaited) (o : Option Link) (by_number : BTreeMap ℕ Link) (old : Option Link)
+    → TakesLink f o forwards taken → IsLink link a → HasPlace a forwards → noted.by_number ≡ taken.by_number
+    → ((table : Table Awaited) (b : Awaited) → AreBehind taken.behind table → get table f ≡ None → b.forward ≡ link.forward → HasPlace b table → AreBehind noted.behind (insert table f b))
+    → Updates nat_cmp noted.by_number by_number f (Some link) → old ≡ kept_at nat_cmp noted.by_number f
+    → btree_map_len by_number ≡ btree_map_len noted.by_number + cond (is_some old) 0 1
+    → AreLinks (record { by_number = by_number; behind = noted.behind }) (insert forwards f a)
+puts_link taken noted forwards f link a o by_number old takes like place by_number-is notes updates old-is len =
+    let left = taken_left forwards f taken o takes in record {
+      by_number = subst (AreAlike IsLink by_number) (put_back forwards f a)
+          (alike_put IsLink noted.by_number by_number (remove forwards f) f link a old
+          (subst (λ (m : BTreeMap ℕ Link). AreAlike IsLink m (remove forwards f)) (sym by_number-is) left.by_number) like updates old-is len);
+      behind = subst (AreBehind noted.behind) (put_back forwards f a)
+          (notes (remove forwards f) a left.behind (get_gone forwards f) (sym like.forward) (place_without forwards f a place));
+    }

@@ -2,7 +2,9 @@
 use Rattle.std.proofs.Common.{◌≡◌, ℕ, Bool, cond, List, ◌++◌, Result, Ok, Err, IsOk, OnOk, refl, sym, ap, ◌∙◌, subst}
 use Rattle.std.specs.BTreeMap.{BTreeMap}
 use Rattle.std.specs.FinMap.{insert}
+use Rattle.hc_head.specs.declared.head.RequestHead.{RequestHead}
 use Rattle.hc_head.specs.declared.head.ResponseHead.{ResponseHead}
+use Rattle.hc_head.specs.declared.head.Target.{Target}
 use Rattle.hc_head.specs.Methods.{is_head}
 use Rattle.hc_framing.specs.declared.message.Message.{Message}
 use Rattle.hc_store.specs.Entries.{Holdings}
@@ -10,6 +12,7 @@ use Rattle.hc_service.specs.declared.action.Action.{Action}
 use Rattle.hc_service.specs.declared.cases.Cause.{Cause}
 use Rattle.hc_service.specs.declared.numbers.Numbers.{Numbers}
 use Rattle.hc_service.specs.Numbers.{noted}
+use Rattle.hc_service.specs.Reactions.{forward_anew}
 use Rattle.hc_service.specs.Replying.{Wanted}
 use Rattle.hc_service.specs.Sending.{reply_actions}
 use Rattle.hc_service.specs.State.{Connection, Table}
@@ -29,6 +32,10 @@ on_ok_by (Err e) P Q use_it p = tt
 pub of_ok : {A E : Type 0} (r : Result A E) (P : Type 0) → OnOk r P → IsOk r → P
 of_ok (Ok x) P p ok = p
 of_ok (Err e) P p ok = absurd (cc)
+
+pub always_ok : {A E : Type 0} (r : Result A E) (P : Type 0) → P → OnOk r P
+always_ok (Ok x) P holds = holds
+always_ok (Err e) P holds = tt
 
 pub when_ok : {A E : Type 0} (r : Result A E) (P : Type 0) → (IsOk r → P) → OnOk r P
 when_ok (Ok x) P holds = holds refl
@@ -96,3 +103,7 @@ gives_anew S H w why decides before after d new store decided sends = record {
   links = sends.links;
   actions = sends.actions;
 }
+
+pub anew_is : (name name' : List ℕ) (target target' : Target) (asked : RequestHead) (request : Message RequestHead) → request ≡ forward_anew name target asked → name ≡ name'
+    → target ≡ target' → request ≡ forward_anew name' target' asked
+anew_is name name' target target' asked request is same-name same-target = is ∙ (λ i. forward_anew (same-name i) (same-target i) asked)

@@ -98,7 +98,8 @@ impl OpenLinks {
         if !is_for_store(forward.purpose) {
             return Ok(());
         }
-        self.behind.insert(forward.target.copy(alloc)?, number)?;
+        let target = forward.target.copy(alloc)?;
+        self.behind.insert(target, number)?;
         Ok(())
     }
 

@@ -14,7 +14,7 @@ returns-in-Some-ended g c = λ settings s awaited stands there.
     let ends = (rw c.in-Some-ended.is at (c.in_ok-ended.ensures.gives (is_head awaited.forward.request.method) awaited.heard was.reads)) in
     left_way c.answer.result _ _
     (c.answer.ensures settings s awaited true
-    (stands_without g.row.S.Denot g.row.S-Hasher.Denot settings d s c.args.f awaited stands there c.take.new.links taken.3) there
+    (stands_without g.row.S.Denot g.row.S-Hasher.Denot settings d s c.args.f awaited stands there c.take.new.self taken.3) there
     (same_forward link awaited was) (answer_of_link link awaited was true awaited.heard c.in-Some-ended.response ends))
 
 pub returns : goal.returns
@@ -26,5 +26,5 @@ returns g c = λ settings s awaited stands there.
     let ends = (rw c.in-None.is at (c.in_ok-ended.ensures.gives (is_head awaited.forward.request.method) awaited.heard was.reads)) in
     right_way c.break_off.result _ _
     (c.break_off.ensures settings s awaited IsCutOff
-    (stands_without g.row.S.Denot g.row.S-Hasher.Denot settings d s c.args.f awaited stands there c.take.new.links taken.3) there
+    (stands_without g.row.S.Denot g.row.S-Hasher.Denot settings d s c.args.f awaited stands there c.take.new.self taken.3) there
     (same_forward link awaited was) refl (failure_of_link link awaited was IsCutOff awaited.heard ends))

@@ -11,5 +11,5 @@ returns-in-Some g c = λ settings s awaited stands there.
     let taken = c.in-Some.ensures s.forwards stands.links in
     let was = taken_link link (get s.forwards c.args.f) taken.0 awaited taken.1 there taken.2 in
     c.break_off.ensures settings s awaited IsLost
-    (stands_without g.row.S.Denot g.row.S-Hasher.Denot settings d s c.args.f awaited stands there c.take.new.links taken.3) there
+    (stands_without g.row.S.Denot g.row.S-Hasher.Denot settings d s c.args.f awaited stands there c.take.new.self taken.3) there
     (same_forward link awaited was) refl tt
