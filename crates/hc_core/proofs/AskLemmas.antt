@@ -1,13 +1,14 @@
 -- A whole request: what it gets at once, and what that makes of each part.
-use Rattle.std.proofs.Common.{append_assoc, ◌≡◌, ℕ, Bool, true, false, ◌&&◌, ◌||◌, not, cond, List, ◌++◌, drop, Option, Some, None, Result, Ok, Err, OnOk, refl, sym, ap, ◌∙◌, subst}
+use Rattle.std.proofs.Common.{append_assoc, ◌≡◌, ℕ, Bool, true, false, ◌&&◌, ◌||◌, not, nat_lt, cond, List, ◌++◌, drop, Option, Some, None, Result, Ok, Err, OnOk, refl, sym, ap, ◌∙◌, subst}
 use Rattle.std.specs.BTreeMap.{BTreeMap}
 use Rattle.std.specs.FinMap.{get, insert, remove, values}
-use Rattle.std.specs.List.{list_any}
+use Rattle.std.specs.List.{count_by, list_any}
 use Rattle.hc_head.specs.declared.head.RequestHead.{RequestHead}
 use Rattle.hc_head.specs.declared.head.ResponseHead.{ResponseHead}
 use Rattle.hc_head.specs.declared.head.Target.{Target}
 use Rattle.hc_head.specs.Methods.{is_head}
 use Rattle.hc_framing.specs.declared.message.Message.{Message}
+use Rattle.hc_rules.specs.Forwards.{conditional_request}
 use Rattle.hc_update.specs.declared.stored.Stored.{Stored}
 use Rattle.hc_store.specs.Entries.{Holdings, knows}
 use Rattle.hc_service.specs.declared.action.Action.{Action}
@@ -21,11 +22,12 @@ use Rattle.hc_service.specs.declared.settings.CoreSettings.{CoreSettings}
 use Rattle.hc_service.specs.Asking.{ends_connection}
 use Rattle.hc_service.specs.Numbers.{asked, noted, one_more, sent}
 use Rattle.hc_service.specs.Cases.{case_before_store, case_by_store}
-use Rattle.hc_service.specs.Reactions.{Reaction, Reacts, ReactsBy, chosen_reaction, forward_reaction, stored_forward}
+use Rattle.hc_service.specs.Reactions.{Reaction, Reacts, ReactsBy, bare, chosen_reaction, forward_reaction, is_background, is_validated_behind, most_background, stored_forward}
 use Rattle.hc_service.specs.Reactions.Reaction.{Replies, Sends}
-use Rattle.hc_service.specs.Replying.{Wanted}
+use Rattle.hc_service.specs.Replying.{Wanted, hit_reply}
 use Rattle.hc_service.specs.Sending.{ask_actions, reply_actions, send_actions}
 use Rattle.hc_service.specs.Serves.Turn.{Asking}
+use Rattle.hc_service.specs.Serving.{is_fresh, while_revalidating}
 use Rattle.hc_service.specs.State.{State, Table, Connection, Awaited}
 use Rattle.hc_service.specs.Turns.{after_reply, after_request, closes_behind, replied, sent_forward, wanted_now}
 use Rattle.hc_reactions.specs.declared.reacting.Reaction.{Reaction as GivenReaction}
@@ -60,10 +62,13 @@ validates (Replies reply None) = false
 validates (Replies reply (Some validation)) = true
 validates (Sends forward why conditional) = false
 
+false_true : false ≡ true → ⊥
+false_true e = cc
+
 by_test : (test : Bool) (reply : Message ResponseHead) (validation : Message RequestHead) → validates (Replies reply (cond test (Some validation) None)) ≡ true → test ≡ true
 unfolding validates
 by_test true reply validation does = refl
-by_test false reply validation does = absurd (cc)
+by_test false reply validation does = absurd (false_true does)
 
 none_of_three : (stale within few taken : Bool) → (stale && within && (few && not taken)) ≡ true → taken ≡ false
 none_of_three stale within few false has = refl
@@ -97,8 +102,11 @@ module _ (wanted : Wanted) (target : Target) (request : Message RequestHead) (fo
   chosen_place : (chosen : Option Stored) (which : Case) → validates (chosen_reaction wanted target request forwards chosen which) ≡ true
       → list_any (is_behind target) (values forwards) ≡ false
   unfolding validates
-  chosen_place (Some stored) case.Hit does = none_of_three _ _ _ _ (by_test _ _ _ does)
-  chosen_place None case.Hit does = absurd (cc)
+  chosen_place (Some stored) case.Hit does =
+      none_of_three (not (is_fresh stored wanted.moment)) (while_revalidating stored wanted.moment) (nat_lt (count_by is_background (values forwards)) most_background)
+      (list_any (is_behind target) (values forwards))
+      (by_test (is_validated_behind stored wanted.moment target forwards) (hit_reply wanted stored) (bare (conditional_request wanted.name target wanted.asked stored.fields)) does)
+  chosen_place None case.Hit does = absurd (false_true does)
   chosen_place (Some stored) (case.Forward why) does = absurd (never _ (forwards_alone why (Some stored)) does)
   chosen_place None (case.Forward why) does = absurd (never _ (forwards_alone why None) does)
 

@@ -1,5 +1,5 @@
 -- The forwards for the store alone, by target.
-use Rattle.std.proofs.Common.{◌≡◌, ℕ, ◌+◌, Bool, true, false, ◌&&◌, cond, nat_lt, List, length, Option, Some, None, refl, sym, ap, ◌∙◌, subst, arith}
+use Rattle.std.proofs.Common.{◌≡◌, ℕ, suc, ◌+◌, Bool, true, false, ◌&&◌, cond, nat_lt, List, length, Option, Some, None, refl, sym, ap, ◌∙◌, subst, arith}
 use Rattle.std.specs.BTreeMap.{BTreeMap, IsEmpty, Updates, btree_map_len, is_at, get as kept_at}
 use Rattle.std.specs.FinMap.{empty, get, insert, remove, values}
 use Rattle.std.specs.List.{count_by, list_any}
@@ -252,9 +252,18 @@ taken_left forwards f links (Some link) taken = taken.3
 place_without : (forwards : Table Awaited) (f : ℕ) (a : Awaited) → HasPlace a forwards → HasPlace a (remove forwards f)
 place_without forwards f a place for_store = each (get forwards f) refl
   where
+    true_false : true ≡ false → ⊥
+    true_false e = cc
+
+    some_more : (rest : ℕ) → suc rest ≡ 1 + rest
+    some_more rest = omega arith
+
+    as_before : (rest : ℕ) → rest ≡ 0 + rest
+    as_before rest = omega arith
+
     no_more : (b : Bool) (rest : ℕ) → nat_lt 0 (cond b 1 0 + rest) ≡ false → nat_lt 0 rest ≡ false
-    no_more true rest none = absurd (cc)
-    no_more false rest none = none
+    no_more true rest none = absurd (true_false (ap (nat_lt 0) (some_more rest) ∙ none))
+    no_more false rest none = ap (nat_lt 0) (as_before rest) ∙ none
 
     each : (o : Option Awaited) → get forwards f ≡ o → list_any (is_behind a.forward.target) (values (remove forwards f)) ≡ false
     each None gone = subst (λ (t : Table Awaited). list_any (is_behind a.forward.target) (values t) ≡ false) (sym (gone_same forwards f gone)) (place for_store)

@@ -35,7 +35,8 @@ one_is a b e = cc
 pub taken_link : (link : Link) (o : Option Awaited) (a awaited : Awaited) → o ≡ Some a → o ≡ Some awaited → IsLink link a → IsLink link awaited
 taken_link link o a awaited is there like = subst (IsLink link) (one_is a awaited (sym is ∙ there)) like
 
-none_or_some : (o : Option Awaited) (a : Awaited) → o ≡ None → o ≡ Some a → ⊥
+-- it was there
+pub none_or_some : (o : Option Awaited) (a : Awaited) → o ≡ None → o ≡ Some a → ⊥
 none_or_some o a none some = cc
 
 module _ (S H : Type 0) (settings : CoreSettings) (d : Desk S H) (s : State) (f : ℕ) (awaited : Awaited)

@@ -141,14 +141,14 @@ impl<S: BuildHasher> Desk<S> {
             asked: &request.head,
             closes,
         };
-        let open_behind = self.links.open_behind(&target);
+        let told = self.links.open_behind(&target);
         let reaction = react(
             self.alloc,
             &mut self.store,
             &wanted,
             &target,
             &request,
-            open_behind,
+            told,
         )?;
         let exchange = OpenExchange {
             connection: c,

@@ -1,9 +1,13 @@
-use Rattle.std.proofs.Common.{Some, true, refl, sym}
+use Rattle.std.proofs.Common.{true, refl}
 use Rattle.hc_head.specs.Methods.{is_head}
 use Rattle.hc_service.specs.Turns.Failure.{IsCutOff}
 use Rattle.std.specs.FinMap.{get}
-use Rattle.hc_core.proofs.HeardLemmas.{answer_of_link, failure_of_link, left_way, right_way, same_forward, stands_without, taken_link}
+use Rattle.hc_core.proofs.HeardLemmas.{answer_of_link, failure_of_link, left_way, none_or_some, right_way, same_forward, stands_without, taken_link}
 use Rattle.hc_core.proofs.desk.Desk.end_origin.Goals as goal
+
+pub returns-in_default : goal.returns-in_default
+returns-in_default g c = λ settings s awaited stands there.
+    absurd (none_or_some (get s.forwards c.args.f) awaited (c.in_default.ensures s.forwards stands.links).0 there)
 
 pub returns-in-Some-ended : goal.returns-in-Some-ended
 returns-in-Some-ended g c = λ settings s awaited stands there.

@@ -1,8 +1,12 @@
-use Rattle.std.proofs.Common.{Some, refl, sym}
+use Rattle.std.proofs.Common.{refl}
 use Rattle.hc_service.specs.Turns.Failure.{IsLost}
 use Rattle.std.specs.FinMap.{get}
-use Rattle.hc_core.proofs.HeardLemmas.{same_forward, stands_without, taken_link}
+use Rattle.hc_core.proofs.HeardLemmas.{none_or_some, same_forward, stands_without, taken_link}
 use Rattle.hc_core.proofs.desk.Desk.lose.Goals as goal
+
+pub returns-in-None : goal.returns-in-None
+returns-in-None g c = λ settings s awaited stands there.
+    absurd (none_or_some (get s.forwards c.args.f) awaited (c.in-None.ensures s.forwards stands.links).0 there)
 
 pub returns-in-Some : goal.returns-in-Some
 returns-in-Some g c = λ settings s awaited stands there.
