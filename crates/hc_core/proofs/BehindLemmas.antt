@@ -1,5 +1,5 @@
 -- The forwards for the store alone, by target.
-use Rattle.std.proofs.Common.{◌≡◌, ℕ, suc, ◌+◌, Bool, true, false, ◌&&◌, cond, nat_lt, List, length, Option, Some, None, refl, sym, ap, ◌∙◌, subst, arith}
+use Rattle.std.proofs.Common.{◌≡◌, ℕ, ◌+◌, Bool, true, false, ◌&&◌, cond, nat_lt, List, length, Option, Some, None, refl, sym, ap, ◌∙◌, subst, arith}
 use Rattle.std.specs.BTreeMap.{BTreeMap, IsEmpty, Updates, btree_map_len, is_at, get as kept_at}
 use Rattle.std.specs.FinMap.{empty, get, insert, remove, values}
 use Rattle.std.specs.List.{count_by, list_any}
@@ -57,12 +57,12 @@ tied one other = sym (matches_eq-law one other)
 -- ---- Booleans and counts
 
 neither : (a b : Bool) → a ≡ false → (a && b) ≡ false
-neither true b no = absurd (cc)
-neither false b no = refl
+neither true b other = absurd (cc)
+neither false b other = refl
 
 not_counted : (b : Bool) (all rest : ℕ) → all ≡ cond b 1 0 + rest → b ≡ false → rest ≡ all
-not_counted true all rest is no = absurd (cc)
-not_counted false all rest is no = omega (arith, is)
+not_counted true all rest is other = absurd (cc)
+not_counted false all rest is other = omega (arith, is)
 
 counted : (b : Bool) (all rest : ℕ) → all ≡ cond b 1 0 + rest → b ≡ true → all ≡ 1 + rest
 counted true all rest is yes_it = is
@@ -213,14 +213,14 @@ reply_has_place request target moment e why conditional forwards for_store = abs
 
 module _ (links : OpenLinks) (forwards : Table Awaited) (f : ℕ) where
   -- none is there
-  pub misses_link : (by_number : BTreeMap ℕ Link) → AreLinks links forwards → kept_at nat_cmp links.by_number f ≡ None → Updates nat_cmp links.by_number by_number f None
-      → None ≡ kept_at nat_cmp links.by_number f → btree_map_len by_number + cond (is_some (None {X = Link})) 1 0 ≡ btree_map_len links.by_number
+  pub misses_link : (by_number : BTreeMap ℕ Link) (old : Option Link) → AreLinks links forwards → kept_at nat_cmp links.by_number f ≡ None → Updates nat_cmp links.by_number by_number f None
+      → old ≡ kept_at nat_cmp links.by_number f → btree_map_len by_number + cond (is_some old) 1 0 ≡ btree_map_len links.by_number
       → TakesLink f None forwards (record { by_number = by_number; behind = links.behind })
-  misses_link by_number are none updates old-is len =
+  misses_link by_number old are none updates old-is len =
       let absent = found_none IsLink _ _ (are.by_number.at f) none in (
         absent,
         record {
-          by_number = subst (AreAlike IsLink by_number) (gone_same forwards f absent) (alike_taken IsLink links.by_number by_number forwards f None are.by_number updates old-is len);
+          by_number = subst (AreAlike IsLink by_number) (gone_same forwards f absent) (alike_taken IsLink links.by_number by_number forwards f old are.by_number updates old-is len);
           behind = are.behind;
         },
       )
@@ -252,17 +252,11 @@ taken_left forwards f links (Some link) taken = taken.3
 place_without : (forwards : Table Awaited) (f : ℕ) (a : Awaited) → HasPlace a forwards → HasPlace a (remove forwards f)
 place_without forwards f a place for_store = each (get forwards f) refl
   where
-    true_false : true ≡ false → ⊥
-    true_false e = cc
-
-    some_more : (rest : ℕ) → suc rest ≡ 1 + rest
-    some_more rest = omega arith
-
     as_before : (rest : ℕ) → rest ≡ 0 + rest
     as_before rest = omega arith
 
     no_more : (b : Bool) (rest : ℕ) → nat_lt 0 (cond b 1 0 + rest) ≡ false → nat_lt 0 rest ≡ false
-    no_more true rest none = absurd (true_false (ap (nat_lt 0) (some_more rest) ∙ none))
+    no_more true rest none = absurd (cc)
     no_more false rest none = ap (nat_lt 0) (as_before rest) ∙ none
 
     each : (o : Option Awaited) → get forwards f ≡ o → list_any (is_behind a.forward.target) (values (remove forwards f)) ≡ false

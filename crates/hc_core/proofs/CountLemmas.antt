@@ -1,5 +1,5 @@
 -- How many of a table pass a test.
-use Rattle.std.proofs.Common.{◌≡◌, ℕ, suc, ◌+◌, Bool, true, false, cond, nat_lt, List, [], ◌∷◌, map, length, Option, Some, None, refl, sym, ap, ◌∙◌, arith}
+use Rattle.std.proofs.Common.{◌≡◌, ℕ, ◌+◌, Bool, true, false, cond, nat_lt, List, [], ◌∷◌, map, length, Option, Some, None, refl, sym, ap, ◌∙◌, arith}
 use Rattle.std.specs.FinMap.Entries.{by_order, find, put}
 use Rattle.std.specs.Cmp.{nat_cmp_total}
 use Rattle.std.specs.FinMap.{empty, entries, get, insert, remove, values, get-entries, entries-insert, len-empty, len-entries}
@@ -20,14 +20,11 @@ module _ {X : Type 0} (pass : X → Bool) where
   any_of_count [] = refl
   any_of_count (x ∷ xs) = each (pass x) (list_any pass xs) (count_by pass xs) (any_of_count xs) ∙ ap (nat_lt 0) (sym (count_cons x xs))
     where
-      one_more : (n : ℕ) → suc n ≡ 1 + n
-      one_more n = omega arith
-
       no_more : (n : ℕ) → n ≡ 0 + n
       no_more n = omega arith
 
       each : (b c : Bool) (n : ℕ) → c ≡ nat_lt 0 n → cond b true c ≡ nat_lt 0 (cond b 1 0 + n)
-      each true c n same = ap (nat_lt 0) (one_more n)
+      each true c n same = refl
       each false c n same = same ∙ ap (nat_lt 0) (no_more n)
 
   -- ---- entries

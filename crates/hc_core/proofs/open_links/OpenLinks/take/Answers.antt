@@ -5,7 +5,7 @@ use Rattle.hc_core.proofs.open_links.OpenLinks.take.Goals as goal
 
 pub returns-in_err-link : goal.returns-in_err-link
 returns-in_err-link c = rw c.from_residual.ensures (λ forwards are.
-    misses_link c.args.self.now forwards c.args.number c.remove.new.self are (sym c.in_err-link.ensures.value) c.in_err-link.ensures.updates c.in_err-link.ensures.value c.in_err-link.ensures.len)
+    misses_link c.args.self.now forwards c.args.number c.remove.new.self None are (sym c.in_err-link.ensures.value) c.in_err-link.ensures.updates c.in_err-link.ensures.value c.in_err-link.ensures.len)
 
 pub returns : goal.returns
 returns c = λ forwards are.
