@@ -1,6 +1,6 @@
 //! What no clause says: that calls succeed, and the marks of a first hit.
-use crate::outcomes::{fail, renew, respond, store_behind};
-use crate::reacting::{Reaction, react};
+use crate::outcomes::{Outcome, fail, renew, respond, store_behind};
+use crate::reacting::{OpenBehind, Reaction, react};
 use crate::sending::{
     Addressee, record_failure, record_request, record_response, refuse, send_reply, send_request,
 };
@@ -17,6 +17,11 @@ type Lines<'a> = &'a [(&'a [u8], &'a [u8])];
 
 // The moment of all that happens here, and that moment as a date.
 const NOW: u64 = 1000;
+
+const NONE_BEHIND: OpenBehind = OpenBehind {
+    count: 0,
+    for_target: false,
+};
 
 const RESPONSE: Lines<'static> = &[
     (b"date", b"Thu, 01 Jan 1970 00:16:40 GMT"),
@@ -88,8 +93,10 @@ fn said(alloc: Global, reply: &Message<ResponseHead>) -> Result<Vec<u8>, AllocEr
 // What a reaction says: of a forward its method.
 fn shown(alloc: Global, reaction: &Reaction) -> Result<Vec<u8>, AllocError> {
     match reaction {
-        Reaction::Replies(reply) => said(alloc, reply),
-        Reaction::Sends(request, _) => Vec::from_slice(alloc, request.head.method.as_slice()),
+        Reaction::Replies { reply, .. } => said(alloc, reply),
+        Reaction::Sends { request, .. } => {
+            Vec::from_slice(alloc, request.head.method.as_slice())
+        }
     }
 }
 
@@ -104,7 +111,7 @@ fn ask(alloc: Global, store: &mut Store) -> Result<Vec<u8>, AllocError> {
         closes: false,
     };
     let target = target(alloc)?;
-    let reaction = react(alloc, store, &wanted, &target, &request)?;
+    let reaction = react(alloc, store, &wanted, &target, &request, NONE_BEHIND)?;
     shown(alloc, &reaction)
 }
 
@@ -120,8 +127,20 @@ fn answer(alloc: Global, store: &mut Store) -> Result<Vec<u8>, AllocError> {
     };
     let forward = forward(alloc, b"GET")?;
     let response = response(alloc)?;
-    let reply = respond(alloc, store, &wanted, forward, Cause::UriMiss, response)?;
-    said(alloc, &reply)
+    let outcome = respond(
+        alloc,
+        store,
+        &wanted,
+        forward,
+        Cause::UriMiss,
+        false,
+        2,
+        response,
+    )?;
+    match &outcome {
+        Outcome::Replies(reply) => said(alloc, reply),
+        Outcome::GoesAnew => Vec::from_slice(alloc, b"anew"),
+    }
 }
 
 // The status where it doesn't.
@@ -169,7 +188,7 @@ fn other_outcomes(alloc: Global) -> Result<(u16, Vec<u8>, Vec<u8>), AllocError> 
     store_behind(alloc, &mut store, get, NOW, &response)?;
     let stored = ask(alloc, &mut store)?;
     let post = forward(alloc, b"POST")?;
-    renew(&mut store, &post, &response.head);
+    renew(&mut store, &post, NOW, 2, &response.head);
     Ok((status, stored, ask(alloc, &mut store)?))
 }
 
