@@ -1,7 +1,7 @@
 //! What a request that waits for a forward gets once the forward ends, and what the store is told.
 
 ghost use Rattle.std.specs.Prelude.{◌≡◌, ◌<◌, ◌||◌, false, IfOk, OnOk};
-ghost use Rattle.std.specs.Option.{option_copied, option_map};
+ghost use Rattle.std.specs.Option.{option_copied};
 ghost use Rattle.hc_head.specs.Methods.{is_get, is_head};
 ghost use Rattle.hc_fields.specs.Numbers.{end_of_moments};
 ghost use Rattle.hc_service.specs.declared.cases.Cause.{Cause};

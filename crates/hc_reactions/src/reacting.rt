@@ -1,10 +1,13 @@
 //! What a whole request gets at once: a reply, or a forward.
 
-ghost use Rattle.std.specs.Prelude.{◌≡◌, ◌<◌, ◌&&◌, false, true, not, nat_lt, IfOk, Option, None, if◌then◌else◌};
+ghost use Rattle.std.specs.Prelude.{◌≡◌, ◌<◌, ◌&&◌, false, not, nat_lt, IfOk};
 ghost use Rattle.std.specs.Option.{option_copied};
 ghost use Rattle.hc_fields.specs.Numbers.{end_of_moments};
+ghost use Rattle.hc_head.specs.declared.head.RequestHead.{RequestHead};
+ghost use Rattle.hc_head.specs.declared.head.Target.{Target};
+ghost use Rattle.hc_framing.specs.declared.message.Message.{Message};
 ghost use Rattle.hc_service.specs.State.{Awaited, Table};
-ghost use Rattle.hc_service.specs.Reactions.{Reacts, ReactsByStore, bare, chosen_reaction, forward_anew, forward_reaction, hit_reaction, is_validated_behind, most_background, plain_forward, stored_forward, validation_behind};
+ghost use Rattle.hc_service.specs.Reactions.{Reacts, ReactsByStore, bare, chosen_reaction, forward_anew, forward_reaction, hit_reaction, is_validated_behind, most_background, plain_forward, stored_forward};
 ghost use Rattle.hc_service.specs.Reactions.Reaction.{Sends};
 ghost use Rattle.hc_service.specs.declared.cases.Case.TheVariants.{Hit};
 ghost use Rattle.hc_rules.specs.Forwards.{conditional_request};

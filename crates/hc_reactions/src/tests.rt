@@ -1,6 +1,6 @@
 //! What no clause says: that calls succeed, and the marks of a first hit.
 use crate::outcomes::{Outcome, fail, renew, respond, store_behind};
-use crate::reacting::{OpenBehind, Reaction, react};
+use crate::reacting::{OpenBehind, Reaction, forward_anew, react};
 use crate::sending::{
     Addressee, record_failure, record_request, record_response, refuse, send_reply, send_request,
 };
@@ -26,6 +26,7 @@ const NONE_BEHIND: OpenBehind = OpenBehind {
 const RESPONSE: Lines<'static> = &[
     (b"date", b"Thu, 01 Jan 1970 00:16:40 GMT"),
     (b"cache-control", b"max-age=60"),
+    (b"etag", b"\"a\""),
 ];
 
 fn fields(alloc: Global, lines: Lines<'_>) -> Result<Fields, AllocError> {
@@ -115,6 +116,13 @@ fn ask(alloc: Global, store: &mut Store) -> Result<Vec<u8>, AllocError> {
     shown(alloc, &reaction)
 }
 
+fn outcome_said(alloc: Global, outcome: &Outcome) -> Result<Vec<u8>, AllocError> {
+    match outcome {
+        Outcome::Replies(reply) => said(alloc, reply),
+        Outcome::GoesAnew => Vec::from_slice(alloc, b"anew"),
+    }
+}
+
 // What the client gets where the origin answers.
 fn answer(alloc: Global, store: &mut Store) -> Result<Vec<u8>, AllocError> {
     let name = Octets::from_slice(alloc, b"hcache")?;
@@ -137,10 +145,35 @@ fn answer(alloc: Global, store: &mut Store) -> Result<Vec<u8>, AllocError> {
         2,
         response,
     )?;
-    match &outcome {
-        Outcome::Replies(reply) => said(alloc, reply),
-        Outcome::GoesAnew => Vec::from_slice(alloc, b"anew"),
-    }
+    outcome_said(alloc, &outcome)
+}
+
+// What it gets where the origin says that what is stored still holds.
+fn validated(alloc: Global, store: &mut Store) -> Result<Vec<u8>, AllocError> {
+    let name = Octets::from_slice(alloc, b"hcache")?;
+    let asked = head(alloc, b"GET")?;
+    let wanted = WantedReply {
+        name: &name,
+        moment: NOW,
+        asked: &asked,
+        closes: false,
+    };
+    let forward = forward(alloc, b"GET")?;
+    let mut response = response(alloc)?;
+    response.head.status = 304;
+    response.body = SharedOctets::new();
+    renew(store, &forward, NOW, 5, &response.head);
+    let outcome = respond(
+        alloc,
+        store,
+        &wanted,
+        forward,
+        Cause::Stale,
+        true,
+        5,
+        response,
+    )?;
+    outcome_said(alloc, &outcome)
 }
 
 // The status where it doesn't.
@@ -198,6 +231,30 @@ fn failures_background_and_invalidation(rt: HostRuntime) -> Result<(), Fail> {
     assert_eq!(rt; status, 502);
     assert_eq!(rt; stored.as_slice(), b"hcache;hit;ttl=60: hello".as_slice());
     assert_eq!(rt; invalidated.as_slice(), b"GET".as_slice());
+    Ok(())
+}
+
+// What a validation gives while nothing is stored, and behind an answer; and the method of a forward anew.
+fn validations(alloc: Global) -> Result<Vec<u8>, AllocError> {
+    let mut store = Store::new(alloc, 2, 1000)?;
+    let mut text = validated(alloc, &mut store)?;
+    text.extend_from_slice(b", ")?;
+    answer(alloc, &mut store)?;
+    text.extend_from_slice(validated(alloc, &mut store)?.as_slice())?;
+    text.extend_from_slice(b", ")?;
+    let target = target(alloc)?;
+    let again = forward_anew(alloc, b"hcache", &target, &head(alloc, b"HEAD")?)?;
+    text.extend_from_slice(again.head.method.as_slice())?;
+    Ok(text)
+}
+
+#[test]
+fn what_is_validated_is_the_reply_while_it_is_stored(rt: HostRuntime) -> Result<(), Fail> {
+    let text = validations(rt.alloc())?;
+    assert_eq!(rt;
+        text.as_slice(),
+        b"anew, hcache;fwd=stale;fwd-status=304: hello, HEAD".as_slice()
+    );
     Ok(())
 }
 
