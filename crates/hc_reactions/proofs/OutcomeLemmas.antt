@@ -1,7 +1,9 @@
 -- What a request that waits for a forward gets once the origin has answered.
 use Rattle.std.proofs.Common.{◌≡◌, ◌∙◌, ℕ, Bool, List, true, false, not, Option, Some, None, IfOk, Ok, Err, Result, ap, refl, sym, subst}
 use Rattle.std.specs.Prelude.{◌&&◌, ◌||◌, ◌==◌}
+use Rattle.hc_fields.specs.declared.fields.Field.{Field}
 use Rattle.hc_head.specs.declared.head.ResponseHead.{ResponseHead}
+use Rattle.hc_head.specs.declared.head.Target.{Target}
 use Rattle.hc_head.specs.Methods.{is_get, is_head}
 use Rattle.hc_head.specs.Statuses.{not_modified}
 use Rattle.hc_framing.specs.declared.message.Message.{Message}
@@ -9,7 +11,7 @@ use Rattle.hc_store.specs.Entries.{Holdings}
 use Rattle.hc_service.specs.declared.cases.Cause.{Cause}
 use Rattle.hc_service.specs.declared.open.OpenForward.{OpenForward}
 use Rattle.hc_service.specs.Choices.{Finds, OnTest, validated_by}
-use Rattle.hc_service.specs.Answers.{FailsByStore, Passes, Replaces, Responds, StandsIn, failed_outcome, has_condition, is_replaceable, is_unasked, is_validation, standing_in, validated_outcome}
+use Rattle.hc_service.specs.Answers.{FailsByStore, Passes, Replaces, Responds, failed_outcome, has_condition, is_replaceable, is_unasked, is_validation, standing_in, validated_outcome}
 use Rattle.hc_service.specs.Answers.Outcome.{Replies}
 use Rattle.hc_service.specs.Replying.{Wanted, bad_gateway, failure_status, made_reply, replacing_reply}
 use Rattle.hc_update.specs.declared.stored.Stored.{Stored}
@@ -102,70 +104,39 @@ some_same a b e = cc
 some_none : {X : Type 0} (a : X) → Some a ≡ None → ⊥
 some_none a e = cc
 
--- what stands in, as the outcome
-stands_in : (wanted : Wanted) (forward : OpenForward) (cause : Cause) (response : Message ResponseHead) (status : ℕ) (reply : Message ResponseHead)
-    (between : Holdings) (standing : Option Stored)
-    → status ≡ response.head.status
-    → Some reply ≡ replacing wanted cause (Some status) standing
-    → StandsIn wanted forward cause standing wanted.moment response between (Replies reply) between
-stands_in wanted forward cause response status reply between (Some stored) is gives =
-    (ap (λ (r : Message ResponseHead). Replies r) (some_same _ _ gives)
-    ∙ ap (λ (n : ℕ). Replies (replacing_reply wanted cause (Some n) stored)) is, refl)
-stands_in wanted forward cause response status reply between None is gives = absurd (some_none _ gives)
-
-pub replaces_by_stored : (wanted : Wanted) (forward : OpenForward) (cause : Cause) (response : Message ResponseHead) (status : ℕ)
-    (old new : Holdings) (reply : Message ResponseHead) (answer : Option (Message ResponseHead))
-    → status ≡ response.head.status
-    → answer ≡ Some reply
-    → GivesStandIn wanted forward cause status old answer new
-    → Replaces wanted forward cause wanted.moment response old (Replies reply) new
-replaces_by_stored wanted forward cause response status old new reply answer is found gives = record {
-  chosen = gives.chosen;
-  between = new;
-  finds = gives.finds;
-  ends = stands_in wanted forward cause response status reply new (standing_in wanted forward cause gives.chosen) is (sym found ∙ gives.reply_is);
-}
-
--- nothing stands in, so that the error is passed on
-passes_on : (wanted : Wanted) (forward : OpenForward) (cause : Cause) (response : Message ResponseHead) (status : ℕ) (reply : Message ResponseHead)
-    (between new : Holdings) (standing : Option Stored)
-    → None ≡ replacing wanted cause (Some status) standing
-    → Passes wanted forward cause wanted.moment response between (Replies reply) new
-    → StandsIn wanted forward cause standing wanted.moment response between (Replies reply) new
-passes_on wanted forward cause response status reply between new None gives passes = passes
-passes_on wanted forward cause response status reply between new (Some stored) gives passes = absurd (some_none _ (sym gives))
-
-pub replaces_by_passing : {E : Type 0} (wanted : Wanted) (forward : OpenForward) (cause : Cause) (response : Message ResponseHead) (status : ℕ)
-    (old between new : Holdings) (none : Option (Message ResponseHead)) (answer : Result (Message ResponseHead) E)
-    → none ≡ None
-    → GivesStandIn wanted forward cause status old none between
-    → IfOk answer (λ reply. Passes wanted forward cause wanted.moment response between (Replies reply) new)
-    → IfOk answer (λ reply. Replaces wanted forward cause wanted.moment response old (Replies reply) new)
-replaces_by_passing wanted forward cause response status old between new none (Ok reply) found gives passes = record {
-  chosen = gives.chosen;
-  between = between;
-  finds = gives.finds;
-  ends = passes_on wanted forward cause response status reply between new (standing_in wanted forward cause gives.chosen)
-      (sym found ∙ gives.reply_is) passes;
-}
-replaces_by_passing wanted forward cause response status old between new none (Err e) found gives passes = passes
+-- what the store is asked for, by the fields of the request
+asked_finds : (target : Target) (asked fields : List Field) (old new : Holdings) (chosen : Option Stored)
+    → asked ≡ fields
+    → Finds target asked old chosen new
+    → Finds target fields old chosen new
+asked_finds target asked fields old new chosen is finds = subst (λ (f : List Field). Finds target f old chosen new) is finds
 
 -- what the store chose decides
 pub stand_in_gives : {E : Type 0} (wanted : Wanted) (forward : OpenForward) (cause : Cause) (status : ℕ) (old new : Holdings) (chosen : Option Stored)
-    (answer : Result (Option (Message ResponseHead)) E)
-    → Finds forward.target wanted.asked.fields old chosen new
+    (asked : List Field) (answer : Result (Option (Message ResponseHead)) E)
+    → asked ≡ wanted.asked.fields
+    → Finds forward.target asked old chosen new
     → IfOk answer (λ reply. reply ≡ replacing wanted cause (Some status) (standing_in wanted forward cause chosen))
     → IfOk answer (λ reply. GivesStandIn wanted forward cause status old reply new)
-stand_in_gives wanted forward cause status old new chosen (Ok reply) finds gives = record { chosen = chosen; finds = finds; reply_is = gives }
-stand_in_gives wanted forward cause status old new chosen (Err e) finds gives = gives
+stand_in_gives wanted forward cause status old new chosen asked (Ok reply) is finds gives = record {
+  chosen = chosen;
+  finds = asked_finds forward.target asked wanted.asked.fields old new chosen is finds;
+  reply_is = gives;
+}
+stand_in_gives wanted forward cause status old new chosen asked (Err e) is finds gives = gives
 
 pub failure_gives : {E : Type 0} (wanted : Wanted) (forward : OpenForward) (cause : Cause) (old new : Holdings) (chosen : Option Stored)
-    (answer : Result (Message ResponseHead) E)
-    → Finds forward.target wanted.asked.fields old chosen new
+    (asked : List Field) (answer : Result (Message ResponseHead) E)
+    → asked ≡ wanted.asked.fields
+    → Finds forward.target asked old chosen new
     → IfOk answer (λ reply. Replies reply ≡ failed_outcome wanted forward cause chosen (standing_in wanted forward cause chosen))
     → IfOk answer (λ reply. FailsByStore wanted forward cause old (Replies reply) new)
-failure_gives wanted forward cause old new chosen (Ok reply) finds gives = record { chosen = chosen; finds = finds; outcome_is = gives }
-failure_gives wanted forward cause old new chosen (Err e) finds gives = gives
+failure_gives wanted forward cause old new chosen asked (Ok reply) is finds gives = record {
+  chosen = chosen;
+  finds = asked_finds forward.target asked wanted.asked.fields old new chosen is finds;
+  outcome_is = gives;
+}
+failure_gives wanted forward cause old new chosen asked (Err e) is finds gives = gives
 
 -- the reply to a failure: what stands in, or one that says that there is none
 pub failed_by_stored : (wanted : Wanted) (forward : OpenForward) (cause : Cause) (chosen standing : Option Stored) (reply : Message ResponseHead)
@@ -178,8 +149,8 @@ failed_with_status : (wanted : Wanted) (forward : OpenForward) (cause : Cause) (
     → None ≡ replacing wanted cause None standing
     → reply ≡ made_reply wanted (failure_status chosen)
     → Replies reply ≡ failed_outcome wanted forward cause chosen standing
-failed_with_status wanted forward cause chosen None reply none gives = ap (λ (r : Message ResponseHead). Replies r) gives
-failed_with_status wanted forward cause chosen (Some stored) reply none gives = absurd (some_none _ (sym none))
+failed_with_status wanted forward cause chosen None reply nothing gives = ap (λ (r : Message ResponseHead). Replies r) gives
+failed_with_status wanted forward cause chosen (Some stored) reply nothing gives = absurd (some_none _ (sym nothing))
 
 pub failed_by_none : {E : Type 0} (wanted : Wanted) (forward : OpenForward) (cause : Cause) (chosen standing : Option Stored) (status : ℕ)
     (answer : Result (Message ResponseHead) E)
@@ -187,6 +158,6 @@ pub failed_by_none : {E : Type 0} (wanted : Wanted) (forward : OpenForward) (cau
     → status ≡ failure_status chosen
     → IfOk answer (λ reply. reply ≡ made_reply wanted status)
     → IfOk answer (λ reply. Replies reply ≡ failed_outcome wanted forward cause chosen standing)
-failed_by_none wanted forward cause chosen standing status (Ok reply) none is gives =
-    failed_with_status wanted forward cause chosen standing reply none (gives ∙ ap (λ (n : ℕ). made_reply wanted n) is)
-failed_by_none wanted forward cause chosen standing status (Err e) none is gives = gives
+failed_by_none wanted forward cause chosen standing status (Ok reply) nothing is gives =
+    failed_with_status wanted forward cause chosen standing reply nothing (gives ∙ ap (λ (n : ℕ). made_reply wanted n) is)
+failed_by_none wanted forward cause chosen standing status (Err e) nothing is gives = gives

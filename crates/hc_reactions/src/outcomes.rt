@@ -343,9 +343,7 @@ pub fn respond<S: BuildHasher>(
     if is_validation(conditional, &response.head) {
         return validated_outcome(alloc, store, wanted, &forward, cause, position);
     }
-    Ok(Outcome::Replies(answered(
-        alloc, store, wanted, forward, cause, response,
-    )?))
+    Ok(Outcome::Replies(answered(alloc, store, wanted, forward, cause, response)?))
 }
 
 /// The reply to a request whose forward failed, by what the store chose.
@@ -359,10 +357,11 @@ fn failed_reply(
     ensures { (forward : OpenForward) → IfOk result (λ reply. Replies reply ≡ failed_outcome wanted.now forward cause (option_copied chosen.entry)
         (standing_in wanted.now forward cause (option_copied chosen.entry))) }
 {
-    if let Some(reply) = stand_in(alloc, wanted, cause, None, chosen)? {
-        return Ok(reply);
+    let stands = stand_in(alloc, wanted, cause, None, chosen)?;
+    match stands {
+        Some(reply) => Ok(reply),
+        None => made_reply(alloc, wanted, failure_status(chosen)),
     }
-    made_reply(alloc, wanted, failure_status(chosen))
 }
 
 /// The reply to a request whose forward failed; the store is asked once more.

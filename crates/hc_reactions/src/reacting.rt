@@ -83,9 +83,7 @@ fn is_validated_behind(stored: &Stored, moment: u64, open_behind: OpenBehind) ->
     ensures { (target : Target) (forwards : Table Awaited) → IsOpenBehind target forwards open_behind
         → result ≡ is_validated_behind stored.now moment target forwards }
 {
-    !is_fresh(stored, moment)
-        && while_revalidating(stored, moment)
-        && has_place_behind(open_behind)
+    !is_fresh(stored, moment) && while_revalidating(stored, moment) && has_place_behind(open_behind)
 }
 
 /// A GET that asks whether what is stored still holds.
@@ -98,13 +96,7 @@ fn conditional_forward(
 ) -> Result<Message<RequestHead>, AllocError>
     ensures { IfOk result (λ forward. forward ≡ bare (conditional_request wanted.now.name target.now asked.now stored.now.fields)) }
 {
-    let head = conditional_request(
-        alloc,
-        wanted.name.as_slice(),
-        target,
-        asked,
-        &stored.fields,
-    )?;
+    let head = conditional_request(alloc, wanted.name.as_slice(), target, asked, &stored.fields)?;
     Ok(bare(head))
 }
 
