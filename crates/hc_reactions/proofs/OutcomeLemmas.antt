@@ -55,7 +55,7 @@ validation_gets wanted forward cause conditional position response old new (Ok o
 validation_gets wanted forward cause conditional position response old new (Err e) is same gives = gives
 
 -- any other response
-pub other_gets : {E : Type 0} (wanted : Wanted) (forward : OpenForward) (cause : Cause) (conditional : Bool) (position : ℕ)
+pub other_gets : (wanted : Wanted) (forward : OpenForward) (cause : Cause) (conditional : Bool) (position : ℕ)
     (response : Message ResponseHead) (old new : Holdings) (reply : Message ResponseHead)
     → is_validation wanted forward cause conditional response.head ≡ false
     → Answered wanted forward cause response old (Replies reply) new
