@@ -1,7 +1,7 @@
 -- A forward ends: what that makes of each part.
-use Rattle.std.proofs.Common.{append_assoc, ◌≡◌, ℕ, Bool, ◌||◌, cond, List, ◌++◌, Option, Some, None, refl, sym, ap, ◌∙◌, subst}
+use Rattle.std.proofs.Common.{append_assoc, ◌≡◌, ℕ, Bool, false, ◌||◌, cond, List, ◌++◌, Option, Some, None, refl, sym, ap, ◌∙◌, subst}
 use Rattle.std.specs.BTreeMap.{BTreeMap}
-use Rattle.std.specs.FinMap.{get, remove}
+use Rattle.std.specs.FinMap.{get, insert, remove}
 use Rattle.std.specs.Option.{IsSome, option_map, option_and_then}
 use Rattle.hc_head.specs.declared.head.ResponseHead.{ResponseHead}
 use Rattle.hc_head.specs.Methods.{is_head}
@@ -16,23 +16,24 @@ use Rattle.hc_service.specs.declared.open.Purpose.{Purpose}
 use Rattle.hc_service.specs.declared.open.Purpose.TheVariants as purpose
 use Rattle.hc_service.specs.declared.settings.CoreSettings.{CoreSettings}
 use Rattle.hc_service.specs.Answers.{Outcome, Renews}
-use Rattle.hc_service.specs.Answers.Outcome.{Replies}
+use Rattle.hc_service.specs.Answers.Outcome.{Replies, GoesAnew}
 use Rattle.hc_service.specs.Asking.{ends_connection}
-use Rattle.hc_service.specs.Numbers.{noted, one_more}
+use Rattle.hc_service.specs.Numbers.{noted, one_more, sent}
+use Rattle.hc_service.specs.Reactions.{forward_anew}
 use Rattle.hc_service.specs.Replying.{Wanted}
-use Rattle.hc_service.specs.Sending.{failure_actions, reply_actions, response_actions}
+use Rattle.hc_service.specs.Sending.{failure_actions, reply_actions, response_actions, send_actions}
 use Rattle.hc_service.specs.Serves.{Turn, Takes, client_by, client_of}
 use Rattle.hc_service.specs.State.{State, Awaited}
-use Rattle.hc_service.specs.Turns.{Answers, Breaks, EndsBehind, EndsByFailure, EndsByResponse, EndsFor, Failure, HasFailure, IsAnswer, after_reply, closes_behind, is_closed, replied, wanted_now}
+use Rattle.hc_service.specs.Turns.{Answers, Breaks, EndsBehind, EndsByFailure, EndsByResponse, EndsFor, Failure, HasFailure, IsAnswer, after_reply, closes_behind, is_closed, replied, sent_forward, wanted_now}
 use Rattle.hc_core.specs.declared.answering.Waiting.{Waiting}
 use Rattle.hc_core.specs.declared.desk.Desk.{Desk}
 use Rattle.hc_core.specs.declared.links.Client.{Client}
-use Rattle.hc_core.specs.declared.links.Link.{Link}
-use Rattle.hc_core.specs.Ending.{GivesReply, IsMissing, IsTaken, is_last, wanted_of}
+use Rattle.hc_core.specs.declared.open_links.OpenLinks.{OpenLinks}
+use Rattle.hc_core.specs.Ending.{GivesForwardAnew, GivesReply, IsMissing, IsTaken, is_last, request_anew, wanted_of}
 use Rattle.hc_core.specs.Links.{AreClients, AreExchanges, AreLinks}
 use Rattle.hc_service.specs.Agreement.{HasExchange, IsReady}
 use Rattle.hc_core.specs.Standing.{GivesEnding, Stands, without_forward}
-use Rattle.hc_core.proofs.TableLemmas.{put_back}
+use Rattle.hc_core.proofs.TableLemmas.{put_back, put_same}
 
 -- what is there is something
 there_is : {X : Type 0} (o : Option X) → IsSome o → (x : X) × (o ≡ Some x)
@@ -92,7 +93,7 @@ module _ (S H : Type 0) (settings : CoreSettings) (d : Desk S H) (s : State) (f 
   numbers_ended first before after mid ended = ended.numbers ∙ ap noted stands.numbers
 
   links_ended : (first before after : List Action) (mid : Desk S H) → HasEnded first before after mid → AreLinks mid.links (remove s.forwards f)
-  links_ended first before after mid ended = subst (λ (l : BTreeMap ℕ Link). AreLinks l (remove s.forwards f)) (sym ended.links) stands.links
+  links_ended first before after mid ended = subst (λ (l : OpenLinks). AreLinks l (remove s.forwards f)) (sym ended.links) stands.links
 
   -- nobody waits for it
   pub ends_behind : (turn : Turn) (first before after : List Action) (mid : Desk S H) → HasEnded first before after mid → mid.clients ≡ d.clients → mid.exchanges ≡ d.exchanges
@@ -188,7 +189,7 @@ module _ (S H : Type 0) (settings : CoreSettings) (d : Desk S H) (s : State) (f 
                 (gives.clients (remove s.connections x.connection) (after_reply k.unread k) taken.are_clients
                 (record { reads = taken.is_client.reads; exchange = refl; leaves = taken.is_client.leaves }));
             exchanges = subst (λ (y : BTreeMap ℕ OpenExchange). AreExchanges y (remove s.exchanges e)) (sym gives.exchanges) taken.are_exchanges;
-            links = subst (λ (y : BTreeMap ℕ Link). AreLinks y (remove s.forwards f)) (sym gives.links) (links_ended first before after mid ended);
+            links = subst (λ (y : OpenLinks). AreLinks y (remove s.forwards f)) (sym gives.links) (links_ended first before after mid ended);
             store = refl;
             in_time = stands.in_time;
           };
@@ -204,6 +205,68 @@ module _ (S H : Type 0) (settings : CoreSettings) (d : Desk S H) (s : State) (f 
                 is_open = taken.there;
                 outcome = Replies reply;
                 decided = subst (λ (y : Wanted). decides y (Replies reply) new.store) wanted gives.decided;
+                does = record { numbers = refl; connections = refl; exchanges = refl; forwards = refl; actions_are = refl };
+              }),
+            ),
+            sym (client_is (purpose.Reply e why conditional) is ∙ ap (option_map (λ (y : OpenExchange). y.connection)) taken.waits),
+          );
+        }
+
+    -- the request that waits for it goes to the origin anew
+    pub ends_with_forward : (turn : Turn) (decides : Wanted → Outcome → Holdings → Type 0) (first before after last : List Action) (mid new : Desk S H) (w : Waiting)
+        → HasEnded first before after mid → IsTaken e w s.exchanges s.connections mid.exchanges mid.clients
+        → GivesForwardAnew {S = S} {H = H} w why (λ old fresh. decides (wanted_of mid w) GoesAnew fresh) after last mid new
+        → ((added : List Action) (s' : State) → EndsFor settings decides f e why first s added s' → Takes settings turn s added s')
+        → GivesEnding {S = S} {H = H} settings turn f (Some w.exchange.connection) s before last new
+    ends_with_forward turn decides first before after last mid new w ended taken gives takes =
+        let x = w.exchange in
+        let k = taken.connection in
+        let n : mid.numbers ≡ noted s.numbers = numbers_ended first before after mid ended in
+        let m : mid.numbers.moment ≡ s.numbers.moment = ap (λ (y : Numbers). y.moment) n in
+        let next : one_more mid.numbers.forward ≡ one_more s.numbers.forward = ap (λ (y : Numbers). one_more y.forward) n in
+        let b : is_last w ≡ closes_behind x.request k = ap (λ (c : Bool). ends_connection x.request || c) taken.is_client.leaves in
+        let name : mid.name ≡ settings.name = ended.name ∙ stands.name in
+        let wanted : wanted_of mid w ≡ wanted_now settings s x.request k =
+        λ i. record { name = name i; moment = m i; asked = x.request; closes = b i } in
+        let request = forward_anew settings.name x.target x.request in
+        let left : State = record {
+          numbers = sent (noted s.numbers);
+          connections = s.connections;
+          exchanges = s.exchanges;
+          forwards = insert (remove s.forwards f) (one_more s.numbers.forward)
+              (sent_forward request.head x.target s.numbers.moment (purpose.Reply e why false));
+          store = new.store;
+        } in
+        let sends : List Action = send_actions (one_more s.numbers.forward) s.numbers.moment request in
+        record {
+          state = left;
+          stands = record {
+            name = gives.name ∙ name;
+            numbers = gives.numbers ∙ ap sent n;
+            clients = subst (AreClients new.clients) (put_back s.connections x.connection k ∙ put_same s.connections x.connection k taken.there)
+                (gives.clients (remove s.connections x.connection) k taken.are_clients taken.is_client);
+            exchanges = subst (AreExchanges new.exchanges)
+                (ap (λ (q : ℕ). insert (remove s.exchanges e) q x) taken.number_is ∙ put_back s.exchanges e x ∙ put_same s.exchanges e x taken.waits)
+                (gives.exchanges (remove s.exchanges e) taken.are_exchanges);
+            links = subst (AreLinks new.links)
+                (λ i. insert (remove s.forwards f) (next i)
+                (sent_forward (forward_anew (name i) x.target x.request).head x.target (m i) (purpose.Reply (taken.number_is i) why false)))
+                (gives.links (remove s.forwards f) (links_ended first before after mid ended));
+            store = refl;
+            in_time = stands.in_time;
+          };
+          takes = λ ready. (
+            (
+              first ++ sends,
+              gives.actions ∙ ap (λ (l : List Action). l ++ send_actions (one_more mid.numbers.forward) mid.numbers.moment (request_anew mid w)) ended.actions
+                  ∙ append_assoc before first _ ∙ (λ i. before ++ (first ++ send_actions (next i) (m i) (forward_anew (name i) x.target x.request))),
+              takes (first ++ sends) left (record {
+                exchange = x;
+                is_waiting = taken.waits;
+                connection = k;
+                is_open = taken.there;
+                outcome = GoesAnew;
+                decided = subst (λ (y : Wanted). decides y GoesAnew new.store) wanted gives.decided;
                 does = record { numbers = refl; connections = refl; exchanges = refl; forwards = refl; actions_are = refl };
               }),
             ),

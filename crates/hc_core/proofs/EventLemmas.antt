@@ -119,6 +119,9 @@ module _ (S H : Type 0) where
       let tests = passes_tests event can.state none in
       record { settings = can.settings; state = can.state; stands = can.stands; known = tests.0; has_place = tests.1 }
 
+  pub can_serve : (of : Happening) (d : Desk S H) → CanTake {S = S} {H = H} of d → CanServe {S = S} {H = H} d
+  can_serve of d can = record { settings = can.settings; state = can.state; stands = can.stands }
+
   serves_event : (settings : CoreSettings) (event : Event) (s : State) (actions : List Action) (d : Desk S H) → first_fault event s ≡ None
       → GivesDoing {S = S} {H = H} settings event.of (passed_to event.moment s) actions d → GivesService {S = S} {H = H} settings event s actions d
   serves_event settings event s actions d none gives = record {

@@ -1,6 +1,6 @@
 -- The link of a forward is taken out: what is left, and what came on it.
-use Rattle.std.proofs.Common.{◌≡◌, ◌⊎◌, ℕ, Bool, List, ◌++◌, Some, Result, Ok, Err, IfOk, sym, subst, inl, inr}
-use Rattle.std.specs.BTreeMap.{BTreeMap, get as kept_at}
+use Rattle.std.proofs.Common.{◌≡◌, ◌⊎◌, ℕ, Bool, List, ◌++◌, Option, Some, None, Result, Ok, Err, IfOk, sym, subst, inl, inr, ◌∙◌}
+use Rattle.std.specs.BTreeMap.{get as kept_at}
 use Rattle.std.specs.FinMap.{get, remove}
 use Rattle.std.specs.Ordering.{nat_cmp}
 use Rattle.hc_head.specs.declared.head.ResponseHead.{ResponseHead}
@@ -14,9 +14,10 @@ use Rattle.hc_service.specs.State.{State, Awaited}
 use Rattle.hc_service.specs.Turns.{Failure, HasFailure, IsAnswer, after_hearing}
 use Rattle.hc_core.specs.declared.desk.Desk.{Desk}
 use Rattle.hc_core.specs.declared.links.Link.{Link}
+use Rattle.hc_core.specs.declared.open_links.OpenLinks.{OpenLinks}
 use Rattle.hc_core.specs.Links.{AreLinks, IsLink}
 use Rattle.hc_core.specs.Standing.{Stands, without_forward}
-use Rattle.hc_core.proofs.TableLemmas.{found_for}
+use Rattle.hc_core.proofs.TableLemmas.{found_for, found_none}
 
 -- one of two ways
 pub left_way : {A E : Type 0} (r : Result A E) (P Q : A → Type 0) → IfOk r P → IfOk r (λ x. P x ⊎ Q x)
@@ -27,14 +28,28 @@ pub right_way : {A E : Type 0} (r : Result A E) (P Q : A → Type 0) → IfOk r 
 right_way (Ok x) P Q q = inr q
 right_way (Err e) P Q q = tt
 
+one_is : (a b : Awaited) → Some a ≡ Some b → a ≡ b
+one_is a b e = cc
+
+-- a forward that was taken out is the one that was there
+pub taken_link : (link : Link) (o : Option Awaited) (a awaited : Awaited) → o ≡ Some a → o ≡ Some awaited → IsLink link a → IsLink link awaited
+taken_link link o a awaited is there like = subst (IsLink link) (one_is a awaited (sym is ∙ there)) like
+
+-- it was there
+pub none_or_some : (o : Option Awaited) (a : Awaited) → o ≡ None → o ≡ Some a → ⊥
+none_or_some o a none some = cc
+
 module _ (S H : Type 0) (settings : CoreSettings) (d : Desk S H) (s : State) (f : ℕ) (awaited : Awaited)
     (stands : Stands {S = S} {H = H} settings d s) (there : get s.forwards f ≡ Some awaited) where
-  -- its link
-  pub link_of : (link : Link) → kept_at nat_cmp d.links f ≡ Some link → IsLink link awaited
-  link_of link is = found_for IsLink _ _ link awaited (stands.links.at f) is there
+  -- its link is there
+  pub has_link : kept_at nat_cmp d.links.by_number f ≡ None → ⊥
+  has_link none = none_or_some (get s.forwards f) awaited (found_none IsLink _ _ (stands.links.by_number.at f) none) there
+
+  pub link_of : (link : Link) → kept_at nat_cmp d.links.by_number f ≡ Some link → IsLink link awaited
+  link_of link is = found_for IsLink _ _ link awaited (stands.links.by_number.at f) is there
 
   -- without it, what is kept is that of the state without the forward
-  pub stands_without : (links : BTreeMap ℕ Link) → AreLinks links (remove s.forwards f)
+  pub stands_without : (links : OpenLinks) → AreLinks links (remove s.forwards f)
       → Stands {S = S} {H = H} settings (record { alloc = d.alloc; name = d.name; numbers = d.numbers; clients = d.clients; exchanges = d.exchanges; links = links; store = d.store })
       (without_forward f s)
   stands_without links are = record {

@@ -33,6 +33,20 @@ pub given_up_at_end : (answer : Option ℕ) (octets : List ℕ) → answer ≡ N
 given_up_at_end answer octets is gives = subst (λ (o : Option ℕ). requests.GivesEnd (Ok o) octets) is gives
 
 module _ (S H : Type 0) (settings : CoreSettings) (c : ℕ) where
+  -- a client that is taken out leaves what the state without it has
+  pub left_without : (d : Desk S H) (s : State) (clients : BTreeMap ℕ Client) → Stands {S = S} {H = H} settings d s → AreClients clients (remove s.connections c)
+      → Stands {S = S} {H = H} settings (record { alloc = d.alloc; name = d.name; numbers = d.numbers; clients = clients; exchanges = d.exchanges; links = d.links; store = d.store })
+      (without_connection c s)
+  left_without d s clients stands are = record {
+    name = stands.name;
+    numbers = stands.numbers;
+    clients = are;
+    exchanges = stands.exchanges;
+    links = stands.links;
+    store = stands.store;
+    in_time = stands.in_time;
+  }
+
   module _ (d : Desk S H) (s : State) (k : Connection) (stands : Stands {S = S} {H = H} settings d (without_connection c s)) (there : get s.connections c ≡ Some k) where
     -- the state with that connection
     abbrev with_connection : Connection → State

@@ -1,4 +1,6 @@
 pub mod TableLemmas
+pub mod CountLemmas
+pub mod BehindLemmas
 pub mod LinkLemmas
 pub mod ClientLemmas
 pub mod AskLemmas

@@ -1,5 +1,5 @@
 -- A forward ends with a response, or by a failure: for the store alone, or for a request that waits.
-use Rattle.std.proofs.Common.{◌≡◌, ℕ, Bool, List, ◌++◌, Some, None, refl, sym, ap, ◌∙◌, subst}
+use Rattle.std.proofs.Common.{◌≡◌, ℕ, Bool, List, ◌++◌, Some, None, refl, sym, ap, ◌∙◌, subst, inl, inr}
 use Rattle.std.specs.BTreeMap.{BTreeMap}
 use Rattle.std.specs.FinMap.{get}
 use Rattle.hc_head.specs.declared.head.ResponseHead.{ResponseHead}
@@ -15,7 +15,7 @@ use Rattle.hc_service.specs.declared.open.Purpose.{Purpose}
 use Rattle.hc_service.specs.declared.open.Purpose.TheVariants as purpose
 use Rattle.hc_service.specs.declared.settings.CoreSettings.{CoreSettings}
 use Rattle.hc_service.specs.Answers.{Fails, Renews, Responds, StoresBehind}
-use Rattle.hc_service.specs.Answers.Outcome.{Replies}
+use Rattle.hc_service.specs.Answers.Outcome.{Replies, GoesAnew}
 use Rattle.hc_service.specs.Numbers.{noted, one_more}
 use Rattle.hc_service.specs.Sending.{failure_actions, response_actions}
 use Rattle.hc_service.specs.Serves.Turn.{Answering, Failing}
@@ -24,9 +24,9 @@ use Rattle.hc_service.specs.Turns.{Answers, Breaks, EndsByFailure, EndsByRespons
 use Rattle.hc_core.specs.declared.answering.Waiting.{Waiting}
 use Rattle.hc_core.specs.declared.desk.Desk.{Desk}
 use Rattle.hc_core.specs.declared.links.Client.{Client}
-use Rattle.hc_core.specs.Ending.{GivesReply, IsMissing, IsTaken, wanted_of}
+use Rattle.hc_core.specs.Ending.{GivesOutcome, GivesReply, IsMissing, IsTaken, wanted_of}
 use Rattle.hc_core.specs.Standing.{GivesEnding, Stands, without_forward}
-use Rattle.hc_core.proofs.EndLemmas.{answers_by, breaks_by, ends_behind, ends_missing, ends_with_reply}
+use Rattle.hc_core.proofs.EndLemmas.{answers_by, breaks_by, ends_behind, ends_missing, ends_with_forward, ends_with_reply}
 
 module _ (S H : Type 0) (settings : CoreSettings) (d : Desk S H) (s : State) (f : ℕ) (awaited : Awaited) (forward : OpenForward)
     (stands : Stands {S = S} {H = H} settings d (without_forward f s)) (there : get s.forwards f ≡ Some awaited) (same : awaited.forward ≡ forward) where
@@ -42,7 +42,7 @@ module _ (S H : Type 0) (settings : CoreSettings) (d : Desk S H) (s : State) (f 
     pub to_head_is : to_head ≡ is_head forward.request.method
     pub numbers_are : numbers ≡ noted d.numbers
     pub actions_are : after ≡ before ++ response_actions f d.numbers.moment to_head response
-    pub renews : (moment position : ℕ) → Renews forward moment position response.head d.store told
+    pub renews : Renews forward numbers.moment numbers.records response.head d.store told
 
   module _ (ended : Bool) (response : Message ResponseHead) (to_head : Bool) (before after : List Action) (numbers : Numbers) (told : Holdings)
       (arrives : IsAnswer ended (is_head forward.request.method) awaited.heard response) (has : HasAnswered response to_head before after numbers told) where
@@ -57,10 +57,12 @@ module _ (S H : Type 0) (settings : CoreSettings) (d : Desk S H) (s : State) (f 
     moment_answered : numbers.moment ≡ s.numbers.moment
     moment_answered = ap (λ (n : Numbers). n.moment) (has.numbers_are ∙ ap noted stands.numbers)
 
+    position_answered : numbers.records ≡ one_more s.numbers.records
+    position_answered = ap (λ (n : Numbers). n.records) (has.numbers_are ∙ ap noted stands.numbers)
+
     renews_now : Renews forward s.numbers.moment (one_more s.numbers.records) response.head s.store told
     renews_now =
-        subst (λ (h : Holdings). Renews forward s.numbers.moment (one_more s.numbers.records) response.head h told) stands.store
-        (has.renews s.numbers.moment (one_more s.numbers.records))
+        subst (λ (x : ℕ × ℕ × Holdings). Renews forward x.0 x.1 response.head x.2 told) (λ i. (moment_answered i, position_answered i, stands.store i)) has.renews
 
     takes_answer : (p : Purpose) (added : List Action) (s' : State) → forward.purpose ≡ p
         → EndsByResponse p settings f forward response told first_answered s added s' → Answers settings f ended s added s'
@@ -87,21 +89,39 @@ module _ (S H : Type 0) (settings : CoreSettings) (d : Desk S H) (s : State) (f 
           ends_missing S H settings d s f awaited forward stands there same e why conditional is (Answering f ended) first_answered before after (behind_end numbers clients exchanges told)
           (record { name = refl; numbers = has.numbers_are; links = refl; actions = actions_answered }) missing
 
-      -- the request that waits for it gets its reply
+      -- the request that waits for it gets its reply, or goes to the origin anew
       pub answers_request : (w : Waiting) (last : List Action) (new : Desk S H) → IsTaken e w s.exchanges s.connections exchanges clients
-          → ((by_condition : Bool) (position : ℕ) → GivesReply {S = S} {H = H} w
-          (λ reply old fresh. Responds (wanted_of {S = S} {H = H} (behind_end numbers clients exchanges told) w) forward why by_condition position response old (Replies reply) fresh)
-          after last (behind_end numbers clients exchanges told) new)
+          → GivesOutcome {S = S} {H = H} w why
+          (λ outcome old fresh. Responds (wanted_of {S = S} {H = H} (behind_end numbers clients exchanges told) w) forward why conditional numbers.records response old outcome fresh)
+          after last (behind_end numbers clients exchanges told) new
           → GivesEnding {S = S} {H = H} settings (Answering f ended) f (Some w.exchange.connection) s before last new
-      answers_request w last new taken gives_any =
-          let gives = gives_any conditional (one_more s.numbers.records) in
+      answers_request w last new taken (inl gives) =
           ends_with_reply S H settings d s f awaited forward stands there same e why conditional is (Answering f ended)
           (λ wanted outcome fresh. Responds wanted forward why conditional (one_more s.numbers.records) response told outcome fresh)
           first_answered before after last (behind_end numbers clients exchanges told) new w
           (record { name = refl; numbers = has.numbers_are; links = refl; actions = actions_answered }) taken
           (record {
             reply = gives.reply;
-            decided = gives.decided;
+            decided = subst
+                (λ (p : ℕ). Responds (wanted_of {S = S} {H = H} (behind_end numbers clients exchanges told) w) forward why conditional p response told (Replies gives.reply) new.store)
+                position_answered gives.decided;
+            name = gives.name;
+            numbers = gives.numbers;
+            clients = gives.clients;
+            exchanges = gives.exchanges;
+            links = gives.links;
+            actions = gives.actions;
+          })
+          (λ added s' ends. takes_answer (purpose.Reply e why conditional) added s' is ends)
+      answers_request w last new taken (inr gives) =
+          ends_with_forward S H settings d s f awaited forward stands there same e why conditional is (Answering f ended)
+          (λ wanted outcome fresh. Responds wanted forward why conditional (one_more s.numbers.records) response told outcome fresh)
+          first_answered before after last (behind_end numbers clients exchanges told) new w
+          (record { name = refl; numbers = has.numbers_are; links = refl; actions = actions_answered }) taken
+          (record {
+            decided = subst
+                (λ (p : ℕ). Responds (wanted_of {S = S} {H = H} (behind_end numbers clients exchanges told) w) forward why conditional p response told GoesAnew new.store)
+                position_answered gives.decided;
             name = gives.name;
             numbers = gives.numbers;
             clients = gives.clients;

@@ -2,13 +2,17 @@
 use Rattle.std.proofs.Common.{◌≡◌, ℕ, Bool, cond, List, ◌++◌, Result, Ok, Err, IsOk, OnOk, refl, sym, ap, ◌∙◌, subst}
 use Rattle.std.specs.BTreeMap.{BTreeMap}
 use Rattle.std.specs.FinMap.{insert}
+use Rattle.hc_head.specs.declared.head.RequestHead.{RequestHead}
 use Rattle.hc_head.specs.declared.head.ResponseHead.{ResponseHead}
+use Rattle.hc_head.specs.declared.head.Target.{Target}
 use Rattle.hc_head.specs.Methods.{is_head}
 use Rattle.hc_framing.specs.declared.message.Message.{Message}
 use Rattle.hc_store.specs.Entries.{Holdings}
 use Rattle.hc_service.specs.declared.action.Action.{Action}
+use Rattle.hc_service.specs.declared.cases.Cause.{Cause}
 use Rattle.hc_service.specs.declared.numbers.Numbers.{Numbers}
 use Rattle.hc_service.specs.Numbers.{noted}
+use Rattle.hc_service.specs.Reactions.{forward_anew}
 use Rattle.hc_service.specs.Replying.{Wanted}
 use Rattle.hc_service.specs.Sending.{reply_actions}
 use Rattle.hc_service.specs.State.{Connection, Table}
@@ -16,7 +20,7 @@ use Rattle.hc_reactions.specs.declared.sending.Addressee.{Addressee}
 use Rattle.hc_core.specs.declared.answering.Waiting.{Waiting}
 use Rattle.hc_core.specs.declared.desk.Desk.{Desk}
 use Rattle.hc_core.specs.declared.links.Client.{Client}
-use Rattle.hc_core.specs.Ending.{GivesReply, SendsReply, addressee_of, is_last, wanted_of}
+use Rattle.hc_core.specs.Ending.{GivesForwardAnew, GivesReply, SendsAnew, SendsReply, addressee_of, is_last, wanted_of}
 use Rattle.hc_core.specs.Links.{AreClients, IsIdle}
 
 -- what follows from an `Ok` follows from the same `Ok`
@@ -28,6 +32,10 @@ on_ok_by (Err e) P Q use_it p = tt
 pub of_ok : {A E : Type 0} (r : Result A E) (P : Type 0) → OnOk r P → IsOk r → P
 of_ok (Ok x) P p ok = p
 of_ok (Err e) P p ok = absurd (cc)
+
+pub always_ok : {A E : Type 0} (r : Result A E) (P : Type 0) → P → OnOk r P
+always_ok (Ok x) P holds = holds
+always_ok (Err e) P holds = tt
 
 pub when_ok : {A E : Type 0} (r : Result A E) (P : Type 0) → (IsOk r → P) → OnOk r P
 when_ok (Ok x) P holds = holds refl
@@ -79,3 +87,23 @@ sends_reply S H w to closes reply before after d numbers clients to_is numbers_a
   actions = actions_are
       ∙ ap (λ (t : Addressee). before ++ reply_actions t.exchange d.numbers.moment t.to_head t.connection t.closes reply) to_is;
 }
+
+-- the request goes to the origin anew, as was decided
+pub gives_anew : (S H : Type 0) (w : Waiting) (why : Cause) (decides : Holdings → Holdings → Type 0) (before after : List Action) (d new : Desk S H) (store : Holdings)
+    → decides d.store store
+    → SendsAnew {S = S} {H = H} w why before after
+    (record { alloc = d.alloc; name = d.name; numbers = d.numbers; clients = d.clients; exchanges = d.exchanges; links = d.links; store = store }) new
+    → GivesForwardAnew {S = S} {H = H} w why decides before after d new
+gives_anew S H w why decides before after d new store decided sends = record {
+  decided = subst (λ (h : Holdings). decides d.store h) (sym sends.store) decided;
+  name = sends.name;
+  numbers = sends.numbers;
+  clients = sends.clients;
+  exchanges = sends.exchanges;
+  links = sends.links;
+  actions = sends.actions;
+}
+
+pub anew_is : (name name' : List ℕ) (target target' : Target) (asked : RequestHead) (request : Message RequestHead) → request ≡ forward_anew name target asked → name ≡ name'
+    → target ≡ target' → request ≡ forward_anew name' target' asked
+anew_is name name' target target' asked request is same-name same-target = is ∙ (λ i. forward_anew (same-name i) (same-target i) asked)

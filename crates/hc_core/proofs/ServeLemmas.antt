@@ -1,5 +1,5 @@
 -- What is owed for what happens at a cache's links, put together of its turns.
-use Rattle.std.proofs.Common.{append-nil, ◌≡◌, ◌<◌, ◌⊎◌, nat_le, ℕ, true, false, List, [], ◌∷◌, ◌++◌, Option, Some, None, refl, sym, ap, ◌∙◌, subst, inl, inr}
+use Rattle.std.proofs.Common.{append_assoc, append-nil, ◌≡◌, ◌<◌, ◌⊎◌, nat_le, ℕ, true, false, List, [], ◌∷◌, ◌++◌, Option, Some, None, refl, sym, ap, ◌∙◌, subst, inl, inr}
 use Rattle.std.proofs.lemmas.Bool.{leb-false}
 use Rattle.std.specs.FinMap.{get}
 use Rattle.std.specs.Option.{is_some}
@@ -14,7 +14,6 @@ use Rattle.hc_service.specs.Turns.Failure.{IsBroken, IsCutOff, IsLost}
 use Rattle.hc_core.specs.declared.desk.Desk.{Desk}
 use Rattle.hc_core.specs.Happenings.{Does, GivesDoing}
 use Rattle.hc_core.specs.Standing.{CanServe, DoesTelling, GivesEnd, GivesEnding, GivesReading, GivesReadingBehind, GivesTelling, GivesTurn, Stands}
-use Rattle.hc_core.proofs.ReadLemmas.{runs_on}
 
 -- something is there
 pub there : {X : Type 0} (o : Option X) → is_some o ≡ true → (x : X) × (o ≡ Some x)
@@ -24,6 +23,14 @@ there (Some x) is = (x, refl)
 -- fewer than the most
 pub has_place : (most many : ℕ) → nat_le most many ≡ false → many < most
 has_place most many full = leb-false most many full
+
+-- turns, and others behind them
+pub run_then : (settings : CoreSettings) (turns more : List Turn) (s mid s' : State) (first rest : List Action) → Run settings turns s first mid → Run settings more mid rest s'
+    → Run settings (turns ++ more) s (first ++ rest) s'
+run_then settings [] more s mid s' first rest run on =
+    subst (λ (x : List Action × State). Run settings more x.1 (x.0 ++ rest) s') (λ i. (sym run.0 i, run.1 i)) on
+run_then settings (turn ∷ turns) more s mid s' first rest run on =
+    (run.0, run.1, run.2 ++ rest, run.3, ap (λ (l : List Action). l ++ rest) run.4 ∙ append_assoc run.1 run.2 rest, run_then settings turns more run.0 mid s' run.2 rest run.5 on)
 
 module _ (S H : Type 0) (settings : CoreSettings) (s : State) where
   -- ---- reading a connection behind a reply
@@ -159,7 +166,7 @@ module _ (S H : Type 0) (settings : CoreSettings) (s : State) (start : List Acti
     -- the turn that ends the forward, and what is read behind it
     told_then : (turn : Turn) → Run settings (Telling f octets ∷ turn ∷ []) s added mid → Run settings (Telling f octets ∷ turn ∷ turns) s z s'
     told_then turn first = subst (λ (l : List Action). Run settings (Telling f octets ∷ turn ∷ turns) s l s') (sym all)
-        (runs_on settings (Telling f octets ∷ turn ∷ []) turns s mid s' added rest first run)
+        (run_then settings (Telling f octets ∷ turn ∷ []) turns s mid s' added rest first run)
 
     reads_then : client ≡ client_of f s → ReadsOn (client_of f s) turns s'
     reads_then is = subst (λ (x : Option ℕ). ReadsOn x turns s') is reads

@@ -2,7 +2,7 @@
 use Rattle.std.proofs.Common.{◌≡◌, ℕ, ◌+◌, ◌-◌, Bool, true, false, cond, Option, Some, None, refl, sym, ap, ◌∙◌, subst, arith}
 use Rattle.std.specs.BTreeMap.{BTreeMap, Updates, btree_map_len, get as kept_at}
 use Rattle.std.specs.Cmp.{eq_by_cmp_equiv, nat_cmp_total}
-use Rattle.std.specs.FinMap.{get, insert, remove, same_map, get_tied, get-insert, get-remove, len-insert, len-remove}
+use Rattle.std.specs.FinMap.{get, insert, remove, len, contains_key, same_map, get_tied, get-insert, get-remove, len-insert, len-remove}
 use Rattle.std.specs.Option.{is_some}
 use Rattle.std.specs.Ordering.{nat_cmp, is_eq, eq_by_cmp}
 use Rattle.std.specs.declared.cmp.Ordering.{Ordering}
@@ -45,6 +45,13 @@ module _ {X Y : Type 0} (IsLike : X → Y → Type 0) where
   found_none None None like is = refl
   found_none None (Some y) like is = absurd like
   found_none (Some a) p like is = absurd (cc)
+
+  -- something is there in both, or in none
+  pub both_there : (o : Option X) (p : Option Y) → AreAlikeAt IsLike o p → is_some o ≡ is_some p
+  both_there None None like = refl
+  both_there None (Some y) like = absurd like
+  both_there (Some x) None like = absurd like
+  both_there (Some x) (Some y) like = refl
 
   -- ---- how many
 

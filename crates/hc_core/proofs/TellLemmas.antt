@@ -16,9 +16,12 @@ use Rattle.hc_service.specs.Turns.{Tells, after_hearing}
 use Rattle.hc_service.specs.Turns.Failure.{IsBroken}
 use Rattle.hc_core.specs.declared.desk.Desk.{Desk}
 use Rattle.hc_core.specs.declared.links.Link.{Link}
-use Rattle.hc_core.specs.Links.{AreLinks}
+use Rattle.hc_core.specs.declared.open_links.OpenLinks.{OpenLinks}
+use Rattle.hc_core.specs.Links.{AreBehind, AreLinks, IsLink}
+use Rattle.hc_core.specs.Tables.{AreAlike}
 use Rattle.hc_service.specs.Agreement.{HasExchange, IsReady}
 use Rattle.hc_core.specs.Standing.{GivesEnding, GivesTelling, Stands, without_forward}
+use Rattle.hc_core.proofs.BehindLemmas.{heard_behind}
 use Rattle.hc_core.proofs.TableLemmas.{get_put, put_back, remove_put}
 
 one_is : {X : Type 0} (a b : X) → Some a ≡ Some b → a ≡ b
@@ -51,8 +54,17 @@ module _ (S H : Type 0) (settings : CoreSettings) (d : Desk S H) (s : State) (f 
   pub told_there : get told_state.forwards f ≡ Some (after_hearing octets awaited)
   told_there = get_put s.forwards f (after_hearing octets awaited)
 
+  -- the link stays, of the same purpose
+  pub heard_links : (by_number : BTreeMap ℕ Link) → AreAlike IsLink by_number (insert (remove s.forwards f) f (after_hearing octets awaited))
+      → AreLinks (record { by_number = by_number; behind = d.links.behind }) (insert (remove s.forwards f) f (after_hearing octets awaited))
+  heard_links by_number are = record {
+    by_number = are;
+    behind = subst (AreBehind d.links.behind) (sym (put_back s.forwards f (after_hearing octets awaited)))
+        (heard_behind d.links.behind s.forwards f awaited (after_hearing octets awaited) stands.links.behind there refl);
+  }
+
   -- without its link, what is kept is that of this state without the forward
-  pub told_without : (links : BTreeMap ℕ Link) → AreLinks links (remove s.forwards f)
+  pub told_without : (links : OpenLinks) → AreLinks links (remove s.forwards f)
       → Stands {S = S} {H = H} settings (record { alloc = d.alloc; name = d.name; numbers = d.numbers; clients = d.clients; exchanges = d.exchanges; links = links; store = d.store })
       (without_forward f told_state)
   told_without links are = record {
@@ -90,7 +102,7 @@ module _ (S H : Type 0) (settings : CoreSettings) (d : Desk S H) (s : State) (f 
   told_then turn added s' run = (told_state, [], added, tells, refl, run)
 
   -- nothing more yet
-  pub tells_on : (links : BTreeMap ℕ Link) (items : List Action) → AreLinks links (insert (remove s.forwards f) f (after_hearing octets awaited))
+  pub tells_on : (links : OpenLinks) (items : List Action) → AreLinks links (insert (remove s.forwards f) f (after_hearing octets awaited))
       → IsUnfinished (is_head awaited.forward.request.method) (awaited.heard ++ octets)
       → GivesTelling {S = S} {H = H} settings f octets None s items items
       (record { alloc = d.alloc; name = d.name; numbers = d.numbers; clients = d.clients; exchanges = d.exchanges; links = links; store = d.store })

@@ -1,23 +1,30 @@
 -- A request that waits for a reply, taken out with its connection.
-use Rattle.std.specs.Prelude.{◌≡◌, ℕ, Bool, ◌||◌, List, ◌++◌, Option, Some, None, if◌then◌else◌}
+use Rattle.std.specs.Prelude.{◌≡◌, ◌⊎◌, ℕ, Bool, false, ◌||◌, List, ◌++◌, Option, Some, None, if◌then◌else◌}
 use Rattle.std.specs.BTreeMap.{BTreeMap}
 use Rattle.std.specs.FinMap.{get, insert, remove}
+use Rattle.hc_head.specs.declared.head.RequestHead.{RequestHead}
 use Rattle.hc_head.specs.declared.head.ResponseHead.{ResponseHead}
 use Rattle.hc_head.specs.Methods.{is_head}
 use Rattle.hc_framing.specs.declared.message.Message.{Message}
 use Rattle.hc_store.specs.Entries.{Holdings}
 use Rattle.hc_service.specs.declared.action.Action.{Action}
+use Rattle.hc_service.specs.declared.cases.Cause.{Cause}
 use Rattle.hc_service.specs.declared.open.OpenExchange.{OpenExchange}
+use Rattle.hc_service.specs.declared.open.Purpose.TheVariants as purpose
+use Rattle.hc_service.specs.Answers.{Outcome}
+use Rattle.hc_service.specs.Answers.Outcome.{Replies, GoesAnew}
 use Rattle.hc_service.specs.Asking.{ends_connection}
-use Rattle.hc_service.specs.Numbers.{noted}
+use Rattle.hc_service.specs.Numbers.{noted, one_more, sent}
+use Rattle.hc_service.specs.Reactions.{forward_anew}
 use Rattle.hc_service.specs.Replying.{Wanted}
-use Rattle.hc_service.specs.Sending.{reply_actions}
-use Rattle.hc_service.specs.State.{Table, Connection}
+use Rattle.hc_service.specs.Sending.{reply_actions, send_actions}
+use Rattle.hc_service.specs.State.{Table, Connection, Awaited}
+use Rattle.hc_service.specs.Turns.{sent_forward}
 use Rattle.hc_reactions.specs.declared.sending.Addressee.{Addressee}
 use Rattle.hc_core.specs.declared.desk.Desk.{Desk}
 use Rattle.hc_core.specs.declared.links.Client.{Client}
 use Rattle.hc_core.specs.declared.answering.Waiting.{Waiting}
-use Rattle.hc_core.specs.Links.{AreClients, AreExchanges, IsClient, IsIdle}
+use Rattle.hc_core.specs.Links.{AreClients, AreExchanges, AreLinks, IsClient, IsIdle}
 
 -- the exchange and its connection were there, and are taken out
 pub record IsTaken (number : ℕ) (w : Waiting) (waiting : Table OpenExchange) (connections : Table Connection) (exchanges : BTreeMap ℕ OpenExchange) (clients : BTreeMap ℕ Client) : Type 0 where
@@ -78,3 +85,37 @@ pub record SendsReply {S H : Type 0} (w : Waiting) (closes : Bool) (reply : Mess
   pub links : new.links ≡ old.links
   pub store : new.store ≡ old.store
   pub actions : after ≡ before ++ reply_actions w.number old.numbers.moment (is_head w.exchange.request.method) w.exchange.connection closes reply
+
+-- ---- its forward anew
+
+abbrev pub request_anew : {S H : Type 0} → Desk S H → Waiting → Message RequestHead
+request_anew desk w = forward_anew desk.name w.exchange.target w.exchange.request
+
+-- it goes to the origin anew, and waits on for its reply
+pub record SendsAnew {S H : Type 0} (w : Waiting) (why : Cause) (before after : List Action) (old new : Desk S H) : Type 0 where
+  pub name : new.name ≡ old.name
+  pub numbers : new.numbers ≡ sent old.numbers
+  pub clients : (connections : Table Connection) (k : Connection) → AreClients old.clients connections → IsClient w.client k
+      → AreClients new.clients (insert connections w.exchange.connection k)
+  pub exchanges : (waits : Table OpenExchange) → AreExchanges old.exchanges waits → AreExchanges new.exchanges (insert waits w.number w.exchange)
+  pub links : (forwards : Table Awaited) → AreLinks old.links forwards → AreLinks new.links (insert forwards (one_more old.numbers.forward)
+      (sent_forward (request_anew old w).head w.exchange.target old.numbers.moment (purpose.Reply w.number why false)))
+  pub store : new.store ≡ old.store
+  pub actions : after ≡ before ++ send_actions (one_more old.numbers.forward) old.numbers.moment (request_anew old w)
+
+-- the same, as is decided by what is stored
+pub record GivesForwardAnew {S H : Type 0} (w : Waiting) (why : Cause) (decides : Holdings → Holdings → Type 0) (before after : List Action) (old new : Desk S H) : Type 0 where
+  pub decided : decides old.store new.store
+  pub name : new.name ≡ old.name
+  pub numbers : new.numbers ≡ sent old.numbers
+  pub clients : (connections : Table Connection) (k : Connection) → AreClients old.clients connections → IsClient w.client k
+      → AreClients new.clients (insert connections w.exchange.connection k)
+  pub exchanges : (waits : Table OpenExchange) → AreExchanges old.exchanges waits → AreExchanges new.exchanges (insert waits w.number w.exchange)
+  pub links : (forwards : Table Awaited) → AreLinks old.links forwards → AreLinks new.links (insert forwards (one_more old.numbers.forward)
+      (sent_forward (request_anew old w).head w.exchange.target old.numbers.moment (purpose.Reply w.number why false)))
+  pub actions : after ≡ before ++ send_actions (one_more old.numbers.forward) old.numbers.moment (request_anew old w)
+
+-- it gets its reply, or goes to the origin anew
+abbrev pub GivesOutcome : {S H : Type 0} → Waiting → Cause → (Outcome → Holdings → Holdings → Type 0) → List Action → List Action → Desk S H → Desk S H → Type 0
+GivesOutcome w why decides before after old new =
+    GivesReply w (λ reply. decides (Replies reply)) before after old new ⊎ GivesForwardAnew w why (decides GoesAnew) before after old new

@@ -1,5 +1,5 @@
 -- What a cache keeps, and the state that contracts see.
-use Rattle.std.specs.Prelude.{◌≡◌, ◌<◌, ◌⊎◌, ℕ, Bool, false, List, [], ◌∷◌, ◌++◌, Option, None}
+use Rattle.std.specs.Prelude.{◌≡◌, ◌<◌, ◌⊎◌, ℕ, Bool, false, List, [], ◌∷◌, ◌++◌, Option, Some, None}
 use Rattle.std.specs.BTreeMap.{BTreeMap}
 use Rattle.std.specs.FinMap.{remove}
 use Rattle.std.specs.List.{AllByRecursion}
@@ -17,7 +17,7 @@ use Rattle.hc_service.specs.Serves.Turn.{Telling, Answering, Failing}
 use Rattle.hc_service.specs.Turns.Failure.{IsBroken}
 use Rattle.hc_core.specs.declared.desk.Desk.{Desk}
 use Rattle.hc_core.specs.declared.links.Client.{Client}
-use Rattle.hc_core.specs.declared.links.Link.{Link}
+use Rattle.hc_core.specs.declared.open_links.OpenLinks.{OpenLinks}
 use Rattle.hc_core.specs.Links.{AreClients, AreExchanges, AreLinks}
 
 -- ---- the state
@@ -28,7 +28,7 @@ pub record Kept : Type 0 where
   pub numbers : Numbers
   pub clients : BTreeMap ℕ Client
   pub exchanges : BTreeMap ℕ OpenExchange
-  pub links : BTreeMap ℕ Link
+  pub links : OpenLinks
   pub store : Holdings
 
 abbrev pub kept_of : {S H : Type 0} → Desk S H → Kept

@@ -39,9 +39,9 @@ impl<S: BuildHasher> Desk<S> {
             Happening::ClientOpened(c) => is_later(*c, self.numbers.connection),
             Happening::ClientBytes(c, _) => self.clients.contains_key(c),
             Happening::ClientEnd(c) => self.clients.contains_key(c),
-            Happening::OriginBytes(f, _) => self.links.contains_key(f),
-            Happening::OriginEnd(f) => self.links.contains_key(f),
-            Happening::OriginFailed(f) => self.links.contains_key(f),
+            Happening::OriginBytes(f, _) => self.links.by_number.contains_key(f),
+            Happening::OriginEnd(f) => self.links.by_number.contains_key(f),
+            Happening::OriginFailed(f) => self.links.by_number.contains_key(f),
         }
     }
 

@@ -2,7 +2,8 @@
 
 ghost use Rattle.std.specs.Prelude.{◌≡◌};
 
-use crate::links::{Client, Link};
+use crate::links::Client;
+use crate::open_links::OpenLinks;
 use hc_fields::Octets;
 use hc_service::{Numbers, OpenExchange};
 use hc_store::Store;
@@ -19,7 +20,7 @@ pub(crate) struct Desk<S: BuildHasher> {
     pub(crate) numbers: Numbers,
     pub(crate) clients: BTreeMap<u64, Client>,
     pub(crate) exchanges: BTreeMap<u64, OpenExchange>,
-    pub(crate) links: BTreeMap<u64, Link>,
+    pub(crate) links: OpenLinks,
     pub(crate) store: Store<S>,
 }
 
@@ -41,7 +42,7 @@ impl<S: BuildHasher> Desk<S> {
             numbers: Numbers::new(),
             clients: BTreeMap::new(alloc),
             exchanges: BTreeMap::new(alloc),
-            links: BTreeMap::new(alloc),
+            links: OpenLinks::new(alloc),
             store,
         }
     }

@@ -47,24 +47,25 @@ impl<S: BuildHasher> Desk<S> {
             &response,
             actions,
         )?;
-        renew(&mut self.store, &forward, &response.head);
+        let moment = self.numbers.moment;
+        let position = self.numbers.records;
+        renew(&mut self.store, &forward, moment, position, &response.head);
         match forward.purpose {
             Purpose::Background => {
-                let moment = self.numbers.moment;
                 store_behind(self.alloc, &mut self.store, forward, moment, &response)?;
                 Ok(None)
             }
             Purpose::Reply {
                 exchange,
                 cause,
-                ..
+                conditional,
             } => {
                 let Some(waiting) = take_waiting(&mut self.exchanges, &mut self.clients, exchange)
                 else {
                     return Ok(None);
                 };
                 let client = waiting.exchange.connection;
-                self.respond(waiting, forward, cause, response, actions)?;
+                self.respond(waiting, forward, cause, conditional, response, actions)?;
                 Ok(Some(client))
             }
         }

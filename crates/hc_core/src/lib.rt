@@ -12,6 +12,7 @@ mod leaving;
 mod links;
 mod machine;
 mod moving;
+mod open_links;
 mod reading;
 mod serving;
 mod telling;

@@ -11,9 +11,10 @@ ghost use Rattle.hc_service.specs.State.{Awaited, Connection, Table};
 ghost use Rattle.hc_service.specs.Turns.{sent_forward};
 ghost use Rattle.hc_links.specs.RequestReading.{waiting};
 ghost use Rattle.hc_core.specs.Reading.{waiting_at};
-ghost use Rattle.hc_core.specs.Links.{AreClients, AreExchanges, AreLinks, IsIdle, WillWait};
+ghost use Rattle.hc_core.specs.Links.{AreClients, AreExchanges, AreLinks, HasPlace, IsIdle, WillWait};
 
 use crate::links::{Client, Link};
+use crate::open_links::OpenLinks;
 use hc_framing::Message;
 use hc_head::{RequestHead, ResponseHead, Target, is_head};
 use hc_links::ResponseReader;
@@ -67,11 +68,12 @@ fn go_on(
     Ok(())
 }
 
-/// Sends a request to the origin for a target, and waits for its response.
+/// Sends a request to the origin for a target, and waits for its response. Where it is for the store alone, no
+/// such one may be open for the target.
 pub(crate) fn send_forward(
     alloc: Global,
     numbers: &mut Numbers,
-    links: &mut BTreeMap<u64, Link>,
+    links: &mut OpenLinks,
     request: Message<RequestHead>,
     target: Target,
     purpose: Purpose,
@@ -79,6 +81,7 @@ pub(crate) fn send_forward(
 ) -> Result<(), AllocError>
     ensures numbers { OnOk result (numbers.new ≡ sent numbers.old) }
     ensures links { (forwards : Table Awaited) → AreLinks links.old forwards
+        → HasPlace (sent_forward request.head target numbers.old.moment purpose) forwards
         → OnOk result (AreLinks links.new (insert forwards (one_more numbers.old.forward)
         (sent_forward request.head target numbers.old.moment purpose))) }
     ensures actions { OnOk result (actions.new.items
@@ -96,8 +99,7 @@ pub(crate) fn send_forward(
         },
         reader: ResponseReader::new(alloc, to_head),
     };
-    links.insert(number, link)?;
-    Ok(())
+    links.put(alloc, number, link)
 }
 
 /// A request waits for its reply on a connection that was taken out.

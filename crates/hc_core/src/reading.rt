@@ -10,7 +10,7 @@ use hc_framing::Message;
 use hc_head::{RequestHead, ResponseHead, Target, is_head};
 use hc_links::Arrival;
 use hc_reactions::{Addressee, Reaction, react, record_request, refuse};
-use hc_service::{Action, Cause, OpenExchange, Purpose, WantedReply, ends_connection};
+use hc_service::{Action, OpenExchange, Purpose, WantedReply, ends_connection};
 use std::alloc::AllocError;
 use std::hash::BuildHasher;
 
@@ -33,7 +33,7 @@ impl<S: BuildHasher> Desk<S> {
     ghost use Rattle.hc_service.specs.Serves.Turn.{Asking};
     ghost use Rattle.hc_links.specs.RequestReading.{CanRead, waiting};
     ghost use Rattle.hc_core.specs.Links.{IsClient};
-    ghost use Rattle.hc_core.specs.Reading.{GivesForward, GivesReplyAtOnce, IsAsked, waiting_at};
+    ghost use Rattle.hc_core.specs.Reading.{GivesForward, GivesReplies, GivesReplyAtOnce, IsAsked, SendsBehind, waiting_at};
     ghost use Rattle.hc_core.specs.Standing.{CanServe, GivesReading, GivesTurn, Stands, without_connection};
 
     /// Reads a connection until nothing more can be read.
@@ -141,22 +141,81 @@ impl<S: BuildHasher> Desk<S> {
             asked: &request.head,
             closes,
         };
-        let reaction = react(self.alloc, &mut self.store, &wanted, &target, &request)?;
+        let told = self.links.open_behind(&target);
+        let reaction = react(
+            self.alloc,
+            &mut self.store,
+            &wanted,
+            &target,
+            &request,
+            told,
+        )?;
         let exchange = OpenExchange {
             connection: c,
             request: request.head,
             target,
         };
         match reaction {
-            Reaction::Replies(reply) => {
-                self.reply_at_once(number, &exchange, client, closes, &reply, actions)?;
-                Ok(())
+            Reaction::Replies { reply, behind } => {
+                self.reply_and_validate(number, exchange, client, closes, &reply, behind, actions)
             }
-            Reaction::Sends(forward, cause) => {
-                self.go_forward(number, exchange, client, forward, cause, actions)?;
-                Ok(())
+            Reaction::Sends {
+                request: forward,
+                cause,
+                conditional,
+            } => {
+                let purpose = Purpose::Reply {
+                    exchange: number,
+                    cause,
+                    conditional,
+                };
+                self.go_forward(number, exchange, client, forward, purpose, actions)
             }
         }
+    }
+
+    /// A request that was read of a connection, which was taken out, gets its reply, and behind it a request
+    /// may go to the origin for the store alone.
+    fn reply_and_validate(
+        &mut self,
+        number: u64,
+        exchange: OpenExchange,
+        client: Client,
+        closes: bool,
+        reply: &Message<ResponseHead>,
+        behind: Option<Message<RequestHead>>,
+        actions: &mut Vec<Action>,
+    ) -> Result<(), AllocError>
+        ensures replies { OnOk result (GivesReplies number exchange client closes reply.now behind actions.old.items actions.new.items self.old self.new) }
+        ensures waits { kept_at nat_cmp self.old.clients exchange.connection ≡ None
+            → OnOk result (waiting_at exchange.connection self.new.clients ≤ length (waiting client.reader)) }
+    {
+        self.reply_at_once(number, &exchange, client, closes, reply, actions)?;
+        match behind {
+            None => Ok(()),
+            Some(validation) => self.send_behind(exchange.target, validation, actions),
+        }
+    }
+
+    /// A request goes to the origin for the store alone; no such one may be open for the target.
+    fn send_behind(
+        &mut self,
+        target: Target,
+        validation: Message<RequestHead>,
+        actions: &mut Vec<Action>,
+    ) -> Result<(), AllocError>
+        ensures sends { OnOk result (SendsBehind target validation actions.old.items actions.new.items self.old self.new) }
+        ensures clients { self.new.clients ≡ self.old.clients }
+    {
+        send_forward(
+            self.alloc,
+            &mut self.numbers,
+            &mut self.links,
+            validation,
+            target,
+            Purpose::Background,
+            actions,
+        )
     }
 
     /// A request that was read of a connection, which was taken out, gets its reply.
@@ -199,18 +258,13 @@ impl<S: BuildHasher> Desk<S> {
         exchange: OpenExchange,
         client: Client,
         forward: Message<RequestHead>,
-        cause: Cause,
+        purpose: Purpose,
         actions: &mut Vec<Action>,
     ) -> Result<(), AllocError>
-        ensures goes { OnOk result (GivesForward number exchange client forward cause actions.old.items actions.new.items self.old self.new) }
+        ensures goes { OnOk result (GivesForward number exchange client forward purpose actions.old.items actions.new.items self.old self.new) }
         ensures waits { OnOk result (waiting_at exchange.connection self.new.clients ≤ length (waiting client.reader)) }
     {
         let target = exchange.target.copy(self.alloc)?;
-        let purpose = Purpose::Reply {
-            exchange: number,
-            cause,
-            conditional: false,
-        };
         send_forward(
             self.alloc,
             &mut self.numbers,

@@ -31,7 +31,7 @@ impl<S: BuildHasher> Desk<S> {
             → get s.forwards f ≡ Some awaited
             → IfOk result (λ client. GivesTelling settings f octets.now client s actions.old.items actions.new.items self.new) }
     {
-        let Some(link) = self.links.remove(&f) else {
+        let Some(link) = self.links.by_number.remove(&f) else {
             return Ok(None);
         };
         let Link {
@@ -41,11 +41,17 @@ impl<S: BuildHasher> Desk<S> {
         let heard = reader.hear(octets)?;
         match heard {
             Heard::More => {
-                self.links.insert(f, Link { forward, reader })?;
+                self.links.by_number.insert(f, Link { forward, reader })?;
                 Ok(None)
             }
-            Heard::Response(response) => self.answer(f, forward, response, actions),
-            Heard::Failed => self.break_off(f, forward, true, actions),
+            Heard::Response(response) => {
+                self.links.forget(&forward);
+                self.answer(f, forward, response, actions)
+            }
+            Heard::Failed => {
+                self.links.forget(&forward);
+                self.break_off(f, forward, true, actions)
+            }
         }
     }
 
@@ -61,7 +67,7 @@ impl<S: BuildHasher> Desk<S> {
             → IfOk result (λ client. GivesEnding settings (Answering f true) f client s actions.old.items actions.new.items self.new
             ⊎ GivesEnding settings (Failing f IsCutOff) f client s actions.old.items actions.new.items self.new) }
     {
-        let Some(link) = self.links.remove(&f) else {
+        let Some(link) = self.links.take(f) else {
             return Ok(None);
         };
         let Link {
@@ -86,7 +92,7 @@ impl<S: BuildHasher> Desk<S> {
             → get s.forwards f ≡ Some awaited
             → IfOk result (λ client. GivesEnding settings (Failing f IsLost) f client s actions.old.items actions.new.items self.new) }
     {
-        match self.links.remove(&f) {
+        match self.links.take(f) {
             None => Ok(None),
             Some(link) => self.break_off(f, link.forward, false, actions),
         }

@@ -1,5 +1,5 @@
 -- What a request gets at once.
-use Rattle.std.proofs.Common.{◌≡◌, ◌∙◌, ℕ, Bool, Option, Some, None, IfOk, Ok, Err, Result, ap, subst}
+use Rattle.std.proofs.Common.{◌≡◌, ◌∙◌, ℕ, Bool, Option, Some, None, IfOk, Ok, Err, Result, ap, sym, subst}
 use Rattle.hc_head.specs.declared.head.RequestHead.{RequestHead}
 use Rattle.hc_head.specs.declared.head.Target.{Target}
 use Rattle.hc_framing.specs.declared.message.Message.{Message}
@@ -14,6 +14,15 @@ use Rattle.hc_service.specs.Replying.{Wanted}
 use Rattle.hc_service.specs.State.{Awaited, Table}
 use Rattle.hc_reactions.specs.declared.reacting.Reaction.{Reaction}
 use Rattle.hc_reactions.specs.Reacting.{owed_reaction}
+
+-- a hit, as what the case makes of the request
+pub chosen_by_case : {E : Type 0} (wanted : Wanted) (target : Target) (request : Message RequestHead) (forwards : Table Awaited) (chosen : Option Stored)
+    (case other : Case) (answer : Result Reaction E)
+    → case ≡ other
+    → IfOk answer (λ reaction. owed_reaction reaction ≡ chosen_reaction wanted target request forwards chosen other)
+    → IfOk answer (λ reaction. owed_reaction reaction ≡ chosen_reaction wanted target request forwards chosen case)
+chosen_by_case wanted target request forwards chosen case other answer is gives =
+    subst (λ (k : Case). IfOk answer (λ reaction. owed_reaction reaction ≡ chosen_reaction wanted target request forwards chosen k)) (sym is) gives
 
 -- by what is stored: the store's answer decides the case, and the case what the request gets
 pub reacts_by_store : {E : Type 0} (wanted : Wanted) (target : Target) (request : Message RequestHead) (forwards : Table Awaited) (old new : Holdings)

@@ -1,2 +1,2 @@
 pub mod Reacting
-pub mod Failing
+pub mod Outcomes

@@ -1,10 +1,21 @@
 -- What a request gets at once, as the definitions have it.
-use Rattle.std.specs.Prelude.{false, None}
-use Rattle.hc_service.specs.Reactions.{Reaction as OwedReaction}
+use Rattle.std.specs.Prelude.{◌≡◌, ◌&&◌}
+use Rattle.std.specs.FinMap.{values}
+use Rattle.std.specs.List.{list_any, count_by}
+use Rattle.hc_head.specs.declared.head.Target.{Target}
+use Rattle.hc_head.specs.Targets.{same_target}
+use Rattle.hc_service.specs.Reactions.{Reaction as OwedReaction, is_background}
 use Rattle.hc_service.specs.Reactions.Reaction.{Replies as OwesReply, Sends as OwesForward}
+use Rattle.hc_service.specs.State.{Awaited, Table}
+use Rattle.hc_reactions.specs.declared.reacting.OpenBehind.{OpenBehind}
 use Rattle.hc_reactions.specs.declared.reacting.Reaction.{Reaction}
 use Rattle.hc_reactions.specs.declared.reacting.Reaction.TheVariants.{Replies, Sends}
 
 abbrev pub owed_reaction : Reaction → OwedReaction
-owed_reaction (Replies reply) = OwesReply reply None
-owed_reaction (Sends request cause) = OwesForward request cause false
+owed_reaction (Replies reply behind) = OwesReply reply behind
+owed_reaction (Sends request cause conditional) = OwesForward request cause conditional
+
+-- what is told of the forwards for the store alone is what is open
+pub record IsOpenBehind (target : Target) (forwards : Table Awaited) (told : OpenBehind) : Type 0 where
+  pub count_is : told.count ≡ count_by is_background (values forwards)
+  pub for_target_is : told.for_target ≡ list_any (λ awaited. is_background awaited && same_target awaited.forward.target target) (values forwards)

@@ -13,8 +13,8 @@ mod sending;
 #[cfg(test)]
 mod tests;
 
-pub use outcomes::{fail, renew, respond, store_behind};
-pub use reacting::{Reaction, react};
+pub use outcomes::{Outcome, fail, renew, respond, store_behind};
+pub use reacting::{OpenBehind, Reaction, forward_anew, react};
 pub use sending::{
     Addressee, record_failure, record_request, record_response, refuse, send_reply, send_request,
 };

@@ -1,6 +1,7 @@
 //! What a request that waits for a forward gets once the forward ends, and what the store is told.
 
-ghost use Rattle.std.specs.Prelude.{◌≡◌, ◌<◌, ◌||◌, ℕ, Bool, false, IfOk, OnOk};
+ghost use Rattle.std.specs.Prelude.{◌≡◌, ◌<◌, ◌||◌, false, IfOk, OnOk};
+ghost use Rattle.std.specs.Option.{option_copied};
 ghost use Rattle.hc_head.specs.Methods.{is_get, is_head};
 ghost use Rattle.hc_fields.specs.Numbers.{end_of_moments};
 ghost use Rattle.hc_service.specs.declared.cases.Cause.{Cause};
@@ -8,20 +9,32 @@ ghost use Rattle.hc_service.specs.declared.open.OpenForward.{OpenForward};
 ghost use Rattle.hc_service.specs.Replying.{Wanted};
 ghost use Rattle.hc_service.specs.Choices.{OnTest, Stores, is_put, may_update};
 ghost use Rattle.hc_service.specs.Cases.{asks_store};
-ghost use Rattle.hc_service.specs.Answers.{Fails, Passes, Renews, Responds, StoresBehind, has_condition, is_news, is_unasked};
+ghost use Rattle.hc_service.specs.Answers.{Fails, FailsByStore, Passes, Renews, Replaces, Responds, StoresBehind, failed_outcome, has_condition, is_news, is_replaceable, is_unasked, is_validation, standing_in, validated_outcome};
 ghost use Rattle.hc_service.specs.Answers.Outcome.{Replies};
-ghost use Rattle.hc_reactions.specs.Failing.{GivesStatus};
+ghost use Rattle.hc_service.specs.Choices.{validated_by};
+ghost use Rattle.hc_reactions.specs.Outcomes.{Answered, GivesStandIn, owed_outcome, replacing};
 
 use hc_framing::Message;
 use hc_head::{NOT_MODIFIED, RequestHead, ResponseHead, is_get, is_head};
 use hc_rules::may_store;
 use hc_service::{
-    BAD_GATEWAY, Cause, OpenForward, WantedReply, failure_status, made_reply, passed_reply,
+    BAD_GATEWAY, Cause, OpenForward, WantedReply, failure_status, made_reply, may_replace,
+    passed_reply, replacing_reply,
 };
 use hc_store::{Put, Store};
-use hc_update::{initial, invalidates};
+use hc_update::{Stored, initial, invalidates};
 use std::alloc::{AllocError, Global};
 use std::hash::BuildHasher;
+
+/// What a request that waits for a forward gets once the origin has answered.
+#[derive(Drop)]
+pub enum Outcome {
+    /// Its reply.
+    Replies(Message<ResponseHead>),
+    /// Nothing yet: what it was to be answered from is gone, so it goes to the origin anew (RFC 9111
+    /// section 4.3.3).
+    GoesAnew,
+}
 
 /// Whether a response is a 304 to a GET.
 fn may_update(forward: &OpenForward, response: &ResponseHead) -> bool
@@ -31,16 +44,31 @@ fn may_update(forward: &OpenForward, response: &ResponseHead) -> bool
 }
 
 /// Tells the store of a response to the forward, whomever it is for: what is stored of its target goes where
-/// the response invalidates it (RFC 9111 section 4.4), and where it is a 304 to a GET, which would
-/// freshen it.
-pub fn renew<S: BuildHasher>(store: &mut Store<S>, forward: &OpenForward, response: &ResponseHead)
-    ensures { (moment position : ℕ) → Renews forward.now moment position response.now store.old store.new }
+/// the response invalidates it (RFC 9111 section 4.4), and a 304 to a GET freshens what it is about (section
+/// 4.3.4). It came at that moment, in whole seconds since 1970 and before the year 10000, and its record
+/// stands at that position.
+pub fn renew<S: BuildHasher>(
+    store: &mut Store<S>,
+    forward: &OpenForward,
+    moment: u64,
+    position: u64,
+    response: &ResponseHead,
+)
+    requires { moment < end_of_moments }
+    ensures { Renews forward.now moment position response.now store.old store.new }
 {
     if invalidates(forward.request.method.as_slice(), response.status) {
         store.invalidate(&forward.target);
     }
     if may_update(forward, response) {
-        store.invalidate(&forward.target);
+        store.freshen(
+            &forward.target,
+            &forward.request,
+            response,
+            forward.moment,
+            moment,
+            position,
+        );
     }
 }
 
@@ -172,11 +200,83 @@ fn pass<S: BuildHasher>(
     passed_reply(alloc, wanted, cause, stored, response)
 }
 
-/// The reply to the request that waits for a forward, by the response to it: the response itself, which is put
-/// first where the store was asked before the request went out, for that cause, and where it may be
-/// stored (RFC 9111 section 3); or a 502 where it is a 304 that the forward didn't ask for. The
-/// moment of the reply, which is also that of the response, lies before the year 10000.
-pub fn respond<S: BuildHasher>(
+/// Whether a response answers the cache's own condition: that what is stored still holds.
+fn is_validation(conditional: bool, response: &ResponseHead) -> bool
+    ensures { (wanted : Wanted) (forward : OpenForward) (cause : Cause) → result ≡ is_validation wanted forward cause conditional response.now }
+{
+    conditional && response.status == NOT_MODIFIED
+}
+
+/// What a request gets once what is stored is validated: the stored response that the record at that
+/// position validated, if there is one still.
+fn validated_outcome<S: BuildHasher>(
+    alloc: Global,
+    store: &Store<S>,
+    wanted: &WantedReply<'_>,
+    forward: &OpenForward,
+    cause: Cause,
+    position: u64,
+) -> Result<Outcome, AllocError>
+    ensures { IfOk result (λ outcome. owed_outcome outcome ≡ validated_outcome wanted.now forward.now cause
+        (validated_by forward.now.target wanted.now.asked.fields position store.now)) }
+{
+    match store.choose_validated(&forward.target, &wanted.asked.fields, position)? {
+        None => Ok(Outcome::GoesAnew),
+        Some(stored) => Ok(Outcome::Replies(replacing_reply(
+            alloc,
+            wanted,
+            cause,
+            Some(NOT_MODIFIED),
+            stored,
+        )?)),
+    }
+}
+
+/// The stored response that the store chose as the reply, where it may take the place of an error of that
+/// status, or of a failure.
+fn stand_in(
+    alloc: Global,
+    wanted: &WantedReply<'_>,
+    cause: Cause,
+    origin: Option<u16>,
+    chosen: Option<&Stored>,
+) -> Result<Option<Message<ResponseHead>>, AllocError>
+    ensures { (forward : OpenForward) → IfOk result (λ reply. reply
+        ≡ replacing wanted.now cause origin (standing_in wanted.now forward cause (option_copied chosen.entry))) }
+{
+    let Some(stored) = chosen else {
+        return Ok(None);
+    };
+    if !may_replace(&wanted.asked.fields, stored, wanted.moment) {
+        return Ok(None);
+    }
+    Ok(Some(replacing_reply(alloc, wanted, cause, origin, stored)?))
+}
+
+/// Whether a response is an error, in whose place what is stored may be the reply.
+fn is_replaceable(cause: Cause, response: &ResponseHead) -> bool
+    ensures { (wanted : Wanted) (forward : OpenForward) → result ≡ is_replaceable wanted forward cause response.now }
+{
+    cause.asks_store() && matches!(response.status, 500 | 502 | 503 | 504)
+}
+
+/// What the store chooses now as the reply, where it may take the place of an error of that status.
+fn stand_in_by_store<S: BuildHasher>(
+    alloc: Global,
+    store: &mut Store<S>,
+    wanted: &WantedReply<'_>,
+    forward: &OpenForward,
+    cause: Cause,
+    status: u16,
+) -> Result<Option<Message<ResponseHead>>, AllocError>
+    ensures { IfOk result (λ reply. GivesStandIn wanted.now forward.now cause status store.old reply store.new) }
+{
+    let chosen = store.choose(&forward.target, &wanted.asked.fields)?;
+    stand_in(alloc, wanted, cause, Some(status), chosen)
+}
+
+/// The reply in place of an error: what the store chooses, where it may be; else the error.
+fn replace<S: BuildHasher>(
     alloc: Global,
     store: &mut Store<S>,
     wanted: &WantedReply<'_>,
@@ -185,29 +285,104 @@ pub fn respond<S: BuildHasher>(
     response: Message<ResponseHead>,
 ) -> Result<Message<ResponseHead>, AllocError>
     requires { wanted.now.moment < end_of_moments }
-    ensures { (conditional : Bool) (position : ℕ) → IfOk result
-        (λ reply. Responds wanted.now forward cause conditional position response store.old (Replies reply) store.new) }
+    ensures { IfOk result (λ reply. Replaces wanted.now forward cause wanted.now.moment response store.old (Replies reply) store.new) }
 {
-    if is_unasked(&forward, &response.head) {
-        return made_reply(alloc, wanted, BAD_GATEWAY);
+    let status = response.head.status;
+    if let Some(reply) = stand_in_by_store(alloc, store, wanted, &forward, cause, status)? {
+        return Ok(reply);
     }
     pass(alloc, store, wanted, forward, cause, response)
 }
 
-/// The status of the reply to a request whose forward failed; the store is asked once more.
-fn status_by_store<S: BuildHasher>(
+/// The reply to a request by a response that is no validation.
+fn answered<S: BuildHasher>(
+    alloc: Global,
+    store: &mut Store<S>,
+    wanted: &WantedReply<'_>,
+    forward: OpenForward,
+    cause: Cause,
+    response: Message<ResponseHead>,
+) -> Result<Message<ResponseHead>, AllocError>
+    requires { wanted.now.moment < end_of_moments }
+    ensures { IfOk result (λ reply. Answered wanted.now forward cause response store.old (Replies reply) store.new) }
+{
+    if is_unasked(&forward, &response.head) {
+        return made_reply(alloc, wanted, BAD_GATEWAY);
+    }
+    if is_replaceable(cause, &response.head) {
+        return replace(alloc, store, wanted, forward, cause, response);
+    }
+    pass(alloc, store, wanted, forward, cause, response)
+}
+
+/// What the request that waits for a forward gets by the response to it, which the store was told of
+/// (`renew`), and whose record stands at that position. The first that holds decides:
+///
+/// - A 304 that answers the cache's own condition (`conditional`): the stored response that it
+///   validated, or, where that is gone, nothing yet (RFC 9111 section 4.3.3).
+/// - A 304 that the forward didn't ask for: a 502.
+/// - An error that says that the origin can't answer now, where the store was asked before the request
+///   went out: what is stored, where it may be served stale then (RFC 5861 section 4).
+/// - Else the response itself, which is put first where the store was asked and where it may be stored
+///   (RFC 9111 section 3).
+///
+/// The moment of the reply, which is also that of the response, lies before the year 10000.
+pub fn respond<S: BuildHasher>(
+    alloc: Global,
+    store: &mut Store<S>,
+    wanted: &WantedReply<'_>,
+    forward: OpenForward,
+    cause: Cause,
+    conditional: bool,
+    position: u64,
+    response: Message<ResponseHead>,
+) -> Result<Outcome, AllocError>
+    requires { wanted.now.moment < end_of_moments }
+    ensures { IfOk result (λ outcome. Responds wanted.now forward cause conditional position response store.old (owed_outcome outcome) store.new) }
+{
+    if is_validation(conditional, &response.head) {
+        return validated_outcome(alloc, store, wanted, &forward, cause, position);
+    }
+    Ok(Outcome::Replies(answered(alloc, store, wanted, forward, cause, response)?))
+}
+
+/// The reply to a request whose forward failed, by what the store chose.
+fn failed_reply(
+    alloc: Global,
+    wanted: &WantedReply<'_>,
+    cause: Cause,
+    chosen: Option<&Stored>,
+) -> Result<Message<ResponseHead>, AllocError>
+    requires { wanted.now.moment < end_of_moments }
+    ensures { (forward : OpenForward) → IfOk result (λ reply. Replies reply ≡ failed_outcome wanted.now forward cause (option_copied chosen.entry)
+        (standing_in wanted.now forward cause (option_copied chosen.entry))) }
+{
+    let stands = stand_in(alloc, wanted, cause, None, chosen)?;
+    match stands {
+        Some(reply) => Ok(reply),
+        None => made_reply(alloc, wanted, failure_status(chosen)),
+    }
+}
+
+/// The reply to a request whose forward failed; the store is asked once more.
+fn fail_by_store<S: BuildHasher>(
+    alloc: Global,
     store: &mut Store<S>,
     wanted: &WantedReply<'_>,
     forward: &OpenForward,
-) -> Result<u16, AllocError>
-    ensures { IfOk result (λ status. GivesStatus wanted.now forward.now store.old status store.new) }
+    cause: Cause,
+) -> Result<Message<ResponseHead>, AllocError>
+    requires { wanted.now.moment < end_of_moments }
+    ensures { IfOk result (λ reply. FailsByStore wanted.now forward.now cause store.old (Replies reply) store.new) }
 {
-    Ok(failure_status(store.choose(&forward.target, &wanted.asked.fields)?))
+    let chosen = store.choose(&forward.target, &wanted.asked.fields)?;
+    failed_reply(alloc, wanted, cause, chosen)
 }
 
-/// The reply to a request whose forward failed: a 504 where the store was asked before the request went out,
-/// for that cause, and where what it chooses now must not be served stale (RFC 9111 section 5.2.2.2);
-/// else a 502. The moment of the reply lies before the year 10000.
+/// The reply to a request whose forward failed. Where the store was asked before the request went out, for
+/// that cause, it is asked again, and what it chooses is the reply where it may be served stale then (RFC
+/// 5861 section 4), or else forbids it, which gives a 504 (RFC 9111 section 5.2.2.2). Otherwise a 502.
+/// The moment of the reply lies before the year 10000.
 pub fn fail<S: BuildHasher>(
     alloc: Global,
     store: &mut Store<S>,
@@ -221,6 +396,5 @@ pub fn fail<S: BuildHasher>(
     if !cause.asks_store() {
         return made_reply(alloc, wanted, BAD_GATEWAY);
     }
-    let status = status_by_store(store, wanted, forward)?;
-    made_reply(alloc, wanted, status)
+    fail_by_store(alloc, store, wanted, forward, cause)
 }

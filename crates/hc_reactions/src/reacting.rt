@@ -1,34 +1,128 @@
 //! What a whole request gets at once: a reply, or a forward.
 
-ghost use Rattle.std.specs.Prelude.{◌≡◌, ◌<◌, IfOk, Option};
+ghost use Rattle.std.specs.Prelude.{◌≡◌, ◌<◌, ◌&&◌, false, not, nat_lt, IfOk};
 ghost use Rattle.std.specs.Option.{option_copied};
 ghost use Rattle.hc_fields.specs.Numbers.{end_of_moments};
-ghost use Rattle.hc_update.specs.declared.stored.Stored.{Stored};
+ghost use Rattle.hc_head.specs.declared.head.RequestHead.{RequestHead};
+ghost use Rattle.hc_head.specs.declared.head.Target.{Target};
+ghost use Rattle.hc_framing.specs.declared.message.Message.{Message};
 ghost use Rattle.hc_service.specs.State.{Awaited, Table};
-ghost use Rattle.hc_service.specs.Reactions.{Reacts, ReactsByStore, chosen_reaction, forward_reaction, plain_forward};
-ghost use Rattle.hc_service.specs.Replying.{Wanted};
-ghost use Rattle.hc_reactions.specs.Reacting.{owed_reaction};
+ghost use Rattle.hc_service.specs.Reactions.{Reacts, ReactsByStore, bare, chosen_reaction, forward_anew, forward_reaction, hit_reaction, is_validated_behind, most_background, plain_forward, stored_forward};
+ghost use Rattle.hc_service.specs.Reactions.Reaction.{Sends};
+ghost use Rattle.hc_service.specs.declared.cases.Case.TheVariants.{Hit};
+ghost use Rattle.hc_rules.specs.Forwards.{conditional_request};
+ghost use Rattle.hc_reactions.specs.Reacting.{IsOpenBehind, owed_reaction};
 
-use crate::asking::wants_no_forward;
+use crate::asking::{is_asked_after, wants_no_forward};
+use hc_fields::SharedOctets;
 use hc_framing::Message;
 use hc_head::{RequestHead, ResponseHead, Target};
-use hc_rules::plain_request;
+use hc_rules::{conditional_request, plain_request, unconditional_request};
 use hc_service::{
     Case, Cause, GATEWAY_TIMEOUT, WantedReply, case_before_store, case_by_store, hit_reply,
-    made_reply,
+    is_fresh, made_reply, while_revalidating,
 };
 use hc_store::Store;
 use hc_update::Stored;
 use std::alloc::{AllocError, Global};
 use std::hash::BuildHasher;
 
+/// The most forwards for the store alone that are open.
+const MOST_BACKGROUND: usize = 1024;
+
 /// What a whole request gets at once.
 #[derive(Drop)]
 pub enum Reaction {
     /// A reply: a hit, or a 504 where the client wants no forward (RFC 9111 section 5.2.1.7).
-    Replies(Message<ResponseHead>),
-    /// A request to the origin, and why it goes there.
-    Sends(Message<RequestHead>, Cause),
+    Replies {
+        /// The reply.
+        reply: Message<ResponseHead>,
+        /// A request to the origin for the store alone, which validates what was served stale (RFC
+        /// 5861 section 3).
+        behind: Option<Message<RequestHead>>,
+    },
+    /// A request to the origin.
+    Sends {
+        /// The request.
+        request: Message<RequestHead>,
+        /// Why it goes there.
+        cause: Cause,
+        /// Whether it asks, by the cache's own condition, whether what is stored still holds.
+        conditional: bool,
+    },
+}
+
+/// The forwards for the store alone that are open.
+#[derive(Clone, Copy, Debug)]
+pub struct OpenBehind {
+    /// How many there are.
+    pub count: usize,
+    /// Whether one of them is for the target of the request.
+    pub for_target: bool,
+}
+
+/// A request of that head without a body.
+fn bare(head: RequestHead) -> Message<RequestHead>
+    ensures { result ≡ bare head }
+{
+    Message {
+        head,
+        body: SharedOctets::new(),
+    }
+}
+
+/// Whether one more forward for the store alone may be opened for the target.
+fn has_place_behind(open_behind: OpenBehind) -> bool
+    ensures { result ≡ (nat_lt open_behind.count most_background && not open_behind.for_target) }
+{
+    open_behind.count < MOST_BACKGROUND && !open_behind.for_target
+}
+
+/// Whether a stored response that is served is validated behind the reply.
+fn is_validated_behind(stored: &Stored, moment: u64, open_behind: OpenBehind) -> bool
+    ensures { (target : Target) (forwards : Table Awaited) → IsOpenBehind target forwards open_behind
+        → result ≡ is_validated_behind stored.now moment target forwards }
+{
+    !is_fresh(stored, moment) && while_revalidating(stored, moment) && has_place_behind(open_behind)
+}
+
+/// A GET that asks whether what is stored still holds.
+fn conditional_forward(
+    alloc: Global,
+    wanted: &WantedReply<'_>,
+    target: &Target,
+    asked: &RequestHead,
+    stored: &Stored,
+) -> Result<Message<RequestHead>, AllocError>
+    ensures { IfOk result (λ forward. forward ≡ bare (conditional_request wanted.now.name target.now asked.now stored.now.fields)) }
+{
+    let head = conditional_request(alloc, wanted.name.as_slice(), target, asked, &stored.fields)?;
+    Ok(bare(head))
+}
+
+/// A hit, and where it is stale, perhaps a validation behind it.
+fn hit_reaction(
+    alloc: Global,
+    wanted: &WantedReply<'_>,
+    target: &Target,
+    open_behind: OpenBehind,
+    stored: &Stored,
+) -> Result<Reaction, AllocError>
+    ensures { (forwards : Table Awaited) → IsOpenBehind target.now forwards open_behind → IfOk result
+        (λ reaction. owed_reaction reaction ≡ hit_reaction wanted.now target.now forwards stored.now) }
+{
+    let reply = hit_reply(alloc, wanted, stored)?;
+    if !is_validated_behind(stored, wanted.moment, open_behind) {
+        return Ok(Reaction::Replies {
+            reply,
+            behind: None,
+        });
+    }
+    let forward = conditional_forward(alloc, wanted, target, wanted.asked, stored)?;
+    Ok(Reaction::Replies {
+        reply,
+        behind: Some(forward),
+    })
 }
 
 /// The request as it goes to the origin. Its body is shared.
@@ -46,6 +140,62 @@ fn plain_forward(
     })
 }
 
+/// The request for a second time, once it was answered by a 304 that validated nothing: without the
+/// client's own conditions, so that no further 304 answers it.
+pub fn forward_anew(
+    alloc: Global,
+    name: &[u8],
+    target: &Target,
+    asked: &RequestHead,
+) -> Result<Message<RequestHead>, AllocError>
+    ensures { IfOk result (λ forward. forward ≡ forward_anew name.now target.now asked.now) }
+{
+    Ok(bare(unconditional_request(alloc, name, target, asked)?))
+}
+
+/// A forward as the request came.
+fn plain_reaction(
+    alloc: Global,
+    wanted: &WantedReply<'_>,
+    target: &Target,
+    request: &Message<RequestHead>,
+    cause: Cause,
+) -> Result<Reaction, AllocError>
+    ensures { IfOk result (λ reaction. owed_reaction reaction ≡ Sends (plain_forward wanted.now target.now request.now) cause false) }
+{
+    Ok(Reaction::Sends {
+        request: plain_forward(alloc, wanted, target, request)?,
+        cause,
+        conditional: false,
+    })
+}
+
+/// A forward that asks after the stored response that was chosen, where it has a validator, or a plain
+/// one.
+fn stored_forward(
+    alloc: Global,
+    wanted: &WantedReply<'_>,
+    target: &Target,
+    request: &Message<RequestHead>,
+    chosen: Option<&Stored>,
+    cause: Cause,
+) -> Result<Reaction, AllocError>
+    ensures { IfOk result (λ reaction. owed_reaction reaction
+        ≡ stored_forward wanted.now target.now request.now cause (option_copied chosen.entry)) }
+{
+    let Some(stored) = chosen else {
+        return plain_reaction(alloc, wanted, target, request, cause);
+    };
+    if !is_asked_after(&request.head, stored) {
+        return plain_reaction(alloc, wanted, target, request, cause);
+    }
+    Ok(Reaction::Sends {
+        request: conditional_forward(alloc, wanted, target, &request.head, stored)?,
+        cause,
+        conditional: true,
+    })
+}
+
 /// A request that no stored response answers: it goes to the origin, unless the client wants no
 /// forward.
 fn forward_reaction(
@@ -53,16 +203,41 @@ fn forward_reaction(
     wanted: &WantedReply<'_>,
     target: &Target,
     request: &Message<RequestHead>,
+    chosen: Option<&Stored>,
     cause: Cause,
 ) -> Result<Reaction, AllocError>
     requires { wanted.now.moment < end_of_moments }
-    ensures { (chosen : Option Stored) → IfOk result
-        (λ reaction. owed_reaction reaction ≡ forward_reaction wanted.now target.now request.now chosen cause) }
+    ensures { IfOk result (λ reaction. owed_reaction reaction
+        ≡ forward_reaction wanted.now target.now request.now (option_copied chosen.entry) cause) }
 {
     if wants_no_forward(cause, &request.head) {
-        return Ok(Reaction::Replies(made_reply(alloc, wanted, GATEWAY_TIMEOUT)?));
+        return Ok(Reaction::Replies {
+            reply: made_reply(alloc, wanted, GATEWAY_TIMEOUT)?,
+            behind: None,
+        });
     }
-    Ok(Reaction::Sends(plain_forward(alloc, wanted, target, request)?, cause))
+    stored_forward(alloc, wanted, target, request, chosen, cause)
+}
+
+/// A hit by what the store chose.
+fn chosen_hit(
+    alloc: Global,
+    wanted: &WantedReply<'_>,
+    target: &Target,
+    open_behind: OpenBehind,
+    chosen: Option<&Stored>,
+) -> Result<Reaction, AllocError>
+    requires { wanted.now.moment < end_of_moments }
+    ensures { (request : Message RequestHead) (forwards : Table Awaited) → IsOpenBehind target.now forwards open_behind → IfOk result
+        (λ reaction. owed_reaction reaction ≡ chosen_reaction wanted.now target.now request forwards (option_copied chosen.entry) Hit) }
+{
+    let Some(stored) = chosen else {
+        return Ok(Reaction::Replies {
+            reply: made_reply(alloc, wanted, GATEWAY_TIMEOUT)?,
+            behind: None,
+        });
+    };
+    hit_reaction(alloc, wanted, target, open_behind, stored)
 }
 
 /// What the case makes of a request, with what the store chose.
@@ -71,19 +246,17 @@ fn chosen_reaction(
     wanted: &WantedReply<'_>,
     target: &Target,
     request: &Message<RequestHead>,
+    open_behind: OpenBehind,
     chosen: Option<&Stored>,
     case: Case,
 ) -> Result<Reaction, AllocError>
     requires { wanted.now.moment < end_of_moments }
-    ensures { (forwards : Table Awaited) → IfOk result
+    ensures { (forwards : Table Awaited) → IsOpenBehind target.now forwards open_behind → IfOk result
         (λ reaction. owed_reaction reaction ≡ chosen_reaction wanted.now target.now request.now forwards (option_copied chosen.entry) case) }
 {
     match case {
-        Case::Forward(cause) => forward_reaction(alloc, wanted, target, request, cause),
-        Case::Hit => match chosen {
-            Some(stored) => Ok(Reaction::Replies(hit_reply(alloc, wanted, stored)?)),
-            None => Ok(Reaction::Replies(made_reply(alloc, wanted, GATEWAY_TIMEOUT)?)),
-        },
+        Case::Forward(cause) => forward_reaction(alloc, wanted, target, request, chosen, cause),
+        Case::Hit => chosen_hit(alloc, wanted, target, open_behind, chosen),
     }
 }
 
@@ -94,33 +267,36 @@ fn react_by_store<S: BuildHasher>(
     wanted: &WantedReply<'_>,
     target: &Target,
     request: &Message<RequestHead>,
+    open_behind: OpenBehind,
 ) -> Result<Reaction, AllocError>
     requires { wanted.now.moment < end_of_moments }
-    ensures { (forwards : Table Awaited) → IfOk result (λ reaction. ReactsByStore wanted.now target.now request.now forwards
-        store.old (owed_reaction reaction) store.new) }
+    ensures { (forwards : Table Awaited) → IsOpenBehind target.now forwards open_behind → IfOk result
+        (λ reaction. ReactsByStore wanted.now target.now request.now forwards store.old (owed_reaction reaction) store.new) }
 {
     let known = store.knows(target);
     let chosen = store.choose(target, &request.head.fields)?;
     let case = case_by_store(&request.head.fields, known, chosen, wanted.moment);
-    chosen_reaction(alloc, wanted, target, request, chosen, case)
+    chosen_reaction(alloc, wanted, target, request, open_behind, chosen, case)
 }
 
 /// What a request for that target gets: the first case that holds decides, and the store is asked where no
-/// earlier one does. A hit shares the body of the stored response. The moment of the reply that is wanted
-/// is in whole seconds since 1970, and lies before the year 10000.
+/// earlier one does. A hit shares the body of the stored response, and behind a stale one what is stored is
+/// validated, where what is open leaves a place for that. The moment of the reply that is wanted is in whole
+/// seconds since 1970, and lies before the year 10000.
 pub fn react<S: BuildHasher>(
     alloc: Global,
     store: &mut Store<S>,
     wanted: &WantedReply<'_>,
     target: &Target,
     request: &Message<RequestHead>,
+    open_behind: OpenBehind,
 ) -> Result<Reaction, AllocError>
     requires { wanted.now.moment < end_of_moments }
-    ensures { (forwards : Table Awaited) → IfOk result (λ reaction. Reacts wanted.now target.now request.now forwards
-        store.old (owed_reaction reaction) store.new) }
+    ensures { (forwards : Table Awaited) → IsOpenBehind target.now forwards open_behind → IfOk result
+        (λ reaction. Reacts wanted.now target.now request.now forwards store.old (owed_reaction reaction) store.new) }
 {
     match case_before_store(request) {
-        Some(cause) => forward_reaction(alloc, wanted, target, request, cause),
-        None => react_by_store(alloc, store, wanted, target, request),
+        Some(cause) => forward_reaction(alloc, wanted, target, request, None, cause),
+        None => react_by_store(alloc, store, wanted, target, request, open_behind),
     }
 }

@@ -1,6 +1,6 @@
 //! What no clause says: that calls succeed, and the marks of a first hit.
-use crate::outcomes::{fail, renew, respond, store_behind};
-use crate::reacting::{Reaction, react};
+use crate::outcomes::{Outcome, fail, renew, respond, store_behind};
+use crate::reacting::{OpenBehind, Reaction, forward_anew, react};
 use crate::sending::{
     Addressee, record_failure, record_request, record_response, refuse, send_reply, send_request,
 };
@@ -18,9 +18,15 @@ type Lines<'a> = &'a [(&'a [u8], &'a [u8])];
 // The moment of all that happens here, and that moment as a date.
 const NOW: u64 = 1000;
 
+const NONE_BEHIND: OpenBehind = OpenBehind {
+    count: 0,
+    for_target: false,
+};
+
 const RESPONSE: Lines<'static> = &[
     (b"date", b"Thu, 01 Jan 1970 00:16:40 GMT"),
     (b"cache-control", b"max-age=60"),
+    (b"etag", b"\"a\""),
 ];
 
 fn fields(alloc: Global, lines: Lines<'_>) -> Result<Fields, AllocError> {
@@ -88,8 +94,10 @@ fn said(alloc: Global, reply: &Message<ResponseHead>) -> Result<Vec<u8>, AllocEr
 // What a reaction says: of a forward its method.
 fn shown(alloc: Global, reaction: &Reaction) -> Result<Vec<u8>, AllocError> {
     match reaction {
-        Reaction::Replies(reply) => said(alloc, reply),
-        Reaction::Sends(request, _) => Vec::from_slice(alloc, request.head.method.as_slice()),
+        Reaction::Replies { reply, .. } => said(alloc, reply),
+        Reaction::Sends { request, .. } => {
+            Vec::from_slice(alloc, request.head.method.as_slice())
+        }
     }
 }
 
@@ -104,8 +112,15 @@ fn ask(alloc: Global, store: &mut Store) -> Result<Vec<u8>, AllocError> {
         closes: false,
     };
     let target = target(alloc)?;
-    let reaction = react(alloc, store, &wanted, &target, &request)?;
+    let reaction = react(alloc, store, &wanted, &target, &request, NONE_BEHIND)?;
     shown(alloc, &reaction)
+}
+
+fn outcome_said(alloc: Global, outcome: &Outcome) -> Result<Vec<u8>, AllocError> {
+    match outcome {
+        Outcome::Replies(reply) => said(alloc, reply),
+        Outcome::GoesAnew => Vec::from_slice(alloc, b"anew"),
+    }
 }
 
 // What the client gets where the origin answers.
@@ -120,8 +135,45 @@ fn answer(alloc: Global, store: &mut Store) -> Result<Vec<u8>, AllocError> {
     };
     let forward = forward(alloc, b"GET")?;
     let response = response(alloc)?;
-    let reply = respond(alloc, store, &wanted, forward, Cause::UriMiss, response)?;
-    said(alloc, &reply)
+    let outcome = respond(
+        alloc,
+        store,
+        &wanted,
+        forward,
+        Cause::UriMiss,
+        false,
+        2,
+        response,
+    )?;
+    outcome_said(alloc, &outcome)
+}
+
+// What it gets where the origin says that what is stored still holds.
+fn validated(alloc: Global, store: &mut Store) -> Result<Vec<u8>, AllocError> {
+    let name = Octets::from_slice(alloc, b"hcache")?;
+    let asked = head(alloc, b"GET")?;
+    let wanted = WantedReply {
+        name: &name,
+        moment: NOW,
+        asked: &asked,
+        closes: false,
+    };
+    let forward = forward(alloc, b"GET")?;
+    let mut response = response(alloc)?;
+    response.head.status = 304;
+    response.body = SharedOctets::new();
+    renew(store, &forward, NOW, 5, &response.head);
+    let outcome = respond(
+        alloc,
+        store,
+        &wanted,
+        forward,
+        Cause::Stale,
+        true,
+        5,
+        response,
+    )?;
+    outcome_said(alloc, &outcome)
 }
 
 // The status where it doesn't.
@@ -169,7 +221,7 @@ fn other_outcomes(alloc: Global) -> Result<(u16, Vec<u8>, Vec<u8>), AllocError> 
     store_behind(alloc, &mut store, get, NOW, &response)?;
     let stored = ask(alloc, &mut store)?;
     let post = forward(alloc, b"POST")?;
-    renew(&mut store, &post, &response.head);
+    renew(&mut store, &post, NOW, 2, &response.head);
     Ok((status, stored, ask(alloc, &mut store)?))
 }
 
@@ -182,48 +234,61 @@ fn failures_background_and_invalidation(rt: HostRuntime) -> Result<(), Fail> {
     Ok(())
 }
 
-// A request that is recorded and sent to the origin.
-fn ask_origin(
-    alloc: Global,
-    numbers: &mut Numbers,
-    actions: &mut Vec<Action>,
-) -> Result<(), AllocError> {
-    let request = request(alloc)?;
-    record_request(alloc, numbers, &request, actions)?;
-    send_request(alloc, numbers, &request, actions)?;
+// What a validation gives while nothing is stored, and behind an answer; and the method of a forward anew.
+fn validations(alloc: Global) -> Result<Vec<u8>, AllocError> {
+    let mut store = Store::new(alloc, 2, 1000)?;
+    let mut text = validated(alloc, &mut store)?;
+    text.extend_from_slice(b", ")?;
+    answer(alloc, &mut store)?;
+    text.extend_from_slice(validated(alloc, &mut store)?.as_slice())?;
+    text.extend_from_slice(b", ")?;
+    let target = target(alloc)?;
+    let again = forward_anew(alloc, b"hcache", &target, &head(alloc, b"HEAD")?)?;
+    text.extend_from_slice(again.head.method.as_slice())?;
+    Ok(text)
+}
+
+#[test]
+fn what_is_validated_is_the_reply_while_it_is_stored(rt: HostRuntime) -> Result<(), Fail> {
+    let text = validations(rt.alloc())?;
+    assert_eq!(rt;
+        text.as_slice(),
+        b"anew, hcache;fwd=stale;fwd-status=304: hello, HEAD".as_slice()
+    );
     Ok(())
 }
 
-// A response, a failure and a reply, behind which the connection closes.
-fn reply_once(
-    alloc: Global,
-    numbers: &mut Numbers,
-    actions: &mut Vec<Action>,
-) -> Result<(), AllocError> {
+// How many actions there are behind each call.
+fn counts(alloc: Global) -> Result<Vec<usize>, AllocError> {
+    let mut numbers = Numbers::new();
+    let mut actions: Vec<Action> = Vec::new(alloc);
+    let mut counts = Vec::new(alloc);
+    let request = request(alloc)?;
     let response = response(alloc)?;
-    record_response(alloc, numbers, 1, false, &response, actions)?;
-    record_failure(numbers, 1, true, actions)?;
+    let exchange = record_request(alloc, &mut numbers, &request, &mut actions)?;
+    counts.push(actions.len())?;
+    let forward = send_request(alloc, &mut numbers, &request, &mut actions)?;
+    counts.push(actions.len())?;
+    record_response(alloc, &mut numbers, forward, false, &response, &mut actions)?;
+    counts.push(actions.len())?;
+    record_failure(&mut numbers, forward, true, &mut actions)?;
+    counts.push(actions.len())?;
     let to = Addressee {
-        exchange: 1,
+        exchange,
         to_head: false,
         connection: 1,
         closes: true,
     };
-    send_reply(alloc, numbers, to, &response, actions)
-}
-
-// How many actions all calls make.
-fn count(alloc: Global) -> Result<usize, AllocError> {
-    let mut numbers = Numbers::new();
-    let mut actions: Vec<Action> = Vec::new(alloc);
-    ask_origin(alloc, &mut numbers, &mut actions)?;
-    reply_once(alloc, &mut numbers, &mut actions)?;
+    send_reply(alloc, &mut numbers, to, &response, &mut actions)?;
+    counts.push(actions.len())?;
     refuse(alloc, NOW, 1, 400, &mut actions)?;
-    Ok(actions.len())
+    counts.push(actions.len())?;
+    Ok(counts)
 }
 
 #[test]
 fn each_call_adds_its_actions(rt: HostRuntime) -> Result<(), Fail> {
-    assert_eq!(rt; count(rt.alloc())?, 12);
+    let counts = counts(rt.alloc())?;
+    assert_eq!(rt; counts.as_slice(), [1, 3, 5, 7, 10, 12].as_slice());
     Ok(())
 }

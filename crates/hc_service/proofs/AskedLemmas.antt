@@ -1,5 +1,6 @@
 -- What is open stays what the records leave open.
 use Rattle.std.proofs.Common.{◌≡◌, ℕ, ◌+◌, ◌<◌, Bool, true, false, cond, List, ◌∷◌, length, Option, Some, None, nat_eq, refl, sym, ap, ◌∙◌, subst, arith, ⊎_elim}
+use Rattle.std.specs.Prelude.{codes}
 use Rattle.std.specs.Option.{option_map}
 use Rattle.std.specs.FinMap.{get, insert, remove}
 use Rattle.std.proofs.lemmas.Bool.{cases_eq, eq-eqb, ne_eqb}
@@ -75,7 +76,7 @@ module _ (E F : ℕ) (xs : Table OpenExchange) (fs : Table Awaited) (items : Lis
 
   -- a request goes to the origin, and waits
   module _ (c e f t : ℕ) (q m : Message RequestHead) (g : Target) (why : Cause) (conditional : Bool) (newer : E < e) (further : F < f)
-      (asks : AsksFor (record { connection = c; request = q.head; target = g }) why (sent_forward m.head g t (purpose.Reply e why conditional)).forward) where
+      (asks : AsksFor (record { connection = c; request = q.head; target = g }) why conditional (sent_forward m.head g t (purpose.Reply e why conditional)).forward) where
     abbrev x : OpenExchange
     x = record { connection = c; request = q.head; target = g }
 
@@ -130,6 +131,45 @@ module _ (E F : ℕ) (xs : Table OpenExchange) (fs : Table Awaited) (items : Lis
 
         sym_new : (n : ℕ) (b : Awaited) → a ≡ b → exchange_for b.forward.purpose ≡ Some n → Some n ≡ Some e
         sym_new n b same is = sym (ap (λ (b : Awaited). exchange_for b.forward.purpose) same ∙ is)
+
+  -- another forward is opened, which is for nobody, or for a request for which none other is
+  pub asked_more : (f t : ℕ) (m : Message RequestHead) (g : Target) (p : Purpose) → F < f → KeepsPurpose xs p (sent_forward m.head g t p).forward
+      → ((h n : ℕ) (z : Awaited) → get fs h ≡ Some z → exchange_for z.forward.purpose ≡ Some n → exchange_for p ≡ Some n → ⊥)
+      → AreAsked E f xs (insert fs f (sent_forward m.head g t p)) (OriginRequest f t m g ∷ items)
+  asked_more f t m g p further keeps taken = record {
+    exchanges_are = k.exchanges_are;
+    forwards_are = λ d.
+        ⊎_elim
+        (λ (same : f ≡ d). rw (eq-eqb f d same) (sym (ap (option_map seen_forward) (ap (get (insert fs f a)) (sym same) ∙ get_same fs f a))))
+        (λ (other : f ≡ d → ⊥). rw (ne_eqb f d other) (k.forwards_are d ∙ sym (ap (option_map seen_forward) (get_other fs f a d other))))
+        (cases_eq f d);
+    purposes = λ d b is.
+        ⊎_elim
+        (λ (q : (f ≡ d) × (a ≡ b)). subst (λ (b : Awaited). KeepsPurpose xs b.forward.purpose b.forward) q.1 keeps)
+        (λ (q : (f ≡ d → ⊥) × (get fs d ≡ Some b)). k.purposes d b q.1)
+        (was_put fs f a d b is);
+    alone = λ d h n b z is_b is_z for_b for_z.
+        ⊎_elim
+        (λ (q : (f ≡ d) × (a ≡ b)). ⊎_elim
+        (λ (r : (f ≡ h) × (a ≡ z)). sym q.0 ∙ r.0)
+        (λ (r : (f ≡ h → ⊥) × (get fs h ≡ Some z)). absurd (taken h n z r.1 for_z (of_new n b q.1 for_b)))
+        (was_put fs f a h z is_z))
+        (λ (q : (f ≡ d → ⊥) × (get fs d ≡ Some b)). ⊎_elim
+        (λ (r : (f ≡ h) × (a ≡ z)). absurd (taken d n b q.1 for_b (of_new n z r.1 for_z)))
+        (λ (r : (f ≡ h → ⊥) × (get fs h ≡ Some z)). k.alone d h n b z q.1 r.1 for_b for_z)
+        (was_put fs f a h z is_z))
+        (was_put fs f a d b is_b);
+    later_exchanges = k.later_exchanges;
+    later_forwards = λ d is. get_other fs f a d (λ same. absurd (omega arith)) ∙ k.later_forwards d (omega arith);
+    no_exchange = k.no_exchange;
+    no_forward = get_other fs f a 0 (λ same. absurd (omega arith)) ∙ k.no_forward;
+  }
+    where
+      a : Awaited
+      a = sent_forward m.head g t p
+
+      of_new : (n : ℕ) (b : Awaited) → a ≡ b → exchange_for b.forward.purpose ≡ Some n → exchange_for p ≡ Some n
+      of_new n b same is = ap (λ (b : Awaited). exchange_for b.forward.purpose) same ∙ is
 
   -- octets come on a forward
   pub asked_told : (f : ℕ) (octets : List ℕ) (a : Awaited) → get fs f ≡ Some a → AreAsked E F xs (insert fs f (after_hearing octets a)) items
@@ -205,3 +245,32 @@ module _ (E F : ℕ) (xs : Table OpenExchange) (fs : Table Awaited) (items : Lis
       no_exchange = none_left xs e 0 k.no_exchange;
       no_forward = none_left fs f 0 k.no_forward;
     }
+
+-- a request has its reply at once, and behind it a forward is opened for nobody
+pub asked_validated : (E F : ℕ) (xs : Table OpenExchange) (fs : Table Awaited) (items : List Item) → AreAsked E F xs fs items → (e f t u v : ℕ) (q m : Message RequestHead) (g : Target) (reply : Message ResponseHead)
+    → E < e → F < f → m.head.method ≡ codes "GET"
+    → AreAsked e f xs (insert fs f (sent_forward m.head g v purpose.Background)) (OriginRequest f v m g ∷ ClientReply e u reply ∷ ClientRequest e t q g ∷ items)
+asked_validated E F xs fs items k e f t u v q m g reply later further get_method =
+    asked_more e F xs fs (ClientReply e u reply ∷ ClientRequest e t q g ∷ items) (asked_alone E F xs fs items k e t u q g reply later) f v m g purpose.Background further get_method
+    (λ h n z is for_z none. absurd (none_is_some n none))
+  where
+    none_is_some : (n : ℕ) → None ≡ Some n → ⊥
+    none_is_some n e = cc
+
+-- a forward ends, and the request that waited for it goes to the origin anew
+pub asked_anew : (E F : ℕ) (xs : Table OpenExchange) (fs : Table Awaited) (items : List Item) → AreAsked E F xs fs items → (f : ℕ) (a : Awaited) (item : Item) → get fs f ≡ Some a
+    → ((e : ℕ) → exchange_of e (item ∷ items) ≡ exchange_of e items) → ((d : ℕ) → forward_of d (item ∷ items) ≡ cond (nat_eq f d) None (forward_of d items))
+    → (e n t : ℕ) (m : Message RequestHead) (why : Cause) (x : OpenExchange) → exchange_for a.forward.purpose ≡ Some e → F < n → get xs e ≡ Some x
+    → AsksFor x why false (sent_forward m.head x.target t (purpose.Reply e why false)).forward
+    → AreAsked E n xs (insert (remove fs f) n (sent_forward m.head x.target t (purpose.Reply e why false))) (OriginRequest n t m x.target ∷ item ∷ items)
+asked_anew E F xs fs items k f a item is_open opens_none closes e n t m why x its further waits asks =
+    asked_more E F xs (remove fs f) (item ∷ items) (asked_behind E F xs fs items k f a item is_open opens_none closes) n t m x.target (purpose.Reply e why false) further
+    (record { exchange = x; waits = waits; asks_for = asks }) taken
+  where
+    some_one : (i j : ℕ) → Some i ≡ Some j → i ≡ j
+    some_one i j e = cc
+
+    taken : (h i : ℕ) (z : Awaited) → get (remove fs f) h ≡ Some z → exchange_for z.forward.purpose ≡ Some i → Some e ≡ Some i → ⊥
+    taken h i z is for_z same =
+        let w = was_left fs f h z is in
+        w.0 (k.alone f h e a z is_open w.1 its (for_z ∙ ap Some (sym (some_one e i same))))

@@ -1,6 +1,6 @@
 -- What is stored can be a reply, and replies can be recorded.
 use Rattle.std.proofs.Common.{◌≡◌, ℕ, ◌≤◌, ◌<◌, Bool, true, false, cond, ◌&&◌, ◌||◌, List, [], ◌∷◌, length, Option, Some, None, refl, sym, ap, ◌∙◌, subst, arith, ⊎_elim}
-use Rattle.std.specs.Prelude.{◌==◌, nat_le, not, codes}
+use Rattle.std.specs.Prelude.{◌==◌, nat_le, not, codes, filter}
 use Rattle.std.specs.List.{AllByRecursion, list_all, IsDistinct}
 use Rattle.std.specs.Map.{keys_of}
 use Rattle.std.specs.Str.{bytes_eq}
@@ -23,32 +23,36 @@ use Rattle.hc_framing.specs.declared.message.Message.{Message}
 use Rattle.hc_framing.specs.Framing.{ends_with_head}
 use Rattle.hc_fresh.specs.DateLines.{date_stated, date_line, dated, dated_by}
 use Rattle.hc_rules.specs.Storing.{may_store, is_storable, asks_for_storable, is_understood_if_asked, no_store_permits, is_not_private, has_authorization, permits_authorized, invites_storing}
+use Rattle.hc_status.specs.declared.cache_status.Handling.{Handling}
 use Rattle.hc_status.specs.declared.cache_status.Handling.TheVariants.{Hit, Fwd}
 use Rattle.hc_update.specs.declared.stored.Stored.{Stored}
 use Rattle.hc_update.specs.Sizes.{fits}
 use Rattle.hc_update.specs.States.{initial_state, kept_lines}
 use Rattle.hc_replies.proofs.TextLemmas.{date_text_plain}
-use Rattle.hc_replies.proofs.WritableLemmas.{forwarded_writable, stored_writable, generated_writable}
+use Rattle.hc_replies.specs.Laws.{IsWritableStatus}
+use Rattle.hc_replies.specs.Replies.{stored_reply, not_modified_reply}
+use Rattle.hc_replies.proofs.WritableLemmas.{forwarded_writable, stored_writable, not_modified_writable, generated_writable}
 use Rattle.hc_transcript.specs.Written.{IsWritableAnswer}
 use Rattle.hc_transcript.specs.Items.{Item}
 use Rattle.hc_store.specs.declared.putting.Put.{Put}
 use Rattle.hc_store.specs.declared.putting.Put.TheVariants as put
-use Rattle.hc_store.specs.Entries.{Holdings, Entries, weight}
-use Rattle.hc_store.specs.Calls.{Puts, invalidated}
+use Rattle.hc_store.specs.Entries.{Holdings, Entries, variants_of, weight}
+use Rattle.hc_store.specs.Calls.{Puts, Freshens, invalidated}
+use Rattle.hc_store.specs.Changes.{Validation, after_validation, is_validated, renewed, may_stay}
 use Rattle.hc_service.specs.declared.cases.Cause.{Cause}
 use Rattle.hc_service.specs.declared.open.OpenForward.{OpenForward}
 use Rattle.hc_service.specs.Settings.{is_name}
-use Rattle.hc_service.specs.Serving.{ttl_at}
+use Rattle.hc_service.specs.Serving.{ttl_at, has_still}
 use Rattle.hc_service.specs.Cases.{word_of}
-use Rattle.hc_service.specs.Replying.{Wanted, made_reply, hit_reply, passed_reply}
-use Rattle.hc_service.specs.Choices.{Finds, PutsResponse, Stores, may_update}
+use Rattle.hc_service.specs.Replying.{Wanted, made_reply, entry_reply, entry_status, hit_reply, status_told, replacing_reply, passed_reply}
+use Rattle.hc_service.specs.Choices.{Finds, PutsResponse, Stores, may_update, validation_by}
 use Rattle.hc_update.specs.States.{invalidates}
 use Rattle.hc_service.specs.Answers.{Renews}
 use Rattle.hc_service.specs.Agreement.{AllHeld, HasSource, CanReply, IsSound}
-use Rattle.hc_service.specs.Laws.{IsReceivedAnswer, HasSources}
-use Rattle.hc_service.proofs.StoreLemmas.{choose_held, put_held, without_held, held_weaken}
+use Rattle.hc_service.specs.Laws.{IsReceivedAnswer, IsToldStatus, HasSources}
+use Rattle.hc_service.proofs.StoreLemmas.{all_weaken, choose_held, put_held, without_held, variants_held, held_weaken, left_held, freshen_held}
 use Rattle.hc_service.proofs.SourceLemmas.{on_test}
-use Rattle.hc_service.proofs.NameLemmas.{hit_writable, forward_writable}
+use Rattle.hc_service.proofs.NameLemmas.{hit_writable, forward_writable, replacing_writable}
 
 -- ---- lines with one Date
 
@@ -127,22 +131,69 @@ all_can_reply store = AllHeld (λ target stored. CanReply stored) store.entries
 pub found_can_reply : (target : Target) (asked : List Field) (old : Holdings) (chosen : Option Stored) (new : Holdings) → all_can_reply old → Finds target asked old chosen new → all_can_reply new
 found_can_reply target asked old chosen new h finds = subst all_can_reply (sym finds.1) (choose_held (λ _ stored. CanReply stored) target old.entries h)
 
-pub renewed_can_reply : (forward : OpenForward) (moment position : ℕ) (response : ResponseHead) (old new : Holdings) → all_can_reply old → Renews forward moment position response old new → all_can_reply new
-renewed_can_reply forward moment position response old new h renews =
-    ⊎_elim
-    (λ (p : (may_update forward response ≡ true) × (new ≡ invalidated forward.target renews.between)). subst all_can_reply (sym p.1) (less renews.between between))
-    (λ (p : (may_update forward response ≡ false) × (new ≡ renews.between)). subst all_can_reply (sym p.1) between)
-    (on_test (may_update forward response) _ _ renews.updates)
+-- a 304 was received as an answer with these lines
+pub freshened_can_reply : (v : Validation) (stored : Stored) → (to_head : Bool) (response : Message ResponseHead) → IsReceivedAnswer to_head response → v.not_modified ≡ response.head
+    → v.response_time < 253402300800 → CanReply stored → may_stay v stored ≡ true → CanReply (after_validation v stored)
+freshened_can_reply v stored to_head response r same early can stays = go (is_validated v stored) refl
   where
-    less : (store : Holdings) → all_can_reply store → all_can_reply (invalidated forward.target store)
-    less store k = without_held (λ _ stored. CanReply stored) forward.target store.entries k
+    newer : List Field
+    newer = dated v.response_time (kept_lines v.not_modified.fields)
 
+    plain_newer : list_all is_plain_field newer ≡ true
+    plain_newer = dated_plain v.response_time (kept_lines v.not_modified.fields) early
+        (plain_fewer _ v.not_modified.fields (subst (λ (m : ResponseHead). list_all is_plain_field m.fields ≡ true) (sym same) r.lines.plain))
+
+    frames_none : has_framing newer ≡ false
+    frames_none = dated_frames_none v.response_time (kept_lines v.not_modified.fields)
+        (no_framing_fewer _ v.not_modified.fields (subst (λ (m : ResponseHead). has_framing m.fields ≡ false) (sym same) r.no_framing))
+
+    go : (b : Bool) → is_validated v stored ≡ b → CanReply (cond b (renewed v stored) stored)
+    go false none = can
+    go true is =
+        let small : fits (renewed v stored) ≡ true = sym (ap (λ (b : Bool). not b || fits (renewed v stored)) is) ∙ stays in
+        let parts = and_parts (nat_le (length (renewed v stored).fields) 100) (nat_le (fields_weight (renewed v stored).fields) 65536) small in
+        let older = filter (λ (f : Field). not (has_name f.name newer)) stored.fields in
+        record {
+          lines = kept_from_stored (renewed v stored).fields (plain_both older newer (plain_fewer _ stored.fields can.lines.plain) plain_newer)
+              (leb-true (length (renewed v stored).fields) 100 parts.0) (leb-true (fields_weight (renewed v stored).fields) 65536 parts.1);
+          no_framing = no_framing_both older newer (no_framing_fewer _ stored.fields can.no_framing) frames_none;
+          no_age = no_name_both (codes "age") older newer (no_name_fewer (codes "age") _ stored.fields can.no_age)
+              (dated_has_no_age v.response_time (kept_lines v.not_modified.fields) (kept_has_no_age v.not_modified.fields));
+          is_final = can.is_final;
+          has_digits = can.has_digits;
+          is_whole = can.is_whole;
+          short = can.short;
+          bare = can.bare;
+        }
+
+pub freshen_can_reply : (forward : OpenForward) (moment position : ℕ) (to_head : Bool) (response : Message ResponseHead) (old new : Holdings) → IsReceivedAnswer to_head response → moment < 253402300800
+    → all_can_reply old → Freshens (validation_by forward moment position response.head) forward.target old new → all_can_reply new
+freshen_can_reply forward moment position to_head response old new r early h f =
+    subst all_can_reply (sym f.becomes)
+    (freshen_held (λ _ stored. CanReply stored) old.bytes v forward.target f.left old.entries
+    (without_held (λ _ stored. CanReply stored) forward.target old.entries h)
+    (all_weaken _ (λ stored. CanReply (after_validation v stored)) (λ stored p. freshened_can_reply v stored to_head response r refl early p.0 p.1) f.left
+    (left_held CanReply v (variants_of forward.target old.entries) f.left (variants_held (λ _ stored. CanReply stored) forward.target old.entries h) f.leaves)))
+  where
+    v : Validation
+    v = validation_by forward moment position response.head
+
+pub renewed_can_reply : (forward : OpenForward) (moment position : ℕ) (to_head : Bool) (response : Message ResponseHead) (old new : Holdings) → IsReceivedAnswer to_head response → moment < 253402300800
+    → all_can_reply old → Renews forward moment position response.head old new → all_can_reply new
+renewed_can_reply forward moment position to_head response old new r early h renews =
+    ⊎_elim
+    (λ (p : (may_update forward response.head ≡ true) × Freshens (validation_by forward moment position response.head) forward.target renews.between new).
+    freshen_can_reply forward moment position to_head response renews.between new r early between p.1)
+    (λ (p : (may_update forward response.head ≡ false) × (new ≡ renews.between)). subst all_can_reply (sym p.1) between)
+    (on_test (may_update forward response.head) _ _ renews.updates)
+  where
     between : all_can_reply renews.between
     between =
         ⊎_elim
-        (λ (p : (invalidates forward.request.method response.status ≡ true) × (renews.between ≡ invalidated forward.target old)). subst all_can_reply (sym p.1) (less old h))
-        (λ (p : (invalidates forward.request.method response.status ≡ false) × (renews.between ≡ old)). subst all_can_reply (sym p.1) h)
-        (on_test (invalidates forward.request.method response.status) _ _ renews.invalidates)
+        (λ (p : (invalidates forward.request.method response.head.status ≡ true) × (renews.between ≡ invalidated forward.target old)).
+        subst all_can_reply (sym p.1) (without_held (λ _ stored. CanReply stored) forward.target old.entries h))
+        (λ (p : (invalidates forward.request.method response.head.status ≡ false) × (renews.between ≡ old)). subst all_can_reply (sym p.1) h)
+        (on_test (invalidates forward.request.method response.head.status) _ _ renews.invalidates)
 
 pub put_can_reply : (forward : OpenForward) (moment : ℕ) (response : Message ResponseHead) (old : Holdings) (stored : Bool) (new : Holdings) → IsReceivedAnswer false response → moment < 253402300800
     → all_can_reply old → Stores forward moment response old stored new → all_can_reply new
@@ -182,19 +233,9 @@ pub record IsFit (to_head : Bool) (reply : Message ResponseHead) : Type 0 where
   pub writable : IsWritableAnswer to_head reply
   pub digits : reply.head.status < 1000
 
-pub hit_fit : (wanted : Wanted) (stored : Stored) → is_name wanted.name ≡ true → CanReply stored → IsFit (is_head wanted.asked.method) (hit_reply wanted stored)
-hit_fit wanted stored name can = record {
-  writable = record {
-    readable = record {
-      head = stored_writable wanted.name (Hit (Some (ttl_at stored wanted.moment))) wanted.closes wanted.moment (is_head wanted.asked.method) stored
-          (hit_writable wanted.name stored wanted.moment name) (omega (arith, can.is_final)) can.has_digits can.lines can.no_framing;
-      short = short (is_head wanted.asked.method);
-      bare = bare (is_head wanted.asked.method);
-    };
-    is_final = can.is_final;
-  };
-  digits = can.has_digits;
-}
+-- a stored response, or that what the client has of it still holds
+entry_fit : (wanted : Wanted) (handling : Handling) (stored : Stored) → IsWritableStatus wanted.name handling → CanReply stored → IsFit (is_head wanted.asked.method) (entry_reply wanted handling stored)
+entry_fit wanted handling stored writable can = go (has_still wanted.asked.fields stored)
   where
     short : (head : Bool) → length (cond head [] stored.body) ≤ 16777216
     short true = omega arith
@@ -203,6 +244,39 @@ hit_fit wanted stored name can = record {
     bare : (head : Bool) → ends_with_head head stored.status ≡ true → cond head [] stored.body ≡ []
     bare true ends = refl
     bare false ends = can.bare ends
+
+    go : (b : Bool) → IsFit (is_head wanted.asked.method)
+        (cond b (not_modified_reply wanted.name handling wanted.closes wanted.moment stored) (stored_reply wanted.name handling wanted.closes wanted.moment (is_head wanted.asked.method) stored))
+    go true = record {
+      writable = record {
+        readable = record {
+          head = not_modified_writable wanted.name handling wanted.closes wanted.moment stored writable can.lines;
+          short = omega arith;
+          bare = λ ends. refl;
+        };
+        is_final = omega arith;
+      };
+      digits = omega arith;
+    }
+    go false = record {
+      writable = record {
+        readable = record {
+          head = stored_writable wanted.name handling wanted.closes wanted.moment (is_head wanted.asked.method) stored writable (omega (arith, can.is_final)) can.has_digits can.lines can.no_framing;
+          short = short (is_head wanted.asked.method);
+          bare = bare (is_head wanted.asked.method);
+        };
+        is_final = can.is_final;
+      };
+      digits = can.has_digits;
+    }
+
+pub hit_fit : (wanted : Wanted) (stored : Stored) → is_name wanted.name ≡ true → CanReply stored → IsFit (is_head wanted.asked.method) (hit_reply wanted stored)
+hit_fit wanted stored name can = entry_fit wanted (Hit (Some (ttl_at stored wanted.moment))) stored (hit_writable wanted.name stored wanted.moment name) can
+
+pub replacing_fit : (wanted : Wanted) (why : Cause) (told : Option ℕ) (stored : Stored) → is_name wanted.name ≡ true → IsToldStatus told → CanReply stored
+    → IsFit (is_head wanted.asked.method) (replacing_reply wanted why told stored)
+replacing_fit wanted why told stored name small can =
+    entry_fit wanted (Fwd (word_of why) (status_told told (entry_status wanted stored)) false) stored (replacing_writable wanted.name why told (entry_status wanted stored) name small) can
 
 pub passed_fit : (wanted : Wanted) (why : Cause) (stored : Bool) (to_head : Bool) (response : Message ResponseHead) → is_name wanted.name ≡ true → wanted.moment < 253402300800
     → IsReceivedAnswer to_head response → IsFit to_head (passed_reply wanted why stored response)

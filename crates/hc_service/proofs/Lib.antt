@@ -3,8 +3,11 @@ pub mod BeginLemmas
 pub mod StoreLemmas
 pub mod SourceLemmas
 pub mod NameLemmas
+pub mod UsableLemmas
 pub mod RightLemmas
+pub mod ForbiddenLemmas
 pub mod PassedLemmas
+pub mod ReplacingLemmas
 pub mod ReceivedLemmas
 pub mod RecordLemmas
 pub mod LinkLemmas

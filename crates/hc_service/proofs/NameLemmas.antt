@@ -1,5 +1,5 @@
 -- The name of a cache, and the words of its marks, are tokens.
-use Rattle.std.proofs.Common.{◌≡◌, ℕ, suc, ◌≤◌, ◌<◌, ◌^◌, Bool, true, false, ◌&&◌, ◌||◌, List, [], ◌∷◌, length, pos, ◌-ℤ◌, unsigned_abs, refl, sym, ◌∙◌, arith, inl, inr, ⊎_elim}
+use Rattle.std.proofs.Common.{◌≡◌, ℕ, suc, ◌≤◌, ◌<◌, ◌^◌, Bool, true, false, cond, ◌&&◌, ◌||◌, List, [], ◌∷◌, length, pos, ◌-ℤ◌, unsigned_abs, Option, refl, sym, ◌∙◌, arith, inl, inr, ⊎_elim}
 use Rattle.std.specs.Prelude.{◌==◌, nat_le, Some, None, codes}
 use Rattle.std.specs.Char.{is_ascii_alphabetic, is_ascii_alphanumeric}
 use Rattle.std.specs.Int.{is_in_range}
@@ -12,6 +12,7 @@ use Rattle.hc_rules.specs.Laws.{IsCacheName}
 use Rattle.hc_fresh.proofs.LimitLemmas.{lifetime_small}
 use Rattle.hc_status.specs.Classes.{is_token_octet}
 use Rattle.hc_status.specs.Grammar.{IsToken}
+use Rattle.hc_status.specs.Texts.{HasShortStatus}
 use Rattle.hc_status.specs.declared.cache_status.Handling.TheVariants.{Hit, Fwd}
 use Rattle.hc_replies.specs.Laws.{IsWritableStatus}
 use Rattle.hc_update.specs.declared.stored.Stored.{Stored}
@@ -20,6 +21,8 @@ use Rattle.hc_service.specs.declared.cases.Cause.{Cause}
 use Rattle.hc_service.specs.declared.cases.Cause.TheVariants.{Method, Bypass, NoStore, UriMiss, VaryMiss, Stale, Request}
 use Rattle.hc_service.specs.Settings.{is_name, is_name_octet}
 use Rattle.hc_service.specs.Cases.{word_of}
+use Rattle.hc_service.specs.Laws.{IsToldStatus}
+use Rattle.hc_service.specs.Replying.{status_told}
 use Rattle.hc_service.specs.Serving.{age_at, ttl_at}
 
 octet_of_token : (octet : ℕ) → is_name_octet octet ≡ true → is_token_octet octet ≡ true
@@ -102,6 +105,25 @@ forward_writable name cause stored is =
     let token = name_is_token name is in
     record {
       plain = record { name = token.0; handling = (word_is_token cause, tt) };
+      short_name = token.1;
+      short_word = word_is_short cause;
+    }
+
+-- and where they tell the origin's status
+status_in_mark : (told : Option ℕ) (status : ℕ) → IsToldStatus told → HasShortStatus (status_told told status)
+status_in_mark None status small = tt
+status_in_mark (Some origin) status small = go (origin == status)
+  where
+    go : (same : Bool) → HasShortStatus (cond same None (Some origin))
+    go true = tt
+    go false = omega (arith, small)
+
+pub replacing_writable : (name : List ℕ) (cause : Cause) (told : Option ℕ) (status : ℕ) → is_name name ≡ true → IsToldStatus told
+    → IsWritableStatus name (Fwd (word_of cause) (status_told told status) false)
+replacing_writable name cause told status is small =
+    let token = name_is_token name is in
+    record {
+      plain = record { name = token.0; handling = (word_is_token cause, status_in_mark told status small) };
       short_name = token.1;
       short_word = word_is_short cause;
     }

@@ -1,6 +1,6 @@
 -- What a request gets, at once or by its forward, is a right reply or a forward.
 use Rattle.std.proofs.Common.{◌≡◌, ℕ, ◌+◌, ◌≤◌, ◌<◌, Bool, true, false, cond, ◌&&◌, ◌||◌, List, [], ◌∷◌, length, Option, Some, None, refl, sym, ap, ◌∙◌, subst, arith, inl, inr, ⊎_elim}
-use Rattle.std.specs.Prelude.{◌⊎◌, not, codes, if◌then◌else◌}
+use Rattle.std.specs.Prelude.{◌⊎◌, ◌==◌, not, codes, if◌then◌else◌}
 use Rattle.std.proofs.lemmas.Bool.{cases_Bool, eq-eqb, or_left, and_parts}
 use Rattle.std.proofs.lemmas.Slice.Eq.{bytes_eq-Decides}
 use Rattle.hc_fields.specs.declared.fields.Field.{Field}
@@ -9,38 +9,45 @@ use Rattle.hc_head.specs.declared.head.ResponseHead.{ResponseHead}
 use Rattle.hc_head.specs.declared.head.Target.{Target}
 use Rattle.hc_head.specs.Methods.{is_get, is_head}
 use Rattle.hc_framing.specs.declared.message.Message.{Message}
-use Rattle.hc_fresh.specs.Lifetimes.{stale_forbidden}
+use Rattle.hc_fresh.specs.Lifetimes.{says, stale_forbidden}
+use Rattle.hc_head.specs.Statuses.{not_modified}
 use Rattle.hc_rules.specs.Storing.{may_store, asks_for_storable, is_storable, is_understood_if_asked, no_store_permits, is_not_private, has_authorization, permits_authorized, invites_storing}
 use Rattle.hc_update.specs.declared.stored.Stored.{Stored}
 use Rattle.hc_transcript.specs.Items.{Item, ClientRequest, OriginResponse, OriginFailure, ClientReply, Exchange}
-use Rattle.hc_transcript.specs.History.{exchange_of, forward_of}
+use Rattle.hc_rules.specs.Forwards.{conditional_request}
+use Rattle.hc_rules.specs.Validators.{has_validator}
+use Rattle.hc_transcript.specs.History.{next_position, exchange_of, forward_of}
+use Rattle.hc_transcript.specs.Written.{IsWritableAsk}
+use Rattle.hc_history.specs.Windows.{is_error_status}
 use Rattle.hc_history.specs.Right.{IsRight}
 use Rattle.hc_store.specs.Entries.{Holdings, knows}
-use Rattle.hc_store.specs.Choosing.{chosen}
+use Rattle.hc_store.specs.Choosing.{is_selected}
 use Rattle.hc_service.specs.declared.cases.Cause.{Cause}
-use Rattle.hc_service.specs.declared.cases.Cause.TheVariants.{Method, Bypass, NoStore, UriMiss, VaryMiss}
+use Rattle.hc_service.specs.declared.cases.Cause.TheVariants.{Method, Bypass, NoStore, UriMiss, VaryMiss, Stale, Request}
 use Rattle.hc_service.specs.declared.cases.Case.TheVariants as case
 use Rattle.hc_service.specs.declared.open.OpenForward.{OpenForward}
 use Rattle.hc_service.specs.Settings.{is_name}
 use Rattle.hc_service.specs.Asking.{is_answered_by_store}
-use Rattle.hc_service.specs.Cases.{asks_store, case_before_store, case_by_store, has_other_method, asks_origin, forbids_storing, cause_of_stored}
-use Rattle.hc_service.specs.Serving.{may_be_served}
+use Rattle.hc_service.specs.Cases.{asks_store, is_of_stored, case_before_store, case_by_store, has_other_method, asks_origin, forbids_storing, cause_of_stored}
+use Rattle.hc_service.specs.Serving.{is_fresh, may_be_served, may_replace}
 use Rattle.hc_service.specs.State.{Table, Awaited}
-use Rattle.hc_service.specs.Replying.{Wanted, made_reply, hit_reply, passed_reply, failure_status, bad_gateway, gateway_timeout}
-use Rattle.hc_service.specs.Choices.{OnTest, Finds, PutsResponse, Stores}
-use Rattle.hc_service.specs.Reactions.{Reaction, Reacts, ReactsBy, wants_no_forward, plain_forward, stored_forward, forward_reaction, chosen_reaction}
+use Rattle.hc_service.specs.Replying.{Wanted, made_reply, hit_reply, replacing_reply, passed_reply, failure_status, bad_gateway, gateway_timeout}
+use Rattle.hc_service.specs.Choices.{OnTest, Finds, validated_by, PutsResponse, Stores}
+use Rattle.hc_service.specs.Reactions.{Reaction, Reacts, ReactsBy, bare, is_validated_behind, validation_behind, hit_reaction, wants_no_forward, plain_forward, stored_forward, forward_reaction, chosen_reaction}
 use Rattle.hc_service.specs.Reactions.Reaction.{Replies as RepliesAtOnce, Sends}
-use Rattle.hc_service.specs.Answers.{Outcome, Responds, Passes, FailsByStore, Fails, is_unasked, failed_outcome, standing_in}
-use Rattle.hc_service.specs.Answers.Outcome.{Replies}
-use Rattle.hc_service.specs.Agreement.{HasSource, CanReply}
+use Rattle.hc_service.specs.Answers.{Outcome, Responds, ByValidation, Passes, Replaces, StandsIn, FailsByStore, Fails, is_validation, validated_outcome, is_unasked, is_replaceable, failed_outcome, standing_in}
+use Rattle.hc_service.specs.Answers.Outcome.{Replies, GoesAnew}
+use Rattle.hc_service.specs.Agreement.{HasSource, CanReply, AsksAfter}
 use Rattle.hc_service.specs.Runs.{strict}
-use Rattle.hc_service.specs.Laws.{HasSources, IsReceivedAnswer, is_response, recorded_forward}
-use Rattle.hc_service.proofs.StoreLemmas.{chosen_held}
+use Rattle.hc_service.specs.Laws.{HasSources, IsReceivedAnswer, IsReceivedAsk, is_response, recorded_forward}
+use Rattle.hc_service.specs.LowerLaws.{ForwardLaws}
+use Rattle.hc_service.proofs.StoreLemmas.{chosen_held, validated_held}
 use Rattle.hc_service.proofs.SourceLemmas.{on_test, found_sources, still_sources, still_source, put_sources}
-use Rattle.hc_service.proofs.EntryLemmas.{all_can_reply, found_can_reply, put_can_reply, IsFit, hit_fit, passed_fit, made_fit}
-use Rattle.hc_service.proofs.NameLemmas.{hit_writable, forward_writable}
+use Rattle.hc_service.proofs.EntryLemmas.{all_can_reply, found_can_reply, put_can_reply, IsFit, hit_fit, replacing_fit, passed_fit, made_fit}
+use Rattle.hc_service.proofs.NameLemmas.{cache_name, hit_writable, forward_writable}
 use Rattle.hc_service.proofs.RightLemmas.{hit_right}
-use Rattle.hc_service.proofs.PassedLemmas.{passed_right, made_right}
+use Rattle.hc_service.proofs.PassedLemmas.{exchange_place, passed_right, made_right}
+use Rattle.hc_service.proofs.ReplacingLemmas.{error_is_small, validated_right, error_right, failure_right}
 
 -- all that a store holds is sound
 abbrev pub SoundStore : List Item → Holdings → Type 0
@@ -71,7 +78,15 @@ by_store_method request is = go (is_answered_by_store request.head.method) (asks
     go true b c e = refl
     go false b c e = absurd (cc)
 
-module _ (name : List ℕ) (good : is_name name ≡ true) (t : ℕ) (early : t < 253402300800) (closes : Bool) (items : List Item) (e : ℕ) (request : Message RequestHead) (target : Target) where
+-- no method that the store answers is that of `*`
+not_options : (method : List ℕ) → is_answered_by_store method ≡ true → method ≡ codes "OPTIONS" → ⊥
+not_options method is same = false_true (sym (ap is_answered_by_store same) ∙ is)
+  where
+    false_true : false ≡ true → ⊥
+    false_true e = cc
+
+module _ (laws : ForwardLaws) (name : List ℕ) (good : is_name name ≡ true) (t : ℕ) (early : t < 253402300800) (closes : Bool) (items : List Item) (e : ℕ) (request : Message RequestHead) (target : Target)
+    (ask : IsReceivedAsk request target) where
   abbrev wanted : Wanted
   wanted = record { name = name; moment = t; asked = request.head; closes = closes }
 
@@ -84,17 +99,31 @@ module _ (name : List ℕ) (good : is_name name ≡ true) (t : ℕ) (early : t <
   it_waits : exchange_of e (ClientRequest e t request target ∷ items) ≡ Some (record { number = e; position = length items + 1; request = request.head; target = target })
   it_waits = rw (eq-eqb e e refl) refl
 
-  -- it gets a right reply at once, or goes to the origin as it came
+  -- it gets a right reply at once, behind which what is stored may be validated, or goes to the origin
   pub record GetsReply (reaction : Reaction) : Type 0 where
     pub reply : Message ResponseHead
     pub reaction_is : reaction ≡ RepliesAtOnce reply None
     pub fit : IsFit (is_head request.head.method) reply
     pub right : IsRight strict (ClientRequest e t request target ∷ items) (ClientReply e t reply)
 
+  pub record GetsBehind (reaction : Reaction) : Type 0 where
+    pub reply : Message ResponseHead
+    pub validation : Message RequestHead
+    pub reaction_is : reaction ≡ RepliesAtOnce reply (Some validation)
+    pub fit : IsFit (is_head request.head.method) reply
+    pub right : IsRight strict (ClientRequest e t request target ∷ items) (ClientReply e t reply)
+    pub get : validation.head.method ≡ codes "GET"
+    pub writable : IsWritableAsk validation target
+
   pub record GetsForward (reaction : Reaction) : Type 0 where
     pub why : Cause
-    pub reaction_is : reaction ≡ Sends (plain_forward (record { name = name; moment = t; asked = request.head; closes = closes }) target request) why false
+    pub forward : Message RequestHead
+    pub conditional : Bool
+    pub reaction_is : reaction ≡ Sends forward why conditional
+    pub method : forward.head.method ≡ request.head.method
     pub by_store : asks_store why ≡ true → is_answered_by_store request.head.method ≡ true
+    pub asks_after : (c : ℕ) → conditional ≡ true → AsksAfter (record { connection = c; request = request.head; target = target }) why forward.head
+    pub writable : IsWritableAsk forward target
 
   made_at_once : (reaction : Reaction) → reaction ≡ RepliesAtOnce (made_reply (record { name = name; moment = t; asked = request.head; closes = closes }) gateway_timeout) None → GetsReply reaction
   made_at_once reaction is = record {
@@ -104,52 +133,123 @@ module _ (name : List ℕ) (good : is_name name ≡ true) (t : ℕ) (early : t <
     right = made_right the_items the_exchange wanted gateway_timeout it_waits (omega arith);
   }
 
-  forwarded : (chosen : Option Stored) (why : Cause) (reaction : Reaction) → (asks_store why ≡ true → is_answered_by_store request.head.method ≡ true)
-      → reaction ≡ forward_reaction (record { name = name; moment = t; asked = request.head; closes = closes }) target request chosen why → GetsReply reaction ⊎ GetsForward reaction
-  forwarded chosen why reaction by_store is =
+  -- what was chosen, where something was, can be asked after
+  abbrev CanAskAfter : Option Stored → Cause → Type 0
+  CanAskAfter None why = Unit {0}
+  CanAskAfter (Some stored) why = CanReply stored × (is_of_stored why ≡ true) × (is_answered_by_store request.head.method ≡ true)
+
+  plain_ask : IsWritableAsk (plain_forward (record { name = name; moment = t; asked = request.head; closes = closes }) target request) target
+  plain_ask = record {
+    readable = record { head = laws.writable name target request.head (cache_name name good) ask.forwardable; short = ask.readable.short };
+    target_is = laws.keeps_target name target request.head ask.forwardable.has_target;
+  }
+
+  conditional_ask : (stored : Stored) → CanReply stored → is_answered_by_store request.head.method ≡ true → IsWritableAsk (bare (conditional_request name target request.head stored.fields)) target
+  conditional_ask stored can method = record {
+    readable = record { head = laws.conditional_writable name target request.head stored.fields (cache_name name good) ask.forwardable can.lines.plain; short = omega arith };
+    target_is = laws.conditional_keeps name target request.head stored.fields ask.forwardable.has_target (not_options request.head.method method);
+  }
+
+  sends_plain : (why : Cause) → (asks_store why ≡ true → is_answered_by_store request.head.method ≡ true)
+      → GetsForward (Sends (plain_forward (record { name = name; moment = t; asked = request.head; closes = closes }) target request) why false)
+  sends_plain why by_store = record {
+    why = why;
+    forward = plain_forward wanted target request;
+    conditional = false;
+    reaction_is = refl;
+    method = refl;
+    by_store = by_store;
+    asks_after = λ c is. absurd (false_true is);
+    writable = plain_ask;
+  }
+    where
+      false_true : false ≡ true → ⊥
+      false_true e = cc
+
+  sends : (chosen : Option Stored) (why : Cause) → (asks_store why ≡ true → is_answered_by_store request.head.method ≡ true) → CanAskAfter chosen why
+      → GetsForward (stored_forward (record { name = name; moment = t; asked = request.head; closes = closes }) target request why chosen)
+  sends None why by_store can = sends_plain why by_store
+  sends (Some stored) why by_store can = go (is_get request.head.method && has_validator stored.fields) refl
+    where
+      go : (b : Bool) → (is_get request.head.method && has_validator stored.fields) ≡ b
+          → GetsForward (cond b (Sends (bare (conditional_request name target request.head stored.fields)) why true) (Sends (plain_forward wanted target request) why false))
+      go true is =
+          let parts = and_parts (is_get request.head.method) (has_validator stored.fields) is in
+          let get : request.head.method ≡ codes "GET" = (bytes_eq-Decides request.head.method (codes "GET")).0 parts.0 in
+          record {
+            why = why;
+            forward = bare (conditional_request name target request.head stored.fields);
+            conditional = true;
+            reaction_is = refl;
+            method = sym get;
+            by_store = by_store;
+            asks_after = λ c is. record { method = get; reason = can.1; name = name; stored = stored.fields; validator = parts.1; request_is = refl };
+            writable = conditional_ask stored can.0 can.2;
+          }
+      go false is = sends_plain why by_store
+
+  forwarded : (chosen : Option Stored) (why : Cause) (reaction : Reaction) → (asks_store why ≡ true → is_answered_by_store request.head.method ≡ true) → CanAskAfter chosen why
+      → reaction ≡ forward_reaction (record { name = name; moment = t; asked = request.head; closes = closes }) target request chosen why
+      → GetsReply reaction ⊎ (GetsBehind reaction ⊎ GetsForward reaction)
+  forwarded chosen why reaction by_store can is =
       ⊎_elim
       (λ (none : wants_no_forward why request.head ≡ true). inl (made_at_once reaction (is ∙ ap (λ (b : Bool). cond b (RepliesAtOnce (made_reply wanted gateway_timeout) None) (stored_forward wanted target request why chosen)) none)))
-      (λ (some : wants_no_forward why request.head ≡ false). inr (record {
-        why = why;
-        reaction_is = is ∙ ap (λ (b : Bool). cond b (RepliesAtOnce (made_reply wanted gateway_timeout) None) (stored_forward wanted target request why chosen)) some ∙ plain chosen;
-        by_store = by_store;
-      }))
+      (λ (some : wants_no_forward why request.head ≡ false). inr (inr (subst GetsForward
+      (sym (is ∙ ap (λ (b : Bool). cond b (RepliesAtOnce (made_reply wanted gateway_timeout) None) (stored_forward wanted target request why chosen)) some))
+      (sends chosen why by_store can))))
       (cases_Bool (wants_no_forward why request.head))
+
+  -- a hit
+  hits : (forwards : Table Awaited) (stored : Stored) (reaction : Reaction) → HasSource items target stored → CanReply stored → is_answered_by_store request.head.method ≡ true
+      → is_selected request.head.fields stored ≡ true → may_be_served request.head.fields stored t ≡ true
+      → reaction ≡ hit_reaction (record { name = name; moment = t; asked = request.head; closes = closes }) target forwards stored
+      → GetsReply reaction ⊎ (GetsBehind reaction ⊎ GetsForward reaction)
+  hits forwards stored reaction source can method selected served is = go (is_validated_behind stored t target forwards) is
     where
-      plain : (chosen : Option Stored) → stored_forward wanted target request why chosen ≡ Sends (plain_forward wanted target request) why false
-      plain None = refl
-      plain (Some stored) = refl
+      fits : IsFit (is_head request.head.method) (hit_reply wanted stored)
+      fits = hit_fit wanted stored good can
+
+      right : IsRight strict (ClientRequest e t request target ∷ items) (ClientReply e t (hit_reply (record { name = name; moment = t; asked = request.head; closes = closes }) stored))
+      right = hit_right the_items the_exchange t name closes stored (still_source items (ClientRequest e t request target) refl target stored source) can method selected it_waits served
+          (hit_writable name stored t good).plain
+
+      go : (b : Bool) → reaction ≡ RepliesAtOnce (hit_reply wanted stored) (cond b (validation_behind wanted target stored) None) → GetsReply reaction ⊎ (GetsBehind reaction ⊎ GetsForward reaction)
+      go true is = inr (inl (record {
+        reply = hit_reply wanted stored;
+        validation = bare (conditional_request name target request.head stored.fields);
+        reaction_is = is;
+        fit = fits;
+        right = right;
+        get = refl;
+        writable = conditional_ask stored can method;
+      }))
+      go false is = inl (record { reply = hit_reply wanted stored; reaction_is = is; fit = fits; right = right })
 
   by_case : (forwards : Table Awaited) (known : Bool) (old new : Holdings) (chosen : Option Stored) (reaction : Reaction) → SoundStore items old → is_answered_by_store request.head.method ≡ true
       → Finds target request.head.fields old chosen new
       → reaction ≡ chosen_reaction (record { name = name; moment = t; asked = request.head; closes = closes }) target request forwards chosen (case_by_store request.head.fields known chosen t)
-      → GetsReply reaction ⊎ GetsForward reaction
-  by_case forwards true old new None reaction h method finds is = forwarded None VaryMiss reaction (λ _. method) is
-  by_case forwards false old new None reaction h method finds is = forwarded None UriMiss reaction (λ _. method) is
+      → GetsReply reaction ⊎ (GetsBehind reaction ⊎ GetsForward reaction)
+  by_case forwards true old new None reaction h method finds is = forwarded None VaryMiss reaction (λ _. method) tt is
+  by_case forwards false old new None reaction h method finds is = forwarded None UriMiss reaction (λ _. method) tt is
   by_case forwards known old new (Some stored) reaction h method finds is =
-      ⊎_elim
-      (λ (served : may_be_served request.head.fields stored t ≡ true).
       let source = chosen_held (HasSource items) target request.head.fields old.entries stored h.0.sources finds.0 in
       let can = (chosen_held (λ _ stored. CanReply stored) target request.head.fields old.entries stored h.1 finds.0).0 in
-      inl (record {
-        reply = hit_reply wanted stored;
-        reaction_is = is ∙ ap (λ (b : Bool). chosen_reaction wanted target request forwards (Some stored) (cond b case.Hit (case.Forward (cause_of_stored stored t)))) served;
-        fit = hit_fit wanted stored good can;
-        right = hit_right the_items the_exchange t name closes stored (still_source items (ClientRequest e t request target) refl target stored source.0) can (or_left _ _ (or_nothing (is_get request.head.method) method))
-            source.1 served (hit_writable name stored t good).plain it_waits;
-      }))
+      ⊎_elim
+      (λ (served : may_be_served request.head.fields stored t ≡ true).
+      hits forwards stored reaction source.0 can method source.1 served
+      (is ∙ ap (λ (b : Bool). chosen_reaction wanted target request forwards (Some stored) (cond b case.Hit (case.Forward (cause_of_stored stored t)))) served))
       (λ (kept : may_be_served request.head.fields stored t ≡ false).
-      forwarded (Some stored) (cause_of_stored stored t) reaction (λ _. method)
+      forwarded (Some stored) (cause_of_stored stored t) reaction (λ _. method) (can, cause_is_of_stored (not (is_fresh stored t) || says (codes "no-cache") stored.fields), method)
       (is ∙ ap (λ (b : Bool). chosen_reaction wanted target request forwards (Some stored) (cond b case.Hit (case.Forward (cause_of_stored stored t)))) kept))
       (cases_Bool (may_be_served request.head.fields stored t))
     where
-      or_nothing : (a : Bool) → (a || false) ≡ true → a ≡ true
-      or_nothing true e = refl
-      or_nothing false e = e
+      cause_is_of_stored : (b : Bool) → is_of_stored (cond b Stale Request) ≡ true
+      cause_is_of_stored true = refl
+      cause_is_of_stored false = refl
 
   pub reaction_right : (forwards : Table Awaited) (old new : Holdings) (reaction : Reaction) → SoundStore items old
       → Reacts (record { name = name; moment = t; asked = request.head; closes = closes }) target request forwards old reaction new
-      → SoundStore items new × (GetsReply reaction ⊎ GetsForward reaction)
+      → SoundStore items new × (GetsReply reaction ⊎ (GetsBehind reaction ⊎ GetsForward reaction))
   reaction_right forwards old new reaction h reacts = go (case_before_store request) refl reacts
     where
       never : (why : Cause) → asks_store why ≡ false → asks_store why ≡ true → is_answered_by_store request.head.method ≡ true
@@ -158,8 +258,9 @@ module _ (name : List ℕ) (good : is_name name ≡ true) (t : ℕ) (early : t <
           false_true : false ≡ true → ⊥
           false_true e = cc
 
-      go : (before : Option Cause) → case_before_store request ≡ before → ReactsBy before wanted target request forwards old reaction new → SoundStore items new × (GetsReply reaction ⊎ GetsForward reaction)
-      go (Some why) is r = (subst (SoundStore items) (sym r.1) h, forwarded None why reaction (never why (before_store request why is)) r.0)
+      go : (before : Option Cause) → case_before_store request ≡ before → ReactsBy before wanted target request forwards old reaction new
+          → SoundStore items new × (GetsReply reaction ⊎ (GetsBehind reaction ⊎ GetsForward reaction))
+      go (Some why) is r = (subst (SoundStore items) (sym r.1) h, forwarded None why reaction (never why (before_store request why is)) tt r.0)
       go None is r = (
         found_sound items target request.head.fields old r.chosen new h r.finds,
         by_case forwards (knows target old.entries) old new r.chosen reaction h (by_store_method request is) r.finds r.reaction_is,
@@ -193,8 +294,19 @@ stored_sound items f t response forward old stored new is_open r early h stores 
       (cases_Bool (may_store forward.request response.head)),
 )
 
+-- a reason of the seventh case asks the store
+of_stored_asks : (why : Cause) → is_of_stored why ≡ true → asks_store why ≡ true
+of_stored_asks Method is = absurd (cc)
+of_stored_asks Bypass is = absurd (cc)
+of_stored_asks NoStore is = absurd (cc)
+of_stored_asks UriMiss is = absurd (cc)
+of_stored_asks VaryMiss is = absurd (cc)
+of_stored_asks Stale is = refl
+of_stored_asks Request is = refl
+
 module _ (name : List ℕ) (good : is_name name ≡ true) (t : ℕ) (early : t < 253402300800) (closes : Bool) (items : List Item) (f : ℕ) (forward : OpenForward) (x : Exchange) (why : Cause)
-    (is_open : forward_of f items ≡ Some (recorded_forward forward)) (waits : exchange_of x.number items ≡ Some x) (method : forward.request.method ≡ x.request.method) (target : forward.target ≡ x.target) where
+    (is_open : forward_of f items ≡ Some (recorded_forward forward)) (waits : exchange_of x.number items ≡ Some x) (method : forward.request.method ≡ x.request.method) (target : forward.target ≡ x.target)
+    (by_store : asks_store why ≡ true → is_answered_by_store x.request.method ≡ true) where
   abbrev wants : Wanted
   wants = record { name = name; moment = t; asked = x.request; closes = closes }
 
@@ -204,12 +316,15 @@ module _ (name : List ℕ) (good : is_name name ≡ true) (t : ℕ) (early : t <
     pub fit : IsFit (is_head x.request.method) reply
     pub right : IsRight strict items' (ClientReply x.number t reply)
 
+  of_exchange : (items' : List Item) (stored : Stored) → HasSource items' forward.target stored → HasSource items' x.target stored
+  of_exchange items' stored source = subst (λ (g : Target). HasSource items' g stored) target source
+
   module _ (response : Message ResponseHead) (r : IsReceivedAnswer (is_head forward.request.method) response) where
     same_head : is_head forward.request.method ≡ is_head x.request.method
     same_head = ap is_head method
 
-    bare : is_head x.request.method ≡ true → response.body ≡ []
-    bare is = r.bare (or_left _ _ (same_head ∙ is))
+    bare_body : is_head x.request.method ≡ true → response.body ≡ []
+    bare_body is = r.bare (or_left _ _ (same_head ∙ is))
 
     passes : (old new : Holdings) (outcome : Outcome) → SoundStore (OriginResponse f t response ∷ items) old → Passes wants forward why t response old outcome new
         → SoundStore (OriginResponse f t response ∷ items) new × GetsAnswer (OriginResponse f t response ∷ items) outcome
@@ -222,26 +337,107 @@ module _ (name : List ℕ) (good : is_name name ≡ true) (t : ℕ) (early : t <
         reply = passed_reply wants why p.stored response;
         outcome_is = p.outcome_is;
         fit = passed_fit wants why p.stored (is_head x.request.method) response good early (subst (λ (b : Bool). IsReceivedAnswer b response) same_head r);
-        right = passed_right items f t response forward x wants why p.stored is_open waits method target bare (forward_writable name why p.stored good).plain;
+        right = passed_right items f t response forward x wants why p.stored is_open waits method target bare_body (forward_writable name why p.stored good).plain;
       },
     )
 
-    pub response_outcome : (conditional : Bool) (position : ℕ) (old new : Holdings) (outcome : Outcome) → SoundStore (OriginResponse f t response ∷ items) old
-        → Responds (record { name = name; moment = t; asked = x.request; closes = closes }) forward why conditional position response old outcome new
+    -- a 304 that answers the cache's own condition
+    validates : (position : ℕ) → position ≡ next_position items → asks_store why ≡ true → (old : Holdings) (outcome : Outcome) → SoundStore (OriginResponse f t response ∷ items) old
+        → outcome ≡ validated_outcome wants forward why (validated_by forward.target x.request.fields position old)
+        → GetsAnswer (OriginResponse f t response ∷ items) outcome ⊎ (outcome ≡ GoesAnew)
+    validates position at asks old outcome h is = go (validated_by forward.target x.request.fields position old) refl is
+      where
+        later : x.position < position
+        later = let place = exchange_place x.number items x waits in omega (arith, place, at)
+
+        go : (chosen : Option Stored) → chosen ≡ validated_by forward.target x.request.fields position old → outcome ≡ validated_outcome wants forward why chosen
+            → GetsAnswer (OriginResponse f t response ∷ items) outcome ⊎ (outcome ≡ GoesAnew)
+        go None same is = inr is
+        go (Some stored) same is =
+            let source = validated_held (HasSource (OriginResponse f t response ∷ items)) forward.target x.request.fields position old.entries stored h.0.sources same in
+            let can = (validated_held (λ _ stored. CanReply stored) forward.target x.request.fields position old.entries stored h.1 same).0 in
+            inl (record {
+              reply = replacing_reply wants why (Some not_modified) stored;
+              outcome_is = is;
+              fit = replacing_fit wants why (Some not_modified) stored good (omega arith) can;
+              right = validated_right name good t closes x why stored can (by_store asks) (OriginResponse f t response ∷ items) waits (of_exchange _ stored source.0) position source.1 later;
+            })
+
+    -- an error, in whose place a stored response may be the reply
+    replaces : asks_store why ≡ true → is_error_status response.head.status ≡ true → (old new : Holdings) (outcome : Outcome) → SoundStore (OriginResponse f t response ∷ items) old
+        → Replaces wants forward why t response old outcome new
         → SoundStore (OriginResponse f t response ∷ items) new × GetsAnswer (OriginResponse f t response ∷ items) outcome
-    response_outcome conditional position old new outcome h responds =
+    replaces asks is_error old new outcome h p = go p.chosen p.finds p.ends
+      where
+        between : (chosen : Option Stored) → Finds forward.target x.request.fields old chosen p.between → SoundStore (OriginResponse f t response ∷ items) p.between
+        between chosen finds = found_sound (OriginResponse f t response ∷ items) forward.target x.request.fields old chosen p.between h finds
+
+        go : (chosen : Option Stored) → Finds forward.target x.request.fields old chosen p.between
+            → StandsIn wants forward why (standing_in wants forward why chosen) t response p.between outcome new
+            → SoundStore (OriginResponse f t response ∷ items) new × GetsAnswer (OriginResponse f t response ∷ items) outcome
+        go None finds ends = passes p.between new outcome (between None finds) ends
+        go (Some stored) finds ends = by_test (may_replace x.request.fields stored t) refl ends
+          where
+            source : HasSource (OriginResponse f t response ∷ items) forward.target stored × (is_selected x.request.fields stored ≡ true)
+            source = chosen_held (HasSource (OriginResponse f t response ∷ items)) forward.target x.request.fields old.entries stored h.0.sources finds.0
+
+            can : CanReply stored
+            can = (chosen_held (λ _ stored. CanReply stored) forward.target x.request.fields old.entries stored h.1 finds.0).0
+
+            by_test : (b : Bool) → may_replace x.request.fields stored t ≡ b → StandsIn wants forward why (cond b (Some stored) None) t response p.between outcome new
+                → SoundStore (OriginResponse f t response ∷ items) new × GetsAnswer (OriginResponse f t response ∷ items) outcome
+            by_test false none ends = passes p.between new outcome (between (Some stored) finds) ends
+            by_test true may ends = (
+              subst (SoundStore (OriginResponse f t response ∷ items)) (sym ends.1) (between (Some stored) finds),
+              record {
+                reply = replacing_reply wants why (Some response.head.status) stored;
+                outcome_is = ends.0;
+                fit = replacing_fit wants why (Some response.head.status) stored good (error_is_small response.head.status is_error) can;
+                right = error_right name good t closes x why stored can (by_store asks) items f t forward is_open target waits source.1 may response is_error (of_exchange _ stored source.0);
+              },
+            )
+
+    pub response_outcome : (conditional : Bool) → (conditional ≡ true → is_of_stored why ≡ true) → (position : ℕ) → position ≡ next_position items → (old new : Holdings) (outcome : Outcome)
+        → SoundStore (OriginResponse f t response ∷ items) old
+        → Responds (record { name = name; moment = t; asked = x.request; closes = closes }) forward why conditional position response old outcome new
+        → SoundStore (OriginResponse f t response ∷ items) new × (GetsAnswer (OriginResponse f t response ∷ items) outcome ⊎ (outcome ≡ GoesAnew))
+    response_outcome conditional of_stored position at old new outcome h responds =
         ⊎_elim
-        (λ (q : (is_unasked wants forward why response.head ≡ true) × ((outcome ≡ Replies (made_reply wants bad_gateway)) × (new ≡ old))). (
+        (λ (q : (is_validation wants forward why conditional response.head ≡ true) × ByValidation wants forward why position old outcome new). (
           subst (SoundStore (OriginResponse f t response ∷ items)) (sym q.1.1) h,
-          record {
-            reply = made_reply wants bad_gateway;
-            outcome_is = q.1.0;
-            fit = made_fit wants (is_head x.request.method) bad_gateway (omega arith) (omega arith) early;
-            right = made_right (OriginResponse f t response ∷ items) x wants bad_gateway waits (omega arith);
-          },
+          validates position at (of_stored_asks why (of_stored (and_parts conditional (response.head.status == not_modified) q.0).0)) old outcome h q.1.0,
         ))
-        (λ (q : (is_unasked wants forward why response.head ≡ false) × Passes wants forward why t response old outcome new). passes old new outcome h q.1)
-        (on_test (is_unasked wants forward why response.head) _ _ responds)
+        (λ (q : (is_validation wants forward why conditional response.head ≡ false)
+        × OnTest (is_unasked wants forward why response.head) ((outcome ≡ Replies (made_reply wants bad_gateway)) × (new ≡ old))
+        (OnTest (is_replaceable wants forward why response.head) (Replaces wants forward why t response old outcome new) (Passes wants forward why t response old outcome new))). otherwise q.1)
+        (on_test (is_validation wants forward why conditional response.head) _ _ responds)
+      where
+        answered : SoundStore (OriginResponse f t response ∷ items) new × GetsAnswer (OriginResponse f t response ∷ items) outcome
+            → SoundStore (OriginResponse f t response ∷ items) new × (GetsAnswer (OriginResponse f t response ∷ items) outcome ⊎ (outcome ≡ GoesAnew))
+        answered p = (p.0, inl p.1)
+
+        otherwise : OnTest (is_unasked wants forward why response.head) ((outcome ≡ Replies (made_reply wants bad_gateway)) × (new ≡ old))
+            (OnTest (is_replaceable wants forward why response.head) (Replaces wants forward why t response old outcome new) (Passes wants forward why t response old outcome new))
+            → SoundStore (OriginResponse f t response ∷ items) new × (GetsAnswer (OriginResponse f t response ∷ items) outcome ⊎ (outcome ≡ GoesAnew))
+        otherwise rest =
+            ⊎_elim
+            (λ (q : (is_unasked wants forward why response.head ≡ true) × ((outcome ≡ Replies (made_reply wants bad_gateway)) × (new ≡ old))). answered (
+              subst (SoundStore (OriginResponse f t response ∷ items)) (sym q.1.1) h,
+              record {
+                reply = made_reply wants bad_gateway;
+                outcome_is = q.1.0;
+                fit = made_fit wants (is_head x.request.method) bad_gateway (omega arith) (omega arith) early;
+                right = made_right (OriginResponse f t response ∷ items) x wants bad_gateway waits (omega arith);
+              },
+            ))
+            (λ (q : (is_unasked wants forward why response.head ≡ false)
+            × OnTest (is_replaceable wants forward why response.head) (Replaces wants forward why t response old outcome new) (Passes wants forward why t response old outcome new)).
+            ⊎_elim
+            (λ (p : (is_replaceable wants forward why response.head ≡ true) × Replaces wants forward why t response old outcome new).
+            let parts = and_parts (asks_store why) (is_error_status response.head.status) p.0 in answered (replaces parts.0 parts.1 old new outcome h p.1))
+            (λ (p : (is_replaceable wants forward why response.head ≡ false) × Passes wants forward why t response old outcome new). answered (passes old new outcome h p.1))
+            (on_test (is_replaceable wants forward why response.head) _ _ q.1))
+            (on_test (is_unasked wants forward why response.head) _ _ rest)
 
   failed_status : (chosen : Option Stored) → (500 ≤ failure_status chosen) × (failure_status chosen < 600)
   failed_status None = (omega arith, omega arith)
@@ -260,21 +456,44 @@ module _ (name : List ℕ) (good : is_name name ≡ true) (t : ℕ) (early : t <
     right = made_right items' x wants status still is_error;
   }
 
+  failed_by_store : asks_store why ≡ true → (old new : Holdings) (outcome : Outcome) → SoundStore items old → FailsByStore wants forward why old outcome new
+      → GetsAnswer (OriginFailure f t ∷ items) outcome
+  failed_by_store asks old new outcome h p = go p.chosen p.finds p.outcome_is
+    where
+      none_stands : (chosen : Option Stored) → outcome ≡ Replies (made_reply wants (failure_status chosen)) → GetsAnswer (OriginFailure f t ∷ items) outcome
+      none_stands chosen is =
+          let status = failed_status chosen in
+          made_answer (OriginFailure f t ∷ items) (failure_status chosen) outcome waits (omega (arith, status.0)) (omega (arith, status.1)) is
+
+      go : (chosen : Option Stored) → Finds forward.target x.request.fields old chosen new → outcome ≡ failed_outcome wants forward why chosen (standing_in wants forward why chosen)
+          → GetsAnswer (OriginFailure f t ∷ items) outcome
+      go None finds is = none_stands None is
+      go (Some stored) finds is = by_test (may_replace x.request.fields stored t) refl is
+        where
+          by_test : (b : Bool) → may_replace x.request.fields stored t ≡ b → outcome ≡ failed_outcome wants forward why (Some stored) (cond b (Some stored) None)
+              → GetsAnswer (OriginFailure f t ∷ items) outcome
+          by_test false none is = none_stands (Some stored) is
+          by_test true may is =
+              let source = chosen_held (HasSource items) forward.target x.request.fields old.entries stored h.0.sources finds.0 in
+              let can = (chosen_held (λ _ stored. CanReply stored) forward.target x.request.fields old.entries stored h.1 finds.0).0 in
+              record {
+                reply = replacing_reply wants why None stored;
+                outcome_is = is;
+                fit = replacing_fit wants why None stored good tt can;
+                right = failure_right name good t closes x why stored can (by_store asks) items f t forward is_open target waits source.1 may
+                    (of_exchange _ stored (still_source items (OriginFailure f t) refl forward.target stored source.0));
+              }
+
   pub failure_outcome : (old new : Holdings) (outcome : Outcome) → SoundStore items old → Fails (record { name = name; moment = t; asked = x.request; closes = closes }) forward why old outcome new
       → SoundStore (OriginFailure f t ∷ items) new × GetsAnswer (OriginFailure f t ∷ items) outcome
   failure_outcome old new outcome h fails =
       ⊎_elim
-      (λ (q : (asks_store why ≡ true) × FailsByStore wants forward why old outcome new).
-      let status = failed_status q.1.chosen in (
+      (λ (q : (asks_store why ≡ true) × FailsByStore wants forward why old outcome new). (
         still_sound items (OriginFailure f t) new refl (found_sound items forward.target x.request.fields old q.1.chosen new h q.1.finds),
-        made_answer (OriginFailure f t ∷ items) (failure_status q.1.chosen) outcome waits (omega (arith, status.0)) (omega (arith, status.1)) (q.1.outcome_is ∙ nobody_stands_in q.1.chosen),
+        failed_by_store q.0 old new outcome h q.1,
       ))
       (λ (q : (asks_store why ≡ false) × ((outcome ≡ Replies (made_reply wants bad_gateway)) × (new ≡ old))). (
         subst (SoundStore (OriginFailure f t ∷ items)) (sym q.1.1) (still_sound items (OriginFailure f t) old refl h),
         made_answer (OriginFailure f t ∷ items) bad_gateway outcome waits (omega arith) (omega arith) q.1.0,
       ))
       (on_test (asks_store why) _ _ fails)
-    where
-      nobody_stands_in : (chosen : Option Stored) → failed_outcome wants forward why chosen (standing_in wants forward why chosen) ≡ Replies (made_reply wants (failure_status chosen))
-      nobody_stands_in None = refl
-      nobody_stands_in (Some stored) = refl

@@ -1,10 +1,11 @@
 -- What a store holds stays what the records say of it.
-use Rattle.std.proofs.Common.{◌≡◌, ℕ, ◌+◌, Bool, true, false, ◌&&◌, List, ◌∷◌, length, Option, Some, refl, sym, ap, ◌∙◌, subst, inl, inr, ⊎_elim}
-use Rattle.std.specs.Prelude.{◌⊎◌, ◌==◌}
+use Rattle.std.proofs.Common.{◌≡◌, ℕ, ◌+◌, Bool, true, false, cond, ◌&&◌, List, ◌∷◌, length, Option, Some, refl, sym, ap, ◌∙◌, subst, inl, inr, ⊎_elim}
+use Rattle.std.specs.Prelude.{◌⊎◌, ◌==◌, codes}
 use Rattle.std.specs.Option.{option_map}
 use Rattle.std.specs.List.{IsDistinct}
 use Rattle.std.specs.Map.{keys_of}
-use Rattle.std.proofs.lemmas.Bool.{cases_Bool, eq-eqb}
+use Rattle.std.proofs.lemmas.Bool.{cases_Bool, eq-eqb, and_parts}
+use Rattle.std.proofs.lemmas.Slice.Eq.{bytes_eq-Decides}
 use Rattle.hc_fields.specs.declared.fields.Field.{Field}
 use Rattle.hc_head.specs.declared.head.ResponseHead.{ResponseHead}
 use Rattle.hc_head.specs.declared.head.Target.{Target}
@@ -22,17 +23,18 @@ use Rattle.hc_transcript.specs.History.{next_position, forward_of}
 use Rattle.hc_history.specs.declared.kept.Kept.{Kept}
 use Rattle.hc_history.specs.States.{state_after}
 use Rattle.hc_history.proofs.StateLemmas.{place_of, earlier_at}
+use Rattle.hc_history.proofs.TargetLemmas.{same_target_itself}
 use Rattle.hc_store.specs.declared.putting.Put.{Put}
 use Rattle.hc_store.specs.declared.putting.Put.TheVariants as put
-use Rattle.hc_store.specs.Entries.{Holdings, Entries}
-use Rattle.hc_store.specs.Calls.{Puts, invalidated}
-use Rattle.hc_store.specs.Changes.{without}
+use Rattle.hc_store.specs.Entries.{Holdings, Entries, variants_of}
+use Rattle.hc_store.specs.Calls.{Puts, Freshens, invalidated}
+use Rattle.hc_store.specs.Changes.{without, Validation, after_validation, is_validated, renewed}
 use Rattle.hc_service.specs.declared.open.OpenForward.{OpenForward}
-use Rattle.hc_service.specs.Choices.{OnTest, Finds, PutsResponse, Stores, may_update}
+use Rattle.hc_service.specs.Choices.{OnTest, Finds, PutsResponse, Stores, may_update, validation_by}
 use Rattle.hc_service.specs.Answers.{Renews}
 use Rattle.hc_service.specs.Agreement.{AllHeld, HasSource}
 use Rattle.hc_service.specs.Laws.{is_response, recorded_forward, HasSources}
-use Rattle.hc_service.proofs.StoreLemmas.{choose_held, put_held, distinct_choose, distinct_put, distinct_without, without_others, without_held, held_weaken}
+use Rattle.hc_service.proofs.StoreLemmas.{all_weaken, choose_held, put_held, distinct_choose, distinct_put, distinct_without, distinct_freshen, without_others, variants_held, held_weaken, left_held, freshen_held}
 
 -- which of two it is
 pub on_test : (b : Bool) (P Q : Type 0) → OnTest b P Q → ((b ≡ true) × P) ⊎ ((b ≡ false) × Q)
@@ -97,6 +99,12 @@ identifies_none forward response state none =
     by_method true false e = refl
     by_method false asks e = refl
 
+-- what may update answers GET, and invalidates nothing
+pub get_invalidates_none : (forward : OpenForward) (response : ResponseHead) → may_update forward response ≡ true → invalidates forward.request.method response.status ≡ false
+get_invalidates_none forward response may =
+    let get = (and_parts (response.status == not_modified) (is_get forward.request.method) may).1 in
+    subst (λ (m : List ℕ). invalidates m response.status ≡ false) (sym ((bytes_eq-Decides forward.request.method (codes "GET")).0 get)) refl
+
 module _ (items : List Item) (number moment : ℕ) (response : Message ResponseHead) (forward : OpenForward) (is_open : forward_of number items ≡ Some (recorded_forward forward)) where
   -- a response of another target
   other_stays : (kept : Kept) → same_target forward.target kept.target ≡ false → state_after items (OriginResponse number moment response) kept ≡ kept
@@ -141,33 +149,76 @@ module _ (items : List Item) (number moment : ℕ) (response : Message ResponseH
             (without_others (HasSource items) forward.target old.entries h.keys h.sources));
       }
 
-  pub renewed_sources : (position : ℕ) (old new : Holdings) → HasSources items old → Renews forward moment position response.head old new
+  -- what a 304 to a GET makes of a stored response of the target
+  freshens_one : (stored : Stored) → invalidates forward.request.method response.head.status ≡ false → (now : Stored)
+      → now ≡ after_validation (validation_by forward moment (next_position items) response.head) stored → HasSource items forward.target stored
+      → HasSource (OriginResponse number moment response ∷ items) forward.target now
+  unfolding state_after
+  freshens_one stored valid now is source =
+      subst (HasSource (OriginResponse number moment response ∷ items) forward.target) (sym is)
+      (moved items (OriginResponse number moment response) forward.target stored (after_validation v stored) source (steps stored valid) (stays_valid (is_validated v stored)))
+    where
+      v : Validation
+      v = validation_by forward moment (next_position items) response.head
+
+      stays_valid : (b : Bool) → (cond b (renewed v stored) stored).invalid ≡ false
+      stays_valid true = refl
+      stays_valid false = source.is_valid
+
+      steps : (stored : Stored) → invalidates forward.request.method response.head.status ≡ false
+          → state_after items (OriginResponse number moment response) (record { target = forward.target; state = stored })
+          ≡ record { target = forward.target; state = after_validation v stored }
+      steps stored valid = rw is_open (rw (same_target_itself forward.target) (rw valid refl))
+
+  -- freshened: what stays is what the records make of it
+  pub freshened_sources : (old new : Holdings) → HasSources items old → may_update forward response.head ≡ true
+      → Freshens (validation_by forward moment (next_position items) response.head) forward.target old new → HasSources (OriginResponse number moment response ∷ items) new
+  unfolding LeavesIt
+  freshened_sources old new h may f =
+      subst (HasSources (OriginResponse number moment response ∷ items)) (sym f.becomes)
+      (record {
+        keys = distinct_freshen old.bytes v forward.target f.left old.entries h.keys;
+        sources = freshen_held (HasSource (OriginResponse number moment response ∷ items)) old.bytes v forward.target f.left old.entries
+            (held_weaken _ _ (λ target stored p. left_source target stored (p.0, inl p.1)) (without forward.target old.entries)
+            (without_others (HasSource items) forward.target old.entries h.keys h.sources))
+            (all_weaken _ (λ variant. HasSource (OriginResponse number moment response ∷ items) forward.target (after_validation v variant))
+            (λ variant p. freshens_one variant (get_invalidates_none forward response.head may) (after_validation v variant) refl p.0) f.left
+            (left_held (HasSource items forward.target) v (variants_of forward.target old.entries) f.left (variants_held (HasSource items) forward.target old.entries h.sources) f.leaves));
+      })
+    where
+      v : Validation
+      v = validation_by forward moment (next_position items) response.head
+
+  pub renewed_sources : (old new : Holdings) → HasSources items old → Renews forward moment (next_position items) response.head old new
       → HasSources (OriginResponse number moment response ∷ items) new
   unfolding LeavesIt
-  renewed_sources position old new h renews =
+  renewed_sources old new h renews =
       ⊎_elim
-      (λ (p : (invalidates forward.request.method response.head.status ≡ true) × (renews.between ≡ invalidated forward.target old)). after_invalidation p.1)
+      (λ (p : (invalidates forward.request.method response.head.status ≡ true) × (renews.between ≡ invalidated forward.target old)). after_invalidation p.0 p.1)
       (λ (p : (invalidates forward.request.method response.head.status ≡ false) × (renews.between ≡ old)). without_invalidation p.0 p.1)
       (on_test (invalidates forward.request.method response.head.status) _ _ renews.invalidates)
     where
-      twice : (between : Holdings) → HasSources (OriginResponse number moment response ∷ items) between → new ≡ invalidated forward.target between → HasSources (OriginResponse number moment response ∷ items) new
-      twice between k is =
-          subst (HasSources (OriginResponse number moment response ∷ items)) (sym is)
-          (record { keys = distinct_without forward.target between.entries k.keys; sources = without_held _ forward.target between.entries k.sources })
+      v : Validation
+      v = validation_by forward moment (next_position items) response.head
 
-      after_invalidation : renews.between ≡ invalidated forward.target old → HasSources (OriginResponse number moment response ∷ items) new
-      after_invalidation is =
+      after_invalidation : invalidates forward.request.method response.head.status ≡ true → renews.between ≡ invalidated forward.target old
+          → HasSources (OriginResponse number moment response ∷ items) new
+      after_invalidation unsafe is =
           let k = gone old renews.between h (ap (λ (s : Holdings). s.entries) is) in
           ⊎_elim
-          (λ (p : (may_update forward response.head ≡ true) × (new ≡ invalidated forward.target renews.between)). twice renews.between k p.1)
+          (λ (p : (may_update forward response.head ≡ true) × Freshens v forward.target renews.between new).
+          absurd (true_false (sym unsafe ∙ get_invalidates_none forward response.head p.0)))
           (λ (p : (may_update forward response.head ≡ false) × (new ≡ renews.between)). subst (HasSources (OriginResponse number moment response ∷ items)) (sym p.1) k)
           (on_test (may_update forward response.head) _ _ renews.updates)
+        where
+          true_false : true ≡ false → ⊥
+          true_false e = cc
 
       without_invalidation : invalidates forward.request.method response.head.status ≡ false → renews.between ≡ old → HasSources (OriginResponse number moment response ∷ items) new
       without_invalidation valid is =
           ⊎_elim
-          (λ (p : (may_update forward response.head ≡ true) × (new ≡ invalidated forward.target renews.between)).
-          gone old new h (ap (λ (s : Holdings). s.entries) (p.1 ∙ ap (invalidated forward.target) is)))
+          (λ (p : (may_update forward response.head ≡ true) × Freshens v forward.target renews.between new).
+          freshened_sources old new h p.0 (subst (λ (s : Holdings). Freshens v forward.target s new) is p.1))
           (λ (p : (may_update forward response.head ≡ false) × (new ≡ renews.between)).
           subst (HasSources (OriginResponse number moment response ∷ items)) (sym (p.1 ∙ is))
           (record { keys = h.keys; sources = held_weaken _ _ (λ target stored s. left_source target stored (s, inr (valid, p.0))) old.entries h.sources }))

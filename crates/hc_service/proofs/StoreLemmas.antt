@@ -1,17 +1,17 @@
 -- What a store holds after each call was held before, or was put.
-use Rattle.std.proofs.Common.{◌≡◌, ℕ, zero, suc, ◌-◌, Bool, true, false, cond, List, [], ◌∷◌, ◌++◌, Some, sym, subst, ⊎_elim}
+use Rattle.std.proofs.Common.{◌≡◌, ℕ, zero, suc, ◌-◌, Bool, true, false, cond, List, [], ◌∷◌, ◌++◌, map, Some, refl, sym, ap, subst, ⊎_elim}
 use Rattle.std.specs.Prelude.{filter, take, drop, not, nat_le}
-use Rattle.std.specs.List.{AllByRecursion, IsDistinct, best_of}
-use Rattle.std.specs.Map.{keys_of}
-use Rattle.std.proofs.lemmas.Bool.{cases_Bool}
+use Rattle.std.specs.List.{AllByRecursion, IsDistinct, best_of, list_any}
+use Rattle.std.specs.Map.{keys_of, set_value}
+use Rattle.std.proofs.lemmas.Bool.{cases_Bool, or_parts}
 use Rattle.hc_fields.specs.declared.fields.Field.{Field}
 use Rattle.hc_head.specs.declared.head.Target.{Target}
 use Rattle.hc_head.specs.Targets.{same_target}
 use Rattle.hc_update.specs.declared.stored.Stored.{Stored}
 use Rattle.hc_history.proofs.TargetLemmas.{same_target_one}
 use Rattle.hc_store.specs.Entries.{Entries, variants_of, variants_weight}
-use Rattle.hc_store.specs.Choosing.{is_selected, goes_before, first_choice, chosen}
-use Rattle.hc_store.specs.Changes.{keyed, without, after_choose, after_put, first_keys, last_variants, trimmed, added}
+use Rattle.hc_store.specs.Choosing.{is_selected, is_selected_validated, goes_before, first_choice, chosen, chosen_validated}
+use Rattle.hc_store.specs.Changes.{keyed, without, with_variants, after_choose, after_put, first_keys, last_variants, trimmed, added, Validation, Leaves, after_validation, is_validated, renewed, may_stay, may_go, after_freshen}
 use Rattle.hc_service.specs.Agreement.{AllHeld}
 
 -- ---- lists of which all is so
@@ -146,6 +146,40 @@ pub distinct_put : (keys bytes : ℕ) (target : Target) (stored : Stored) (entri
 distinct_put keys bytes target stored entries d =
     distinct_trimmed bytes _ (distinct_take keys _ (distinct_first target (added stored (variants_of target entries)) entries d))
 
+-- with other variants at a key, which may go with them
+all_keys_set : (P : Target → Type 0) (target : Target) (variants : List Stored) (entries : Entries) → AllByRecursion P (keys_of entries)
+    → AllByRecursion P (keys_of (set_value (same_target target) entries variants))
+all_keys_set P target variants [] h = tt
+all_keys_set P target variants (e ∷ entries) h =
+    ⊎_elim
+    (λ (at : same_target target e.0 ≡ true). rw at h)
+    (λ (past : same_target target e.0 ≡ false). rw past (h.0, all_keys_set P target variants entries h.1))
+    (cases_Bool (same_target target e.0))
+
+distinct_set : (target : Target) (variants : List Stored) (entries : Entries) → IsDistinct same_target (keys_of entries)
+    → IsDistinct same_target (keys_of (set_value (same_target target) entries variants))
+unfolding IsDistinct
+distinct_set target variants [] d = tt
+distinct_set target variants (e ∷ entries) d =
+    ⊎_elim
+    (λ (at : same_target target e.0 ≡ true). rw at d)
+    (λ (past : same_target target e.0 ≡ false). rw past (all_keys_set (λ key. same_target e.0 key ≡ false) target variants entries d.0, distinct_set target variants entries d.1))
+    (cases_Bool (same_target target e.0))
+
+distinct_with : (target : Target) (variants : List Stored) (entries : Entries) → IsDistinct same_target (keys_of entries)
+    → IsDistinct same_target (keys_of (with_variants target variants entries))
+distinct_with target [] entries d = distinct_without target entries d
+distinct_with target (variant ∷ more) entries d = distinct_set target (variant ∷ more) entries d
+
+pub distinct_freshen : (bytes : ℕ) (v : Validation) (target : Target) (left : List Stored) (entries : Entries) → IsDistinct same_target (keys_of entries)
+    → IsDistinct same_target (keys_of (after_freshen bytes v target left entries))
+distinct_freshen bytes v target left entries d = go (list_any (is_validated v) left)
+  where
+    go : (b : Bool) → IsDistinct same_target
+        (keys_of (cond b (trimmed bytes ((target, map (after_validation v) left) ∷ without target entries)) (with_variants target left entries)))
+    go true = distinct_trimmed bytes ((target, map (after_validation v) left) ∷ without target entries) (distinct_first target (map (after_validation v) left) entries d)
+    go false = distinct_with target left entries d
+
 -- ---- what is held
 
 module _ (P : Target → Stored → Type 0) where
@@ -210,22 +244,92 @@ module _ (P : Target → Stored → Type 0) where
       (all_take _ keys ((target, added stored (variants_of target entries)) ∷ without target entries)
       (added_held target stored (variants_of target entries) (variants_held target entries h) p, without_held target entries h))
 
-  -- what is chosen is held of the target, and selects the request
-  pub chosen_held : (target : Target) (asked : List Field) (entries : Entries) (stored : Stored) → AllHeld P entries
-      → Some stored ≡ chosen asked (variants_of target entries) → P target stored × (is_selected asked stored ≡ true)
-  chosen_held target asked entries stored h is =
-      first_held (filter (is_selected asked) (variants_of target entries))
-      (all_filter (P target) (is_selected asked) (variants_of target entries) (variants_held target entries h))
-      (all_passing (is_selected asked) (variants_of target entries)) is
+  -- the first choice of those that pass a test is held of the target, and passes it
+  first_held : (test : Stored → Bool) (target : Target) (entries : Entries) (stored : Stored) → AllHeld P entries
+      → Some stored ≡ first_choice (filter test (variants_of target entries)) → P target stored × (test stored ≡ true)
+  first_held test target entries stored h is =
+      go (filter test (variants_of target entries)) (all_filter (P target) test (variants_of target entries) (variants_held target entries h))
+      (all_passing test (variants_of target entries)) is
     where
-      first_held : (variants : List Stored) → AllByRecursion (P target) variants → AllByRecursion (λ v. is_selected asked v ≡ true) variants
-          → Some stored ≡ first_choice variants → P target stored × (is_selected asked stored ≡ true)
-      first_held [] a b e = absurd (cc)
-      first_held (v ∷ more) a b e =
+      go : (variants : List Stored) → AllByRecursion (P target) variants → AllByRecursion (λ v. test v ≡ true) variants → Some stored ≡ first_choice variants
+          → P target stored × (test stored ≡ true)
+      go [] a b e = absurd (cc)
+      go (v ∷ more) a b e =
           let same : stored ≡ best_of goes_before v more = cc in (
             subst (P target) (sym same) (best_held (P target) goes_before v more a.0 a.1),
-            subst (λ (x : Stored). is_selected asked x ≡ true) (sym same) (best_held (λ x. is_selected asked x ≡ true) goes_before v more b.0 b.1),
+            subst (λ (x : Stored). test x ≡ true) (sym same) (best_held (λ x. test x ≡ true) goes_before v more b.0 b.1),
           )
+
+  -- what is chosen selects the request
+  pub chosen_held : (target : Target) (asked : List Field) (entries : Entries) (stored : Stored) → AllHeld P entries
+      → Some stored ≡ chosen asked (variants_of target entries) → P target stored × (is_selected asked stored ≡ true)
+  chosen_held target asked entries stored h is = first_held (is_selected asked) target entries stored h is
+
+  -- so does what is chosen of those that a record validated, which it did
+  pub validated_held : (target : Target) (asked : List Field) (position : ℕ) (entries : Entries) (stored : Stored) → AllHeld P entries
+      → Some stored ≡ chosen_validated asked position (variants_of target entries) → P target stored × (is_selected_validated asked position stored ≡ true)
+  validated_held target asked position entries stored h is = first_held (is_selected_validated asked position) target entries stored h is
+
+-- those that stay were there, and what becomes of those that are freshened fits
+pub left_held : (P : Stored → Type 0) (v : Validation) (variants left : List Stored) → AllByRecursion P variants → Leaves v variants left
+    → AllByRecursion (λ variant. P variant × (may_stay v variant ≡ true)) left
+left_held P v [] left h leaves = subst (AllByRecursion (λ variant. P variant × (may_stay v variant ≡ true))) (sym leaves) tt
+left_held P v (variant ∷ more) left h leaves =
+    ⊎_elim
+    (λ (goes : (may_go v variant ≡ true) × Leaves v more left). left_held P v more left h.1 goes.1)
+    (λ (stays : (may_stay v variant ≡ true) × (rest : List Stored) × (left ≡ variant ∷ rest) × Leaves v more rest).
+    subst (AllByRecursion (λ variant. P variant × (may_stay v variant ≡ true))) (sym stays.2) ((h.0, stays.0), left_held P v more stays.1 h.1 stays.3))
+    leaves
+
+-- all of what a function makes of each
+pub all_mapped : {X : Type 0} (P Q : X → Type 0) (f : X → X) → ((x : X) → P x → Q (f x)) → (xs : List X) → AllByRecursion P xs → AllByRecursion Q (map f xs)
+all_mapped P Q f to [] h = tt
+all_mapped P Q f to (x ∷ xs) h = (to x h.0, all_mapped P Q f to xs h.1)
+
+-- where none passes, none of them does
+pub none_of : {X : Type 0} (test : X → Bool) (xs : List X) → list_any test xs ≡ false → AllByRecursion (λ x. test x ≡ false) xs
+none_of test [] is = tt
+none_of test (x ∷ xs) is = let parts = or_parts (test x) (list_any test xs) is in (parts.0, none_of test xs parts.1)
+
+pub all_also : {X : Type 0} (P Q : X → Type 0) (xs : List X) → AllByRecursion P xs → AllByRecursion Q xs → AllByRecursion (λ x. P x × Q x) xs
+all_also P Q [] h k = tt
+all_also P Q (x ∷ xs) h k = ((h.0, k.0), all_also P Q xs h.1 k.1)
+
+set_left : (P : Target → Stored → Type 0) (target : Target) (variants : List Stored) (entries : Entries) → AllHeld P (without target entries) → AllByRecursion (P target) variants
+    → AllHeld P (set_value (same_target target) entries variants)
+set_left P target variants [] h p = tt
+set_left P target variants (e ∷ entries) h p =
+    go (same_target target e.0) (λ at. subst (λ (key : Target). AllByRecursion (P key) variants) (same_target_one target e.0 at) p) (λ rest. set_left P target variants entries rest p) refl h
+  where
+    go : (b : Bool) → (same_target target e.0 ≡ true → AllByRecursion (P e.0) variants)
+        → (AllHeld P (without target entries) → AllHeld P (set_value (same_target target) entries variants)) → same_target target e.0 ≡ b
+        → AllHeld P (cond b entries (e ∷ without target entries))
+        → AllHeld P (cond b ((e.0, variants) ∷ entries) (e ∷ set_value (same_target target) entries variants))
+    go true now later at rest = (now at, rest)
+    go false now later past rest = (rest.0, later rest.1)
+
+-- what is held once a 304 has freshened what it is about: what others were, and what becomes of those that stay
+pub freshen_held : (Q : Target → Stored → Type 0) (bytes : ℕ) (v : Validation) (target : Target) (left : List Stored) (entries : Entries)
+    → AllHeld Q (without target entries) → AllByRecursion (λ variant. Q target (after_validation v variant)) left → AllHeld Q (after_freshen bytes v target left entries)
+freshen_held Q bytes v target left entries others h = go (list_any (is_validated v) left) refl
+  where
+    unchanged : (variant : Stored) → Q target (after_validation v variant) × (is_validated v variant ≡ false) → Q target variant
+    unchanged variant q = subst (Q target) (ap (λ (b : Bool). cond b (renewed v variant) variant) q.1) q.0
+
+    with_held : (variants : List Stored) → AllByRecursion (Q target) variants → AllHeld Q (with_variants target variants entries)
+    with_held [] q = others
+    with_held (variant ∷ more) q = set_left Q target (variant ∷ more) entries others q
+
+    go : (b : Bool) → list_any (is_validated v) left ≡ b
+        → AllHeld Q (cond b (trimmed bytes ((target, map (after_validation v) left) ∷ without target entries)) (with_variants target left entries))
+    go true is =
+        let held : AllHeld Q ((target, map (after_validation v) left) ∷ without target entries) =
+        (all_mapped (λ variant. Q target (after_validation v variant)) (Q target) (after_validation v) (λ x q. q) left h, others) in
+        trimmed_held Q bytes ((target, map (after_validation v) left) ∷ without target entries) held
+    go false is =
+        with_held left
+        (all_weaken (λ variant. Q target (after_validation v variant) × (is_validated v variant ≡ false)) (Q target) unchanged left
+        (all_also (λ variant. Q target (after_validation v variant)) (λ variant. is_validated v variant ≡ false) left h (none_of (is_validated v) left is)))
 
 -- what is held of other targets, once that of a target is taken away
 pub without_others : (P : Target → Stored → Type 0) (target : Target) (entries : Entries) → IsDistinct same_target (keys_of entries) → AllHeld P entries

@@ -13,7 +13,7 @@ use Rattle.hc_framing.specs.declared.message.Message.{Message}
 use Rattle.hc_transcript.specs.declared.record.Record.{Record}
 use Rattle.hc_transcript.specs.Limits.{greatest_number}
 use Rattle.hc_transcript.specs.Items.{Item, ClientRequest, OriginRequest, OriginResponse, OriginFailure, ClientReply, Exchange}
-use Rattle.hc_transcript.specs.History.{exchange_of, forward_of}
+use Rattle.hc_transcript.specs.History.{exchange_of, forward_of, next_position}
 use Rattle.hc_transcript.specs.Written.{IsWritableAsk, IsWritableAnswer}
 use Rattle.hc_history.specs.Right.{IsRight}
 use Rattle.hc_links.specs.Requests.{IsRequest}
@@ -25,33 +25,35 @@ use Rattle.hc_service.specs.declared.open.OpenExchange.{OpenExchange}
 use Rattle.hc_service.specs.declared.open.Purpose.{Purpose}
 use Rattle.hc_service.specs.declared.open.Purpose.TheVariants as purpose
 use Rattle.hc_service.specs.declared.settings.CoreSettings.{CoreSettings}
-use Rattle.hc_service.specs.Settings.{AreGood, is_name}
+use Rattle.hc_service.specs.Settings.{AreGood}
 use Rattle.hc_service.specs.Asking.{ends_connection, is_answered_by_store}
-use Rattle.hc_service.specs.Cases.{asks_store}
+use Rattle.hc_service.specs.Cases.{asks_store, is_of_stored}
 use Rattle.hc_service.specs.Numbers.{one_more, after_opening, asked, sent, noted, is_later}
 use Rattle.hc_service.specs.State.{State, Table, Connection, Awaited, new_connection}
 use Rattle.hc_service.specs.Sending.{request_record, forward_record, response_record, failure_record, reply_record, ask_actions, send_actions, reply_actions, response_actions, failure_actions, records_of}
 use Rattle.hc_service.specs.Replying.{Wanted}
-use Rattle.hc_service.specs.Reactions.{Reaction, plain_forward}
-use Rattle.hc_service.specs.Answers.{Outcome, is_news}
+use Rattle.hc_service.specs.Reactions.{Reaction, forward_anew}
+use Rattle.std.specs.Prelude.{◌⊎◌, codes}
+use Rattle.hc_service.specs.Answers.{Outcome, Renews, is_news}
+use Rattle.hc_service.specs.Answers.Outcome.{GoesAnew}
 use Rattle.hc_service.specs.Choices.{Stores}
-use Rattle.hc_service.specs.Turns.{most_connections, after_octets, after_request, after_reply, after_leaving, after_hearing, sent_forward, replied, closes_behind, wanted_now, Opens, Hears, Drops, Leaves, Closes, Refuses, Asks, RepliesAlone, GoesForward, DoesReaction, Tells, Answers, Breaks, EndsBehind, EndsWithReply, EndsByResponse, EndsByFailure, DoesOutcome, Failure, is_closed}
+use Rattle.hc_service.specs.Turns.{most_connections, after_octets, after_request, after_reply, after_leaving, after_hearing, sent_forward, replied, closes_behind, wanted_now, Opens, Hears, Drops, Leaves, Closes, Refuses, Asks, RepliesAlone, RepliesAndValidates, GoesForward, DoesReaction, Tells, Answers, Breaks, EndsBehind, EndsWithReply, EndsWithForward, EndsByResponse, EndsByFailure, DoesOutcome, Failure, is_closed}
 use Rattle.hc_service.specs.Serves.{Turn, Takes}
 use Rattle.hc_service.specs.Serves.Turn.{Opening, Hearing, Asking, Refusal, Dropping, Leaving, Closing, Telling, Answering, Failing}
-use Rattle.hc_service.specs.Agreement.{History, AreCounted, AreHeard, AreAsked, AreLinked, Stands, IsFor, KeepsPurpose, IsSeenExchange, exchange_for, seen_forward}
+use Rattle.hc_service.specs.Agreement.{History, AreCounted, AreHeard, AreAsked, AreLinked, Stands, AsksFor, IsFor, KeepsPurpose, IsSeenExchange, exchange_for, seen_forward}
 use Rattle.hc_service.specs.Runs.{Records, behind, heard_with, told_with, strict, with_octets}
 use Rattle.hc_service.specs.LowerLaws.{ForwardLaws}
 use Rattle.hc_service.specs.Laws.{KeepsOn, IsReceivedAnswer, IsReceivedAsk, with_record, recorded_forward}
 use Rattle.hc_service.proofs.TableLemmas.{len_new, len_old, len_less}
 use Rattle.hc_service.proofs.LinkLemmas.{none_some, one_of, later_behind, linked_opened, linked_same, linked_out, linked_replied, linked_asked, linked_answered}
-use Rattle.hc_service.proofs.AskedLemmas.{asked_alone, asked_sent, asked_told, asked_behind, asked_answered}
+use Rattle.hc_service.proofs.AskedLemmas.{asked_alone, asked_sent, asked_validated, asked_told, asked_behind, asked_anew, asked_answered}
 use Rattle.hc_service.proofs.HeardLemmas.{read_request, read_replied, read_answered, read_left, heard_opened, heard_same, heard_octets, heard_out, heard_sent, heard_told, heard_ended}
 use Rattle.hc_service.proofs.RecordLemmas.{one_more_is, ask_counted, send_counted, response_counted, failure_counted, reply_counted}
 use Rattle.hc_service.proofs.ReceivedLemmas.{received_ask, received_answer}
 use Rattle.hc_service.proofs.NameLemmas.{cache_name}
 use Rattle.hc_service.proofs.SourceLemmas.{on_test, renewed_sources}
 use Rattle.hc_service.proofs.EntryLemmas.{IsFit, renewed_can_reply, sound_parts, all_both}
-use Rattle.hc_service.proofs.OutcomeLemmas.{SoundStore, GetsReply, GetsForward, still_sound, stored_sound, reaction_right, response_outcome, failure_outcome}
+use Rattle.hc_service.proofs.OutcomeLemmas.{SoundStore, GetsReply, GetsBehind, GetsForward, GetsAnswer, still_sound, stored_sound, reaction_right, response_outcome, failure_outcome}
 
 -- ---- states and histories
 
@@ -235,6 +237,11 @@ module _ (s : State) (h : History) (a : Stands s h) where
   reply_given e t to_head c true reply = refl
   reply_given e t to_head c false reply = refl
 
+  reply_then : (e t : ℕ) (to_head : Bool) (c : ℕ) (closes : Bool) (reply : Message ResponseHead) (f : ℕ) (m : Message RequestHead)
+      → records_of (reply_actions e t to_head c closes reply ++ send_actions f t m) ≡ reply_record e t to_head reply ∷ forward_record f t m ∷ []
+  reply_then e t to_head c true reply f m = refl
+  reply_then e t to_head c false reply f m = refl
+
   module _ (settings : CoreSettings) (good : AreGood settings) (laws : ForwardLaws) where
     early : s.numbers.moment < 253402300800
     early = let c = a.counted in omega (arith, c.in_time)
@@ -293,16 +300,74 @@ module _ (s : State) (h : History) (a : Stands s h) where
           heard_replied false = heard_same s.numbers.connection s.numbers.forward s.connections s.forwards h.heard h.told a.heard c (after_reply (drop size k.unread) k)
               (read_replied (h.heard c) k idle (a.heard.connections_are c k is_open) request target size arrives)
 
-      -- it goes to the origin
-      asking_forward : (wanted : Wanted) (why : Cause) (actions : List Action) (s' : State) → wanted.name ≡ settings.name
-          → GoesForward c k (drop size k.unread) request target (plain_forward wanted target request) why false s actions s' → s'.numbers.records ≤ greatest_number
-          → SoundStore h.items s'.store → (asks_store why ≡ true → is_answered_by_store request.head.method ≡ true) → KeepsOn (Asking c) actions h s'
-      asking_forward wanted why actions s' named t le sound by_store =
+      -- it gets a reply at once, and behind that what is stored is validated
+      asking_behind : (wanted : Wanted) (reply : Message ResponseHead) (m : Message RequestHead) (actions : List Action) (s' : State)
+          → RepliesAndValidates c k (drop size k.unread) request target wanted reply m s actions s' → s'.numbers.records ≤ greatest_number
+          → SoundStore h.items s'.store → IsFit (is_head request.head.method) reply
+          → IsRight strict (ClientRequest (one_more s.numbers.exchange) s.numbers.moment request target ∷ h.items) (ClientReply (one_more s.numbers.exchange) s.numbers.moment reply)
+          → m.head.method ≡ codes "GET" → IsWritableAsk m target → KeepsOn (Asking c) actions h s'
+      asking_behind wanted reply m actions s' t le sound fit right get_method w =
           let n = s.numbers in
           let counts = a.counted in
           let e = one_more n.exchange in
           let f = one_more n.forward in
-          let m = plain_forward wanted target request in
+          let x : Exchange = record { number = e; position = length h.items + 1; request = request.head; target = target } in
+          let last : one_more (one_more (one_more n.records)) ≤ greatest_number = subst (λ (m : Numbers). m.records ≤ greatest_number) t.numbers le in
+          let second : one_more (one_more n.records) ≤ greatest_number = omega arith in
+          let first : one_more n.records ≤ greatest_number = omega arith in
+          let number : e ≡ n.exchange + 1 = one_more_is n.exchange (omega (arith, counts.exchanges, counts.in_range)) in
+          let sends : f ≡ n.forward + 1 = one_more_is n.forward (omega (arith, counts.forwards, counts.in_range)) in
+          let records : one_more n.records ≡ n.records + 1 = one_more_is n.records counts.in_range in
+          let q = ClientRequest e n.moment request target in
+          let r = ClientReply e n.moment reply in
+          let h1 = with_record (request_record e n.moment request) q h in
+          let h2 = with_record (reply_record e n.moment (is_head request.head.method) reply) r h1 in
+          let h3 = with_record (forward_record f n.moment m) (OriginRequest f n.moment m target) h2 in
+          let c1 = ask_counted n h request target a.counted writable_ask first in
+          let c2 = reply_counted (asked n) h1 c1 second e x reply (omega (arith, number)) (omega (arith, number, counts.exchanges, first, records)) (rw (eq-eqb e e refl) refl) fit.writable fit.digits in
+          record {
+            later = h3;
+            goes_on = record {
+              records = record {
+                newer = OriginRequest f n.moment m target ∷ r ∷ q ∷ [];
+                records_are = given_from actions
+                    (ask_actions e n.moment request ++ reply_actions e n.moment (is_head request.head.method) c wanted.closes reply ++ send_actions f n.moment m)
+                    (request_record e n.moment request ∷ reply_record e n.moment (is_head request.head.method) reply ∷ forward_record f n.moment m ∷ []) h.records t.actions_are
+                    (ap (λ (rs : List Record). request_record e n.moment request ∷ rs) (reply_then e n.moment (is_head request.head.method) c wanted.closes reply f m));
+                items_are = refl;
+                right = (((tt, tt), right), tt);
+              };
+              heard = refl;
+              told = refl;
+            };
+            stands = of_parts s' h3 (sent (noted (asked n))) (replied wanted.closes c (drop size k.unread) k s.connections) s.exchanges
+                (insert s.forwards f (sent_forward m.head target n.moment purpose.Background)) s'.store t.numbers t.connections t.exchanges t.forwards refl
+                (send_counted (noted (asked n)) h2 m target c2 w last)
+                (still_sound (r ∷ q ∷ h.items) (OriginRequest f n.moment m target) s'.store refl
+                (still_sound (q ∷ h.items) r s'.store refl (still_sound h.items q s'.store refl sound)))
+                (heard_sent n.connection n.forward (replied wanted.closes c (drop size k.unread) k s.connections) s.forwards h.heard h.told (heard_behind wanted.closes) f
+                (sent_forward m.head target n.moment purpose.Background) refl (omega (arith, sends)))
+                (asked_validated n.exchange n.forward s.exchanges s.forwards h.items a.asked e f n.moment n.moment n.moment request m target reply (omega (arith, number)) (omega (arith, sends)) get_method)
+                (linked_replied n.connection s.connections s.exchanges a.linked wanted.closes c (drop size k.unread) k is_open idle)
+                (len_replied wanted.closes c (drop size k.unread) k k is_open);
+          }
+        where
+          heard_behind : (closes : Bool) → AreHeard s.numbers.connection s.numbers.forward (replied closes c (drop size k.unread) k s.connections) s.forwards h.heard h.told
+          heard_behind true = heard_out s.numbers.connection s.numbers.forward s.connections s.forwards h.heard h.told a.heard c
+          heard_behind false = heard_same s.numbers.connection s.numbers.forward s.connections s.forwards h.heard h.told a.heard c (after_reply (drop size k.unread) k)
+              (read_replied (h.heard c) k idle (a.heard.connections_are c k is_open) request target size arrives)
+
+      -- it goes to the origin
+      asking_forward : (m : Message RequestHead) (why : Cause) (conditional : Bool) (actions : List Action) (s' : State)
+          → GoesForward c k (drop size k.unread) request target m why conditional s actions s' → s'.numbers.records ≤ greatest_number
+          → SoundStore h.items s'.store → AsksFor (record { connection = c; request = request.head; target = target }) why conditional
+          (sent_forward m.head target s.numbers.moment (purpose.Reply (one_more s.numbers.exchange) why conditional)).forward
+          → IsWritableAsk m target → KeepsOn (Asking c) actions h s'
+      asking_forward m why conditional actions s' t le sound asks w =
+          let n = s.numbers in
+          let counts = a.counted in
+          let e = one_more n.exchange in
+          let f = one_more n.forward in
           let last : one_more (one_more n.records) ≤ greatest_number = subst (λ (m : Numbers). m.records ≤ greatest_number) t.numbers le in
           let first : one_more n.records ≤ greatest_number = omega arith in
           let number : e ≡ n.exchange + 1 = one_more_is n.exchange (omega (arith, counts.exchanges, counts.in_range)) in
@@ -311,13 +376,6 @@ module _ (s : State) (h : History) (a : Stands s h) where
           let h1 = with_record (request_record e n.moment request) q h in
           let h2 = with_record (forward_record f n.moment m) (OriginRequest f n.moment m target) h1 in
           let c1 = ask_counted n h request target a.counted writable_ask first in
-          let w : IsWritableAsk m target = record {
-            readable = record {
-              head = laws.writable wanted.name target request.head (cache_name wanted.name (subst (λ (name : List ℕ). is_name name ≡ true) (sym named) good.name)) ask.forwardable;
-              short = ask.readable.short;
-            };
-            target_is = laws.keeps_target wanted.name target request.head ask.forwardable.has_target;
-          } in
           let heard1 = heard_same n.connection n.forward s.connections s.forwards h.heard h.told a.heard c (after_request e (drop size k.unread) k)
           (read_request (h.heard c) k idle (a.heard.connections_are c k is_open) e request target size arrives) in
           record {
@@ -334,13 +392,12 @@ module _ (s : State) (h : History) (a : Stands s h) where
             };
             stands = of_parts s' h2 (sent (asked n)) (insert s.connections c (after_request e (drop size k.unread) k))
                 (insert s.exchanges e (record { connection = c; request = request.head; target = target }))
-                (insert s.forwards f (sent_forward m.head target n.moment (purpose.Reply e why false))) s'.store t.numbers t.connections t.exchanges t.forwards refl
+                (insert s.forwards f (sent_forward m.head target n.moment (purpose.Reply e why conditional))) s'.store t.numbers t.connections t.exchanges t.forwards refl
                 (send_counted (asked n) h1 m target c1 w last)
                 (still_sound (q ∷ h.items) (OriginRequest f n.moment m target) s'.store refl (still_sound h.items q s'.store refl sound))
                 (heard_sent n.connection n.forward (insert s.connections c (after_request e (drop size k.unread) k)) s.forwards h.heard h.told heard1 f
-                (sent_forward m.head target n.moment (purpose.Reply e why false)) refl (omega (arith, sends)))
-                (asked_sent n.exchange n.forward s.exchanges s.forwards h.items a.asked c e f n.moment request m target why false (omega (arith, number)) (omega (arith, sends))
-                (record { method = refl; target = refl; by_store = by_store }))
+                (sent_forward m.head target n.moment (purpose.Reply e why conditional)) refl (omega (arith, sends)))
+                (asked_sent n.exchange n.forward s.exchanges s.forwards h.items a.asked c e f n.moment request m target why conditional (omega (arith, number)) (omega (arith, sends)) asks)
                 (linked_asked n.connection s.connections s.exchanges a.linked c e (drop size k.unread) k (record { connection = c; request = request.head; target = target }) is_open idle
                 (a.asked.later_exchanges e (omega (arith, number))) refl ask.forwardable)
                 (len_kept c k (after_request e (drop size k.unread) k) is_open);
@@ -349,15 +406,24 @@ module _ (s : State) (h : History) (a : Stands s h) where
     pub asking : (c : ℕ) (actions : List Action) (s' : State) → Asks settings c s actions s' → s'.numbers.records ≤ greatest_number → KeepsOn (Asking c) actions h s'
     asking c actions s' t le =
         let k = t.connection in
+        let ask = received_ask k.unread t.request t.target t.size t.arrives in
         let wanted = wanted_now settings s t.request.head k in
-        let r = reaction_right settings.name good.name s.numbers.moment early wanted.closes h.items (one_more s.numbers.exchange) t.request t.target s.forwards s.store s'.store t.reaction (sound_of s h a) t.reacts in
+        let r = reaction_right laws settings.name good.name s.numbers.moment early wanted.closes h.items (one_more s.numbers.exchange) t.request t.target ask s.forwards s.store s'.store t.reaction (sound_of s h a) t.reacts in
         ⊎_elim
-        (λ (g : GetsReply settings.name good.name s.numbers.moment early wanted.closes h.items (one_more s.numbers.exchange) t.request t.target t.reaction).
+        (λ (g : GetsReply laws settings.name good.name s.numbers.moment early wanted.closes h.items (one_more s.numbers.exchange) t.request t.target ask t.reaction).
         asking_alone c k t.is_open t.idle t.request t.target t.size t.arrives wanted g.reply actions s'
         (subst (λ (r : Reaction). DoesReaction r c k (drop t.size k.unread) t.request t.target wanted s actions s') g.reaction_is t.does) le r.0 g.fit g.right)
-        (λ (g : GetsForward settings.name good.name s.numbers.moment early wanted.closes h.items (one_more s.numbers.exchange) t.request t.target t.reaction).
-        asking_forward c k t.is_open t.idle t.request t.target t.size t.arrives wanted g.why actions s' refl
-        (subst (λ (r : Reaction). DoesReaction r c k (drop t.size k.unread) t.request t.target wanted s actions s') g.reaction_is t.does) le r.0 g.by_store)
+        (λ (others : GetsBehind laws settings.name good.name s.numbers.moment early wanted.closes h.items (one_more s.numbers.exchange) t.request t.target ask t.reaction
+        ⊎ GetsForward laws settings.name good.name s.numbers.moment early wanted.closes h.items (one_more s.numbers.exchange) t.request t.target ask t.reaction).
+        ⊎_elim
+        (λ (g : GetsBehind laws settings.name good.name s.numbers.moment early wanted.closes h.items (one_more s.numbers.exchange) t.request t.target ask t.reaction).
+        asking_behind c k t.is_open t.idle t.request t.target t.size t.arrives wanted g.reply g.validation actions s'
+        (subst (λ (r : Reaction). DoesReaction r c k (drop t.size k.unread) t.request t.target wanted s actions s') g.reaction_is t.does) le r.0 g.fit g.right g.get g.writable)
+        (λ (g : GetsForward laws settings.name good.name s.numbers.moment early wanted.closes h.items (one_more s.numbers.exchange) t.request t.target ask t.reaction).
+        asking_forward c k t.is_open t.idle t.request t.target t.size t.arrives g.forward g.why g.conditional actions s'
+        (subst (λ (r : Reaction). DoesReaction r c k (drop t.size k.unread) t.request t.target wanted s actions s') g.reaction_is t.does) le r.0
+        (record { method = g.method; target = refl; by_store = g.by_store; asks_after = g.asks_after c }) g.writable)
+        others)
         r.1
 
     -- ---- what answers a forward
@@ -465,6 +531,55 @@ module _ (s : State) (h : History) (a : Stands s h) where
                   (len_replied wanted.closes x0.connection k.unread k k on);
             }
 
+        -- and the request goes to the origin anew
+        ends_anew : (turn : Turn) (r : Record) (item : Item) (why : Cause) (given actions : List Action) (s' : State) → heard_with turn h.heard ≡ h.heard → told_with turn h.told ≡ h.told
+            → records_of (given ++ send_actions (one_more s.numbers.forward) s.numbers.moment (forward_anew settings.name x0.target x0.request))
+            ≡ r ∷ forward_record (one_more s.numbers.forward) s.numbers.moment (forward_anew settings.name x0.target x0.request) ∷ []
+            → EndsWithForward f e x0 why given (forward_anew settings.name x0.target x0.request) s actions s' → s'.numbers.records ≤ greatest_number
+            → (one_more s.numbers.records ≤ greatest_number → AreCounted (noted s.numbers) (with_record r item h)) → SoundStore (item ∷ h.items) s'.store
+            → ((d : ℕ) → exchange_of d (item ∷ h.items) ≡ exchange_of d h.items) → ((d : ℕ) → forward_of d (item ∷ h.items) ≡ cond (nat_eq f d) None (forward_of d h.items))
+            → IsRight strict h.items item → exchange_for w.forward.purpose ≡ Some e → (asks_store why ≡ true → is_answered_by_store x0.request.method ≡ true) → KeepsOn turn actions h s'
+        ends_anew turn r item why given actions s' heard told both t le counted sound opens_none closes right its by_store =
+            let n = s.numbers in
+            let counts = a.counted in
+            let g = one_more n.forward in
+            let m = forward_anew settings.name x0.target x0.request in
+            let last : one_more (one_more n.records) ≤ greatest_number = subst (λ (m : Numbers). m.records ≤ greatest_number) t.numbers le in
+            let first : one_more n.records ≤ greatest_number = omega arith in
+            let sends : g ≡ n.forward + 1 = one_more_is n.forward (omega (arith, counts.forwards, counts.in_range)) in
+            let waiting = a.linked.waiting e x0 waits in
+            let writable : IsWritableAsk m x0.target = record {
+              readable = record { head = laws.unconditional_writable settings.name x0.target x0.request (cache_name settings.name good.name) waiting.forwardable; short = omega arith };
+              target_is = laws.unconditional_keeps settings.name x0.target x0.request waiting.forwardable.has_target;
+            } in
+            let h1 = with_record r item h in
+            let h2 = with_record (forward_record g n.moment m) (OriginRequest g n.moment m x0.target) h1 in
+            let aim = sent_forward m.head x0.target n.moment (purpose.Reply e why false) in
+            record {
+              later = h2;
+              goes_on = record {
+                records = record {
+                  newer = OriginRequest g n.moment m x0.target ∷ item ∷ [];
+                  records_are = given_from actions (given ++ send_actions g n.moment m) (r ∷ forward_record g n.moment m ∷ []) h.records t.actions_are both;
+                  items_are = refl;
+                  right = ((tt, right), tt);
+                };
+                heard = sym heard;
+                told = sym told;
+              };
+              stands = of_parts s' h2 (sent (noted n)) s.connections s.exchanges (insert (remove s.forwards f) g aim) s'.store t.numbers t.connections t.exchanges t.forwards refl
+                  (send_counted (noted n) h1 m x0.target (counted first) writable last)
+                  (still_sound (item ∷ h.items) (OriginRequest g n.moment m x0.target) s'.store refl sound)
+                  (heard_sent n.connection n.forward s.connections (remove s.forwards f) h.heard h.told (heard_ended n.connection n.forward s.connections s.forwards h.heard h.told a.heard f) g aim refl
+                  (omega (arith, sends)))
+                  (asked_anew n.exchange n.forward s.exchanges s.forwards h.items a.asked f w item is_open opens_none closes e g n.moment m why x0 its (omega (arith, sends)) waits
+                  (record { method = refl; target = refl; by_store = by_store; asks_after = λ is. absurd (false_true is) }))
+                  a.linked a.few;
+            }
+          where
+            false_true : false ≡ true → ⊥
+            false_true e = cc
+
     second_false : (x y : Bool) → (x || y) ≡ false → y ≡ false
     second_false true y is = absurd (cc)
     second_false false y is = is
@@ -472,7 +587,7 @@ module _ (s : State) (h : History) (a : Stands s h) where
     -- what the request that waits wants
     module _ (f : ℕ) (w : Awaited) (is_open : get s.forwards f ≡ Some w) (e : ℕ) (why : Cause) (conditional : Bool) (is_for : w.forward.purpose ≡ purpose.Reply e why conditional)
         (x0 : OpenExchange) (k : Connection) (waits : get s.exchanges e ≡ Some x0) where
-      its_keeps : IsFor s.exchanges e why w.forward
+      its_keeps : IsFor s.exchanges e why conditional w.forward
       its_keeps = subst (λ (p : Purpose). KeepsPurpose s.exchanges p w.forward) is_for (a.asked.purposes f w is_open)
 
       its_same : its_keeps.exchange ≡ x0
@@ -483,6 +598,12 @@ module _ (s : State) (h : History) (a : Stands s h) where
 
       its_target : w.forward.target ≡ x0.target
       its_target = its_keeps.asks_for.target ∙ ap (λ (x : OpenExchange). x.target) its_same
+
+      its_by_store : asks_store why ≡ true → is_answered_by_store x0.request.method ≡ true
+      its_by_store asks = subst (λ (x : OpenExchange). is_answered_by_store x.request.method ≡ true) its_same (its_keeps.asks_for.by_store asks)
+
+      its_reason : conditional ≡ true → is_of_stored why ≡ true
+      its_reason is = (its_keeps.asks_for.asks_after is).reason
 
       its_exchange : (position : ℕ) × (exchange_of e h.items ≡ Some (record { number = e; position = position; request = x0.request; target = x0.target }))
       its_exchange = subst (λ (o : Option OpenExchange). IsSeenExchange e o (exchange_of e h.items)) waits (a.asked.exchanges_are e)
@@ -510,11 +631,15 @@ module _ (s : State) (h : History) (a : Stands s h) where
         } in
         let before = sound_of s h a in
         let told : SoundStore (OriginResponse f n.moment response ∷ h.items) t.told = (
-          renewed_sources h.items f n.moment response w.forward (recorded f w t.is_open) (one_more n.records) s.store t.told before.0 t.renews,
-          renewed_can_reply w.forward n.moment (one_more n.records) response.head s.store t.told before.1 t.renews,
+          renewed_sources h.items f n.moment response w.forward (recorded f w t.is_open) s.store t.told before.0
+              (subst (λ (p : ℕ). Renews w.forward n.moment p response.head s.store t.told) next t.renews),
+          renewed_can_reply w.forward n.moment (one_more n.records) to_head response s.store t.told r early before.1 t.renews,
         ) in
         by_purpose f ended actions s' t le r writable told w.forward.purpose refl t.ends
       where
+        next : one_more s.numbers.records ≡ next_position h.items
+        next = let counts = a.counted in let records = one_more_is s.numbers.records counts.in_range in omega (arith, records, counts.records)
+
         by_purpose : (f : ℕ) (ended : Bool) (actions : List Action) (s' : State) (t : Answers settings f ended s actions s') → s'.numbers.records ≤ greatest_number
             → IsReceivedAnswer (is_head t.awaited.forward.request.method) t.response → IsWritableAnswer (is_head t.awaited.forward.request.method) t.response
             → SoundStore (OriginResponse f s.numbers.moment t.response ∷ h.items) t.told → (p : Purpose) → t.awaited.forward.purpose ≡ p
@@ -544,13 +669,26 @@ module _ (s : State) (h : History) (a : Stands s h) where
             let seen = its_exchange f w t.is_open e why conditional is_for x0 k ends.is_waiting in
             let out = response_outcome settings.name good.name n.moment early wanted.closes h.items f w.forward (record { number = e; position = seen.0; request = x0.request; target = x0.target }) why
             (recorded f w t.is_open) seen.1 (its_method f w t.is_open e why conditional is_for x0 k ends.is_waiting) (its_target f w t.is_open e why conditional is_for x0 k ends.is_waiting)
-            t.response r conditional (one_more n.records) t.told s'.store ends.outcome told ends.decided in
+            (its_by_store f w t.is_open e why conditional is_for x0 k ends.is_waiting)
+            t.response r conditional (its_reason f w t.is_open e why conditional is_for x0 k ends.is_waiting) (one_more n.records) next t.told s'.store ends.outcome told ends.decided in
+            ⊎_elim
+            (λ (got : GetsAnswer settings.name good.name n.moment early wanted.closes h.items f w.forward (record { number = e; position = seen.0; request = x0.request; target = x0.target }) why
+            (recorded f w t.is_open) seen.1 (its_method f w t.is_open e why conditional is_for x0 k ends.is_waiting) (its_target f w t.is_open e why conditional is_for x0 k ends.is_waiting)
+            (its_by_store f w t.is_open e why conditional is_for x0 k ends.is_waiting) (OriginResponse f n.moment t.response ∷ h.items) ends.outcome).
             ends_with_reply f w t.is_open e x0 k ends.is_waiting ends.is_open (Answering f ended) (response_record f n.moment to_head t.response) (OriginResponse f n.moment t.response)
-            (response_actions f n.moment to_head t.response) actions wanted out.1.reply s' refl refl refl (it_stays f w t.is_open e why conditional is_for x0 k ends.is_waiting)
-            (ap (λ (rs : List Record). response_record f n.moment to_head t.response ∷ rs) (reply_given e n.moment (is_head x0.request.method) x0.connection wanted.closes out.1.reply))
-            (subst (λ (o : Outcome). DoesOutcome o settings f e x0 k why (response_actions f n.moment to_head t.response) wanted s actions s') out.1.outcome_is ends.does) le
+            (response_actions f n.moment to_head t.response) actions wanted got.reply s' refl refl refl (it_stays f w t.is_open e why conditional is_for x0 k ends.is_waiting)
+            (ap (λ (rs : List Record). response_record f n.moment to_head t.response ∷ rs) (reply_given e n.moment (is_head x0.request.method) x0.connection wanted.closes got.reply))
+            (subst (λ (o : Outcome). DoesOutcome o settings f e x0 k why (response_actions f n.moment to_head t.response) wanted s actions s') got.outcome_is ends.does) le
             (λ first. response_counted n h a.counted first f (recorded_forward w.forward) t.response (some_forward f w t.is_open) (few_forward f w t.is_open) (recorded f w t.is_open) writable r.plain.greatest)
-            out.0 (λ d. refl) (λ d. refl) tt out.1.fit out.1.right (its_number f w t.is_open e why conditional is_for x0 k ends.is_waiting)
+            out.0 (λ d. refl) (λ d. refl) tt got.fit got.right (its_number f w t.is_open e why conditional is_for x0 k ends.is_waiting))
+            (λ (anew : ends.outcome ≡ GoesAnew).
+            ends_anew f w t.is_open e x0 k ends.is_waiting ends.is_open (Answering f ended) (response_record f n.moment to_head t.response) (OriginResponse f n.moment t.response) why
+            (response_actions f n.moment to_head t.response) actions s' refl refl refl
+            (subst (λ (o : Outcome). DoesOutcome o settings f e x0 k why (response_actions f n.moment to_head t.response) wanted s actions s') anew ends.does) le
+            (λ first. response_counted n h a.counted first f (recorded_forward w.forward) t.response (some_forward f w t.is_open) (few_forward f w t.is_open) (recorded f w t.is_open) writable r.plain.greatest)
+            out.0 (λ d. refl) (λ d. refl) tt (its_number f w t.is_open e why conditional is_for x0 k ends.is_waiting)
+            (its_by_store f w t.is_open e why conditional is_for x0 k ends.is_waiting))
+            out.1
 
     failure_given : (f t : ℕ) (closes : Bool) → records_of (failure_actions f t closes) ≡ failure_record f t ∷ []
     failure_given f t true = refl
@@ -582,7 +720,7 @@ module _ (s : State) (h : History) (a : Stands s h) where
             let seen = its_exchange f w t.is_open e why conditional is_for x0 k ends.is_waiting in
             let out = failure_outcome settings.name good.name n.moment early wanted.closes h.items f w.forward (record { number = e; position = seen.0; request = x0.request; target = x0.target }) why
             (recorded f w t.is_open) seen.1 (its_method f w t.is_open e why conditional is_for x0 k ends.is_waiting) (its_target f w t.is_open e why conditional is_for x0 k ends.is_waiting)
-            s.store s'.store ends.outcome (sound_of s h a) ends.decided in
+            (its_by_store f w t.is_open e why conditional is_for x0 k ends.is_waiting) s.store s'.store ends.outcome (sound_of s h a) ends.decided in
             ends_with_reply f w t.is_open e x0 k ends.is_waiting ends.is_open (Failing f how) (failure_record f n.moment) (OriginFailure f n.moment)
             (failure_actions f n.moment (is_closed how)) actions wanted out.1.reply s' refl refl (failure_given f n.moment (is_closed how)) (it_stays f w t.is_open e why conditional is_for x0 k ends.is_waiting)
             (failure_then f n.moment (is_closed how) (reply_actions e n.moment (is_head x0.request.method) x0.connection wanted.closes out.1.reply)

@@ -1,9 +1,10 @@
 -- What a cache has to do with what has happened so far, which it doesn't keep.
-use Rattle.std.specs.Prelude.{◌≡◌, ℕ, zero, suc, ◌<◌, ◌≤◌, ◌==◌, true, false, List, [], length, drop, Option, Some, None, option_map, codes}
+use Rattle.std.specs.Prelude.{◌≡◌, ℕ, zero, suc, ◌<◌, ◌≤◌, ◌==◌, Bool, true, false, List, [], length, drop, Option, Some, None, option_map, codes}
 use Rattle.std.specs.FinMap.{get, len}
 use Rattle.std.specs.List.{AllByRecursion, IsDistinct}
 use Rattle.std.specs.Map.{keys_of}
 use Rattle.std.specs.Option.{IsSome}
+use Rattle.hc_fields.specs.declared.fields.Field.{Field}
 use Rattle.hc_fields.specs.Values.{has_name}
 use Rattle.hc_head.specs.declared.head.RequestHead.{RequestHead}
 use Rattle.hc_head.specs.declared.head.Target.{Target}
@@ -13,7 +14,9 @@ use Rattle.hc_head.specs.Targets.{same_target}
 use Rattle.hc_head.specs.Writable.{has_framing, longest_body}
 use Rattle.hc_framing.specs.declared.message.Message.{Message}
 use Rattle.hc_framing.specs.Framing.{ends_with_head}
+use Rattle.hc_rules.specs.Forwards.{conditional_request}
 use Rattle.hc_rules.specs.Laws.{IsForwardable}
+use Rattle.hc_rules.specs.Validators.{has_validator}
 use Rattle.hc_update.specs.declared.stored.Stored.{Stored}
 use Rattle.hc_transcript.specs.declared.record.Record.{Record}
 use Rattle.hc_transcript.specs.Limits.{greatest_number, greatest_moment}
@@ -30,7 +33,7 @@ use Rattle.hc_service.specs.declared.open.OpenForward.{OpenForward}
 use Rattle.hc_service.specs.declared.open.Purpose.{Purpose}
 use Rattle.hc_service.specs.declared.open.Purpose.TheVariants as purpose
 use Rattle.hc_service.specs.Asking.{is_answered_by_store}
-use Rattle.hc_service.specs.Cases.{asks_store}
+use Rattle.hc_service.specs.Cases.{asks_store, is_of_stored}
 use Rattle.hc_service.specs.Numbers.{is_later}
 use Rattle.hc_service.specs.State.{State, Table, Connection, Awaited}
 use Rattle.hc_service.specs.Choices.{OnTest}
@@ -124,21 +127,31 @@ IsSeenExchange e (Some x) seen =
 abbrev pub seen_forward : Awaited → Forward
 seen_forward a = record { moment = a.forward.moment; request = a.forward.request; target = a.forward.target }
 
--- the forward asks for what the request asks for, and the store was asked for methods that it answers alone
-pub record AsksFor (x : OpenExchange) (why : Cause) (forward : OpenForward) : Type 0 where
+-- a request that asks, by the cache's own condition in place of the client's, whether a stored response still holds: for a GET that selects it
+pub record AsksAfter (x : OpenExchange) (why : Cause) (request : RequestHead) : Type 0 where
+  pub method : x.request.method ≡ codes "GET"
+  pub reason : is_of_stored why ≡ true
+  pub name : List ℕ
+  pub stored : List Field
+  pub validator : has_validator stored ≡ true
+  pub request_is : request ≡ conditional_request name x.target x.request stored
+
+-- the forward asks for what the request asks for, the store was asked for methods that it answers alone, and the cache's own condition is there where it is said to be
+pub record AsksFor (x : OpenExchange) (why : Cause) (conditional : Bool) (forward : OpenForward) : Type 0 where
   pub method : forward.request.method ≡ x.request.method
   pub target : forward.target ≡ x.target
   pub by_store : asks_store why ≡ true → is_answered_by_store x.request.method ≡ true
+  pub asks_after : conditional ≡ true → AsksAfter x why forward.request
 
 -- the request that the forward is for waits for it
-pub record IsFor (exchanges : Table OpenExchange) (e : ℕ) (why : Cause) (forward : OpenForward) : Type 0 where
+pub record IsFor (exchanges : Table OpenExchange) (e : ℕ) (why : Cause) (conditional : Bool) (forward : OpenForward) : Type 0 where
   pub exchange : OpenExchange
   pub waits : get exchanges e ≡ Some exchange
-  pub asks_for : AsksFor exchange why forward
+  pub asks_for : AsksFor exchange why conditional forward
 
 abbrev pub KeepsPurpose : Table OpenExchange → Purpose → OpenForward → Type 0
 KeepsPurpose exchanges purpose.Background forward = forward.request.method ≡ codes "GET"
-KeepsPurpose exchanges (purpose.Reply e why conditional) forward = IsFor exchanges e why forward
+KeepsPurpose exchanges (purpose.Reply e why conditional) forward = IsFor exchanges e why conditional forward
 
 -- the exchange that a forward is for
 abbrev pub exchange_for : Purpose → Option ℕ

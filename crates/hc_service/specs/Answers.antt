@@ -11,7 +11,6 @@ use Rattle.hc_history.specs.Windows.{is_error_status}
 use Rattle.hc_store.specs.Entries.{Holdings}
 use Rattle.hc_service.specs.declared.cases.Cause.{Cause}
 use Rattle.hc_service.specs.declared.open.OpenForward.{OpenForward}
-use Rattle.hc_service.specs.NotYet.{validates, replaces_errors}
 use Rattle.hc_service.specs.Cases.{asks_store}
 use Rattle.hc_service.specs.Serving.{may_replace}
 use Rattle.hc_service.specs.Replying.{Wanted, bad_gateway, made_reply, replacing_reply, passed_reply, failure_status}
@@ -46,7 +45,7 @@ module _ (wanted : Wanted) (forward : OpenForward) (cause : Cause) where
   -- ---- 4: a 304 that answers the cache's own condition
 
   abbrev pub is_validation : Bool → ResponseHead → Bool
-  is_validation conditional response = validates conditional && response.status == not_modified
+  is_validation conditional response = conditional && response.status == not_modified
 
   -- the stored response that it validated is the reply; where there is none, the request goes to the origin anew (RFC 9111 section 4.3.3)
   abbrev pub validated_outcome : Option Stored → Outcome
@@ -78,12 +77,12 @@ module _ (wanted : Wanted) (forward : OpenForward) (cause : Cause) where
   -- ---- 6: an error, in whose place a stored response may be the reply (RFC 5861 section 4)
 
   abbrev pub is_replaceable : ResponseHead → Bool
-  is_replaceable response = replaces_errors (asks_store cause && is_error_status response.status)
+  is_replaceable response = asks_store cause && is_error_status response.status
 
   -- the stored response that is chosen now, where it may take the place
   abbrev pub standing_in : Option Stored → Option Stored
   standing_in None = None
-  standing_in (Some stored) = if replaces_errors (may_replace wanted.asked.fields stored wanted.moment) then Some stored else None
+  standing_in (Some stored) = if may_replace wanted.asked.fields stored wanted.moment then Some stored else None
 
   -- it is the reply, where there is one; else the error is passed on
   abbrev pub StandsIn : Option Stored → ℕ → Message ResponseHead → Holdings → Outcome → Holdings → Type 0

@@ -10,13 +10,12 @@ use Rattle.hc_head.specs.declared.head.Version.{Version}
 use Rattle.hc_head.specs.declared.head.Version.TheVariants.{Http10, Http11}
 use Rattle.hc_head.specs.Methods.{is_get, is_head}
 use Rattle.hc_framing.specs.declared.message.Message.{Message}
-use Rattle.hc_service.specs.NotYet.{serves_head}
 
 -- ---- the request itself
 
 -- the methods that the store answers: GET, and HEAD as GET without the body (RFC 9111 section 4)
 abbrev pub is_answered_by_store : List ℕ → Bool
-is_answered_by_store method = is_get method || serves_head (is_head method)
+is_answered_by_store method = is_get method || is_head method
 
 -- the fields that ask for a part, or on a condition that only the origin can judge (RFC 9110 sections 13.1.1, 13.1.4, 13.1.5 and 14.2)
 abbrev pub bypass_names : List (List ℕ)

@@ -72,6 +72,16 @@ word_of VaryMiss = codes "vary-miss"
 word_of Stale = codes "stale"
 word_of Request = codes "request"
 
+-- whether it goes to the origin in spite of a stored response that it selects, which may be asked after
+abbrev pub is_of_stored : Cause → Bool
+is_of_stored Method = false
+is_of_stored Bypass = false
+is_of_stored NoStore = false
+is_of_stored UriMiss = false
+is_of_stored VaryMiss = false
+is_of_stored Stale = true
+is_of_stored Request = true
+
 -- whether the store was asked, so that what answers may be stored, and what is stored may take its place
 abbrev pub asks_store : Cause → Bool
 asks_store Method = false

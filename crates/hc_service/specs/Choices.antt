@@ -16,7 +16,6 @@ use Rattle.hc_store.specs.Choosing.{chosen_validated}
 use Rattle.hc_store.specs.Changes.{Validation}
 use Rattle.hc_store.specs.Calls.{Chooses, Puts, Freshens, invalidated}
 use Rattle.hc_service.specs.declared.open.OpenForward.{OpenForward}
-use Rattle.hc_service.specs.NotYet.{freshens}
 
 -- the one where a test holds, the other where it doesn't
 abbrev pub OnTest : Bool → Type 0 → Type 0 → Type 0
@@ -69,6 +68,4 @@ validation_by forward moment position response = record {
 -- a 304 to a GET freshens each stored response that it is about, whyever the request went to the origin (RFC 9111 section 4.3.4)
 abbrev pub Updates : OpenForward → ℕ → ℕ → ResponseHead → Holdings → Holdings → Type 0
 Updates forward moment position response old new =
-    OnTest (may_update forward response)
-    (OnTest (freshens true) (Freshens (validation_by forward moment position response) forward.target old new) (new ≡ invalidated forward.target old))
-    (new ≡ old)
+    OnTest (may_update forward response) (Freshens (validation_by forward moment position response) forward.target old new) (new ≡ old)

@@ -1,5 +1,5 @@
 -- What the laws of a cache speak of.
-use Rattle.std.specs.Prelude.{◌≡◌, ℕ, ◌+◌, ◌≤◌, Bool, true, false, List, [], ◌∷◌, length}
+use Rattle.std.specs.Prelude.{◌≡◌, ℕ, ◌+◌, ◌≤◌, ◌<◌, Bool, true, false, List, [], ◌∷◌, length, Option, Some, None}
 use Rattle.std.specs.List.{IsDistinct}
 use Rattle.std.specs.Map.{keys_of}
 use Rattle.hc_head.specs.declared.head.RequestHead.{RequestHead}
@@ -48,6 +48,11 @@ pub record IsReceivedAnswer (to_head : Bool) (response : Message ResponseHead) :
   pub short : length response.body ≤ longest_body
   pub bare : ends_with_head to_head response.head.status ≡ true → response.body ≡ []
   pub is_final : 200 ≤ response.head.status
+
+-- a status that a mark can tell, if it tells one
+abbrev pub IsToldStatus : Option ℕ → Type 0
+IsToldStatus None = Unit {0}
+IsToldStatus (Some status) = status < 1000
 
 -- a request as it was received, of that target: it can be recorded, and passed on
 pub record IsReceivedAsk (request : Message RequestHead) (target : Target) : Type 0 where

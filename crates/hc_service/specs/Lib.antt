@@ -1,7 +1,6 @@
 pub mod Settings
 pub mod Names
 pub mod Numbers
-pub mod NotYet
 pub mod Asking
 pub mod Serving
 pub mod Cases

@@ -19,7 +19,6 @@ use Rattle.hc_service.specs.declared.cases.Case.{Case}
 use Rattle.hc_service.specs.declared.cases.Case.TheVariants as case
 use Rattle.hc_service.specs.declared.open.Purpose.{Purpose}
 use Rattle.hc_service.specs.declared.open.Purpose.TheVariants as purpose
-use Rattle.hc_service.specs.NotYet.{serves_stale, validates}
 use Rattle.hc_service.specs.Cases.{case_before_store, case_by_store}
 use Rattle.hc_service.specs.Serving.{is_fresh, while_revalidating}
 use Rattle.hc_service.specs.Replying.{Wanted, gateway_timeout, made_reply, hit_reply}
@@ -59,7 +58,7 @@ has_place_behind target open_now =
 -- whether a stored response that is served is validated behind the reply: it is stale, within stale-while-revalidate (RFC 5861 section 3)
 abbrev pub is_validated_behind : Stored → ℕ → Target → Table Awaited → Bool
 is_validated_behind stored moment target forwards =
-    serves_stale (not (is_fresh stored moment) && while_revalidating stored moment && has_place_behind target (values forwards))
+    not (is_fresh stored moment) && while_revalidating stored moment && has_place_behind target (values forwards)
 
 -- the request that validates it: a GET without the client's own conditions
 abbrev pub validation_behind : Wanted → Target → Stored → Option (Message RequestHead)
@@ -84,7 +83,7 @@ plain_forward wanted target request = record { head = plain_request wanted.name 
 -- whether the stored response that was chosen is asked after: for GET, where it has a validator
 abbrev pub is_asked_after : RequestHead → Option Stored → Bool
 is_asked_after asked None = false
-is_asked_after asked (Some stored) = validates (is_get asked.method && has_validator stored.fields)
+is_asked_after asked (Some stored) = is_get asked.method && has_validator stored.fields
 
 -- a forward that asks after it, or a plain one
 abbrev pub stored_forward : Wanted → Target → Message RequestHead → Cause → Option Stored → Reaction

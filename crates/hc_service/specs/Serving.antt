@@ -8,7 +8,6 @@ use Rattle.hc_fresh.specs.Lifetimes.{says, stale_forbidden}
 use Rattle.hc_rules.specs.Conditions.{client_condition}
 use Rattle.hc_update.specs.declared.stored.Stored.{Stored}
 use Rattle.hc_history.specs.Usable.{lifetime_of, seconds_said}
-use Rattle.hc_service.specs.NotYet.{serves_stale, answers_condition}
 use Rattle.hc_service.specs.Asking.{allows_age, allows_left, asks_for_fresh}
 
 -- ---- lifetime and age
@@ -75,7 +74,7 @@ abbrev pub may_be_served : List Field → Stored → ℕ → Bool
 may_be_served asked stored moment =
     may_be_used asked stored
     && allows_age (age_at stored moment) (seconds_said (codes "max-age") asked)
-    && (is_fresh_enough asked stored moment || serves_stale (is_permitted_stale asked stored moment))
+    && (is_fresh_enough asked stored moment || is_permitted_stale asked stored moment)
 
 -- ---- in place of an error, or of a failure
 
@@ -89,4 +88,4 @@ may_replace asked stored moment =
 
 -- it holds for the stored response, so that the client is told that what it has still holds (section 4.3.2)
 abbrev pub has_still : List Field → Stored → Bool
-has_still asked stored = answers_condition (client_condition asked stored.status stored.fields)
+has_still asked stored = client_condition asked stored.status stored.fields

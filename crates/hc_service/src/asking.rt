@@ -3,12 +3,12 @@
 ghost use Rattle.std.specs.Prelude.{◌≡◌};
 ghost use Rattle.std.specs.List.{list_any};
 ghost use Rattle.hc_fields.specs.Values.{has_name};
-ghost use Rattle.hc_service.specs.Asking.{allows_age, allows_left, bypass_names, ends_connection, is_answered_by_store, is_bypass, is_http10};
+ghost use Rattle.hc_service.specs.Asking.{allows_age, allows_left, asks_for_fresh, bypass_names, ends_connection, is_answered_by_store, is_bypass, is_http10};
 
 use hc_directives::Seconds;
 use hc_fields::Fields;
 use hc_framing::Message;
-use hc_head::{RequestHead, Version, is_get};
+use hc_head::{RequestHead, Version, is_get, is_head};
 
 /// The fields that ask for a part, or on a condition that only the origin can judge.
 const BYPASS_NAMES: [&[u8]; 4] = [b"range", b"if-range", b"if-match", b"if-unmodified-since"];
@@ -17,7 +17,7 @@ const BYPASS_NAMES: [&[u8]; 4] = [b"range", b"if-range", b"if-match", b"if-unmod
 pub fn is_answered_by_store(method: &[u8]) -> bool
     ensures { result ≡ is_answered_by_store method.now }
 {
-    is_get(method)
+    is_get(method) || is_head(method)
 }
 
 /// Whether a line has one of the names.
@@ -69,5 +69,15 @@ pub(crate) fn allows_left(left: u32, said: Seconds) -> bool
     match said {
         Seconds::Value(seconds) => seconds <= left,
         Seconds::Absent | Seconds::Bare | Seconds::Unreadable => true,
+    }
+}
+
+/// Whether a min-fresh of the request asks for anything.
+pub(crate) fn asks_for_fresh(said: Seconds) -> bool
+    ensures { result ≡ asks_for_fresh said }
+{
+    match said {
+        Seconds::Value(_) => true,
+        Seconds::Absent | Seconds::Bare | Seconds::Unreadable => false,
     }
 }

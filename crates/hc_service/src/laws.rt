@@ -1,30 +1,35 @@
 //! What holds of every cache that does what it owes.
 
-ghost use Rattle.std.specs.Prelude.{◌≡◌, ℕ, Bool, ◌+◌, ◌≤◌, ◌<◌, true, false, List, [], ◌∷◌, ◌++◌, drop, length, Option, Some, None};
+ghost use Rattle.std.specs.Prelude.{◌≡◌, ℕ, Bool, ◌+◌, ◌≤◌, ◌<◌, true, false, List, [], ◌∷◌, ◌++◌, drop, length, Option, Some, None, codes};
 ghost use Rattle.hc_fields.specs.declared.fields.Field.{Field};
 ghost use Rattle.hc_fields.specs.Numbers.{end_of_moments};
 ghost use Rattle.hc_head.specs.declared.head.RequestHead.{RequestHead};
 ghost use Rattle.hc_head.specs.declared.head.ResponseHead.{ResponseHead};
 ghost use Rattle.hc_head.specs.declared.head.Target.{Target};
 ghost use Rattle.hc_head.specs.Methods.{is_head};
+ghost use Rattle.hc_head.specs.Statuses.{not_modified};
 ghost use Rattle.hc_framing.specs.declared.message.Message.{Message};
+ghost use Rattle.hc_fresh.specs.Lifetimes.{says, stale_forbidden};
 ghost use Rattle.hc_update.specs.declared.stored.Stored.{Stored};
 ghost use Rattle.hc_transcript.specs.Items.{ClientReply, ClientRequest, Exchange, Forward, Item, OriginFailure, OriginRequest, OriginResponse};
-ghost use Rattle.hc_transcript.specs.History.{exchange_of, forward_of};
+ghost use Rattle.hc_transcript.specs.History.{exchange_of, forward_of, next_position};
 ghost use Rattle.hc_transcript.specs.Limits.{greatest_number};
 ghost use Rattle.hc_transcript.specs.Written.{IsWritableAnswer, IsWritableAsk};
 ghost use Rattle.hc_history.specs.Right.{IsRight};
+ghost use Rattle.hc_history.specs.Usable.{seconds_said};
+ghost use Rattle.hc_history.specs.Windows.{is_error_status};
+ghost use Rattle.hc_store.specs.Calls.{Freshens};
 ghost use Rattle.hc_service.specs.declared.numbers.Numbers.{Numbers};
 ghost use Rattle.hc_service.specs.Numbers.{asked, is_later, noted, one_more, sent};
 ghost use Rattle.hc_service.specs.Sending.{failure_record, forward_record, records_of, reply_record, request_record, response_record};
-ghost use Rattle.hc_store.specs.Choosing.{is_selected};
+ghost use Rattle.hc_store.specs.Choosing.{is_selected, is_selected_validated};
 ghost use Rattle.hc_links.specs.Requests.{IsRequest};
 ghost use Rattle.hc_store.specs.Entries.{Holdings};
 ghost use Rattle.hc_service.specs.declared.cases.Cause.{Cause};
 ghost use Rattle.hc_service.specs.declared.open.OpenForward.{OpenForward};
 ghost use Rattle.hc_service.specs.Answers.{Renews};
-ghost use Rattle.hc_service.specs.Choices.{Finds, Stores};
-ghost use Rattle.hc_service.specs.Laws.{HasSources, IsCountedOn, IsReceivedAnswer, IsReceivedAsk, is_response, recorded_forward, with_record, KeepsAgreement, KeepsAll, KeepsOn};
+ghost use Rattle.hc_service.specs.Choices.{Finds, Stores, may_update, validation_by};
+ghost use Rattle.hc_service.specs.Laws.{HasSources, IsCountedOn, IsReceivedAnswer, IsReceivedAsk, IsToldStatus, is_response, recorded_forward, with_record, KeepsAgreement, KeepsAll, KeepsOn};
 ghost use Rattle.hc_service.specs.declared.action.Action.{Action};
 ghost use Rattle.hc_service.specs.Serves.{Run, Serves, Takes, Turn};
 ghost use Rattle.hc_events.specs.declared.Event.{Event};
@@ -36,9 +41,9 @@ ghost use Rattle.hc_service.specs.declared.open.OpenExchange.{OpenExchange};
 ghost use Rattle.hc_service.specs.State.{Awaited, Connection, State, Table, new_connection, new_state};
 ghost use Rattle.hc_service.specs.Agreement.{AllHeld, CanReply, AreAsked, AreCounted, AreHeard, AreLinked, Agrees, History, IsReadOf, IsReady, IsSound, Stands, exchange_for};
 ghost use Rattle.hc_service.specs.Runs.{Runs, RunsTo, nothing_yet, records_given, IsJudgedRight, StepResult, Steps, strict, with_octets};
-ghost use Rattle.hc_service.specs.Asking.{is_answered_by_store};
-ghost use Rattle.hc_service.specs.Replying.{Wanted, hit_reply, made_reply, passed_reply};
-ghost use Rattle.hc_service.specs.Serving.{may_be_served};
+ghost use Rattle.hc_service.specs.Asking.{allows_age, asks_for_fresh, is_answered_by_store};
+ghost use Rattle.hc_service.specs.Replying.{Wanted, hit_reply, made_reply, passed_reply, replacing_reply};
+ghost use Rattle.hc_service.specs.Serving.{age_at, is_fresh, may_be_served, may_replace};
 ghost use Rattle.hc_service.specs.Turns.{IsAnswer, after_hearing, after_octets, after_request, replied};
 ghost use Rattle.hc_service.specs.Settings.{AreGood, is_name};
 
@@ -64,11 +69,18 @@ pub fn stored_responses_are_those_of_the_records()
     ensures chosen { (items : List Item) (target : Target) (asked : List Field) (old : Holdings)
         (chosen : Option Stored) (new : Holdings) → HasSources items old → Finds target asked old chosen new
         → HasSources items new }
-    // A response that invalidates, and a 304, leave nothing that the records see otherwise.
-    ensures renewed { (items : List Item) (number moment position : ℕ) (response : Message ResponseHead)
+    // A response that invalidates leaves nothing that the records see otherwise.
+    ensures renewed { (items : List Item) (number moment : ℕ) (response : Message ResponseHead)
         (forward : OpenForward) (old new : Holdings)
         → forward_of number items ≡ Some (recorded_forward forward) → HasSources items old
-        → Renews forward moment position response.head old new
+        → Renews forward moment (next_position items) response.head old new
+        → HasSources (OriginResponse number moment response ∷ items) new }
+    // What a 304 is about is then what the records make of it, whatever memory takes away.
+    ensures freshened { (items : List Item) (number moment : ℕ) (response : Message ResponseHead)
+        (forward : OpenForward) (old new : Holdings)
+        → forward_of number items ≡ Some (recorded_forward forward) → HasSources items old
+        → may_update forward response.head ≡ true
+        → Freshens (validation_by forward moment (next_position items) response.head) forward.target old new
         → HasSources (OriginResponse number moment response ∷ items) new }
     ensures put { (items : List Item) (number moment : ℕ) (response : Message ResponseHead)
         (forward : OpenForward) (old new : Holdings) (stored : Bool)
@@ -88,8 +100,32 @@ pub fn hits_are_right()
         → IsRight strict items (ClientReply x.number wanted.moment (hit_reply wanted stored)) }
 {}
 
+/// What forbids that a stored response is served, or takes the place of an error, is obeyed whatever else
+/// the request and the response say: `no-cache` of either (RFC 9111 sections 5.2.1.4 and 5.2.2.4), what
+/// forbids a stale one (section 4.2.4), `min-fresh` (section 5.2.1.3) and `max-age` of the request
+/// (section 5.2.1.1).
+pub fn what_forbids_serving_is_obeyed()
+    ensures no_cache { (asked : List Field) (stored : Stored) (moment : ℕ)
+        → says (codes "no-cache") stored.fields ≡ true
+        → (may_be_served asked stored moment ≡ false) × (may_replace asked stored moment ≡ false) }
+    ensures no_cache_of_the_request { (asked : List Field) (stored : Stored) (moment : ℕ)
+        → says (codes "no-cache") asked ≡ true
+        → (may_be_served asked stored moment ≡ false) × (may_replace asked stored moment ≡ false) }
+    ensures stale { (asked : List Field) (stored : Stored) (moment : ℕ)
+        → is_fresh stored moment ≡ false → stale_forbidden stored.fields ≡ true
+        → (may_be_served asked stored moment ≡ false) × (may_replace asked stored moment ≡ false) }
+    ensures min_fresh { (asked : List Field) (stored : Stored) (moment : ℕ)
+        → is_fresh stored moment ≡ false → asks_for_fresh (seconds_said (codes "min-fresh") asked) ≡ true
+        → may_be_served asked stored moment ≡ false }
+    ensures max_age { (asked : List Field) (stored : Stored) (moment : ℕ)
+        → allows_age (age_at stored moment) (seconds_said (codes "max-age") asked) ≡ false
+        → may_be_served asked stored moment ≡ false }
+{}
+
 /// What the origin answered to a forward of the request is a right reply, and so is one of status 400
-/// or more that the cache makes itself.
+/// or more that the cache makes itself. A stored response is one where the origin has validated it in
+/// the meantime, and where it is fresh or may be served stale on errors, in place of an error or of a
+/// failure.
 pub fn other_replies_are_right()
     ensures passed { (items : List Item) (f moment : ℕ) (response : Message ResponseHead) (forward : OpenForward)
         (x : Exchange) (wanted : Wanted) (why : Cause) (stored : Bool) → is_name wanted.name ≡ true
@@ -101,6 +137,31 @@ pub fn other_replies_are_right()
     ensures made { (items : List Item) (x : Exchange) (wanted : Wanted) (status : ℕ)
         → exchange_of x.number items ≡ Some x → 400 ≤ status
         → IsRight strict items (ClientReply x.number wanted.moment (made_reply wanted status)) }
+    ensures validated { (items : List Item) (x : Exchange) (wanted : Wanted) (why : Cause) (position : ℕ)
+        (stored : Stored) → is_name wanted.name ≡ true → exchange_of x.number items ≡ Some x
+        → wanted.asked ≡ x.request → IsSound items x.target stored → is_answered_by_store x.request.method ≡ true
+        → is_selected_validated x.request.fields position stored ≡ true → x.position < position
+        → IsRight strict items
+        (ClientReply x.number wanted.moment (replacing_reply wanted why (Some not_modified) stored)) }
+    ensures in_place_of_error { (items : List Item) (f moment : ℕ) (response : Message ResponseHead)
+        (forward : OpenForward) (x : Exchange) (wanted : Wanted) (why : Cause) (stored : Stored)
+        → is_name wanted.name ≡ true → forward_of f items ≡ Some (recorded_forward forward)
+        → forward.target ≡ x.target → is_error_status response.head.status ≡ true
+        → exchange_of x.number items ≡ Some x → wanted.asked ≡ x.request
+        → IsSound (OriginResponse f moment response ∷ items) x.target stored
+        → is_answered_by_store x.request.method ≡ true → is_selected x.request.fields stored ≡ true
+        → may_replace x.request.fields stored wanted.moment ≡ true
+        → IsRight strict (OriginResponse f moment response ∷ items)
+        (ClientReply x.number wanted.moment (replacing_reply wanted why (Some response.head.status) stored)) }
+    ensures in_place_of_failure { (items : List Item) (f moment : ℕ) (forward : OpenForward) (x : Exchange)
+        (wanted : Wanted) (why : Cause) (stored : Stored)
+        → is_name wanted.name ≡ true → forward_of f items ≡ Some (recorded_forward forward)
+        → forward.target ≡ x.target → exchange_of x.number items ≡ Some x → wanted.asked ≡ x.request
+        → IsSound (OriginFailure f moment ∷ items) x.target stored
+        → is_answered_by_store x.request.method ≡ true → is_selected x.request.fields stored ≡ true
+        → may_replace x.request.fields stored wanted.moment ≡ true
+        → IsRight strict (OriginFailure f moment ∷ items)
+        (ClientReply x.number wanted.moment (replacing_reply wanted why None stored)) }
 {}
 
 /// What is read off a connection can be recorded and passed on.
@@ -201,8 +262,17 @@ pub fn what_is_stored_can_be_a_reply()
         (new : Holdings) → IsReceivedAnswer false response → moment < end_of_moments
         → AllHeld (λ target state. CanReply state) old.entries → Stores forward moment response old stored new
         → AllHeld (λ target state. CanReply state) new.entries }
+    ensures freshened { (forward : OpenForward) (moment position : ℕ) (to_head : Bool)
+        (response : Message ResponseHead) (old new : Holdings)
+        → IsReceivedAnswer to_head response → moment < end_of_moments
+        → AllHeld (λ target state. CanReply state) old.entries
+        → Freshens (validation_by forward moment position response.head) forward.target old new
+        → AllHeld (λ target state. CanReply state) new.entries }
     ensures hit { (wanted : Wanted) (stored : Stored) → is_name wanted.name ≡ true → CanReply stored
         → IsWritableAnswer (is_head wanted.asked.method) (hit_reply wanted stored) }
+    ensures replacing { (wanted : Wanted) (why : Cause) (origin : Option ℕ) (stored : Stored)
+        → is_name wanted.name ≡ true → IsToldStatus origin → CanReply stored
+        → IsWritableAnswer (is_head wanted.asked.method) (replacing_reply wanted why origin stored) }
 {}
 
 /// Each turn keeps what a cache has to do with what has happened, whatever that is, and each reply among

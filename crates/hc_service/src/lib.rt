@@ -24,12 +24,17 @@ pub use laws::{
     runs_keep_agreement, runs_of_turns_keep_agreement, steps_are_runs, steps_end_ready,
     steps_go_on, stored_responses_are_those_of_the_records, turns_keep_agreement,
     unread_octets_are_those_that_came, waiting_requests_are_those_of_the_connections,
-    what_is_open_is_that_of_the_records, what_is_stored_can_be_a_reply,
+    what_forbids_serving_is_obeyed, what_is_open_is_that_of_the_records,
+    what_is_stored_can_be_a_reply,
 };
 pub use numbers::Numbers;
 pub use open::{OpenExchange, OpenForward, Purpose};
 pub use replying::{
     BAD_GATEWAY, GATEWAY_TIMEOUT, WantedReply, failure_status, hit_reply, made_reply, passed_reply,
+    replacing_reply,
 };
-pub use serving::{age_at, is_fresh, lifetime_of, may_be_served, ttl_at};
+pub use serving::{
+    age_at, has_still, is_fresh, lifetime_of, may_be_served, may_replace, ttl_at,
+    while_revalidating,
+};
 pub use settings::{CoreSettings, is_name, is_size};

@@ -2,15 +2,15 @@
 
 ghost use Rattle.std.specs.Prelude.{◌≡◌, ◌<◌, IfOk, option_copied};
 ghost use Rattle.hc_fields.specs.Numbers.{end_of_moments};
-ghost use Rattle.hc_service.specs.Replying.{entry_reply, failure_status, hit_reply, made_reply, passed_reply};
+ghost use Rattle.hc_service.specs.Replying.{entry_reply, entry_status, failure_status, hit_reply, made_reply, passed_reply, replacing_reply, status_told};
 
 use crate::cases::Cause;
-use crate::serving::ttl_at;
+use crate::serving::{has_still, ttl_at};
 use hc_fields::Octets;
 use hc_framing::Message;
 use hc_fresh::stale_forbidden;
-use hc_head::{RequestHead, ResponseHead, is_head};
-use hc_replies::{forwarded_reply, generated_reply, stored_reply};
+use hc_head::{NOT_MODIFIED, RequestHead, ResponseHead, is_head};
+use hc_replies::{forwarded_reply, generated_reply, not_modified_reply, stored_reply};
 use hc_status::{CacheStatus, Handling};
 use hc_update::Stored;
 use std::alloc::{AllocError, Global};
@@ -55,7 +55,8 @@ pub fn made_reply(
     generated_reply(alloc, status, wanted.moment, wanted.closes)
 }
 
-/// A stored response as the reply, marked so.
+/// What a client gets of a stored response, marked so: that what it has still holds, where its condition
+/// does, else the stored response.
 fn entry_reply(
     alloc: Global,
     wanted: &WantedReply<'_>,
@@ -68,6 +69,9 @@ fn entry_reply(
         name: wanted.name.copy(alloc)?,
         handling,
     };
+    if has_still(&wanted.asked.fields, stored) {
+        return not_modified_reply(alloc, &status, wanted.closes, wanted.moment, stored);
+    }
     let to_head = is_head(wanted.asked.method.as_slice());
     stored_reply(
         alloc,
@@ -77,6 +81,31 @@ fn entry_reply(
         to_head,
         stored,
     )
+}
+
+/// The status of that reply.
+fn entry_status(wanted: &WantedReply<'_>, stored: &Stored) -> u16
+    ensures { result ≡ entry_status wanted.now stored.now }
+{
+    if has_still(&wanted.asked.fields, stored) {
+        return NOT_MODIFIED;
+    }
+    stored.status
+}
+
+/// The origin's status, where the reply has another one (RFC 9211 section 2.3).
+fn status_told(origin: Option<u16>, status: u16) -> Option<u16>
+    ensures { result ≡ status_told origin status }
+{
+    match origin {
+        None => None,
+        Some(told) => {
+            if told == status {
+                return None;
+            }
+            Some(told)
+        }
+    }
 }
 
 /// A hit, with the seconds for which it is fresh still. The body is shared.
@@ -89,6 +118,25 @@ pub fn hit_reply(
 {
     let ttl = Some(ttl_at(stored, wanted.moment));
     entry_reply(alloc, wanted, Handling::Hit { ttl }, stored)
+}
+
+/// A stored response, once the origin's answer of that status has validated it, or in place of an error of
+/// that status, or of a failure. The body is shared.
+pub fn replacing_reply(
+    alloc: Global,
+    wanted: &WantedReply<'_>,
+    cause: Cause,
+    origin: Option<u16>,
+    stored: &Stored,
+) -> Result<Message<ResponseHead>, AllocError>
+    ensures { IfOk result (λ reply. reply ≡ replacing_reply wanted.now cause origin stored.now) }
+{
+    let handling = Handling::Fwd {
+        word: Octets::from_slice(alloc, cause.word().as_bytes())?,
+        fwd_status: status_told(origin, entry_status(wanted, stored)),
+        stored: false,
+    };
+    entry_reply(alloc, wanted, handling, stored)
 }
 
 /// What the origin answered; `stored` tells whether it was put into the store. The body is moved.

@@ -1,15 +1,19 @@
-use Rattle.std.proofs.Common.{Some, refl, sym}
+use Rattle.std.proofs.Common.{refl}
 use Rattle.hc_service.specs.Turns.Failure.{IsLost}
-use Rattle.hc_core.specs.Links.{IsLink}
-use Rattle.hc_core.proofs.HeardLemmas.{link_of, same_forward, stands_without}
-use Rattle.hc_core.proofs.TableLemmas.{alike_taken}
+use Rattle.std.specs.FinMap.{get}
+use Rattle.hc_core.proofs.HeardLemmas.{none_or_some, same_forward, stands_without, taken_link}
 use Rattle.hc_core.proofs.desk.Desk.lose.Goals as goal
+
+pub returns-in-None : goal.returns-in-None
+returns-in-None g c = λ settings s awaited stands there.
+    absurd (none_or_some (get s.forwards c.args.f) awaited (c.in-None.ensures s.forwards stands.links).0 there)
 
 pub returns-in-Some : goal.returns-in-Some
 returns-in-Some g c = λ settings s awaited stands there.
     let d = c.args.self.now in
     let link = c.in-Some.link in
-    let left = alike_taken IsLink d.links c.remove.new.self s.forwards c.args.f (Some link) stands.links c.in-Some.ensures.updates c.in-Some.ensures.value c.in-Some.ensures.len in
+    let taken = c.in-Some.ensures s.forwards stands.links in
+    let was = taken_link link (get s.forwards c.args.f) taken.0 awaited taken.1 there taken.2 in
     c.break_off.ensures settings s awaited IsLost
-    (stands_without g.row.S.Denot g.row.S-Hasher.Denot settings d s c.args.f awaited stands there c.remove.new.self left) there
-    (same_forward link awaited (link_of g.row.S.Denot g.row.S-Hasher.Denot settings d s c.args.f awaited stands there link (sym c.in-Some.ensures.value))) refl tt
+    (stands_without g.row.S.Denot g.row.S-Hasher.Denot settings d s c.args.f awaited stands there c.take.new.self taken.3) there
+    (same_forward link awaited was) refl tt

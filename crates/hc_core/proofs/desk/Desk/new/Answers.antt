@@ -1,5 +1,5 @@
 use Rattle.std.proofs.Common.{lit<}
-use Rattle.hc_core.specs.Links.{IsClient, IsLink}
+use Rattle.hc_core.specs.Links.{IsClient}
 use Rattle.hc_core.specs.Tables.{IsSame}
 use Rattle.hc_core.proofs.StartLemmas.{none_alike}
 use Rattle.hc_core.proofs.desk.Desk.new.Goals as goal
@@ -10,7 +10,7 @@ returns g c = λ settings name-is store-is. record {
   numbers = c.new.ensures;
   clients = none_alike IsClient c.new-2.result c.new-2.ensures.empty;
   exchanges = none_alike IsSame c.new-3.result c.new-3.ensures.empty;
-  links = none_alike IsLink c.new-4.result c.new-4.ensures.empty;
+  links = c.new-4.ensures;
   store = store-is;
   in_time = lit< tt;
 }
