@@ -1,5 +1,5 @@
-//! `hc_hits`: how many hits a cache serves a second, from a request's octets to the actions that answer it, and how many
-//! validations, with the actions that the origin's 304 makes.
+//! `hc_hits`: how many hits a cache serves a second, from a request's octets to the actions that answer it, and how
+//! many validations, which the origin answers by a 304 in between.
 //!
 //! Without an argument it serves a few of each, and says how many were such. With `measure` it serves many against the
 //! clock: bodies of 1 KiB and of 64 KiB, 10 and 1,000 keys stored, 1 and 1,000 connections open.
