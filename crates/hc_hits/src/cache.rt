@@ -1,12 +1,13 @@
 //! A cache that has what it is asked for.
 
-use crate::messages::{request, response};
+use crate::kind::Kind;
+use crate::messages::{fresh_response, request, stale_response};
 use crate::trouble::Trouble;
 use hc_core::Core;
 use hc_events::{Event, Happening};
 use hc_fields::Octets;
 use hc_service::{Action, CoreSettings};
-use std::alloc::Global;
+use std::alloc::{AllocError, Global};
 
 /// The moment of every event, in seconds since 1970, which the dates tell too.
 const MOMENT: u64 = 1_000;
@@ -22,8 +23,9 @@ pub struct Size {
     pub connections: u64,
 }
 
-/// A cache that has stored a response for each of so many targets, with so many connections open.
-pub fn filled(alloc: Global, size: Size) -> Result<Core, Trouble> {
+/// A cache that has stored a response for each of so many targets, with so many connections open. The responses are
+/// fresh where hits are measured, and stale where validations are.
+pub fn filled(alloc: Global, size: Size, kind: Kind) -> Result<Core, Trouble> {
     let settings = CoreSettings {
         name: Octets::from_slice(alloc, b"hcache")?,
         keys: 1_024,
@@ -41,10 +43,18 @@ pub fn filled(alloc: Global, size: Size) -> Result<Core, Trouble> {
         let forward = number.saturating_add(1);
         happen(
             &mut core,
-            Happening::OriginBytes(forward, response(alloc, size.body)?),
+            Happening::OriginBytes(forward, response(alloc, size, kind)?),
         )?;
     }
     Ok(core)
+}
+
+// The octets of a response that the cache stores.
+fn response(alloc: Global, size: Size, kind: Kind) -> Result<Octets, AllocError> {
+    match kind {
+        Kind::Hits => fresh_response(alloc, size.body),
+        Kind::Validations => stale_response(alloc, size.body),
+    }
 }
 
 /// Hands the cache what happens, and answers what it does.

@@ -1,6 +1,6 @@
 //! The program, over any system and any two writers.
 
-use crate::hits::{count, measure};
+use crate::measures::{count, measure};
 use crate::trouble::Trouble;
 use std::io::Write;
 use std::rt::{Clock, Env};
