@@ -1,8 +1,11 @@
-//! `hcache`: a program that audits a transcript of a cache.
+//! `hcache`: a program that audits transcripts of caches, and plays scripts of events to a cache of its own.
 //!
 //! `hcache audit FILE` reads a transcript, says on standard output whether every reply in it is right, and ends with
 //! a status: 0 for a transcript that is right, 1 for one with a wrong reply, 2 for one that is malformed, 3 where no
 //! verdict could be given, 64 for a command line that asks for nothing known.
+//!
+//! `hcache replay FILE` plays a script, writes the transcript that the cache recorded to standard output, and says the
+//! audit's verdict on it on standard error, with the same statuses; 2 also for a text that is no script.
 #![tactic(auto)]
 
 use std::process::ExitCode;
