@@ -88,13 +88,21 @@ fn write_line(text: &mut Vec<u8>, line: &Line) -> Result<(), AllocError>
     write!(text, "{letter} {number} {moment} {size}\n").map_err(|_| AllocError)
 }
 
+/// The line of a record, and the line feed behind it: what stands before the octets of its message.
+pub fn record_line(alloc: Global, record: &Record) -> Result<Octets, AllocError>
+    ensures { IfOk result (λ line. line ≡ line_text (line_of «record».now) ++ 10 ∷ []) }
+{
+    let mut line = Vec::with_capacity(alloc, LONGEST_LINE)?;
+    write_line(&mut line, &line_of(record))?;
+    Ok(Octets::from_vec(line))
+}
+
 /// Puts the text of a record at the end. Where memory runs out, some of it may stand there.
 fn append_parts(text: &mut Vec<u8>, record: &Record) -> Result<(), AllocError>
     ensures ok { OnOk result (text.new.items ≡ text.old.items ++ record_text «record».now) }
     ensures err { OnErr result (take (vec_len text.old) text.new.items ≡ text.old.items) }
 {
-    let mut line = Vec::with_capacity(*text.allocator(), LONGEST_LINE)?;
-    write_line(&mut line, &line_of(record))?;
+    let line = record_line(*text.allocator(), record)?;
     text.extend_from_slice(line.as_slice())?;
     append_passed(text, &record.of)?;
     text.extend_from_slice(b"\n")

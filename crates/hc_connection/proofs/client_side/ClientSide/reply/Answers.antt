@@ -1,0 +1,28 @@
+use Rattle.std.proofs.Common.{◌∷◌, refl, inl, inr}
+use Rattle.hc_connection.specs.Moves.Move.{Lost, Wrote}
+use Rattle.hc_connection.specs.declared.links.Receiver.TheVariants.{Client}
+use Rattle.hc_connection.proofs.TellLemmas.{counts_on, failed_now, lost, wrote}
+use Rattle.hc_connection.proofs.client_side.ClientSide.reply.Goals as goal
+
+pub returns-then-self-clause-tells : goal.returns-then-self-clause-tells
+returns-then-self-clause-tells g c = λ log tells. (
+  Lost (Client c.args.self.now.number) c.args.text.now ∷ log,
+  inr refl,
+  lost g.C.Link.has_given g.C.Link.has_got g.C.Link.count c.args.self.now log tells c.args.text.now c.saturating_add-self.result (counts_on _ _ c.saturating_add-self.ensures) c.if-self.true,
+)
+
+pub returns-in-Ok-clause-tells : goal.returns-in-Ok-clause-tells
+returns-in-Ok-clause-tells g c = λ log tells. (
+  Wrote (Client c.args.self.now.number) c.args.text.now ∷ log,
+  inl refl,
+  wrote g.C.Link.has_given g.C.Link.has_got g.C.Link.count c.args.self.now log tells c.args.text.now c.saturating_add-self.result (counts_on _ _ c.saturating_add-self.ensures) c.send_text.new.link c.if-self.false
+      c.in-Ok.ensures.given c.in-Ok.ensures.got c.in-Ok.ensures.count,
+)
+
+pub returns-in-Err-clause-tells : goal.returns-in-Err-clause-tells
+returns-in-Err-clause-tells g c = λ log tells. (
+  Lost (Client c.args.self.now.number) c.args.text.now ∷ log,
+  inr refl,
+  failed_now g.C.Link.has_given g.C.Link.has_got g.C.Link.count c.args.self.now log tells c.args.text.now c.saturating_add-self.result (counts_on _ _ c.saturating_add-self.ensures) c.send_text.new.link c.if-self.false
+      c.in-Err.ensures.given c.in-Err.ensures.got c.in-Err.ensures.count,
+)
