@@ -26,4 +26,4 @@ pub use limits::{GREATEST_MOMENT, GREATEST_NUMBER, LONGEST_MESSAGE};
 pub use line::{Kind, Line};
 pub use reader::RecordReader;
 pub use record::{Passed, Record};
-pub use writing::{OPENING, append_record, write_record};
+pub use writing::{OPENING, append_record, record_parts, write_record};

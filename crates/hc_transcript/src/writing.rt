@@ -114,6 +114,29 @@ pub fn append_record(text: &mut Vec<u8>, record: &Record) -> Result<(), AllocErr
     appended
 }
 
+/// The text of a record in two parts, without the line feed at its end: its line with the front of its message, and the
+/// rest of the message, which isn't copied.
+pub fn record_parts<'a>(
+    alloc: Global,
+    record: &'a Record,
+) -> Result<(Vec<u8>, &'a [u8]), AllocError>
+    ensures { IfOk result (λ parts. (parts.0.items ++ parts.1.now) ++ 10 ∷ [] ≡ record_text «record».now) }
+{
+    let mut front = Vec::with_capacity(alloc, LONGEST_LINE)?;
+    write_line(&mut front, &line_of(record))?;
+    match &record.of {
+        Passed::ClientRequest(message)
+        | Passed::OriginRequest(message)
+        | Passed::OriginResponse(message)
+        | Passed::ClientReply(message) => {
+            let (head, rest) = message.parts();
+            front.extend_from_slice(head.as_slice())?;
+            Ok((front, rest.as_slice()))
+        }
+        Passed::OriginFailure => Ok((front, b"")),
+    }
+}
+
 /// The text of a record, as `append_record` writes it.
 pub fn write_record(alloc: Global, record: &Record) -> Result<Octets, AllocError>
     ensures { IfOk result (λ text. text ≡ record_text «record».now) }

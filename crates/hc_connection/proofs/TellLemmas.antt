@@ -1,0 +1,206 @@
+-- What the client's side of a connection tells, behind one move more.
+use Rattle.std.proofs.Common.{◌≡◌, ℕ, ◌+◌, ◌<◌, ◌==◌, Bool, true, false, List, [], ◌∷◌, ◌++◌, if◌then◌else◌, min, sym, ap, ◌∙◌, subst, arith, append_assoc, append-nil, refl}
+use Rattle.std.proofs.lemmas.Bool.Decides.{nat_tests}
+use Rattle.hc_events.specs.declared.Happening.TheVariants.{ClientBytes}
+use Rattle.hc_connection.specs.declared.client_side.ClientSide.{ClientSide}
+use Rattle.hc_connection.specs.declared.links.Receiver.{Receiver}
+use Rattle.hc_connection.specs.declared.links.Receiver.TheVariants.{Client}
+use Rattle.hc_connection.specs.Links.{HasFailed, IsBeginning}
+use Rattle.hc_connection.specs.Moves.{Move, failures_before, given_in, most_replies, one_for, reads_in, replies_in, sent_by, sent_in}
+use Rattle.hc_connection.specs.Moves.Move.{Heard, Sent}
+use Rattle.hc_connection.specs.Sides.{CountsFailed, Opens, Tells}
+
+same_itself : (n : ℕ) → (n == n) ≡ true
+same_itself n = grind (arith, nat_tests)
+
+one_for_itself : (c : ℕ) → one_for c (Client c) ≡ 1
+one_for_itself c = ap (λ (b : Bool). if b then 1 else 0) (same_itself c)
+
+its_own : (c : ℕ) (octets : List ℕ) → (if c == c then octets else []) ≡ octets
+its_own c octets = ap (λ (b : Bool). if b then octets else []) (same_itself c)
+
+-- a count that stays at its last value
+pub counts_on : (before after : ℕ) → after ≡ min (before + 1) 4294967295 → after < most_replies → after ≡ 1 + before
+counts_on before after is few = omega (arith, is, few)
+
+none_more : (n sent after : ℕ) → n ≡ 0 → sent ≡ after → n + sent ≡ after
+none_more n sent after none same = omega (arith, none, same)
+
+-- ---- failures
+
+works : (failed : Bool) (before now : ℕ) → failed ≡ false → CountsFailed failed before now → now ≡ before
+works true before now none counted = absurd (cc)
+works false before now none counted = counted
+
+as_before : (failed : Bool) (before now : ℕ) → failed ≡ false → now ≡ before → CountsFailed failed before now
+as_before true before now none same = absurd (cc)
+as_before false before now none same = same
+
+has_failed : (failed : Bool) (before mid now : ℕ) → failed ≡ false → CountsFailed failed before mid → HasFailed mid now → HasFailed before now
+has_failed failed before mid now none counted fails = subst (λ (n : ℕ). HasFailed n now) (works failed before mid none counted) fails
+
+-- ---- beginnings
+
+begins_more : (got sent more : List ℕ) → IsBeginning got sent → IsBeginning got (sent ++ more)
+begins_more got sent more b = (b.0 ++ more, ap (λ (o : List ℕ). o ++ more) b.1 ∙ append_assoc got b.0 more)
+
+begins_behind : (got sent front more : List ℕ) → got ≡ sent → IsBeginning front more → IsBeginning (got ++ front) (sent ++ more)
+begins_behind got sent front more same b =
+    (b.0, ap (λ (o : List ℕ). sent ++ o) b.1 ∙ sym (append_assoc sent front b.0) ∙ ap (λ (o : List ℕ). (o ++ front) ++ b.0) (sym same))
+
+whole_begins : (got sent : List ℕ) → got ≡ sent → IsBeginning got sent
+whole_begins got sent same = ([], sym same ∙ sym (append-nil got))
+
+-- ---- moves
+
+module _ {C : Type 0} (has_given has_got : C → List ℕ → Type 0) (count : C → ℕ) where
+  -- the link of a side, and what was counted, once octets were sent
+  abbrev replied : ClientSide C → C → Bool → ℕ → ClientSide C
+  replied side link failed replies =
+      record { number = side.number; link = link; failed = failed; ended = side.ended; closed = side.closed; reads = side.reads; replies = replies }
+
+  module _ (side : ClientSide C) (log : List Move) (t : Tells has_given has_got count side log) (octets : List ℕ) (replies : ℕ)
+      (more : replies < most_replies → replies ≡ 1 + side.replies) where
+    sent_is : sent_in side.number log ++ sent_by side.number (Client side.number) octets ≡ sent_in side.number log ++ octets
+    sent_is = ap (λ (o : List ℕ). sent_in side.number log ++ o) (its_own side.number octets)
+
+    count_is : replies < most_replies → one_for side.number (Client side.number) + replies_in side.number log ≡ replies
+    count_is few =
+        let is = more few in
+        let before = t.replies (omega (arith, is, few)) in
+        ap (λ (n : ℕ). n + replies_in side.number log) (one_for_itself side.number) ∙ ap (λ (n : ℕ). 1 + n) before ∙ sym is
+
+    -- the link had failed before
+    pub lost : side.failed ≡ true → Tells has_given has_got count (replied side side.link side.failed replies) (Sent (Client side.number) octets ∷ log)
+    lost failed = record {
+      own = t.own;
+      given = t.given;
+      got = t.got;
+      has_it = t.has_it;
+      begins = begins_more t.got (sent_in side.number log) (sent_by side.number (Client side.number) octets) t.begins;
+      whole = λ none. absurd (true_false (sym failed ∙ none));
+      counted = t.counted;
+      replies = count_is;
+      reads = t.reads;
+      few = t.few;
+      in_time = t.in_time;
+    }
+      where
+        true_false : true ≡ false → ⊥
+        true_false e = cc
+
+    -- all of them were written
+    pub wrote : (link : C) → side.failed ≡ false → ((given : List ℕ) → has_given side.link given → has_given link given)
+        → ((got : List ℕ) → has_got side.link got → has_got link (got ++ octets)) → count link ≡ count side.link
+        → Tells has_given has_got count (replied side link side.failed replies) (Sent (Client side.number) octets ∷ log)
+    wrote link none gives gets same = record {
+      own = t.own;
+      given = gives (given_in log) t.given;
+      got = t.got ++ octets;
+      has_it = gets t.got t.has_it;
+      begins = whole_begins (t.got ++ octets) _ all;
+      whole = λ still. all;
+      counted = as_before side.failed (failures_before log) (count link) none (same ∙ works side.failed (failures_before log) (count side.link) none t.counted);
+      replies = count_is;
+      reads = t.reads;
+      few = t.few;
+      in_time = t.in_time;
+    }
+      where
+        all : t.got ++ octets ≡ sent_in side.number log ++ sent_by side.number (Client side.number) octets
+        all = ap (λ (o : List ℕ). o ++ octets) (t.whole none) ∙ sym sent_is
+
+    -- the link failed at that
+    pub failed_now : (link : C) → side.failed ≡ false → ((given : List ℕ) → has_given side.link given → has_given link given)
+        → ((got : List ℕ) → has_got side.link got → (front : List ℕ) × IsBeginning front octets × has_got link (got ++ front)) → HasFailed (count side.link) (count link)
+        → Tells has_given has_got count (replied side link true replies) (Sent (Client side.number) octets ∷ log)
+    failed_now link none gives gets fails =
+        let part = gets t.got t.has_it in record {
+          own = t.own;
+          given = gives (given_in log) t.given;
+          got = t.got ++ part.0;
+          has_it = part.2;
+          begins = subst (λ (o : List ℕ). IsBeginning (t.got ++ part.0) o) (sym sent_is)
+              (begins_behind t.got (sent_in side.number log) part.0 octets (t.whole none) part.1);
+          whole = λ still. absurd (true_false still);
+          counted = has_failed side.failed (failures_before log) (count side.link) (count link) none t.counted fails;
+          replies = count_is;
+          reads = t.reads;
+          few = t.few;
+          in_time = t.in_time;
+        }
+      where
+        true_false : true ≡ false → ⊥
+        true_false e = cc
+
+  module _ (side : ClientSide C) (log : List Move) (t : Tells has_given has_got count side log) (link : C) (none : side.failed ≡ false)
+      (gets : (got : List ℕ) → has_got side.link got → has_got link got) where
+    -- octets were read
+    pub heard : (octets : List ℕ) (moment : ℕ) → side.replies < most_replies → reads_in log < side.reads
+        → ((given : List ℕ) → has_given side.link given → has_given link (given ++ octets)) → count link ≡ count side.link
+        → Tells has_given has_got count (replied side link side.failed side.replies) (Heard (record { moment = moment; of = ClientBytes side.number octets }) ∷ log)
+    heard octets moment few one gives same = record {
+      own = (refl, t.own);
+      given = gives (given_in log) t.given;
+      got = t.got;
+      has_it = gets t.got t.has_it;
+      begins = t.begins;
+      whole = t.whole;
+      counted = as_before side.failed (failures_before log) (count link) none (same ∙ works side.failed (failures_before log) (count side.link) none t.counted);
+      replies = t.replies;
+      reads = omega (arith, one);
+      few = t.few;
+      in_time = ((λ is_its. subst (λ (n : ℕ). n < most_replies) (sym (t.replies few)) few), t.in_time);
+    }
+
+    -- the link failed
+    pub broken : ((given : List ℕ) → has_given side.link given → has_given link given) → HasFailed (count side.link) (count link)
+        → Tells has_given has_got count (replied side link true side.replies) log
+    broken gives fails = record {
+      own = t.own;
+      given = gives (given_in log) t.given;
+      got = t.got;
+      has_it = gets t.got t.has_it;
+      begins = t.begins;
+      whole = λ still. absurd (true_false still);
+      counted = has_failed side.failed (failures_before log) (count side.link) (count link) none t.counted fails;
+      replies = t.replies;
+      reads = t.reads;
+      few = t.few;
+      in_time = t.in_time;
+    }
+      where
+        true_false : true ≡ false → ⊥
+        true_false e = cc
+
+  -- octets that go elsewhere
+  pub elsewhere : (side : ClientSide C) (log : List Move) (to : Receiver) (octets : List ℕ) → sent_by side.number to octets ≡ [] → one_for side.number to ≡ 0
+      → Tells has_given has_got count side log → Tells has_given has_got count side (Sent to octets ∷ log)
+  elsewhere side log to octets none no_reply t = record {
+    own = t.own;
+    given = t.given;
+    got = t.got;
+    has_it = t.has_it;
+    begins = begins_more t.got (sent_in side.number log) (sent_by side.number to octets) t.begins;
+    whole = λ works_still. t.whole works_still ∙ sym (append-nil (sent_in side.number log)) ∙ ap (λ (o : List ℕ). sent_in side.number log ++ o) (sym none);
+    counted = t.counted;
+    replies = λ few. none_more _ _ _ no_reply (t.replies few);
+    reads = t.reads;
+    few = t.few;
+    in_time = t.in_time;
+  }
+
+pub not_its : (c d : ℕ) (octets : List ℕ) → (d == c) ≡ false → sent_by c (Client d) octets ≡ []
+not_its c d octets other = ap (λ (b : Bool). if b then octets else []) other
+
+pub no_reply_of_its : (c d : ℕ) → (d == c) ≡ false → one_for c (Client d) ≡ 0
+no_reply_of_its c d other = ap (λ (b : Bool). if b then 1 else 0) other
+
+-- ---- what happened first
+
+pub opens_same : (before after : Bool) (c d : ℕ) (log : List Move) → after ≡ before → d ≡ c → Opens before c log → Opens after d log
+opens_same before after c d log same is o = subst (λ (n : ℕ). Opens after n log) (sym is) (subst (λ (b : Bool). Opens b c log) (sym same) o)
+
+pub opens_sent : (before after : Bool) (c d : ℕ) (to : Receiver) (octets : List ℕ) (log : List Move) → after ≡ before → d ≡ c → Opens before c log → Opens after d (Sent to octets ∷ log)
+opens_sent before true c d to octets log same is o = opens_same before true c d log same is o
+opens_sent before false c d to octets log same is o = opens_same before false c d log same is o

@@ -1,0 +1,31 @@
+use Rattle.std.proofs.Common.{◌≡◌, ◌==◌, ◌∷◌, ℕ, false, subst, arith}
+use Rattle.std.proofs.lemmas.Bool.Decides.{nat_tests}
+use Rattle.hc_connection.specs.Moves.Move.{Sent}
+use Rattle.hc_connection.specs.Sides.{Tells}
+use Rattle.hc_connection.specs.declared.links.Receiver.TheVariants.{Client}
+use Rattle.hc_connection.proofs.TellLemmas.{elsewhere, no_reply_of_its, not_its}
+use Rattle.hc_connection.proofs.connection.Connection.reply.Goals as goal
+
+pub returns-then-number-clause-tells : goal.returns-then-number-clause-tells
+returns-then-number-clause-tells g c = λ log tells.
+    let other : (c.args.number == c.args.self.now.client.number) ≡ false = grind (arith, nat_tests, c.if-number.true, c.number.ensures) in
+    elsewhere g.C.Link.has_given g.C.Link.has_got g.C.Link.count c.args.self.now.client log (Client c.args.number) c.args.text.now
+    (not_its c.args.self.now.client.number c.args.number c.args.text.now other) (no_reply_of_its c.args.self.now.client.number c.args.number other) tells
+
+pub returns-in_err-push_back-clause-tells : goal.returns-in_err-push_back-clause-tells
+returns-in_err-push_back-clause-tells g c = λ log tells.
+    let its : c.args.self.now.client.number ≡ c.args.number = grind (arith, nat_tests, c.if-number.false, c.number.ensures) in
+    subst (λ (n : ℕ). Tells g.C.Link.has_given g.C.Link.has_got g.C.Link.count c.reply.new.self (Sent (Client n) c.args.text.now ∷ log)) its
+    (c.reply.ensures.tells log tells)
+
+pub returns-in_ok-push_back-clause-tells : goal.returns-in_ok-push_back-clause-tells
+returns-in_ok-push_back-clause-tells g c = λ log tells.
+    let its : c.args.self.now.client.number ≡ c.args.number = grind (arith, nat_tests, c.if-number.false, c.number.ensures) in
+    subst (λ (n : ℕ). Tells g.C.Link.has_given g.C.Link.has_got g.C.Link.count c.reply.new.self (Sent (Client n) c.args.text.now ∷ log)) its
+    (c.reply.ensures.tells log tells)
+
+pub returns-else-reply-clause-tells : goal.returns-else-reply-clause-tells
+returns-else-reply-clause-tells g c = λ log tells.
+    let its : c.args.self.now.client.number ≡ c.args.number = grind (arith, nat_tests, c.if-number.false, c.number.ensures) in
+    subst (λ (n : ℕ). Tells g.C.Link.has_given g.C.Link.has_got g.C.Link.count c.reply.new.self (Sent (Client n) c.args.text.now ∷ log)) its
+    (c.reply.ensures.tells log tells)

@@ -1,0 +1,4 @@
+pub mod Links
+pub mod Moves
+pub mod Sides
+pub mod Telling

@@ -1,0 +1,117 @@
+-- What passes at the links of a driver. The newest move comes first.
+use Rattle.std.specs.Prelude.{◌≡◌, ℕ, ◌+◌, ◌<◌, ◌==◌, Bool, true, false, List, [], ◌∷◌, ◌++◌, Option, Some, None, if◌then◌else◌}
+use Rattle.hc_events.specs.declared.Event.{Event}
+use Rattle.hc_events.specs.declared.Happening.{Happening}
+use Rattle.hc_events.specs.declared.Happening.TheVariants.{ClientOpened, ClientBytes, ClientEnd, OriginBytes, OriginEnd, OriginFailed}
+use Rattle.hc_connection.specs.declared.links.Receiver.{Receiver}
+use Rattle.hc_connection.specs.declared.links.Receiver.TheVariants.{Client, Origin}
+
+pub data Move : Type 0 where
+  -- before all others: that is the number of the client's connection, these octets were read from its link and written to it already, and it had failed so often
+  Before : (number : ℕ) (given got : List ℕ) (failures : ℕ) → Move
+  -- this happened
+  Heard : (event : Event) → Move
+  -- these octets were sent to that link, which may have failed before, or at that
+  Sent : (to : Receiver) (octets : List ℕ) → Move
+
+-- ---- the client of a connection
+
+-- what happens to clients happens to that one
+abbrev pub IsOf : ℕ → Happening → Type 0
+IsOf c (ClientOpened d) = d ≡ c
+IsOf c (ClientBytes d octets) = d ≡ c
+IsOf c (ClientEnd d) = d ≡ c
+IsOf c (OriginBytes f octets) = Unit {0}
+IsOf c (OriginEnd f) = Unit {0}
+IsOf c (OriginFailed f) = Unit {0}
+
+abbrev pub AreOf : ℕ → List Move → Type 0
+AreOf c [] = Unit {0}
+AreOf c (Before number given got failures ∷ log) = number ≡ c
+AreOf c (Heard event ∷ log) = IsOf c event.of × AreOf c log
+AreOf c (Sent to octets ∷ log) = AreOf c log
+
+abbrev pub given_by : Happening → List ℕ
+given_by (ClientBytes c octets) = octets
+given_by other = []
+
+-- the octets that were read from its link
+abbrev pub given_in : List Move → List ℕ
+given_in [] = []
+given_in (Before number given got failures ∷ log) = given
+given_in (Heard event ∷ log) = given_in log ++ given_by event.of
+given_in (Sent to octets ∷ log) = given_in log
+
+abbrev pub sent_by : ℕ → Receiver → List ℕ → List ℕ
+sent_by c (Client d) octets = if d == c then octets else []
+sent_by c (Origin f) octets = []
+
+-- the octets that were to be written to it
+abbrev pub sent_in : ℕ → List Move → List ℕ
+sent_in c [] = []
+sent_in c (Before number given got failures ∷ log) = got
+sent_in c (Heard event ∷ log) = sent_in c log
+sent_in c (Sent to octets ∷ log) = sent_in c log ++ sent_by c to octets
+
+-- how often it had failed before
+abbrev pub failures_before : List Move → ℕ
+failures_before [] = 0
+failures_before (Before number given got failures ∷ log) = failures
+failures_before (Heard event ∷ log) = failures_before log
+failures_before (Sent to octets ∷ log) = failures_before log
+
+-- ---- what happened first
+
+abbrev pub earlier_or : Option Happening → Happening → Option Happening
+earlier_or (Some first) of = Some first
+earlier_or None of = Some of
+
+abbrev pub first_in : List Move → Option Happening
+first_in [] = None
+first_in (Before number given got failures ∷ log) = None
+first_in (Heard event ∷ log) = earlier_or (first_in log) event.of
+first_in (Sent to octets ∷ log) = first_in log
+
+-- ---- bounds
+
+abbrev pub one_for : ℕ → Receiver → ℕ
+one_for c (Client d) = if d == c then 1 else 0
+one_for c (Origin f) = 0
+
+-- how many replies were sent to it
+abbrev pub replies_in : ℕ → List Move → ℕ
+replies_in c [] = 0
+replies_in c (Before number given got failures ∷ log) = 0
+replies_in c (Heard event ∷ log) = replies_in c log
+replies_in c (Sent to octets ∷ log) = one_for c to + replies_in c log
+
+abbrev pub one_read : Happening → ℕ
+one_read (ClientBytes c octets) = 1
+one_read (OriginBytes f octets) = 1
+one_read other = 0
+
+-- how often octets were read
+abbrev pub reads_in : List Move → ℕ
+reads_in [] = 0
+reads_in (Before number given got failures ∷ log) = 0
+reads_in (Heard event ∷ log) = one_read event.of + reads_in log
+reads_in (Sent to octets ∷ log) = reads_in log
+
+abbrev pub is_of_client : Happening → Bool
+is_of_client (ClientBytes c octets) = true
+is_of_client other = false
+
+-- the most replies behind which a client is read still
+abbrev pub most_replies : ℕ
+most_replies = 100
+
+-- the most reads for a connection
+abbrev pub most_reads : ℕ
+most_reads = 1000000
+
+-- no octets of the client are read behind so many replies
+abbrev pub ReadsInTime : ℕ → List Move → Type 0
+ReadsInTime c [] = Unit {0}
+ReadsInTime c (Before number given got failures ∷ log) = Unit {0}
+ReadsInTime c (Heard event ∷ log) = (is_of_client event.of ≡ true → replies_in c log < most_replies) × ReadsInTime c log
+ReadsInTime c (Sent to octets ∷ log) = ReadsInTime c log

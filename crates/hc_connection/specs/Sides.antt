@@ -1,0 +1,51 @@
+-- What the client's side of a connection tells of what passed.
+use Rattle.std.specs.Prelude.{◌≡◌, ℕ, ◌≤◌, ◌<◌, Bool, true, false, List, ◌∷◌, Option, Some, None, Result, Ok, Err}
+use Rattle.std.specs.declared.alloc.AllocError.{AllocError}
+use Rattle.hc_events.specs.declared.Happening.{Happening}
+use Rattle.hc_events.specs.declared.Happening.TheVariants.{ClientOpened}
+use Rattle.hc_connection.specs.declared.client_side.ClientSide.{ClientSide}
+use Rattle.hc_connection.specs.Links.{HasFailed, IsBeginning}
+use Rattle.hc_connection.specs.Moves.{AreOf, Move, ReadsInTime, failures_before, first_in, given_in, most_reads, most_replies, reads_in, replies_in, sent_in}
+use Rattle.hc_connection.specs.Moves.Move.{Heard}
+
+-- its link's failures: none where it works, else one more, as far as can be counted
+abbrev pub CountsFailed : Bool → ℕ → ℕ → Type 0
+CountsFailed false before after = after ≡ before
+CountsFailed true before after = HasFailed before after
+
+-- what passed at its link is what the log says, nothing happened to other clients, and the bounds were kept
+pub record Tells {C : Type 0} (has_given has_got : C → List ℕ → Type 0) (count : C → ℕ) (side : ClientSide C) (log : List Move) : Type 0 where
+  pub own : AreOf side.number log
+  pub given : has_given side.link (given_in log)
+  -- what was written is a beginning of what was sent, and all of it unless the link has failed
+  pub got : List ℕ
+  pub has_it : has_got side.link got
+  pub begins : IsBeginning got (sent_in side.number log)
+  pub whole : side.failed ≡ false → got ≡ sent_in side.number log
+  pub counted : CountsFailed side.failed (failures_before log) (count side.link)
+  pub replies : side.replies < most_replies → replies_in side.number log ≡ side.replies
+  pub reads : reads_in log ≤ side.reads
+  pub few : side.reads ≤ most_reads
+  pub in_time : ReadsInTime side.number log
+
+-- once the cache was told that the client opened its connection, that is what happened first; before, nothing has happened
+abbrev pub Opens : Bool → ℕ → List Move → Type 0
+Opens true c log = first_in log ≡ Some (ClientOpened c)
+Opens false c log = first_in log ≡ None
+
+-- there may be one read more than the log tells
+abbrev pub LeavesRead : {C : Type 0} → Bool → ClientSide C → List Move → Type 0
+LeavesRead may side log = may ≡ true → reads_in log < side.reads
+
+-- it happens at some moment, behind the log
+abbrev pub TellsHappening : (List Move → Type 0) → Happening → List Move → Type 0
+TellsHappening tells of log = (moment : ℕ) → tells (Heard (record { moment = moment; of = of }) ∷ log)
+
+-- something happens, or nothing does
+abbrev pub TellsPerhaps : (List Move → Type 0) → Option Happening → List Move → Type 0
+TellsPerhaps tells (Some of) log = TellsHappening tells of log
+TellsPerhaps tells None log = tells log
+
+abbrev pub TellsIfOk : (List Move → Type 0) → Result (Option Happening) AllocError → List Move → Type 0
+TellsIfOk tells (Ok perhaps) log = TellsPerhaps tells perhaps log
+TellsIfOk tells (Err refused) log = tells log

@@ -1,0 +1,173 @@
+//! The client's side of a connection.
+
+ghost use Rattle.std.specs.Prelude.{◌≡◌, ◌<◌, false, ℕ, List, [], ◌∷◌};
+
+use crate::link::{Link, LinkFailure};
+use crate::sides::{Came, read_some, send_text};
+use hc_events::Happening;
+use hc_framing::MessageText;
+use std::alloc::{AllocError, Global};
+
+/// So many replies, and the client is read no more.
+const MOST_REPLIES: u32 = 100;
+
+/// The most reads for one connection, of its client and of origins together.
+const MOST_READS: u32 = 1_000_000;
+
+/// The client's side of a connection.
+#[derive(Drop)]
+pub(crate) struct ClientSide<C: Link> {
+    /// The number of the connection.
+    number: u64,
+    link: C,
+    /// Whether the link has failed.
+    failed: bool,
+    /// Whether the cache was told that the client sends no more.
+    ended: bool,
+    /// Whether the cache has closed the connection.
+    closed: bool,
+    /// How many reads there were, of this link and of origins.
+    reads: u32,
+    /// How many replies were sent.
+    replies: u32,
+}
+
+impl<C: Link> ClientSide<C> {
+    ghost use Rattle.hc_connection.specs.declared.links.Receiver.TheVariants.{Client};
+    ghost use Rattle.hc_connection.specs.Moves.{Move, most_replies};
+    ghost use Rattle.hc_connection.specs.Moves.Move.{Before, Sent};
+    ghost use Rattle.hc_connection.specs.Sides.{LeavesRead, Tells, TellsIfOk, TellsPerhaps};
+
+    /// That of a client who has just connected.
+    pub(crate) fn new(number: u64, link: C) -> Self
+        ensures tells { (given got : List ℕ) → C.has_given link given → C.has_got link got
+            → Tells C.has_given C.has_got C.count result (Before number given got (C.count link) ∷ []) }
+        ensures number { result.number ≡ number }
+    {
+        ClientSide {
+            number,
+            link,
+            failed: false,
+            ended: false,
+            closed: false,
+            reads: 0,
+            replies: 0,
+        }
+    }
+
+    pub(crate) fn link(&self) -> &C
+        ensures { result.now ≡ self.now.link }
+    {
+        &self.link
+    }
+
+    pub(crate) fn number(&self) -> u64
+        ensures { result ≡ self.now.number }
+    {
+        self.number
+    }
+
+    pub(crate) fn has_failed(&self) -> bool
+        ensures { result ≡ self.now.failed }
+    {
+        self.failed
+    }
+
+    /// The cache has closed the connection.
+    pub(crate) fn close(&mut self)
+        ensures tells { (log : List Move) → Tells C.has_given C.has_got C.count self.old log → Tells C.has_given C.has_got C.count self.new log }
+        ensures number { self.new.number ≡ self.old.number }
+    {
+        self.closed = true;
+    }
+
+    /// Counts a read, if there may be one more.
+    pub(crate) fn may_read(&mut self) -> bool
+        ensures tells { (log : List Move) → Tells C.has_given C.has_got C.count self.old log
+            → (Tells C.has_given C.has_got C.count self.new log) × LeavesRead result self.new log }
+        ensures same { (self.new.link ≡ self.old.link) × (self.new.failed ≡ self.old.failed) × (self.new.replies ≡ self.old.replies) }
+        ensures number { self.new.number ≡ self.old.number }
+    {
+        if self.reads >= MOST_READS {
+            return false;
+        }
+        self.reads += 1;
+        true
+    }
+
+    /// Whether there may be no more reads.
+    pub(crate) fn is_spent(&self) -> bool {
+        self.reads >= MOST_READS
+    }
+
+    /// Whether the client is read no more, though its link works.
+    fn is_left(&self) -> bool
+        ensures { result ≡ false → self.now.replies < most_replies }
+    {
+        self.replies >= MOST_REPLIES || self.is_spent()
+    }
+
+    /// That the client sends no more, unless that was told, or the connection has closed.
+    pub(crate) fn leave(&mut self) -> Option<Happening>
+        ensures tells { (log : List Move) → Tells C.has_given C.has_got C.count self.old log
+            → TellsPerhaps (Tells C.has_given C.has_got C.count self.new) result log }
+        ensures number { self.new.number ≡ self.old.number }
+    {
+        if self.ended || self.closed {
+            return None;
+        }
+        self.ended = true;
+        Some(Happening::ClientEnd(self.number))
+    }
+
+    /// The same, where the client is read no more, though its link works.
+    pub(crate) fn leave_in_time(&mut self) -> Option<Happening>
+        ensures tells { (log : List Move) → Tells C.has_given C.has_got C.count self.old log
+            → TellsPerhaps (Tells C.has_given C.has_got C.count self.new) result log }
+        ensures number { self.new.number ≡ self.old.number }
+    {
+        if !self.is_left() {
+            return None;
+        }
+        self.leave()
+    }
+
+    /// What comes of the client next, if something may.
+    pub(crate) fn hear(&mut self, alloc: Global) -> Result<Option<Happening>, AllocError>
+        ensures tells { (log : List Move) → Tells C.has_given C.has_got C.count self.old log
+            → TellsIfOk (Tells C.has_given C.has_got C.count self.new) result log }
+        ensures number { self.new.number ≡ self.old.number }
+    {
+        if self.ended || self.closed || self.failed || self.is_left() || !self.may_read() {
+            return Ok(None);
+        }
+        match read_some(alloc, &mut self.link)? {
+            Came::Octets(octets) => Ok(Some(Happening::ClientBytes(self.number, octets))),
+            Came::End => Ok(self.leave()),
+            Came::Failure => {
+                self.failed = true;
+                Ok(self.leave())
+            }
+        }
+    }
+
+    /// Sends octets to the client, and answers whether the link failed at that. One that has failed before loses
+    /// them.
+    pub(crate) fn reply(&mut self, text: &MessageText) -> bool
+        ensures tells { (log : List Move) → Tells C.has_given C.has_got C.count self.old log
+            → Tells C.has_given C.has_got C.count self.new (Sent (Client self.old.number) text.now ∷ log) }
+        ensures number { self.new.number ≡ self.old.number }
+    {
+        self.replies = self.replies.saturating_add(1);
+        if self.failed {
+            return false;
+        }
+        match send_text(&mut self.link, text) {
+            Ok(()) => false,
+            Err(LinkFailure) => {
+                self.failed = true;
+                true
+            }
+        }
+    }
+}

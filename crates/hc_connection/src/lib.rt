@@ -1,0 +1,17 @@
+//! One client's connection and the forwards that are open for it, over links.
+#![tactic(auto)]
+
+mod client_side;
+mod connection;
+mod link;
+mod links;
+mod sides;
+mod writing;
+
+pub use connection::Connection;
+pub use link::{Clock, Link, LinkFailure, Origins};
+pub use links::{Links, Receiver};
+pub use sides::send_octets;
+
+#[cfg(test)]
+mod tests;

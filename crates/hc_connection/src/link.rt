@@ -1,0 +1,54 @@
+//! What a driver needs of the world: links, origins to connect to, and a clock.
+
+ghost use Rattle.std.specs.Prelude.{◌≡◌, ◌<◌, ℕ, List};
+ghost use Rattle.hc_connection.specs.Links.{Counts, Reads, Writes, greatest_count};
+
+/// That a link has failed, or that none was made. What went wrong is known to whoever made the link.
+#[derive(Clone, Copy, Debug, PartialEq, Eq)]
+pub struct LinkFailure;
+
+/// One side of a connection, from which octets are read and to which octets are written.
+pub trait Link {
+    /// These octets were read from it so far. A link that doesn't tell lets any octets stand.
+    ghost has_given: { Self → List ℕ → Type 0 };
+
+    /// These octets were written to it so far, likewise.
+    ghost has_got: { Self → List ℕ → Type 0 };
+
+    /// How often it failed.
+    ghost count: { Self → ℕ };
+
+    /// Reads as many octets as there are and as the buffer takes, and answers how many. It waits until there is one;
+    /// none means that no more will come.
+    fn read(&mut self, buffer: &mut [u8]) -> Result<usize, LinkFailure>
+        requires { count self.old < greatest_count }
+        ensures given { Reads (has_given self.old) (has_given self.new) result buffer.new }
+        ensures got { (octets : List ℕ) → has_got self.old octets → has_got self.new octets }
+        ensures count { Counts result (count self.old) (count self.new) };
+
+    /// Writes a beginning of the octets, at least one where there is one, and answers how many.
+    fn write(&mut self, octets: &[u8]) -> Result<usize, LinkFailure>
+        requires { count self.old < greatest_count }
+        ensures given { (given : List ℕ) → has_given self.old given → has_given self.new given }
+        ensures got { Writes (has_got self.old) (has_got self.new) result octets.now }
+        ensures count { Counts result (count self.old) (count self.new) };
+
+    /// How often it failed.
+    fn failures(&self) -> u64
+        ensures { result ≡ count self.now };
+}
+
+/// Where forwards go.
+pub trait Origins {
+    /// A link to an origin.
+    type Link: Link + Drop;
+
+    /// Makes a link for the forward of that number.
+    fn connect(&self, forward: u64) -> Result<Self::Link, LinkFailure>;
+}
+
+/// What tells the moment.
+pub trait Clock {
+    /// The moment, in whole seconds since 1970.
+    fn now(&self) -> u64;
+}
