@@ -1,4 +1,3 @@
-pub mod ArgumentLemmas
 pub mod AuditLemmas
-pub mod NameLemmas
+pub mod EndLemmas
 pub mod ReplayLemmas

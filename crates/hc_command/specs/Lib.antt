@@ -1,6 +1,5 @@
 pub mod Audit
-pub mod Command
+pub mod Ends
 pub mod Line
 pub mod Replay
 pub mod Trouble
-pub mod Values

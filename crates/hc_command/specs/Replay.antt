@@ -1,13 +1,11 @@
--- What a replay leaves on its two writers, and how the program ends.
+-- What a replay leaves on its two writers.
 use Rattle.std.specs.Prelude.{◌≡◌, ◌≢◌, ◌⊎◌, ℕ, List, Option, None, IfSome}
 use Rattle.std.specs.Io.KnownBytes.{Appends, Keeps}
 use Rattle.hc_history.specs.declared.verdicts.Verdict.{Verdict}
 use Rattle.hc_drive.specs.declared.fault.ScriptFault.{ScriptFault}
 use Rattle.hc_drive.specs.declared.fault.ScriptFault.TheVariants.{Memory}
 use Rattle.hc_drive.specs.Replays.{Replays, StopsReplay}
-use Rattle.hc_command.specs.declared.arguments.Task.{Task}
-use Rattle.hc_command.specs.declared.arguments.Task.TheVariants.{Audit, Replay}
-use Rattle.hc_command.specs.Audit.{Answers, SaysLine}
+use Rattle.hc_command.specs.Audit.{SaysLine}
 
 -- the output got the transcript of the script that the input had, where that is known, and the faults got the line of its verdict, which says the status
 pub record SaysReplay (input : Option (List ℕ)) (status : ℕ) (old new faults_old faults_new : Option (List ℕ)) : Type 0 where
@@ -38,17 +36,3 @@ ReplaysFor input status old new faults_old faults_new =
 -- the same of an input that isn't known
 abbrev pub Played : ℕ → Option (List ℕ) → Option (List ℕ) → Option (List ℕ) → Option (List ℕ) → Type 0
 Played status old new faults_old faults_new = ReplaysFor None status old new faults_old faults_new
-
--- ---- how the program ends
-
--- what is done with a file answers
-abbrev pub Does : Task → ℕ → Option (List ℕ) → Option (List ℕ) → Option (List ℕ) → Option (List ℕ) → Type 0
-Does (Audit settings) status old new faults_old faults_new = Answers status old new faults_old faults_new
-Does Replay status old new faults_old faults_new = Played status old new faults_old faults_new
-
--- an audit or a replay answers, help or the version is shown, or the words are refused with nothing on the output
-abbrev pub Ends : ℕ → Option (List ℕ) → Option (List ℕ) → Option (List ℕ) → Option (List ℕ)
-    → Type 0
-Ends status old new faults_old faults_new = Answers status old new faults_old faults_new
-    ⊎ Played status old new faults_old faults_new
-    ⊎ ((status ≡ 0) × Keeps faults_old faults_new) ⊎ ((status ≡ 64) × Keeps old new)

@@ -1,12 +1,12 @@
--- What the program says where it gives no verdict.
+-- What the program says where a task isn't done.
 use Rattle.std.specs.Prelude.{List, ℕ, Bool, true, false, [], ◌∷◌, ◌++◌, codes}
 use Rattle.hc_command.specs.declared.trouble.Trouble.{Trouble}
-use Rattle.hc_command.specs.declared.trouble.Trouble.TheVariants.{Memory, Input, Output}
+use Rattle.hc_command.specs.declared.trouble.Trouble.TheVariants.{Memory, Device, Output}
 
 -- the line on standard error, with its line feed
 abbrev pub trouble_line : Trouble → List ℕ
 trouble_line Memory = codes "error: memory" ++ 10 ∷ []
-trouble_line (Input reason) = codes "error: device" ++ 10 ∷ []
+trouble_line (Device reason) = codes "error: device" ++ 10 ∷ []
 trouble_line (Output reason) = codes "error: device" ++ 10 ∷ []
 
 -- whether it is that the answer can't be written

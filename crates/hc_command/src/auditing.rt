@@ -132,10 +132,10 @@ fn feed_all<I: Index + Drop, R: Read>(
                 }
             }
             Err(error) if error.kind() == ErrorKind::Interrupted => {}
-            Err(error) => return Err(Trouble::Input(error)),
+            Err(error) => return Err(Trouble::Device(error)),
         }
     }
-    Err(Trouble::Input(io::Error::other("too many reads")))
+    Err(Trouble::Device(io::Error::other("too many reads")))
 }
 
 // Feeds the auditor a piece, and answers the verdict that stands then.

@@ -61,10 +61,10 @@ fn read_all<R: Read>(alloc: Global, input: &mut R, piece: &mut [u8]) -> Result<V
             Ok(0) => return Ok(octets),
             Ok(count) => octets.extend_from_slice(&piece[..count])?,
             Err(error) if error.kind() == ErrorKind::Interrupted => {}
-            Err(error) => return Err(Trouble::Input(error)),
+            Err(error) => return Err(Trouble::Device(error)),
         }
     }
-    Err(Trouble::Input(io::Error::other("too many reads")))
+    Err(Trouble::Device(io::Error::other("too many reads")))
 }
 
 // Replays the script.

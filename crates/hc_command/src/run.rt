@@ -1,31 +1,37 @@
 //! What the program does, over any system and any two writers.
-ghost use Rattle.std.specs.Prelude.{◌≡◌, ◌∷◌, [], codes, map};
+ghost use Rattle.std.specs.Prelude.{◌≡◌, ◌⊎◌, ◌∷◌, [], ℕ, Some, codes, map};
 ghost use Rattle.std.specs.Io.KnownBytes.{Keeps};
 ghost use Rattle.clap.specs.Words.{Text, fault_of, kind_of};
-ghost use Rattle.hc_command.specs.declared.arguments.Task.{Task};
+ghost use Rattle.hc_arguments.specs.Command.{Asks, IsErrorStatus, IsWord, Task, command_of, hcache, service_words, task_of};
+ghost use Rattle.hc_arguments.specs.Values.{connections_of};
 ghost use Rattle.hc_command.specs.Audit.{Answers};
-ghost use Rattle.hc_command.specs.Command.{Asks, IsErrorStatus, IsFileWord, hcache};
-ghost use Rattle.hc_command.specs.Replay.{Does, Ends, Played};
+ghost use Rattle.hc_command.specs.Ends.{Does, Ends, Served};
+ghost use Rattle.hc_command.specs.Replay.{Played};
 
-use crate::arguments::{Order, Task, not_text, parsed};
 use crate::auditing::audit;
 use crate::print::printed;
 use crate::replaying::replay;
 use crate::trouble::Trouble;
 use clap::Error;
 use clap::error::ErrorKind;
+use hc_arguments::{Order, not_text, parsed};
 use hc_history::Settings;
+use hc_sockets::{ServeFault, Service, serve};
 use std::convert::AsStr;
 use std::io::Write;
+use std::net::Net;
+use std::random::RandomSource;
 use std::rt::{Env, Files};
+use std::time::Clock;
 use std::{env, fs, io};
 
-const USAGE: &str = "\nUsage: hcache audit [OPTIONS] <FILE>\n       hcache replay <FILE>\n";
+const USAGE: &str = "\nUsage: hcache audit [OPTIONS] <FILE>\n       hcache replay <FILE>\n       \
+    hcache serve --listen <HOST:PORT> --origin <HOST:PORT> --connections <N> --record <FILE>\n";
 
 /// Does what the program's own arguments ask, and answers its exit status.
 pub fn status<R, W: Write, E: Write>(rt: &R, output: &mut W, faults: &mut E) -> u8
 where
-    R: Env + Files + Input + AllocGlobal,
+    R: Env + Files + Input + Net + Clock + RandomSource + AllocGlobal,
     ensures { Ends result (W.contents output.old) (W.contents output.new)
         (E.contents faults.old) (E.contents faults.new) }
 {
@@ -48,8 +54,9 @@ fn arguments<R: Env + AllocGlobal>(rt: &R) -> io::Result<Vec<String>> {
 
 /// Does what the words ask, of which the first is the program's name, and answers the exit status.
 ///
-/// A transcript or a script is read from the system. A verdict, the transcript of a script, help or the
-/// version goes to `output`, and what went wrong, or the verdict on the transcript of a script, to `faults`.
+/// A transcript or a script is read from the system, and clients are served by its sockets. A verdict, the
+/// transcript of a script, help or the version goes to `output`, and what went wrong, or the verdict on the
+/// transcript of a script, to `faults`.
 pub fn answered<R, S: AsStr, W: Write, E: Write>(
     rt: &R,
     words: &[S],
@@ -57,23 +64,30 @@ pub fn answered<R, S: AsStr, W: Write, E: Write>(
     faults: &mut E,
 ) -> u8
 where
-    R: Files + Input + AllocGlobal,
+    R: Files + Input + Net + Clock + RandomSource + AllocGlobal,
     // `audit FILE` is answered by an audit, and by no usage error.
-    ensures audit { (name file : Text) → IsFileWord file
+    ensures audit { (name file : Text) → IsWord file
         → map S.text words.now ≡ name ∷ codes "audit" ∷ file ∷ []
         → Answers result (W.contents output.old) (W.contents output.new)
         (E.contents faults.old) (E.contents faults.new) }
 
     // And `replay FILE` by a replay.
-    ensures replay { (name file : Text) → IsFileWord file
+    ensures replay { (name file : Text) → IsWord file
         → map S.text words.now ≡ name ∷ codes "replay" ∷ file ∷ []
         → Played result (W.contents output.old) (W.contents output.new)
         (E.contents faults.old) (E.contents faults.new) }
 
-    // So are other words that ask for one of both, and have no fault.
-    ensures asked { (file : Text) (task : Task) → fault_of hcache (map S.text words.now) ≡ []
-        → Asks (map S.text words.now) file task
-        → Does task result (W.contents output.old) (W.contents output.new)
+    // And `serve` with its four options, each value behind its `=`, by serving.
+    ensures serve { (name listen origin number file : Text) (connections : ℕ)
+        → connections_of number ≡ Some connections
+        → map S.text words.now ≡ name ∷ service_words listen origin number file
+        → Served result (W.contents output.old) (W.contents output.new)
+        (E.contents faults.old) (E.contents faults.new) }
+
+    // So are other words that ask for one of these, and have no fault.
+    ensures asked { (task : Task) → fault_of hcache (map S.text words.now) ≡ []
+        → Asks (map S.text words.now) task
+        → Does (command_of task) result (W.contents output.old) (W.contents output.new)
         (E.contents faults.old) (E.contents faults.new) }
     ensures ends { Ends result (W.contents output.old) (W.contents output.new)
         (E.contents faults.old) (E.contents faults.new) }
@@ -84,17 +98,30 @@ where
     }
 }
 
-// Does what is asked with the file.
+// Does what is asked.
 fn done<R, W: Write, E: Write>(rt: &R, order: Order<'_>, output: &mut W, faults: &mut E) -> u8
 where
-    R: Files + Input + AllocGlobal,
-    ensures { Does order.entry.task result (W.contents output.old) (W.contents output.new)
+    R: Files + Input + Net + Clock + RandomSource + AllocGlobal,
+    ensures { Does (command_of (task_of order.entry)) result (W.contents output.old) (W.contents output.new)
         (E.contents faults.old) (E.contents faults.new) }
 {
-    let Order { file, task } = order;
-    match task {
-        Task::Audit(settings) => audited(rt, file, settings, output, faults),
-        Task::Replay => replayed(rt, file, output, faults),
+    match order {
+        Order::Audit { file, settings } => audited(rt, file, settings, output, faults),
+        Order::Replay { file } => replayed(rt, file, output, faults),
+        Order::Serve {
+            listen,
+            origin,
+            connections,
+            file,
+        } => {
+            let service = Service {
+                listen,
+                origin,
+                connections,
+                file,
+            };
+            served(rt, service, faults)
+        }
     }
 }
 
@@ -123,7 +150,7 @@ where
     }
     match fs::open(rt, file) {
         Ok(mut opened) => audit(rt.alloc(), settings, file, &mut opened, output, faults),
-        Err(error) => Trouble::Input(error).told(file, faults),
+        Err(error) => Trouble::Device(error).told(file, faults),
     }
 }
 
@@ -136,7 +163,26 @@ where
 {
     match fs::open(rt, file) {
         Ok(mut opened) => replay(rt.alloc(), file, &mut opened, output, faults),
-        Err(error) => Trouble::Input(error).told(file, faults),
+        Err(error) => Trouble::Device(error).told(file, faults),
+    }
+}
+
+// Serves clients.
+fn served<R, E: Write>(rt: &R, service: Service<'_>, faults: &mut E) -> u8
+where
+    R: Files + Net + Clock + RandomSource + AllocGlobal,
+    ensures { (result ≡ 3) ⊎ ((result ≡ 0) × Keeps (E.contents faults.old) (E.contents faults.new)) }
+{
+    match serve(rt, service) {
+        Ok(()) => 0,
+        Err(ServeFault::Memory) => Trouble::Memory.told("", faults),
+        Err(ServeFault::Listener(reason)) => Trouble::Device(reason).told(service.listen, faults),
+        Err(ServeFault::Record(reason)) => Trouble::Device(reason).told(service.file, faults),
+        Err(ServeFault::Random(reason)) => Trouble::Device(reason).told("random numbers", faults),
+        Err(ServeFault::Clock) => {
+            let reason = io::Error::other("it is past the year 9999");
+            Trouble::Device(reason).told("clock", faults)
+        }
     }
 }
 
@@ -144,6 +190,7 @@ where
 /// exit status.
 pub fn shown<W: Write, E: Write>(error: &Error, output: &mut W, faults: &mut E) -> u8
     ensures status { IsErrorStatus (kind_of error.now) result }
+    ensures memory { kind_of error.now ≡ ErrorKind.OutOfMemory → Keeps (W.contents output.old) (W.contents output.new) }
     ensures mistake { result ≡ 64 → Keeps (W.contents output.old) (W.contents output.new) }
     ensures asked { result ≡ 0 → Keeps (E.contents faults.old) (E.contents faults.new) }
 {

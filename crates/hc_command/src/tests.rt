@@ -1,13 +1,15 @@
 //! What no clause says: the text that is printed, readers and writers that fail, and how far a reader is read.
-use crate::arguments::{Task, parsed};
 use crate::auditing::audit;
 use crate::replaying::replay;
 use crate::run::answered;
 use hc_history::{FieldNames, Settings, UnmarkedReplies};
 use std::io;
 use std::io::{ErrorKind, Read, Write};
+use std::net::Net;
 use std::process::Abort;
+use std::random::RandomSource;
 use std::rt::Files;
+use std::time::Clock;
 
 // One request.
 const ASKED: &[u8] = b"HCT1
@@ -224,7 +226,7 @@ fn a_failed_write_is_a_fault(rt: HostRuntime) {
 
 // Answers the words, and wants this status and these texts.
 fn answers(
-    rt: &(impl Abort + AllocGlobal + Files + Input),
+    rt: &(impl Abort + AllocGlobal + Files + Input + Net + Clock + RandomSource),
     words: &[&str],
     status: u8,
     output: &str,
@@ -241,107 +243,10 @@ fn answers(
     assert_eq!(rt; wrong.as_slice(), faults.as_bytes(), "{words:?}");
 }
 
-const HELP: &str = "\
-Audits the transcripts of a cache, and plays scripts to a cache that records one
-
-Usage: hcache <COMMAND>
-
-Commands:
-  audit   Says whether every reply in a transcript is right, in one line
-  replay  Plays a script of events to a new cache: standard output gets the transcript that it records, \
-    and standard error the line of the verdict on that
-  help    Print this message or the help of the given subcommand(s)
-
-Options:
-  -h, --help     Print help
-  -V, --version  Print version
-";
-
-const AUDIT_HELP: &str = "\
-Says whether every reply in a transcript is right, in one line
-
-Usage: hcache audit [OPTIONS] <FILE>
-
-Arguments:
-  <FILE>  The transcript, or - for standard input
-
-Options:
-      --slack <N>         The seconds by which an Age, a ttl, a lifetime and what permits staleness may be off: \
-    a decimal from 0 to 2147483648, and 0 without the option
-      --ignore <NAME,..>  The names of fields that aren't compared, with commas between them
-      --errors-only       A reply without a mark is wrong, but for those of status 400 and more
-  -h, --help              Print help
-
-Exit status:
-  0   yes: the transcript keeps to the format, and every reply in it is right
-  1   no: the reply at this position is wrong, by this reason
-  2   malformed: the transcript breaks at this position, by this fault
-  3   no verdict: standard error says `error: memory` or `error: device`
-  64  the command line is wrong: standard error says how
-";
-
-const REPLAY_HELP: &str = "\
-Plays a script of events to a new cache: standard output gets the transcript that it records, \
-    and standard error the line of the verdict on that
-
-Usage: hcache replay <FILE>
-
-Arguments:
-  <FILE>  The script: the settings of the cache, and what happens to it
-
-Options:
-  -h, --help  Print help
-
-Exit status:
-  0   yes: the script was played, and every reply in the transcript is right
-  2   the script breaks, or no cache has its settings, by this fault
-  3   no transcript: standard error says `error: memory` or `error: device`
-  64  the command line is wrong: standard error says how
-";
-
 #[test]
-fn help_and_version_end_well(rt: HostRuntime) {
-    for (words, output) in [
-        (["hcache", "--help"].as_slice(), HELP),
-        (["hcache", "-h"].as_slice(), HELP),
-        (["hcache", "help"].as_slice(), HELP),
-        (["hcache", "audit", "--help"].as_slice(), AUDIT_HELP),
-        (["hcache", "help", "audit"].as_slice(), AUDIT_HELP),
-        (["hcache", "replay", "--help"].as_slice(), REPLAY_HELP),
-        (["hcache", "--version"].as_slice(), "hcache 0.1.0\n"),
-        (["hcache", "-V"].as_slice(), "hcache 0.1.0\n"),
-    ] {
-        answers(&rt, words, 0, output, "");
-    }
-}
-
-const NO_COMMAND: &str = "\
-error: 'hcache' requires a subcommand but one was not provided
-  [subcommands: audit, replay, help]
-
-Usage: hcache <COMMAND>
-
-For more information, try '--help'.
-";
-
-const UNKNOWN_COMMAND: &str = "\
-error: unrecognized subcommand 'watch'
-
-Usage: hcache <COMMAND>
-
-For more information, try '--help'.
-";
-
-const NO_FILE: &str = "\
-error: the following required arguments were not provided:
-  <FILE>
-
-Usage: hcache audit <FILE>
-
-For more information, try '--help'.
-";
-
-const NO_SCRIPT: &str = "\
+fn a_version_and_a_mistake(rt: HostRuntime) {
+    answers(&rt, ["hcache", "-V"].as_slice(), 0, "hcache 0.1.0\n", "");
+    let usage = "\
 error: the following required arguments were not provided:
   <FILE>
 
@@ -349,137 +254,7 @@ Usage: hcache replay <FILE>
 
 For more information, try '--help'.
 ";
-
-const BAD_SLACK: &str = "\
-error: invalid value for '--slack <N>': not a decimal from 0 to 2147483648
-
-Usage: hcache audit [OPTIONS] <FILE>
-
-For more information, try '--help'.
-";
-
-const BAD_IGNORE: &str = "\
-error: invalid value for '--ignore <NAME,..>': not names of fields with commas between them
-
-Usage: hcache audit [OPTIONS] <FILE>
-
-For more information, try '--help'.
-";
-
-#[test]
-fn a_mistake_ends_with_its_own_status(rt: HostRuntime) {
-    for (words, faults) in [
-        (["hcache"].as_slice(), NO_COMMAND),
-        (["hcache", "watch"].as_slice(), UNKNOWN_COMMAND),
-        (["hcache", "audit"].as_slice(), NO_FILE),
-        (["hcache", "replay"].as_slice(), NO_SCRIPT),
-        (
-            ["hcache", "audit", "--slack", "+5", "a"].as_slice(),
-            BAD_SLACK,
-        ),
-        (
-            ["hcache", "audit", "--ignore=a,,b", "a"].as_slice(),
-            BAD_IGNORE,
-        ),
-    ] {
-        answers(&rt, words, 64, "", faults);
-    }
-}
-
-// Wants the words refused, with the usage and nothing on the output.
-fn is_refused(rt: &(impl Abort + AllocGlobal + Files + Input), words: &[&str]) {
-    let mut said = Vec::new(rt.alloc());
-    let mut wrong = Vec::new(rt.alloc());
-    assert_eq!(rt; answered(rt, words, &mut said, &mut wrong), 64, "{words:?}");
-    assert!(rt; said.is_empty(), "{words:?}");
-    let usage = b"\nUsage: hcache audit ".as_slice();
-    assert!(rt;
-        wrong
-            .as_slice()
-            .windows(usage.len())
-            .any(|text| text == usage),
-        "{words:?}"
-    );
-}
-
-#[test]
-fn these_words_are_refused(rt: HostRuntime) {
-    for words in [
-        ["hcache", "audit", "a", "b"].as_slice(),
-        ["hcache", "audit", "--fast", "a"].as_slice(),
-        ["hcache", "audit", "--slack", "", "a"].as_slice(),
-        ["hcache", "audit", "--slack", "-1", "a"].as_slice(),
-        ["hcache", "audit", "--slack", "2147483649", "a"].as_slice(),
-        ["hcache", "audit", "--slack", "18446744073709551616", "a"].as_slice(),
-        ["hcache", "audit", "--slack", "0x1", "a"].as_slice(),
-        ["hcache", "audit", "--slack", "1", "--slack", "1", "a"].as_slice(),
-        ["hcache", "audit", "a", "--slack"].as_slice(),
-        ["hcache", "audit", "--ignore", "", "a"].as_slice(),
-        ["hcache", "audit", "--ignore", "a,", "a"].as_slice(),
-        ["hcache", "audit", "--ignore", "a b", "a"].as_slice(),
-        ["hcache", "audit", "--ignore", "a", "--ignore", "b", "a"].as_slice(),
-        ["hcache", "audit", "a", "--ignore"].as_slice(),
-        ["hcache", "audit", "--errors-only", "--errors-only", "a"].as_slice(),
-        ["hcache", "audit", "--errors-only=true", "a"].as_slice(),
-    ] {
-        is_refused(&rt, words);
-    }
-}
-
-// The settings of an order.
-fn is_ordered(
-    rt: &(impl Abort + AllocGlobal),
-    words: &[&str],
-    slack: u32,
-    ignored: &[u8],
-    unmarked: UnmarkedReplies,
-) {
-    let order = parsed(rt.alloc(), words).expect(rt, "an order");
-    assert_eq!(rt; order.file, "a", "{words:?}");
-    let Task::Audit(settings) = order.task else {
-        panic!(rt; "a replay");
-    };
-    assert_eq!(rt; settings.slack, slack, "{words:?}");
-    assert!(rt; settings.ignored.contains(ignored), "{words:?}");
-    assert_eq!(rt; settings.unmarked, unmarked, "{words:?}");
-}
-
-// Options may stand on either side of FILE, and a value behind `=`.
-#[test]
-fn these_words_are_taken(rt: HostRuntime) {
-    for (words, slack, ignored, unmarked) in [
-        (
-            [
-                "hcache",
-                "audit",
-                "--slack",
-                "2147483648",
-                "--ignore=X-Two",
-                "a",
-            ]
-            .as_slice(),
-            2_147_483_648,
-            b"x-two".as_slice(),
-            UnmarkedReplies::Allow,
-        ),
-        (
-            [
-                "hcache",
-                "audit",
-                "a",
-                "--ignore",
-                "one,Two",
-                "--errors-only",
-                "--slack=07",
-            ]
-            .as_slice(),
-            7,
-            b"two".as_slice(),
-            UnmarkedReplies::ErrorsOnly,
-        ),
-    ] {
-        is_ordered(&rt, words, slack, ignored, unmarked);
-    }
+    answers(&rt, ["hcache", "replay"].as_slice(), 64, "", usage);
 }
 
 const NO_SUCH_FILE: &str = "\
@@ -493,6 +268,38 @@ fn a_file_that_is_not_there(rt: HostRuntime) {
     answers(&rt, words.as_slice(), 3, "", NO_SUCH_FILE);
     let words = ["hcache", "replay", "no/such/file"];
     answers(&rt, words.as_slice(), 3, "", NO_SUCH_FILE);
+}
+
+const NO_SUCH_RECORD: &str = "\
+error: device
+no/such/file: No such file or directory (os error 2)
+";
+
+const NO_SUCH_ADDRESS: &str = "\
+error: device
+127.0.0.1: invalid socket address
+";
+
+#[test]
+fn what_serving_needs_is_not_there(rt: HostRuntime) {
+    for (listen, file, faults) in [
+        ("127.0.0.1:0", "no/such/file", NO_SUCH_RECORD),
+        ("127.0.0.1", "/dev/null", NO_SUCH_ADDRESS),
+    ] {
+        let words = [
+            "hcache",
+            "serve",
+            "--listen",
+            listen,
+            "--origin",
+            "127.0.0.1:1",
+            "--connections",
+            "1",
+            "--record",
+            file,
+        ];
+        answers(&rt, words.as_slice(), 3, "", faults);
+    }
 }
 
 // A client that asks nothing.

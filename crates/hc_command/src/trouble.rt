@@ -1,4 +1,4 @@
-//! Why there is no verdict, and what the program says of it.
+//! Why a task isn't done, and what the program says of it.
 ghost use Rattle.std.specs.Prelude.{◌≡◌};
 ghost use Rattle.hc_command.specs.Trouble.{trouble_line};
 ghost use Rattle.hc_command.specs.declared.trouble.Trouble.TheVariants.{Memory};
@@ -9,19 +9,19 @@ use std::alloc::AllocError;
 use std::io;
 use std::io::Write;
 
-/// Why the program gives no verdict.
+/// Why a task isn't done.
 #[derive(Clone, Copy, Debug)]
 pub enum Trouble {
     /// Memory was refused.
     Memory,
-    /// The transcript can't be opened or read to its end, for this reason.
-    Input(io::Error),
+    /// What the task needs failed, for this reason.
+    Device(io::Error),
     /// The answer can't be written, for this reason.
     Output(io::Error),
 }
 
 impl Trouble {
-    /// The exit status of a program that gives no verdict.
+    /// The exit status of a task that isn't done.
     pub const STATUS: u8 = 3;
 
     /// The line that says it, with its line feed.
@@ -30,19 +30,19 @@ impl Trouble {
     {
         match self {
             Trouble::Memory => "error: memory\n",
-            Trouble::Input(_) | Trouble::Output(_) => "error: device\n",
+            Trouble::Device(_) | Trouble::Output(_) => "error: device\n",
         }
     }
 
     /// Says it on `faults`, and answers the exit status. Where a device failed, a second line names
-    /// it, of which the transcript is the one with that name, and gives the system's reason. A
-    /// write that fails is passed over.
+    /// it, by that name where it isn't the output, and gives the system's reason. A write that fails
+    /// is passed over.
     pub fn told<E: Write>(self, name: &str, faults: &mut E) -> u8
         ensures { result ≡ 3 }
     {
         let _ = printed(self.line(), faults);
         match self {
-            Trouble::Input(reason) => explain(name, reason, faults),
+            Trouble::Device(reason) => explain(name, reason, faults),
             Trouble::Output(reason) => explain("standard output", reason, faults),
             Trouble::Memory => {}
         }

@@ -82,6 +82,13 @@ impl<'a, C: Link, O: Origins, K: Clock> Connection<'a, C, O, K> {
         self.client.has_failed()
     }
 
+    /// Whether it was told that the client opened it.
+    pub fn is_opened(&self) -> bool
+        ensures { result ≡ self.now.opened }
+    {
+        self.opened
+    }
+
     /// The first of what waits to be told that the cache is still to be told of.
     fn waited(&mut self) -> Option<Happening>
         ensures tells { (log : List Move) → Tells C.has_given C.has_got C.count self.old.client log

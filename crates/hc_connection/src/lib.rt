@@ -12,6 +12,3 @@ pub use connection::Connection;
 pub use link::{Clock, Link, LinkFailure, Origins};
 pub use links::{Links, Receiver};
 pub use sides::send_octets;
-
-#[cfg(test)]
-mod tests;

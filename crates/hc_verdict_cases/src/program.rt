@@ -3,8 +3,9 @@
 use crate::lines::without_line_feed;
 use crate::others::Others;
 use crate::pieces::Pieces;
+use hc_arguments::{Order, parsed};
 use hc_cases::Unanswered;
-use hc_command::{Order, Task, audit, parsed, shown};
+use hc_command::{audit, shown};
 use std::alloc::{AllocError, Global};
 use std::fmt::Write;
 
@@ -32,8 +33,7 @@ impl Audited {
                 return Ok(Self::refused(alloc, status)?);
             }
         };
-        let Order { file, task } = order;
-        let Task::Audit(settings) = task else {
+        let Order::Audit { file, settings } = order else {
             return Err(Unanswered::Unknown);
         };
         let others = Others::by(alloc, words, pieces)?;

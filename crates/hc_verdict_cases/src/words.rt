@@ -1,7 +1,7 @@
 //! The words of command lines.
 
+use hc_arguments::{Order, parsed};
 use hc_cases::Unanswered;
-use hc_command::{Task, parsed};
 use hc_history::Settings;
 use std::alloc::{AllocError, Global};
 
@@ -31,12 +31,9 @@ pub fn words_of(alloc: Global, parts: &[Vec<u8>]) -> Result<Vec<&str>, Unanswere
 
 /// What the words, which ask for an audit, let pass.
 pub fn settings_of(alloc: Global, words: &[&str]) -> Result<Settings, Unanswered> {
-    let Ok(order) = parsed(alloc, words) else {
-        return Err(Unanswered::Unknown);
-    };
-    match order.task {
-        Task::Audit(settings) => Ok(settings),
-        Task::Replay => Err(Unanswered::Unknown),
+    match parsed(alloc, words) {
+        Ok(Order::Audit { settings, .. }) => Ok(settings),
+        _ => Err(Unanswered::Unknown),
     }
 }
 

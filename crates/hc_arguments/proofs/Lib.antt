@@ -1,0 +1,2 @@
+pub mod ArgumentLemmas
+pub mod NameLemmas

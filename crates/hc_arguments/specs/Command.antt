@@ -1,0 +1,179 @@
+-- The command line of `hcache`, as a parse sees it.
+use Rattle.std.specs.Prelude.{◌≡◌, ◌≢◌, ◌⊎◌, ⊤, ℕ, List, [], ◌∷◌, ◌++◌, Option, None, Some, true, codes}
+use Rattle.std.specs.Prelude.{Bool, ◌||◌, if◌then◌else◌, is_none, option_and_then, slice_get}
+use Rattle.std.specs.Str.{bytes_eq}
+use Rattle.clap.specs.Words.{App, HasKind, Row, Rule, Text, fault_of, first_of, kind_of, new_app, new_rule}
+use Rattle.clap.specs.Words.{subcommand_of, with_rule, with_subcommand}
+use Rattle.clap.specs.Simple.{on_top}
+use Rattle.clap.specs.declared.builder.action.ArgAction.TheVariants.{SetTrue}
+use Rattle.clap.specs.declared.error.Error.{Error}
+use Rattle.clap.specs.declared.error.ErrorKind.{ErrorKind}
+use Rattle.clap.specs.declared.error.ErrorKind.TheVariants as kind
+use Rattle.hc_history.specs.declared.settings.Settings.{Settings}
+use Rattle.hc_arguments.specs.declared.order.Order.{Order}
+use Rattle.hc_arguments.specs.declared.order.Order.TheVariants.{Audit, Replay, Serve}
+use Rattle.hc_arguments.specs.declared.refusal.Refusal.{Refusal}
+use Rattle.hc_arguments.specs.declared.refusal.Refusal.TheVariants.{Memory, Missing, Slack, Ignore, Connections}
+use Rattle.hc_arguments.specs.Values.{connections_of, ignored_by, slack_by, unmarked_by}
+
+-- ---- what the command takes
+
+-- the argument of `audit` and of `replay`
+abbrev pub file_rule : Rule
+file_rule = record (new_rule (codes "FILE")) { required = true }
+
+-- an option with one value
+abbrev pub option_rule : Text → Rule
+option_rule name = record (new_rule name) { long = Some name; value_names = 1 }
+
+-- one that has to be given
+abbrev pub required_rule : Text → Rule
+required_rule name = record (option_rule name) { required = true }
+
+-- an option without a value
+abbrev pub flag_rule : Text → Rule
+flag_rule name = record (new_rule name) { long = Some name; action = Some SetTrue }
+
+abbrev pub audit : App
+audit = with_rule (with_rule (with_rule (with_rule (new_app (codes "audit")) file_rule) (option_rule (codes "slack")))
+    (option_rule (codes "ignore"))) (flag_rule (codes "errors-only"))
+
+abbrev pub replay : App
+replay = with_rule (new_app (codes "replay")) file_rule
+
+abbrev pub serve : App
+serve = with_rule (with_rule (with_rule (with_rule (new_app (codes "serve")) (required_rule (codes "listen"))) (required_rule (codes "origin")))
+    (required_rule (codes "connections"))) (required_rule (codes "record"))
+
+abbrev pub hcache : App
+hcache = with_subcommand (with_subcommand (with_subcommand (on_top (λ s. record s { has_version = true; subcommand_required = true })
+    (new_app (codes "hcache"))) audit.top) replay.top) serve.top
+
+-- ---- what the words say
+
+-- the commands
+pub data Command : Type 0 where
+  Audits : Command
+  Replays : Command
+  Serves : Command
+
+abbrev pub command_named : Text → Option Command
+command_named name = if bytes_eq name (codes "audit") then Some Audits
+    else if bytes_eq name (codes "replay") then Some Replays else if bytes_eq name (codes "serve") then Some Serves else None
+
+-- what they can be asked
+pub data Task : Type 0 where
+  -- to audit that file by those settings
+  ToAudit : (file : Text) (settings : Settings) → Task
+  -- to replay it
+  ToReplay : (file : Text) → Task
+  -- to serve so many connections there, before that origin, and to record them to that file
+  ToServe : (listen origin : Text) (connections : ℕ) (file : Text) → Task
+
+abbrev pub command_of : Task → Command
+command_of (ToAudit file settings) = Audits
+command_of (ToReplay file) = Replays
+command_of (ToServe listen origin connections file) = Serves
+
+abbrev pub task_of : Order → Task
+task_of (Audit file settings) = ToAudit file.now settings
+task_of (Replay file) = ToReplay file.now
+task_of (Serve listen origin connections file) = ToServe listen.now origin.now connections file.now
+
+-- the values, by their names, ask that of `audit`
+pub record AsksAudit (value : Text → Option Text) (file : Text) (settings : Settings) : Type 0 where
+  pub file_is : value (codes "FILE") ≡ Some file
+  pub slack_is : slack_by (value (codes "slack")) ≡ Some settings.slack
+  pub ignored_is : ignored_by (value (codes "ignore")) ≡ Some settings.ignored
+  pub unmarked_is : unmarked_by (value (codes "errors-only")) ≡ settings.unmarked
+
+-- and that of `serve`
+pub record AsksService (value : Text → Option Text) (listen origin : Text) (connections : ℕ) (file : Text) : Type 0 where
+  pub listen_is : value (codes "listen") ≡ Some listen
+  pub origin_is : value (codes "origin") ≡ Some origin
+  pub connections_is : option_and_then connections_of (value (codes "connections")) ≡ Some connections
+  pub file_is : value (codes "record") ≡ Some file
+
+abbrev pub ValuesAsk : (Text → Option Text) → Task → Type 0
+ValuesAsk value (ToAudit file settings) = AsksAudit value file settings
+ValuesAsk value (ToReplay file) = value (codes "FILE") ≡ Some file
+ValuesAsk value (ToServe listen origin connections file) = AsksService value listen origin connections file
+
+-- the command and its values ask that
+abbrev pub AsksBy : Option Command → (Text → Option Text) → Task → Type 0
+AsksBy command value task = (command ≡ Some (command_of task)) × ValuesAsk value task
+
+-- the command that the subcommand is, and the first value of that name behind it
+abbrev pub command_in : Option (Text × List Row) → Option Command
+command_in given = option_and_then (λ p. command_named p.0) given
+
+abbrev pub value_in : Option (Text × List Row) → Text → Option Text
+value_in given name = option_and_then (λ p. first_of name p.1) given
+
+-- the subcommand and the values behind it ask that
+abbrev pub AsksIn : Option (Text × List Row) → Task → Type 0
+AsksIn given = AsksBy (command_in given) (value_in given)
+
+-- the words, of which the first is the program's name, ask that
+abbrev pub Asks : List Text → Task → Type 0
+Asks words = AsksIn (subcommand_of hcache words)
+
+-- ---- plain words
+
+-- the word is `-`, or does not begin with a hyphen (45)
+abbrev pub IsWord : Text → Type 0
+IsWord word = (word ≡ codes "-") ⊎ (slice_get word 0 ≢ Some 45)
+
+-- the words behind the program's name that ask to serve
+abbrev pub service_words : Text → Text → Text → Text → List Text
+service_words listen origin number file = codes "serve" ∷ (codes "--listen=" ++ listen) ∷ (codes "--origin=" ++ origin)
+    ∷ (codes "--connections=" ++ number) ∷ (codes "--record=" ++ file) ∷ []
+
+-- ---- why words are refused
+
+-- whether a value that the command needs isn't there; without a command nothing is asked
+abbrev pub lacks : Option Command → (Text → Option Text) → Bool
+lacks None value = true
+lacks (Some Audits) value = is_none (value (codes "FILE"))
+lacks (Some Replays) value = is_none (value (codes "FILE"))
+lacks (Some Serves) value = is_none (value (codes "listen")) || (is_none (value (codes "origin"))
+    || (is_none (value (codes "connections")) || is_none (value (codes "record"))))
+
+-- why the command and its values ask nothing
+abbrev pub RefusesBy : Option Command → (Text → Option Text) → Refusal → Type 0
+RefusesBy command value Memory = ⊤
+RefusesBy command value Missing = lacks command value ≡ true
+RefusesBy command value Slack = (command ≡ Some Audits) × (slack_by (value (codes "slack")) ≡ None)
+RefusesBy command value Ignore = (command ≡ Some Audits) × (ignored_by (value (codes "ignore")) ≡ None)
+RefusesBy command value Connections = (command ≡ Some Serves) × (option_and_then connections_of (value (codes "connections")) ≡ None)
+
+abbrev pub RefusesIn : Option (Text × List Row) → Refusal → Type 0
+RefusesIn given = RefusesBy (command_in given) (value_in given)
+
+-- the kind of the error that says it; none says the want of memory
+abbrev pub refused_kind : Refusal → Option ErrorKind
+refused_kind Memory = None
+refused_kind Missing = Some kind.MissingRequiredArgument
+refused_kind Slack = Some kind.ValueValidation
+refused_kind Ignore = Some kind.ValueValidation
+refused_kind Connections = Some kind.ValueValidation
+
+-- a value is missing, or out of its range, and the error is of the kind for that
+pub record IsOutside (words : List Text) (e : Error) : Type 0 where
+  pub refusal : Refusal
+  pub refuses : RefusesIn (subcommand_of hcache words) refusal
+  pub kind_is : refused_kind refusal ≡ Some (kind_of e)
+
+-- memory ran out, or the words are refused for a reason that the command has, or by what they ask
+abbrev pub IsRefused : List Text → Error → Type 0
+IsRefused words e = HasKind (fault_of hcache words) e ⊎ IsOutside words e
+
+-- ---- the exit status
+
+-- the exit status after an error of the parse: help and the version end well, unless they can't be
+-- written
+abbrev pub IsErrorStatus : ErrorKind → ℕ → Type 0
+IsErrorStatus kind.OutOfMemory status = status ≡ 3
+IsErrorStatus kind.DisplayHelp status = (status ≡ 0) ⊎ (status ≡ 3)
+IsErrorStatus kind.DisplayVersion status = (status ≡ 0) ⊎ (status ≡ 3)
+IsErrorStatus _ status = status ≡ 64

@@ -1,0 +1,2 @@
+pub mod Command
+pub mod Values

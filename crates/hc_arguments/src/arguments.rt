@@ -1,0 +1,142 @@
+//! What the words of a command line ask.
+
+ghost use Rattle.std.specs.Prelude.{◌≡◌, ◌∷◌, [], IfErr, IfOk, MatchResult, ℕ, Some, None, codes, map};
+ghost use Rattle.clap.specs.Words.{Text, fault_of, first_value, found_of, kind_of, subcommand_rows_of};
+ghost use Rattle.hc_arguments.specs.Command.{Asks, AsksBy, AsksIn, IsRefused, IsWord, RefusesBy, RefusesIn, hcache, service_words, task_of};
+ghost use Rattle.hc_arguments.specs.Command.Command.{Audits, Replays, Serves};
+ghost use Rattle.hc_arguments.specs.Command.Task.{ToAudit, ToReplay, ToServe};
+ghost use Rattle.hc_arguments.specs.Values.{connections_of, plain};
+ghost use Rattle.hc_arguments.specs.declared.refusal.Refusal.TheVariants.{Missing};
+
+use crate::command::command;
+use crate::order::Order;
+use crate::refusal::Refusal;
+use crate::values::{connections_of, ignored_by, slack_by, unmarked_by};
+use clap::error::ErrorKind;
+use clap::{ArgMatches, Error};
+use hc_history::Settings;
+use std::alloc::{AllocError, Global};
+use std::convert::AsStr;
+
+/// What the words ask. The first word is the program's name.
+///
+/// An `Err` is a mistake in the words, memory that was refused, or a call for help or the version,
+/// and it displays the text to print.
+pub fn parsed<'a, S: AsStr>(alloc: Global, words: &'a [S]) -> Result<Order<'a>, Error>
+    // `audit FILE` gives that FILE and the plain settings, and fails only where memory is refused.
+    ensures audit { (name file : Text) → IsWord file
+        → map S.text words.entry.now ≡ name ∷ codes "audit" ∷ file ∷ []
+        → MatchResult result (λ order. task_of order ≡ ToAudit file plain)
+        (λ error. kind_of error ≡ ErrorKind.OutOfMemory) }
+    // `replay FILE` gives that FILE, and fails only so too.
+    ensures replay { (name file : Text) → IsWord file
+        → map S.text words.entry.now ≡ name ∷ codes "replay" ∷ file ∷ []
+        → MatchResult result (λ order. task_of order ≡ ToReplay file)
+        (λ error. kind_of error ≡ ErrorKind.OutOfMemory) }
+    // And `serve` gives the values of its four options, each behind its `=`.
+    ensures serve { (name listen origin number file : Text) (connections : ℕ)
+        → connections_of number ≡ Some connections
+        → map S.text words.entry.now ≡ name ∷ service_words listen origin number file
+        → MatchResult result (λ order. task_of order ≡ ToServe listen origin connections file)
+        (λ error. kind_of error ≡ ErrorKind.OutOfMemory) }
+
+    // Other words give what they say, where the command line has no fault and the values are in their ranges.
+    ensures asked { IfOk result (λ order. Asks (map S.text words.entry.now) (task_of order)) }
+    ensures taken { IfOk result (λ _. fault_of hcache (map S.text words.entry.now) ≡ []) }
+    ensures refused { IfErr result (IsRefused (map S.text words.entry.now)) }
+{
+    let mut command = command(alloc)?;
+    let matches = command.try_get_matches_from_mut(words)?;
+    match order_in(alloc, &matches) {
+        Ok(order) => Ok(order),
+        Err(refusal) => Err(refusal.error(alloc)?),
+    }
+}
+
+// What the subcommand asks.
+fn order_in<'a>(alloc: Global, matches: &ArgMatches<'a>) -> Result<Order<'a>, Refusal>
+    ensures ok { IfOk result (λ order. AsksIn (subcommand_rows_of matches.now) (task_of order)) }
+    ensures err { IfErr result (RefusesIn (subcommand_rows_of matches.now)) }
+{
+    let Some((name, found)) = matches.subcommand() else {
+        return Err(Refusal::Missing);
+    };
+    match name {
+        "audit" => audit_in(alloc, found),
+        "replay" => replay_in(found),
+        "serve" => serve_in(found),
+        _ => Err(Refusal::Missing),
+    }
+}
+
+// What `audit` asks.
+fn audit_in<'a>(alloc: Global, found: &ArgMatches<'a>) -> Result<Order<'a>, Refusal>
+    ensures ok { IfOk result (λ order. AsksBy (Some Audits) (first_value (found_of found.now)) (task_of order)) }
+    ensures err { IfErr result (RefusesBy (Some Audits) (first_value (found_of found.now))) }
+{
+    let file = required(found, "FILE")?;
+    let Some(slack) = slack_by(found.get_str("slack")) else {
+        return Err(Refusal::Slack);
+    };
+    let Some(ignored) = ignored_by(alloc, found.get_str("ignore"))? else {
+        return Err(Refusal::Ignore);
+    };
+    let unmarked = unmarked_by(found.get_str("errors-only"));
+    let settings = Settings {
+        slack,
+        ignored,
+        unmarked,
+    };
+    Ok(Order::Audit { file, settings })
+}
+
+// What `replay` asks.
+fn replay_in<'a>(found: &ArgMatches<'a>) -> Result<Order<'a>, Refusal>
+    ensures ok { IfOk result (λ order. AsksBy (Some Replays) (first_value (found_of found.now)) (task_of order)) }
+    ensures err { IfErr result (RefusesBy (Some Replays) (first_value (found_of found.now))) }
+{
+    let file = required(found, "FILE")?;
+    Ok(Order::Replay { file })
+}
+
+// What `serve` asks.
+fn serve_in<'a>(found: &ArgMatches<'a>) -> Result<Order<'a>, Refusal>
+    ensures ok { IfOk result (λ order. AsksBy (Some Serves) (first_value (found_of found.now)) (task_of order)) }
+    ensures err { IfErr result (RefusesBy (Some Serves) (first_value (found_of found.now))) }
+{
+    let listen = required(found, "listen")?;
+    let origin = required(found, "origin")?;
+    let number = required(found, "connections")?;
+    let file = required(found, "record")?;
+    let Some(connections) = connections_of(number.as_bytes()) else {
+        return Err(Refusal::Connections);
+    };
+    Ok(Order::Serve {
+        listen,
+        origin,
+        connections,
+        file,
+    })
+}
+
+// The value of that name, which has to be there.
+fn required<'a>(found: &ArgMatches<'a>, name: &str) -> Result<&'a str, Refusal>
+    ensures ok { IfOk result (λ text. first_value (found_of found.now) name.now ≡ Some text.now) }
+    ensures err { IfErr result (λ refusal. (refusal ≡ Missing) × (first_value (found_of found.now) name.now ≡ None)) }
+{
+    match found.get_str(name) {
+        Some(text) => Ok(text),
+        None => Err(Refusal::Missing),
+    }
+}
+
+/// The error of a command line that is not text.
+pub fn not_text(alloc: Global) -> Result<Error, AllocError>
+    ensures { IfOk result (λ error. kind_of error ≡ ErrorKind.ValueValidation) }
+{
+    let mut command = command(alloc)?;
+    command.error(
+        ErrorKind::ValueValidation,
+        "invalid UTF-8 was detected in one or more arguments",
+    )
+}

@@ -1,0 +1,162 @@
+//! The command `hcache`, and its subcommands.
+
+ghost use Rattle.std.specs.Prelude.{◌≡◌, IfOk, false};
+ghost use Rattle.clap.specs.Words.{app_of, rule_of};
+ghost use Rattle.clap.specs.declared.builder.command.Command.TheViews.{out-Command};
+ghost use Rattle.hc_arguments.specs.Command.{audit, file_rule, flag_rule, hcache, option_rule, replay, required_rule, serve};
+
+use clap::{Arg, ArgAction, Command};
+use std::alloc::{AllocError, Global};
+
+const ABOUT: &str =
+    "Audits the transcripts of a cache, plays scripts to a cache that records one, and serves clients from one";
+
+const AUDIT_ABOUT: &str = "Says whether every reply in a transcript is right, in one line";
+
+const AUDITED_HELP: &str = "The transcript, or - for standard input";
+
+const REPLAY_ABOUT: &str =
+    "Plays a script of events to a new cache: standard output gets the transcript that it records, \
+    and standard error the line of the verdict on that";
+
+const REPLAYED_HELP: &str = "The script: the settings of the cache, and what happens to it";
+
+const SERVE_ABOUT: &str =
+    "Serves clients from a new cache before an origin, one connection after another, and records \
+    the transcript of both sides";
+
+const LISTEN_HELP: &str = "Where clients connect to";
+
+const ORIGIN_HELP: &str = "Where requests are forwarded to";
+
+const CONNECTIONS_HELP: &str =
+    "How many connections of clients are served: a decimal from 1 to 999999999999";
+
+const RECORD_HELP: &str = "The transcript, a file that is created or emptied";
+
+const SLACK_HELP: &str =
+    "The seconds by which an Age, a ttl, a lifetime and what permits staleness may be off: \
+    a decimal from 0 to 2147483648, and 0 without the option";
+
+const IGNORE_HELP: &str = "The names of fields that aren't compared, with commas between them";
+
+const ERRORS_ONLY_HELP: &str =
+    "A reply without a mark is wrong, but for those of status 400 and more";
+
+const STATUSES: &str = "\
+Exit status:
+  0   yes: the transcript keeps to the format, and every reply in it is right
+  1   no: the reply at this position is wrong, by this reason
+  2   malformed: the transcript breaks at this position, by this fault
+  3   no verdict: standard error says `error: memory` or `error: device`
+  64  the command line is wrong: standard error says how";
+
+const REPLAY_STATUSES: &str = "\
+Exit status:
+  0   yes: the script was played, and every reply in the transcript is right
+  2   the script breaks, or no cache has its settings, by this fault
+  3   no transcript: standard error says `error: memory` or `error: device`
+  64  the command line is wrong: standard error says how";
+
+const SERVE_STATUSES: &str = "\
+Exit status:
+  0   all connections were served
+  3   not all were: standard error says `error: memory` or `error: device`
+  64  the command line is wrong: standard error says how";
+
+/// The whole command.
+pub(crate) fn command<'a>(alloc: Global) -> Result<Command<'a>, AllocError>
+    ensures { IfOk result (λ command. app_of command ≡ hcache) }
+{
+    let audit = audit_command(alloc)?;
+    let replay = replay_command(alloc)?;
+    let serve = serve_command(alloc)?;
+    Command::new(alloc, "hcache")
+        .bin_name("hcache")?
+        .version("0.1.0")
+        .about(ABOUT)
+        .subcommand_required(true)
+        .subcommand(audit)?
+        .subcommand(replay)?
+        .subcommand(serve)
+}
+
+/// The command `audit`, without the one above it.
+pub(crate) fn audit_command<'a>(alloc: Global) -> Result<Command<'a>, AllocError>
+    ensures app { IfOk result (λ command. app_of command ≡ audit) }
+    ensures local { IfOk result (λ command. (out-Command command).has_globals ≡ false) }
+{
+    Command::new(alloc, "audit")
+        .about(AUDIT_ABOUT)
+        .after_help(STATUSES)
+        .arg(file_argument(alloc, AUDITED_HELP))?
+        .arg(option(alloc, "slack", "N", SLACK_HELP))?
+        .arg(option(alloc, "ignore", "NAME,..", IGNORE_HELP))?
+        .arg(flag(alloc, "errors-only", ERRORS_ONLY_HELP))
+}
+
+// The command `replay`, without the one above it.
+fn replay_command<'a>(alloc: Global) -> Result<Command<'a>, AllocError>
+    ensures app { IfOk result (λ command. app_of command ≡ replay) }
+    ensures local { IfOk result (λ command. (out-Command command).has_globals ≡ false) }
+{
+    Command::new(alloc, "replay")
+        .about(REPLAY_ABOUT)
+        .after_help(REPLAY_STATUSES)
+        .arg(file_argument(alloc, REPLAYED_HELP))
+}
+
+/// The command `serve`, without the one above it.
+pub(crate) fn serve_command<'a>(alloc: Global) -> Result<Command<'a>, AllocError>
+    ensures app { IfOk result (λ command. app_of command ≡ serve) }
+    ensures local { IfOk result (λ command. (out-Command command).has_globals ≡ false) }
+{
+    Command::new(alloc, "serve")
+        .about(SERVE_ABOUT)
+        .after_help(SERVE_STATUSES)
+        .arg(required(alloc, "listen", "HOST:PORT", LISTEN_HELP))?
+        .arg(required(alloc, "origin", "HOST:PORT", ORIGIN_HELP))?
+        .arg(required(alloc, "connections", "N", CONNECTIONS_HELP))?
+        .arg(required(alloc, "record", "FILE", RECORD_HELP))
+}
+
+fn file_argument<'a>(alloc: Global, help: &'a str) -> Arg<'a>
+    ensures rule { rule_of result ≡ file_rule }
+    ensures local { result.global ≡ false }
+{
+    Arg::new(alloc, "FILE").required(true).help(help)
+}
+
+// An option with one value.
+fn option<'a>(alloc: Global, name: &'a str, value: &'a str, help: &'a str) -> Arg<'a>
+    ensures rule { rule_of result ≡ option_rule name.entry.now }
+    ensures local { result.global ≡ false }
+{
+    Arg::new(alloc, name)
+        .long(name)
+        .value_name(value)
+        .help(help)
+}
+
+// An option with one value, without which there is no order.
+fn required<'a>(alloc: Global, name: &'a str, value: &'a str, help: &'a str) -> Arg<'a>
+    ensures rule { rule_of result ≡ required_rule name.entry.now }
+    ensures local { result.global ≡ false }
+{
+    Arg::new(alloc, name)
+        .long(name)
+        .required(true)
+        .value_name(value)
+        .help(help)
+}
+
+// An option without a value.
+fn flag<'a>(alloc: Global, name: &'a str, help: &'a str) -> Arg<'a>
+    ensures rule { rule_of result ≡ flag_rule name.entry.now }
+    ensures local { result.global ≡ false }
+{
+    Arg::new(alloc, name)
+        .long(name)
+        .action(ArgAction::SetTrue)
+        .help(help)
+}

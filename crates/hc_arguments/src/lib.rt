@@ -1,0 +1,14 @@
+//! The command line of `hcache`: what its words ask, its help, and why words are refused.
+#![tactic(auto)]
+
+mod arguments;
+mod command;
+mod names;
+mod order;
+mod refusal;
+#[cfg(test)]
+mod tests;
+mod values;
+
+pub use arguments::{not_text, parsed};
+pub use order::Order;

@@ -1,0 +1,31 @@
+//! What the words ask.
+
+use hc_history::Settings;
+
+/// What the words ask.
+#[derive(Debug, Drop)]
+pub enum Order<'a> {
+    /// To audit a transcript.
+    Audit {
+        /// Where it is: the name of a file, or `-` for standard input.
+        file: &'a str,
+        /// What the audit lets pass.
+        settings: Settings,
+    },
+    /// To replay a script.
+    Replay {
+        /// Where it is: the name of a file.
+        file: &'a str,
+    },
+    /// To serve clients, and to record that.
+    Serve {
+        /// The host and the port to which clients connect.
+        listen: &'a str,
+        /// The host and the port of the origin.
+        origin: &'a str,
+        /// How many connections of clients are served, from 1 to 999,999,999,999.
+        connections: u64,
+        /// The name of the file that is recorded to.
+        file: &'a str,
+    },
+}

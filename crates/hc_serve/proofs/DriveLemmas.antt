@@ -1,0 +1,245 @@
+-- Turns, one after another, and what they come to.
+use Rattle.std.proofs.Common.{◌≡◌, ◌≢◌, ◌∙◌, ℕ, ◌+◌, ◌≤◌, List, [], ◌∷◌, ◌++◌, length, Option, Some, None, Ok, Err, ap, append_assoc, append-nil, arith, length-append, refl, rules, subst, sym}
+use Rattle.std.proofs.lemmas.Grind.{flat_map-append}
+use Rattle.std.specs.Global.{Global}
+use Rattle.std.specs.List.{flat_map}
+use Rattle.std.specs.declared.vec.Vec.{Vec}
+use Rattle.hc_transcript.specs.declared.record.Record.{Record}
+use Rattle.hc_transcript.specs.Limits.{greatest_number}
+use Rattle.hc_transcript.specs.Records.{record_text}
+use Rattle.hc_events.specs.declared.Event.{Event}
+use Rattle.hc_service.specs.declared.action.Action.{Action}
+use Rattle.hc_service.specs.declared.fault.StepFault.{StepFault}
+use Rattle.hc_service.specs.declared.fault.StepFault.TheVariants.{Memory, MomentTooLarge, UnknownNumber, TooManyConnections, Failed}
+use Rattle.hc_service.specs.declared.settings.CoreSettings.{CoreSettings}
+use Rattle.hc_service.specs.Agreement.{Agrees, History, IsReady}
+use Rattle.hc_service.specs.Runs.{Runs, RunsTo, StepResult, Steps, records_given}
+use Rattle.hc_service.specs.Sending.{records_of}
+use Rattle.hc_service.specs.Settings.{AreGood}
+use Rattle.hc_service.specs.State.{State}
+use Rattle.hc_service.proofs.RunLemmas.{steps_append}
+use Rattle.hc_core.specs.Steps.{Cache, GivesStep, StandsFor}
+use Rattle.hc_connection.specs.Moves.{Move}
+use Rattle.hc_serve.specs.declared.fault.DriveFault.{DriveFault}
+use Rattle.hc_serve.specs.declared.fault.DriveFault.TheVariants as fault
+use Rattle.hc_serve.specs.Carrying.{CountsRecorder, texts_in}
+use Rattle.hc_serve.specs.Drives.{AreServed, AreTurns, BreakOff, EndStands, GivesDrive, Leads, answers_by, events_by, passed, texts_given}
+use Rattle.hc_serve.specs.Turns.{Answers, AnswersBy, Break, IsToldBy, IsTurn, StopsAt}
+use Rattle.hc_serve.specs.Turns.Break.{AtAnswer, Before, Carrying}
+
+-- ---- what laws say
+
+abbrev pub StepsAreRuns : Type 0
+StepsAreRuns = (settings : CoreSettings) → AreGood settings → (events : List Event) (results : List StepResult) (s : State) (h : History) (end : Option State)
+    → Agrees s h → Steps settings s events results end → s.numbers.records + length (records_given results) ≤ greatest_number
+    → Runs settings s h events results (records_given results) end
+
+abbrev pub RunsKeepAgreement : Type 0
+RunsKeepAgreement = (settings : CoreSettings) (events : List Event) (results : List StepResult) (s : State) (h : History) (records : List Record) (end : Option State)
+    → Runs settings s h events results records end → RunsTo records h end
+
+abbrev pub AgreementIsReady : Type 0
+AgreementIsReady = (s : State) (h : History) → Agrees s h → IsReady s
+
+-- ---- records that are given
+
+abbrev texts_of : List Record → List ℕ
+texts_of records = flat_map record_text records
+
+given_append : (a b : List StepResult) → records_given (a ++ b) ≡ records_given a ++ records_given b
+given_append [] b = refl
+given_append (Ok actions ∷ a) b =
+    ap (λ (t : List Record). records_of actions.items ++ t) (given_append a b) ∙ sym (append_assoc (records_of actions.items) (records_given a) (records_given b))
+given_append (Err step ∷ a) b = given_append a b
+
+fewer : (before more : List StepResult) (n : ℕ) → n + length (records_given (before ++ more)) ≤ greatest_number → n + length (records_given before) ≤ greatest_number
+fewer before more n few = omega (arith, few, ap length (given_append before more), length-append (records_given before) (records_given more))
+
+texts_given_append : (a b : List StepResult) → texts_given (a ++ b) ≡ texts_given a ++ texts_given b
+texts_given_append a b = ap texts_of (given_append a b) ∙ flat_map-append record_text (records_given a) (records_given b)
+
+texts_of_one : (actions : Vec Action Global) → texts_given (Ok actions ∷ []) ≡ texts_in actions.items
+texts_of_one actions = ap texts_of (append-nil (records_of actions.items))
+
+served_append : (a b : List StepResult) → AreServed a → AreServed b → AreServed (a ++ b)
+served_append [] b served more = more
+served_append (Ok actions ∷ a) b served more = served_append a b served more
+served_append (Err step ∷ a) b served more = absurd served
+
+passed_append : (events others : List Event) (results answers : List StepResult) (log : List Move) → length events ≡ length results
+    → passed (events ++ others) (results ++ answers) log ≡ passed others answers (passed events results log)
+passed_append [] others [] answers log same = refl
+passed_append [] others (result ∷ results) answers log same = absurd (cc)
+passed_append (event ∷ events) others [] answers log same = absurd (cc)
+passed_append (event ∷ events) others (Ok actions ∷ results) answers log same = passed_append events others results answers _ (omega (arith, same))
+passed_append (event ∷ events) others (Err step ∷ results) answers log same = passed_append events others results answers _ (omega (arith, same))
+
+paired_append : (events others : List Event) (results answers : List StepResult) → length events ≡ length results → length others ≡ length answers
+    → length (events ++ others) ≡ length (results ++ answers)
+paired_append events others results answers a b = omega (arith, a, b, length-append events others, length-append results answers)
+
+-- ---- what the cache was led to
+
+pub record IsLed (settings : CoreSettings) (s : State) (cache : Cache) (events : List Event) (results : List StepResult) : Type 0 where
+  pub state : State
+  pub stands : StandsFor settings cache state
+  pub steps : Steps settings s events results (Some state)
+
+abbrev pub Leading : Cache → Cache → List Event → List StepResult → Type 0
+Leading old new events results = (settings : CoreSettings) (s : State) (h : History) → AreGood settings → StandsFor settings old s → Agrees s h
+    → s.numbers.records + length (records_given results) ≤ greatest_number → IsLed settings s new events results
+
+-- the turns so far
+pub record SoFar (T : List Move → Type 0) (H : List ℕ → Type 0) (old new : Cache) (log : List Move) (text : List ℕ) : Type 0 where
+  pub events : List Event
+  pub results : List StepResult
+  pub leading : Leading old new events results
+  pub paired : length events ≡ length results
+  pub served : AreServed results
+  pub told : T (passed events results log)
+  pub held : H (text ++ texts_given results)
+
+pub begins : (T : List Move → Type 0) (H : List ℕ → Type 0) (cache : Cache) (log : List Move) (text : List ℕ) → T log → H text → SoFar T H cache cache log text
+begins T H cache log text told held = record {
+  events = [];
+  results = [];
+  leading = λ settings s h good stands agrees few. record { state = s; stands = stands; steps = refl };
+  paired = refl;
+  served = unit;
+  told = told;
+  held = subst H (sym (append-nil text)) held;
+}
+  where
+    unit : Unit {0}
+    unit = search rules
+
+module _ (runs : StepsAreRuns) (keeps : RunsKeepAgreement) (is_ready : AgreementIsReady) where
+  -- each forward can end there
+  ready_there : (settings : CoreSettings) (s : State) (h : History) (cache : Cache) (events : List Event) (results : List StepResult) → AreGood settings → Agrees s h
+      → s.numbers.records + length (records_given results) ≤ greatest_number → (led : IsLed settings s cache events results) → IsReady led.state
+  ready_there settings s h cache events results good agrees few led =
+      let to = keeps settings events results s h (records_given results) (Some led.state) (runs settings good events results s h (Some led.state) agrees led.steps few) in
+      is_ready led.state to.later to.agrees
+
+  module _ (old mid new : Cache) (before : List Event) (answered : List StepResult) (leading : Leading old mid before answered) where
+    -- one event more is served
+    leads_on : (event : Event) (actions : Vec Action Global) → Answers event (Ok actions) mid new → Leading old new (before ++ event ∷ []) (answered ++ Ok actions ∷ [])
+    leads_on event actions answers settings s h good stands agrees few =
+        let less = fewer answered (Ok actions ∷ []) s.numbers.records few in
+        let led = leading settings s h good stands agrees less in
+        let g = answers.gives settings led.state led.stands (ready_there settings s h mid before answered good agrees less led) in record {
+          state = g.0;
+          stands = g.1;
+          steps = steps_append settings before (event ∷ []) answered (Ok actions ∷ []) s led.state (Some g.0) led.steps (g.0, g.2, refl);
+        }
+
+    -- one more isn't
+    refused : (event : Event) (step : StepFault) (settings : CoreSettings) (s : State) (led : IsLed settings s mid before answered)
+        → GivesStep (Err step) settings event led.state new → (step ≢ Memory → new ≡ mid)
+        → (end : Option State) × EndStands settings end new × Steps settings s (before ++ event ∷ []) (answered ++ Err step ∷ []) end
+    refused event Memory settings s led g same =
+        (None, g.1, steps_append settings before (event ∷ []) answered (Err Memory ∷ []) s led.state None led.steps (g.0, refl, refl))
+    refused event MomentTooLarge settings s led g same = (
+      Some led.state,
+      subst (λ (cache : Cache). StandsFor settings cache led.state) (sym (same (λ e. cc))) led.stands,
+      steps_append settings before (event ∷ []) answered (Err MomentTooLarge ∷ []) s led.state (Some led.state) led.steps (g, refl),
+    )
+    refused event UnknownNumber settings s led g same = (
+      Some led.state,
+      subst (λ (cache : Cache). StandsFor settings cache led.state) (sym (same (λ e. cc))) led.stands,
+      steps_append settings before (event ∷ []) answered (Err UnknownNumber ∷ []) s led.state (Some led.state) led.steps (g, refl),
+    )
+    refused event TooManyConnections settings s led g same = (
+      Some led.state,
+      subst (λ (cache : Cache). StandsFor settings cache led.state) (sym (same (λ e. cc))) led.stands,
+      steps_append settings before (event ∷ []) answered (Err TooManyConnections ∷ []) s led.state (Some led.state) led.steps (g, refl),
+    )
+    refused event Failed settings s led g same = absurd g
+
+    leads_to_refusal : (event : Event) (step : StepFault) → Answers event (Err step) mid new → Leads old new (before ++ event ∷ []) (answered ++ Err step ∷ [])
+    leads_to_refusal event step answers settings s h good stands agrees few =
+        let less = fewer answered (Err step ∷ []) s.numbers.records few in
+        let led = leading settings s h good stands agrees less in
+        let r = refused event step settings s led
+        (answers.gives settings led.state led.stands (ready_there settings s h mid before answered good agrees less led)) (answers.same step refl) in record {
+          end = r.0;
+          stands = r.1;
+          runs = runs settings good (before ++ event ∷ []) (answered ++ Err step ∷ []) s h r.0 agrees r.2 few;
+        }
+
+  leads : (old new : Cache) (events : List Event) (results : List StepResult) → Leading old new events results → Leads old new events results
+  leads old new events results leading settings s h good stands agrees few =
+      let led = leading settings s h good stands agrees few in record {
+        end = Some led.state;
+        stands = led.stands;
+        runs = runs settings good events results s h (Some led.state) agrees led.steps few;
+      }
+
+  module _ (T T' : List Move → Type 0) (H H' : List ℕ → Type 0) (old mid new : Cache) (log : List Move) (text : List ℕ) (f : SoFar T H old mid log text) where
+    pub goes_on : IsTurn T' H' mid new (passed f.events f.results log) (text ++ texts_given f.results) → SoFar T' H' old new log text
+    goes_on t = record {
+      events = f.events ++ t.event ∷ [];
+      results = f.results ++ Ok t.actions ∷ [];
+      leading = leads_on old mid new f.events f.results f.leading t.event t.actions t.answers;
+      paired = paired_append f.events (t.event ∷ []) f.results (Ok t.actions ∷ []) f.paired refl;
+      served = served_append f.results (Ok t.actions ∷ []) f.served unit;
+      told = subst T' (sym (passed_append f.events (t.event ∷ []) f.results (Ok t.actions ∷ []) log f.paired)) t.done.0;
+      held = subst H' (ap (λ (o : List ℕ). (text ++ texts_given f.results) ++ o) (sym (texts_of_one t.actions))
+          ∙ append_assoc text (texts_given f.results) (texts_given (Ok t.actions ∷ []))
+          ∙ ap (λ (o : List ℕ). text ++ o) (sym (texts_given_append f.results (Ok t.actions ∷ [])))) t.done.1;
+    }
+      where
+        unit : Unit {0}
+        unit = search rules
+
+    pub ended : new ≡ mid → T' (passed f.events f.results log) → H' (text ++ texts_given f.results) → AreTurns T' H' old new log text
+    ended same told held = record {
+      events = f.events;
+      results = f.results;
+      leads = leads old new f.events f.results (subst (λ (cache : Cache). Leading old cache f.events f.results) (sym same) f.leading);
+      served = f.served;
+      told = told;
+      held = held;
+    }
+
+    break_leads : (break : Break) → AnswersBy break mid new → Leads old new (f.events ++ events_by break) (f.results ++ answers_by break)
+    break_leads Before same =
+        subst (λ (events : List Event). Leads old new events (f.results ++ [])) (sym (append-nil f.events))
+        (subst (λ (results : List StepResult). Leads old new f.events results) (sym (append-nil f.results))
+        (leads old new f.events f.results (subst (λ (cache : Cache). Leading old cache f.events f.results) (sym same) f.leading)))
+    break_leads (AtAnswer event step) answers = leads_to_refusal old mid new f.events f.results f.leading event step answers
+    break_leads (Carrying event actions) answers =
+        leads old new (f.events ++ event ∷ []) (f.results ++ Ok actions ∷ []) (leads_on old mid new f.events f.results f.leading event actions answers)
+
+    pub broke_off : (why : DriveFault) (break : Break) → IsToldBy break why → AnswersBy break mid new
+        → StopsAt break T' H' (passed f.events f.results log) (text ++ texts_given f.results) → BreakOff why T' H' old new log text
+    broke_off why break told answers stops = record {
+      events = f.events;
+      results = f.results;
+      break = break;
+      told_by = told;
+      leads = break_leads break answers;
+      served = f.served;
+      stops = stops;
+    }
+
+-- turns that went well, and then no more is done
+pub as_broken : (why : DriveFault) (T : List Move → Type 0) (H : List ℕ → Type 0) (old new : Cache) (log : List Move) (text : List ℕ) → IsToldBy Before why
+    → AreTurns T H old new log text → BreakOff why T H old new log text
+as_broken why T H old new log text told t = record {
+  events = t.events;
+  results = t.results;
+  break = Before;
+  told_by = told;
+  leads = subst (λ (events : List Event). Leads old new events (t.results ++ [])) (sym (append-nil t.events))
+      (subst (λ (results : List StepResult). Leads old new t.events results) (sym (append-nil t.results)) t.leads);
+  served = t.served;
+  stops = (t.told, t.held);
+}
+
+-- a fault behind which turns broke off
+pub breaks : (T U : Type 0) (why : DriveFault) (tells : List Move → Type 0) (holds : List ℕ → Type 0) (old new : Cache) (log : List Move) (text : List ℕ) (before after : ℕ)
+    → CountsRecorder {T = T} (Err why) before after → BreakOff why tells holds old new log text → GivesDrive {T = U} tells holds (Err why) old new log text
+breaks T U fault.Client tells holds old new log text before after counted b = absurd counted
+breaks T U fault.Recorder tells holds old new log text before after counted b = b
+breaks T U (fault.Core step) tells holds old new log text before after counted b = b

@@ -1,0 +1,2 @@
+pub mod CarryLemmas
+pub mod DriveLemmas

@@ -1,0 +1,12 @@
+use Rattle.std.proofs.Common.{◌≡◌, ℕ, List, take}
+use Rattle.hc_connection.specs.Moves.{Move}
+use Rattle.hc_serve.specs.Carrying.{AreDone}
+use Rattle.hc_serve.proofs.carrying.carry_out.Given as goal
+
+-- the actions so far were carried out
+abbrev pub invariant-actions : goal.invariant-actions
+invariant-actions g l = record {
+  done : (log : List Move) (text : List ℕ) → g.L.Links.tells l.initial.links log → g.R.Link.has_got l.initial.recorder text
+      → AreDone (g.L.Links.tells l.links) (g.R.Link.has_got l.recorder) (take l.action-index l.actions) log text;
+  count : g.R.Link.count l.recorder ≡ g.R.Link.count l.initial.recorder;
+}

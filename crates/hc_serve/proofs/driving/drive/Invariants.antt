@@ -1,0 +1,12 @@
+use Rattle.std.proofs.Common.{◌≡◌, ℕ, List}
+use Rattle.hc_connection.specs.Moves.{Move}
+use Rattle.hc_serve.proofs.DriveLemmas.{SoFar}
+use Rattle.hc_serve.proofs.driving.drive.Given as goal
+
+-- the turns so far
+abbrev pub invariant-turns : goal.invariant-turns
+invariant-turns g l = record {
+  so_far : (log : List Move) (text : List ℕ) → g.L.Links.tells l.initial.links log → g.R.Link.has_got l.initial.recorder text
+      → SoFar (g.L.Links.tells l.links) (g.R.Link.has_got l.recorder) l.initial.core l.core log text;
+  count : g.R.Link.count l.recorder ≡ g.R.Link.count l.initial.recorder;
+}

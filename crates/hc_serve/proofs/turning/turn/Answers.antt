@@ -1,0 +1,36 @@
+use Rattle.std.proofs.Common.{◌∷◌, subst, sym}
+use Rattle.std.proofs.lemmas.Result.{err_from_is_err_and}
+use Rattle.hc_connection.specs.Moves.Move.{Heard}
+use Rattle.hc_serve.specs.Carrying.{IsOfCarrying}
+use Rattle.hc_serve.specs.Turns.Break.{AtAnswer, Carrying}
+use Rattle.hc_serve.proofs.turning.turn.Goals as goal
+
+pub returns-in_err-actions-clause-turn : goal.returns-in_err-actions-clause-turn
+returns-in_err-actions-clause-turn g c =
+    let p = err_from_is_err_and c.from_residual-in_err-actions.result c.from_residual-in_err-actions.ensures.1 in
+    rw p.1 (λ log text told held. (
+      AtAnswer c.in-Some.event c.in_err-actions.field-0.0,
+      p.2,
+      record { gives = c.in_err-actions.ensures.gives; same = c.in_err-actions.ensures.same },
+      ((rw c.in-Some.is at c.in_ok-event.ensures) log told, held),
+    ))
+
+pub returns-in_err-carry_out-clause-turn : goal.returns-in_err-carry_out-clause-turn
+returns-in_err-carry_out-clause-turn g c =
+    let p = err_from_is_err_and c.from_residual-in_err-carry_out.result c.from_residual-in_err-carry_out.ensures.1 in
+    rw p.1 (λ log text told held. (
+      Carrying c.in-Some.event c.in_ok-actions.actions,
+      subst IsOfCarrying (sym p.2) c.in_err-carry_out.ensures.why,
+      record { gives = c.in_ok-actions.ensures.gives; same = c.in_ok-actions.ensures.same },
+      (rw c.as_slice.ensures.value at c.in_err-carry_out.ensures.done) (Heard c.in-Some.event ∷ log) text
+          ((rw c.in-Some.is at c.in_ok-event.ensures) log told) held,
+    ))
+
+pub returns-clause-turn : goal.returns-clause-turn
+returns-clause-turn g c = λ log text told held. record {
+  event = c.in-Some.event;
+  actions = c.in_ok-actions.actions;
+  answers = record { gives = c.in_ok-actions.ensures.gives; same = c.in_ok-actions.ensures.same };
+  done = (rw c.as_slice.ensures.value at c.in_ok-carry_out.ensures.done) (Heard c.in-Some.event ∷ log) text
+      ((rw c.in-Some.is at c.in_ok-event.ensures) log told) held;
+}

@@ -1,0 +1,130 @@
+-- Turns, one after another.
+use Rattle.std.specs.Prelude.{◌≡◌, ℕ, ◌+◌, ◌≤◌, Bool, true, false, List, [], ◌∷◌, ◌++◌, length, Option, Some, None, Result, Ok, Err}
+use Rattle.std.specs.FinMap.{len}
+use Rattle.std.specs.List.{flat_map}
+use Rattle.hc_transcript.specs.Limits.{greatest_number}
+use Rattle.hc_transcript.specs.Records.{record_text}
+use Rattle.hc_events.specs.declared.Event.{Event}
+use Rattle.hc_service.specs.declared.settings.CoreSettings.{CoreSettings}
+use Rattle.hc_service.specs.Agreement.{Agrees, History}
+use Rattle.hc_service.specs.Runs.{Runs, StepResult, records_given}
+use Rattle.hc_service.specs.Settings.{AreGood}
+use Rattle.hc_service.specs.State.{State}
+use Rattle.hc_core.specs.Steps.{Cache, StandsFor}
+use Rattle.hc_connection.specs.Links.{HasFailed}
+use Rattle.hc_connection.specs.Moves.{Move}
+use Rattle.hc_connection.specs.Moves.Move.{Heard}
+use Rattle.hc_serve.specs.declared.fault.DriveFault.{DriveFault}
+use Rattle.hc_serve.specs.declared.fault.DriveFault.TheVariants as fault
+use Rattle.hc_serve.specs.Carrying.{carried}
+use Rattle.hc_serve.specs.Turns.{Break, IsToldBy, StopsAt}
+use Rattle.hc_serve.specs.Turns.Break.{Before, AtAnswer, Carrying}
+
+-- ---- what the cache was handed and answered
+
+-- it stands for the state that it was led to; a refused growth leaves none
+abbrev pub EndStands : CoreSettings → Option State → Cache → Type 0
+EndStands settings None cache = cache.failed ≡ true
+EndStands settings (Some s) cache = StandsFor settings cache s
+
+-- from a state that agrees with what has happened, the events lead by these answers to what the cache stands for
+pub record LeadsTo (settings : CoreSettings) (s : State) (h : History) (cache : Cache) (events : List Event) (results : List StepResult) : Type 0 where
+  pub end : Option State
+  pub stands : EndStands settings end cache
+  pub runs : Runs settings s h events results (records_given results) end
+
+-- the same from whatever the cache stood for, as far as records can be numbered
+abbrev pub Leads : Cache → Cache → List Event → List StepResult → Type 0
+Leads old new events results = (settings : CoreSettings) (s : State) (h : History) → AreGood settings → StandsFor settings old s → Agrees s h
+    → s.numbers.records + length (records_given results) ≤ greatest_number → LeadsTo settings s h new events results
+
+-- each event was served
+abbrev pub AreServed : List StepResult → Type 0
+AreServed [] = Unit {0}
+AreServed (Ok actions ∷ results) = AreServed results
+AreServed (Err step ∷ results) = ⊥
+
+-- ---- what has passed
+
+-- each event was heard, and then what the cache did for it was carried out
+abbrev pub passed : List Event → List StepResult → List Move → List Move
+passed (event ∷ events) (Ok actions ∷ results) log = passed events results (carried actions.items (Heard event ∷ log))
+passed (event ∷ events) (Err step ∷ results) log = passed events results (Heard event ∷ log)
+passed (event ∷ events) [] log = log
+passed [] results log = log
+
+-- the texts of the records that answers give out, in order
+abbrev pub texts_given : List StepResult → List ℕ
+texts_given results = flat_map record_text (records_given results)
+
+-- ---- whole turns
+
+-- the events were served by these answers, and all that the cache did was carried out; the texts of its records stand behind the text
+pub record AreTurns (tells : List Move → Type 0) (holds : List ℕ → Type 0) (old new : Cache) (log : List Move) (text : List ℕ) : Type 0 where
+  pub events : List Event
+  pub results : List StepResult
+  pub leads : Leads old new events results
+  pub served : AreServed results
+  pub told : tells (passed events results log)
+  pub held : holds (text ++ texts_given results)
+
+-- ---- turns of which the last broke off
+
+abbrev pub events_by : Break → List Event
+events_by Before = []
+events_by (AtAnswer event step) = event ∷ []
+events_by (Carrying event actions) = event ∷ []
+
+abbrev pub answers_by : Break → List StepResult
+answers_by Before = []
+answers_by (AtAnswer event step) = Err step ∷ []
+answers_by (Carrying event actions) = Ok actions ∷ []
+
+pub record BreakOff (why : DriveFault) (tells : List Move → Type 0) (holds : List ℕ → Type 0) (old new : Cache) (log : List Move) (text : List ℕ) : Type 0 where
+  pub events : List Event
+  pub results : List StepResult
+  pub break : Break
+  pub told_by : IsToldBy break why
+  pub leads : Leads old new (events ++ events_by break) (results ++ answers_by break)
+  pub served : AreServed results
+  pub stops : StopsAt break tells holds (passed events results log) (text ++ texts_given results)
+
+abbrev pub GivesDrive : {T : Type 0} → (List Move → Type 0) → (List ℕ → Type 0) → Result T DriveFault → Cache → Cache → List Move → List ℕ → Type 0
+GivesDrive tells holds (Ok done) old new log text = AreTurns tells holds old new log text
+GivesDrive tells holds (Err fault.Client) old new log text = AreTurns tells holds old new log text
+GivesDrive tells holds (Err fault.Recorder) old new log text = BreakOff fault.Recorder tells holds old new log text
+GivesDrive tells holds (Err (fault.Core step)) old new log text = BreakOff (fault.Core step) tells holds old new log text
+
+-- ---- a connection that was served
+
+-- the count of the recorder's failures
+abbrev pub CountsServed : {T : Type 0} → Result T DriveFault → ℕ → ℕ → Type 0
+CountsServed (Ok done) before after = after ≡ before
+CountsServed (Err fault.Client) before after = after ≡ before
+CountsServed (Err fault.Recorder) before after = HasFailed before after
+CountsServed (Err (fault.Core step)) before after = after ≡ before
+
+-- no connection and no forward is open
+abbrev pub IsIdle : State → Type 0
+IsIdle s = (len s.connections ≡ 0) × (len s.forwards ≡ 0)
+
+-- the cache is idle where all was served
+abbrev pub LeavesIdle : {T : Type 0} → Result T DriveFault → Cache → Type 0
+LeavesIdle (Ok done) cache = (settings : CoreSettings) (s : State) → StandsFor settings cache s → IsIdle s
+LeavesIdle (Err fault.Client) cache = (settings : CoreSettings) (s : State) → StandsFor settings cache s → IsIdle s
+LeavesIdle (Err fault.Recorder) cache = Unit {0}
+LeavesIdle (Err (fault.Core step)) cache = Unit {0}
+
+-- what the answer says of the client's link
+abbrev pub SaysFailed : {T : Type 0} → Result T DriveFault → Bool → Type 0
+SaysFailed (Ok done) failed = failed ≡ false
+SaysFailed (Err fault.Client) failed = failed ≡ true
+SaysFailed (Err fault.Recorder) failed = Unit {0}
+SaysFailed (Err (fault.Core step)) failed = Unit {0}
+
+-- where all was served the cache was told that the client opened its connection
+abbrev pub LeavesOpened : {T : Type 0} → Result T DriveFault → Bool → Type 0
+LeavesOpened (Ok done) opened = opened ≡ true
+LeavesOpened (Err fault.Client) opened = opened ≡ true
+LeavesOpened (Err fault.Recorder) opened = Unit {0}
+LeavesOpened (Err (fault.Core step)) opened = Unit {0}

@@ -1,0 +1,3 @@
+pub mod Carrying
+pub mod Turns
+pub mod Drives

@@ -1,0 +1,59 @@
+-- Turns: something happens, the cache is handed it, and what the cache does is carried out.
+use Rattle.std.specs.Prelude.{◌≡◌, ◌≢◌, ◌⊎◌, ℕ, true, false, Bool, List, ◌∷◌, Result, Ok, Err}
+use Rattle.std.specs.Global.{Global}
+use Rattle.std.specs.declared.vec.Vec.{Vec}
+use Rattle.hc_events.specs.declared.Event.{Event}
+use Rattle.hc_service.specs.declared.action.Action.{Action}
+use Rattle.hc_service.specs.declared.fault.StepFault.{StepFault}
+use Rattle.hc_service.specs.declared.fault.StepFault.TheVariants.{Memory, Failed}
+use Rattle.hc_service.specs.declared.settings.CoreSettings.{CoreSettings}
+use Rattle.hc_service.specs.Agreement.{IsReady}
+use Rattle.hc_service.specs.Runs.{StepResult}
+use Rattle.hc_service.specs.State.{State}
+use Rattle.hc_core.specs.Steps.{Cache, GivesStep, StandsFor}
+use Rattle.hc_connection.specs.Moves.{Move}
+use Rattle.hc_connection.specs.Moves.Move.{Heard}
+use Rattle.hc_serve.specs.declared.fault.DriveFault.{DriveFault}
+use Rattle.hc_serve.specs.declared.fault.DriveFault.TheVariants.{Core}
+use Rattle.hc_serve.specs.Carrying.{AreCut, AreDone, IsOfCarrying}
+
+-- the cache was handed the event, and answered so
+pub record Answers (event : Event) (answer : StepResult) (old new : Cache) : Type 0 where
+  pub gives : (settings : CoreSettings) (s : State) → StandsFor settings old s → IsReady s → GivesStep answer settings event s new
+  pub same : (step : StepFault) → answer ≡ Err step → step ≢ Memory → new ≡ old
+
+-- a whole turn
+pub record IsTurn (tells : List Move → Type 0) (holds : List ℕ → Type 0) (old new : Cache) (log : List Move) (text : List ℕ) : Type 0 where
+  pub event : Event
+  pub actions : Vec Action Global
+  pub answers : Answers event (Ok actions) old new
+  pub done : AreDone tells holds actions.items (Heard event ∷ log) text
+
+-- where it broke off: before something happened, at the cache's answer, or while that was carried out
+pub data Break : Type 0 where
+  Before : Break
+  AtAnswer : (event : Event) (step : StepFault) → Break
+  Carrying : (event : Event) (actions : Vec Action Global) → Break
+
+-- what the cache was handed and answered by then
+abbrev pub AnswersBy : Break → Cache → Cache → Type 0
+AnswersBy Before old new = new ≡ old
+AnswersBy (AtAnswer event step) old new = Answers event (Err step) old new
+AnswersBy (Carrying event actions) old new = Answers event (Ok actions) old new
+
+-- what has passed and was written by then
+abbrev pub StopsAt : Break → (List Move → Type 0) → (List ℕ → Type 0) → List Move → List ℕ → Type 0
+StopsAt Before tells holds log text = tells log × holds text
+StopsAt (AtAnswer event step) tells holds log text = tells (Heard event ∷ log) × holds text
+StopsAt (Carrying event actions) tells holds log text = AreCut tells holds actions.items (Heard event ∷ log) text
+
+-- the fault that tells it: memory was refused to the driver, or it gave up; or what the cache answered
+abbrev pub IsToldBy : Break → DriveFault → Type 0
+IsToldBy Before fault = (fault ≡ Core Memory) ⊎ (fault ≡ Core Failed)
+IsToldBy (AtAnswer event step) fault = fault ≡ Core step
+IsToldBy (Carrying event actions) fault = IsOfCarrying fault
+
+abbrev pub GivesTurn : (List Move → Type 0) → (List ℕ → Type 0) → Result Bool DriveFault → Cache → Cache → List Move → List ℕ → Type 0
+GivesTurn tells holds (Ok true) old new log text = IsTurn tells holds old new log text
+GivesTurn tells holds (Ok false) old new log text = (new ≡ old) × tells log × holds text
+GivesTurn tells holds (Err fault) old new log text = (break : Break) × IsToldBy break fault × AnswersBy break old new × StopsAt break tells holds log text

@@ -1,0 +1,38 @@
+//! Turns, as long as something happens.
+
+ghost use Rattle.std.specs.Prelude.{◌≡◌, ℕ, List};
+ghost use Rattle.hc_connection.specs.Moves.{Move};
+ghost use Rattle.hc_serve.specs.Carrying.{CountsRecorder};
+ghost use Rattle.hc_serve.specs.Drives.{GivesDrive};
+
+use crate::fault::DriveFault;
+use crate::turning::turn;
+use hc_connection::{Link, Links};
+use hc_core::Core;
+use hc_service::{StepFault, agreement_is_ready, runs_keep_agreement, steps_are_runs};
+use std::alloc::Global;
+use std::hash::BuildHasher;
+
+/// Hands the cache what happens at the links, carries out what it does, and writes its records to the recorder, until
+/// nothing more happens. It counts its turns, and gives up behind 2^64 - 1 of them.
+pub fn drive<S: BuildHasher, L: Links, R: Link>(
+    alloc: Global,
+    core: &mut Core<S>,
+    links: &mut L,
+    recorder: &mut R,
+) -> Result<(), DriveFault>
+    ensures drive { (log : List Move) (text : List ℕ) → L.tells links.old log → R.has_got recorder.old text
+        → GivesDrive (L.tells links.new) (R.has_got recorder.new) result core.old core.new log text }
+    ensures count { CountsRecorder result (R.count recorder.old) (R.count recorder.new) }
+{
+    // Laws, which do nothing: what is proved below rests on them.
+    steps_are_runs();
+    runs_keep_agreement();
+    agreement_is_ready();
+    'turns: for _ in 0..u64::MAX {
+        if !turn(alloc, core, links, recorder)? {
+            return Ok(());
+        }
+    }
+    Err(DriveFault::Core(StepFault::Failed))
+}

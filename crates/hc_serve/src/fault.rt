@@ -1,0 +1,39 @@
+//! What went wrong while a connection was served.
+
+ghost use Rattle.std.specs.Prelude.{◌≡◌};
+ghost use Rattle.hc_service.specs.declared.fault.StepFault.TheVariants.{Memory};
+ghost use Rattle.hc_serve.specs.declared.fault.DriveFault.TheVariants.{Core};
+
+use hc_service::StepFault;
+use std::alloc::AllocError;
+use thiserror::Error;
+
+/// What went wrong while a connection was served.
+#[derive(Clone, Copy, Debug, PartialEq, Eq, Error)]
+pub enum DriveFault {
+    /// The client's link failed. All that was open was served to its end.
+    #[error("the client's link failed")]
+    Client,
+    /// The recorder failed. Nothing was read or written behind that.
+    #[error("the recorder failed")]
+    Recorder,
+    /// The cache didn't serve an event, or memory was refused to the driver itself.
+    #[error("{0}")]
+    Core(StepFault),
+}
+
+impl From<AllocError> for DriveFault {
+    ghost from_gives = { λ _ e. e ≡ Core Memory };
+
+    fn from(_e: AllocError) -> DriveFault {
+        DriveFault::Core(StepFault::Memory)
+    }
+}
+
+impl From<StepFault> for DriveFault {
+    ghost from_gives = { λ fault e. e ≡ Core fault };
+
+    fn from(fault: StepFault) -> DriveFault {
+        DriveFault::Core(fault)
+    }
+}

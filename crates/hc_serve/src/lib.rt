@@ -1,0 +1,14 @@
+//! Serving clients: what happens at links is handed to a cache, what the cache does is carried out, and its records are
+//! written.
+#![tactic(auto)]
+
+mod carrying;
+mod driving;
+mod fault;
+mod recorder;
+mod serving;
+mod turning;
+
+pub use driving::drive;
+pub use fault::DriveFault;
+pub use serving::serve_connection;

@@ -1,0 +1,41 @@
+//! Serving one connection.
+
+ghost use Rattle.std.specs.Prelude.{◌≡◌, ℕ, List};
+ghost use Rattle.hc_connection.specs.Moves.{Move};
+ghost use Rattle.hc_connection.specs.Sides.{Opens, Tells};
+ghost use Rattle.hc_serve.specs.Drives.{CountsServed, GivesDrive, LeavesIdle, LeavesOpened, SaysFailed};
+
+use crate::driving::drive;
+use crate::fault::DriveFault;
+use hc_connection::{Clock, Connection, Link, Origins};
+use hc_core::Core;
+use hc_service::StepFault;
+use std::alloc::Global;
+use std::hash::BuildHasher;
+
+/// Serves one connection to its end, and records that.
+pub fn serve_connection<S: BuildHasher, C: Link, O: Origins, K: Clock, R: Link>(
+    alloc: Global,
+    core: &mut Core<S>,
+    connection: &mut Connection<'_, C, O, K>,
+    recorder: &mut R,
+) -> Result<(), DriveFault>
+    ensures serves { (log : List Move) (text : List ℕ)
+        → Tells C.has_given C.has_got C.count connection.old.client log → Opens connection.old.opened connection.old.client.number log
+        → R.has_got recorder.old text
+        → GivesDrive (λ log. Tells C.has_given C.has_got C.count connection.new.client log × Opens connection.new.opened connection.new.client.number log)
+        (R.has_got recorder.new) result core.old core.new log text }
+    ensures count { CountsServed result (R.count recorder.old) (R.count recorder.new) }
+    ensures idle { LeavesIdle result core.new }
+    ensures failed { SaysFailed result connection.new.client.failed }
+    ensures opened { LeavesOpened result connection.new.opened }
+{
+    drive(alloc, core, connection, recorder)?;
+    if !connection.is_opened() || !core.idle() {
+        return Err(DriveFault::Core(StepFault::Failed));
+    }
+    if connection.has_failed() {
+        return Err(DriveFault::Client);
+    }
+    Ok(())
+}

@@ -1,0 +1,32 @@
+//! One turn: something happens, the cache is handed it, and what it does is carried out.
+
+ghost use Rattle.std.specs.Prelude.{◌≡◌, ℕ, List};
+ghost use Rattle.hc_connection.specs.Moves.{Move};
+ghost use Rattle.hc_serve.specs.Carrying.{CountsRecorder};
+ghost use Rattle.hc_serve.specs.Turns.{GivesTurn};
+
+use crate::carrying::carry_out;
+use crate::fault::DriveFault;
+use hc_connection::{Link, Links};
+use hc_core::Core;
+use std::alloc::Global;
+use std::hash::BuildHasher;
+
+/// One turn. Answers whether something happened.
+pub(crate) fn turn<S: BuildHasher, L: Links, R: Link>(
+    alloc: Global,
+    core: &mut Core<S>,
+    links: &mut L,
+    recorder: &mut R,
+) -> Result<bool, DriveFault>
+    ensures turn { (log : List Move) (text : List ℕ) → L.tells links.old log → R.has_got recorder.old text
+        → GivesTurn (L.tells links.new) (R.has_got recorder.new) result core.old core.new log text }
+    ensures count { CountsRecorder result (R.count recorder.old) (R.count recorder.new) }
+{
+    let Some(event) = links.next()? else {
+        return Ok(false);
+    };
+    let actions = core.step(event)?;
+    carry_out(alloc, links, recorder, actions.as_slice())?;
+    Ok(true)
+}

@@ -1,0 +1,22 @@
+//! The cases of connections that are served: what comes of each of those that `cases.txt` lists, a line a case.
+#![tactic(auto)]
+
+mod answers;
+mod hits;
+mod links;
+mod loopback;
+mod notebook;
+mod runs;
+mod scene;
+mod telling;
+
+use crate::answers::Connections;
+use std::process::ExitCode;
+
+fn main(rt: HostRuntime) -> ExitCode {
+    let asked = Connections { net: &rt };
+    let mut output = rt.stdout();
+    let mut faults = rt.stderr();
+    let status = hc_cases::status(&rt, &asked, "cases.txt", &mut output, &mut faults);
+    ExitCode::from(status)
+}

@@ -1,0 +1,102 @@
+//! A connection is served over links in memory.
+
+use crate::notebook::{Device, Fault, Notebook};
+use crate::scene::{Scene, Site, Standing, new_core};
+use hc_audit::{AuditFault, Auditor, FieldNames, Index, Settings, UnmarkedReplies, Verdict};
+use hc_cases::Unanswered;
+use hc_connection::Connection;
+use hc_index::MapIndex;
+use hc_serve::{DriveFault, serve_connection};
+use hc_transcript::OPENING;
+use std::alloc::Global;
+
+/// What came of a connection.
+#[derive(Drop)]
+pub(crate) struct Served {
+    pub(crate) result: Result<(), DriveFault>,
+    /// Whether the cache is idle then.
+    pub(crate) idle: bool,
+    /// How many octets were read from the client.
+    pub(crate) read: usize,
+    /// What was written to the client.
+    pub(crate) reply: Vec<u8>,
+    /// What was written to the recorder.
+    pub(crate) recording: Vec<u8>,
+}
+
+/// The same, and what its notebook has.
+#[derive(Drop)]
+pub(crate) struct Outcome {
+    pub(crate) served: Served,
+    /// Whether the call that was to fail was made.
+    pub(crate) failed: bool,
+    /// Whether no call was made behind that one.
+    pub(crate) silent: bool,
+    /// The calls at all links.
+    pub(crate) notes: String,
+    /// What was written to origins.
+    pub(crate) forwards: Vec<u8>,
+}
+
+/// Serves the scene's connection to a new cache. That call fails, if one is named.
+pub(crate) fn run(
+    alloc: Global,
+    scene: &Scene<'_>,
+    fault: Option<Fault>,
+) -> Result<Outcome, Unanswered> {
+    let notebook = Notebook::new(alloc, fault);
+    let served = serve(alloc, scene, &notebook)?;
+    let failed = notebook.has_failed();
+    let silent = notebook.is_silent();
+    let (notes, forwards) = notebook.contents();
+    Ok(Outcome {
+        served,
+        failed,
+        silent,
+        notes,
+        forwards,
+    })
+}
+
+fn serve(alloc: Global, scene: &Scene<'_>, notebook: &Notebook) -> Result<Served, Unanswered> {
+    let mut core = new_core(alloc)?;
+    let site = Site {
+        alloc,
+        scene,
+        notebook,
+    };
+    let client = scene.link(alloc, Device::Client, scene.client, notebook);
+    let mut recorder = scene.link(alloc, Device::Recorder, b"", notebook);
+    let mut connection = Connection::new(alloc, 1, client, &site, &Standing)?;
+    let result = serve_connection(alloc, &mut core, &mut connection, &mut recorder);
+    Ok(Served {
+        result,
+        idle: core.idle(),
+        read: connection.client().given(),
+        reply: Vec::from_slice(alloc, connection.client().got())?,
+        recording: Vec::from_slice(alloc, recorder.got())?,
+    })
+}
+
+/// The verdict of an audit that lets nothing pass on what was recorded.
+pub(crate) fn verdict_on(alloc: Global, recording: &[u8]) -> Result<Verdict, Unanswered> {
+    let settings = Settings {
+        slack: 0,
+        ignored: FieldNames::new(alloc),
+        unmarked: UnmarkedReplies::ErrorsOnly,
+    };
+    let auditor = Auditor::new(alloc, MapIndex::new(alloc), settings);
+    match audited(auditor, recording) {
+        Ok(verdict) => Ok(verdict),
+        Err(_) => Err(Unanswered::Memory),
+    }
+}
+
+fn audited<I: Index + Drop>(
+    mut auditor: Auditor<I>,
+    recording: &[u8],
+) -> Result<Verdict, AuditFault> {
+    auditor.feed(OPENING)?;
+    auditor.feed(recording)?;
+    auditor.finish()
+}

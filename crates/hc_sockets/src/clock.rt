@@ -1,0 +1,19 @@
+//! The system's clock.
+
+use hc_connection::Clock;
+use std::time;
+
+/// The system's clock. Where it can't be read, it tells the moment 0, which a cache takes for the last that it was told.
+#[derive(Drop)]
+pub(crate) struct SystemClock<'a, R: time::Clock> {
+    pub(crate) system: &'a R,
+}
+
+impl<'a, R: time::Clock> Clock for SystemClock<'a, R> {
+    fn now(&self) -> u64 {
+        match self.system.since_1970() {
+            Ok(since) => since.as_secs(),
+            Err(_) => 0,
+        }
+    }
+}

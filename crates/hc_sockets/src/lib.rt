@@ -1,0 +1,11 @@
+//! A cache behind sockets: clients connect to it, it connects to an origin, and both sides are recorded to a file.
+#![tactic(auto)]
+
+mod clock;
+mod fault;
+mod origin;
+mod serving;
+mod system_link;
+
+pub use fault::ServeFault;
+pub use serving::{Service, serve};

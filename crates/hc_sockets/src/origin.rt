@@ -1,0 +1,28 @@
+//! The origin behind its address.
+
+use crate::system_link::SystemLink;
+use hc_connection::{LinkFailure, Origins};
+use std::net::{Net, OpenStream, TcpStream};
+
+/// An origin that is connected to for each forward.
+#[derive(Drop)]
+pub(crate) struct Origin<'a, R: Net> {
+    pub(crate) net: &'a R,
+    /// Its host and port.
+    pub(crate) address: &'a str,
+}
+
+impl<'a, R: Net> Origins for Origin<'a, R> {
+    type Link = SystemLink<R::Stream>;
+
+    fn connect(&self, _forward: u64) -> Result<SystemLink<R::Stream>, LinkFailure> {
+        match TcpStream::connect(self.net, self.address) {
+            Ok(stream) => {
+                // A socket that refuses it works all the same.
+                let _ = stream.set_nodelay(true);
+                Ok(SystemLink::new(stream))
+            }
+            Err(_) => Err(LinkFailure),
+        }
+    }
+}
