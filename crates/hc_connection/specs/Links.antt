@@ -34,12 +34,12 @@ WritesAll before after (Ok done) octets = (got : List ℕ) → before got → af
 WritesAll before after (Err failure) octets =
     (got : List ℕ) → before got → (front : List ℕ) × IsBeginning front octets × after (got ++ front)
 
--- what came of a read was read; where memory is refused nothing was
-abbrev pub GivesCame : (List ℕ → Type 0) → (List ℕ → Type 0) → Result Came AllocError → Type 0
-GivesCame before after (Ok (Octets octets)) = (given : List ℕ) → before given → after (given ++ octets)
-GivesCame before after (Ok End) = (given : List ℕ) → before given → after given
-GivesCame before after (Ok Failure) = (given : List ℕ) → before given → after given
-GivesCame before after (Err refused) = (given : List ℕ) → before given → after given
+-- what came of a read was read, and is no more than that many octets; where memory is refused nothing was
+abbrev pub GivesCame : ℕ → (List ℕ → Type 0) → (List ℕ → Type 0) → Result Came AllocError → Type 0
+GivesCame most before after (Ok (Octets octets)) = (length octets ≤ most) × ((given : List ℕ) → before given → after (given ++ octets))
+GivesCame most before after (Ok End) = (given : List ℕ) → before given → after given
+GivesCame most before after (Ok Failure) = (given : List ℕ) → before given → after given
+GivesCame most before after (Err refused) = (given : List ℕ) → before given → after given
 
 -- a failure is counted, as far as can be counted
 abbrev pub HasFailed : ℕ → ℕ → Type 0

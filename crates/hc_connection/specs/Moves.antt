@@ -1,5 +1,5 @@
 -- What passes at the links of a driver. The newest move comes first.
-use Rattle.std.specs.Prelude.{◌≡◌, ℕ, ◌+◌, ◌<◌, ◌==◌, Bool, true, false, List, [], ◌∷◌, ◌++◌, Option, Some, None, if◌then◌else◌}
+use Rattle.std.specs.Prelude.{◌≡◌, ℕ, ◌+◌, ◌<◌, ◌≤◌, ◌==◌, ◌||◌, Bool, true, false, List, [], ◌∷◌, ◌++◌, length, Option, Some, None, if◌then◌else◌}
 use Rattle.hc_events.specs.declared.Event.{Event}
 use Rattle.hc_events.specs.declared.Happening.{Happening}
 use Rattle.hc_events.specs.declared.Happening.TheVariants.{ClientOpened, ClientBytes, ClientEnd, OriginBytes, OriginEnd, OriginFailed}
@@ -13,6 +13,8 @@ pub data Move : Type 0 where
   Heard : (event : Event) → Move
   -- these octets were sent to that link, which may have failed before, or at that
   Sent : (to : Receiver) (octets : List ℕ) → Move
+  -- that link was closed
+  Closed : (link : Receiver) → Move
 
 -- ---- the client of a connection
 
@@ -30,6 +32,7 @@ AreOf c [] = Unit {0}
 AreOf c (Before number given got failures ∷ log) = number ≡ c
 AreOf c (Heard event ∷ log) = IsOf c event.of × AreOf c log
 AreOf c (Sent to octets ∷ log) = AreOf c log
+AreOf c (Closed link ∷ log) = AreOf c log
 
 abbrev pub given_by : Happening → List ℕ
 given_by (ClientBytes c octets) = octets
@@ -41,6 +44,7 @@ given_in [] = []
 given_in (Before number given got failures ∷ log) = given
 given_in (Heard event ∷ log) = given_in log ++ given_by event.of
 given_in (Sent to octets ∷ log) = given_in log
+given_in (Closed link ∷ log) = given_in log
 
 abbrev pub sent_by : ℕ → Receiver → List ℕ → List ℕ
 sent_by c (Client d) octets = if d == c then octets else []
@@ -52,6 +56,7 @@ sent_in c [] = []
 sent_in c (Before number given got failures ∷ log) = got
 sent_in c (Heard event ∷ log) = sent_in c log
 sent_in c (Sent to octets ∷ log) = sent_in c log ++ sent_by c to octets
+sent_in c (Closed link ∷ log) = sent_in c log
 
 -- how often it had failed before
 abbrev pub failures_before : List Move → ℕ
@@ -59,6 +64,7 @@ failures_before [] = 0
 failures_before (Before number given got failures ∷ log) = failures
 failures_before (Heard event ∷ log) = failures_before log
 failures_before (Sent to octets ∷ log) = failures_before log
+failures_before (Closed link ∷ log) = failures_before log
 
 -- ---- what happened first
 
@@ -71,6 +77,7 @@ first_in [] = None
 first_in (Before number given got failures ∷ log) = None
 first_in (Heard event ∷ log) = earlier_or (first_in log) event.of
 first_in (Sent to octets ∷ log) = first_in log
+first_in (Closed link ∷ log) = first_in log
 
 -- ---- bounds
 
@@ -84,6 +91,7 @@ replies_in c [] = 0
 replies_in c (Before number given got failures ∷ log) = 0
 replies_in c (Heard event ∷ log) = replies_in c log
 replies_in c (Sent to octets ∷ log) = one_for c to + replies_in c log
+replies_in c (Closed link ∷ log) = replies_in c log
 
 abbrev pub one_read : Happening → ℕ
 one_read (ClientBytes c octets) = 1
@@ -96,6 +104,7 @@ reads_in [] = 0
 reads_in (Before number given got failures ∷ log) = 0
 reads_in (Heard event ∷ log) = one_read event.of + reads_in log
 reads_in (Sent to octets ∷ log) = reads_in log
+reads_in (Closed link ∷ log) = reads_in log
 
 abbrev pub is_of_client : Happening → Bool
 is_of_client (ClientBytes c octets) = true
@@ -109,9 +118,40 @@ most_replies = 100
 abbrev pub most_reads : ℕ
 most_reads = 1000000
 
--- no octets of the client are read behind so many replies
+abbrev pub is_its : ℕ → Receiver → Bool
+is_its c (Client d) = d == c
+is_its c (Origin f) = false
+
+-- whether its connection was closed
+abbrev pub is_closed_in : ℕ → List Move → Bool
+is_closed_in c [] = false
+is_closed_in c (Before number given got failures ∷ log) = false
+is_closed_in c (Heard event ∷ log) = is_closed_in c log
+is_closed_in c (Sent to octets ∷ log) = is_closed_in c log
+is_closed_in c (Closed link ∷ log) = is_its c link || is_closed_in c log
+
+-- no octets of the client are read behind so many replies, nor once its connection was closed
 abbrev pub ReadsInTime : ℕ → List Move → Type 0
 ReadsInTime c [] = Unit {0}
 ReadsInTime c (Before number given got failures ∷ log) = Unit {0}
-ReadsInTime c (Heard event ∷ log) = (is_of_client event.of ≡ true → replies_in c log < most_replies) × ReadsInTime c log
+ReadsInTime c (Heard event ∷ log) =
+    (is_of_client event.of ≡ true → (replies_in c log < most_replies) × (is_closed_in c log ≡ false)) × ReadsInTime c log
 ReadsInTime c (Sent to octets ∷ log) = ReadsInTime c log
+ReadsInTime c (Closed link ∷ log) = ReadsInTime c log
+
+-- the most octets that a read brings
+abbrev pub most_octets : ℕ
+most_octets = 8192
+
+abbrev pub octets_of : Happening → List ℕ
+octets_of (ClientBytes c octets) = octets
+octets_of (OriginBytes f octets) = octets
+octets_of other = []
+
+-- each read brought at most so many octets
+abbrev pub ReadsFew : List Move → Type 0
+ReadsFew [] = Unit {0}
+ReadsFew (Before number given got failures ∷ log) = Unit {0}
+ReadsFew (Heard event ∷ log) = (length (octets_of event.of) ≤ most_octets) × ReadsFew log
+ReadsFew (Sent to octets ∷ log) = ReadsFew log
+ReadsFew (Closed link ∷ log) = ReadsFew log

@@ -5,7 +5,7 @@ use Rattle.hc_events.specs.declared.Happening.{Happening}
 use Rattle.hc_events.specs.declared.Happening.TheVariants.{ClientOpened}
 use Rattle.hc_connection.specs.declared.client_side.ClientSide.{ClientSide}
 use Rattle.hc_connection.specs.Links.{HasFailed, IsBeginning}
-use Rattle.hc_connection.specs.Moves.{AreOf, Move, ReadsInTime, failures_before, first_in, given_in, most_reads, most_replies, reads_in, replies_in, sent_in}
+use Rattle.hc_connection.specs.Moves.{AreOf, Move, ReadsFew, ReadsInTime, failures_before, first_in, given_in, is_closed_in, most_reads, most_replies, reads_in, replies_in, sent_in}
 use Rattle.hc_connection.specs.Moves.Move.{Heard}
 
 -- its link's failures: none where it works, else one more, as far as can be counted
@@ -26,7 +26,9 @@ pub record Tells {C : Type 0} (has_given has_got : C → List ℕ → Type 0) (c
   pub replies : side.replies < most_replies → replies_in side.number log ≡ side.replies
   pub reads : reads_in log ≤ side.reads
   pub few : side.reads ≤ most_reads
+  pub closed : side.closed ≡ is_closed_in side.number log
   pub in_time : ReadsInTime side.number log
+  pub short : ReadsFew log
 
 -- once the cache was told that the client opened its connection, that is what happened first; before, nothing has happened
 abbrev pub Opens : Bool → ℕ → List Move → Type 0

@@ -35,7 +35,7 @@ pub(crate) struct ClientSide<C: Link> {
 impl<C: Link> ClientSide<C> {
     ghost use Rattle.hc_connection.specs.declared.links.Receiver.TheVariants.{Client};
     ghost use Rattle.hc_connection.specs.Moves.{Move, most_replies};
-    ghost use Rattle.hc_connection.specs.Moves.Move.{Before, Sent};
+    ghost use Rattle.hc_connection.specs.Moves.Move.{Before, Closed, Sent};
     ghost use Rattle.hc_connection.specs.Sides.{LeavesRead, Tells, TellsIfOk, TellsPerhaps};
 
     /// That of a client who has just connected.
@@ -61,6 +61,12 @@ impl<C: Link> ClientSide<C> {
         &self.link
     }
 
+    pub(crate) fn into_link(self) -> C
+        ensures { result ≡ self.link }
+    {
+        self.link
+    }
+
     pub(crate) fn number(&self) -> u64
         ensures { result ≡ self.now.number }
     {
@@ -73,19 +79,24 @@ impl<C: Link> ClientSide<C> {
         self.failed
     }
 
-    /// The cache has closed the connection.
+    /// The cache has closed the connection: nothing more is written to the client, nor read of it.
     pub(crate) fn close(&mut self)
-        ensures tells { (log : List Move) → Tells C.has_given C.has_got C.count self.old log → Tells C.has_given C.has_got C.count self.new log }
+        ensures tells { (log : List Move) → Tells C.has_given C.has_got C.count self.old log
+            → Tells C.has_given C.has_got C.count self.new (Closed (Client self.old.number) ∷ log) }
         ensures number { self.new.number ≡ self.old.number }
     {
         self.closed = true;
+        if !self.failed {
+            self.link.end();
+        }
     }
 
     /// Counts a read, if there may be one more.
     pub(crate) fn may_read(&mut self) -> bool
         ensures tells { (log : List Move) → Tells C.has_given C.has_got C.count self.old log
             → (Tells C.has_given C.has_got C.count self.new log) × LeavesRead result self.new log }
-        ensures same { (self.new.link ≡ self.old.link) × (self.new.failed ≡ self.old.failed) × (self.new.replies ≡ self.old.replies) }
+        ensures same { (self.new.link ≡ self.old.link) × (self.new.failed ≡ self.old.failed) × (self.new.replies ≡ self.old.replies)
+            × (self.new.closed ≡ self.old.closed) }
         ensures number { self.new.number ≡ self.old.number }
     {
         if self.reads >= MOST_READS {

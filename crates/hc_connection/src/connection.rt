@@ -1,6 +1,6 @@
 //! One client's connection, and the forwards that are open for it.
 
-ghost use Rattle.std.specs.Prelude.{◌≡◌, ◌<◌, false, ℕ, List, [], ◌∷◌, IfOk};
+ghost use Rattle.std.specs.Prelude.{◌≡◌, ◌<◌, false, true, ℕ, List, [], ◌∷◌, IfOk};
 
 use crate::client_side::ClientSide;
 use crate::link::{Clock, Link, LinkFailure, Origins};
@@ -37,7 +37,7 @@ pub struct Connection<'a, C: Link, O: Origins, K: Clock> {
 
 impl<'a, C: Link, O: Origins, K: Clock> Connection<'a, C, O, K> {
     ghost use Rattle.hc_connection.specs.Moves.{Move, reads_in};
-    ghost use Rattle.hc_connection.specs.Moves.Move.{Before, Sent};
+    ghost use Rattle.hc_connection.specs.Moves.Move.{Before, Closed, Sent};
     ghost use Rattle.hc_connection.specs.Sides.{Tells, TellsIfOk, TellsPerhaps};
     ghost use Rattle.hc_connection.specs.declared.links.Receiver.TheVariants.{Client};
 
@@ -75,18 +75,18 @@ impl<'a, C: Link, O: Origins, K: Clock> Connection<'a, C, O, K> {
         self.client.link()
     }
 
+    /// The client's link, once the connection is served.
+    pub fn into_client(self) -> C
+        ensures { result ≡ self.entry.client.link }
+    {
+        self.client.into_link()
+    }
+
     /// Whether the client's link has failed.
     pub fn has_failed(&self) -> bool
         ensures { result ≡ self.now.client.failed }
     {
         self.client.has_failed()
-    }
-
-    /// Whether it was told that the client opened it.
-    pub fn is_opened(&self) -> bool
-        ensures { result ≡ self.now.opened }
-    {
-        self.opened
     }
 
     /// The first of what waits to be told that the cache is still to be told of.
@@ -222,6 +222,18 @@ impl<'a, C: Link, O: Origins, K: Clock> Connection<'a, C, O, K> {
         }
         Ok(())
     }
+
+    /// Closes the connection of a client, which is this one's or another's, for which there is no link.
+    fn close_client(&mut self, number: u64)
+        ensures tells { (log : List Move) → Tells C.has_given C.has_got C.count self.old.client log
+            → Tells C.has_given C.has_got C.count self.new.client (Closed (Client number) ∷ log) }
+        ensures number { self.new.client.number ≡ self.old.client.number }
+        ensures opened { self.new.opened ≡ self.old.opened }
+    {
+        if number == self.client.number() {
+            self.client.close();
+        }
+    }
 }
 
 impl<'a, C: Link, O: Origins, K: Clock> Links for Connection<'a, C, O, K> {
@@ -229,6 +241,9 @@ impl<'a, C: Link, O: Origins, K: Clock> Links for Connection<'a, C, O, K> {
 
     ghost tells = { λ connection log. Tells C.has_given C.has_got C.count connection.client log
         × Opens connection.opened connection.client.number log };
+
+    // Of a connection that rests the cache was told.
+    ghost rests = { λ connection. connection.opened ≡ true };
 
     fn next(&mut self) -> Result<Option<Event>, AllocError> {
         if !self.opened {
@@ -256,7 +271,7 @@ impl<'a, C: Link, O: Origins, K: Clock> Links for Connection<'a, C, O, K> {
 
     fn close(&mut self, link: Receiver) {
         match link {
-            Receiver::Client(_) => self.client.close(),
+            Receiver::Client(number) => self.close_client(number),
             Receiver::Origin(forward) => {
                 self.forwards.remove(&forward);
             }

@@ -33,6 +33,13 @@ pub trait Link {
         ensures got { Writes (has_got self.old) (has_got self.new) result octets.now }
         ensures count { Counts result (count self.old) (count self.new) };
 
+    /// Ends what is written: behind that the other side finds an end, and may send on. What has no such end, as a file,
+    /// or fails at it, stays as it is.
+    fn end(&mut self)
+        ensures given { (given : List ℕ) → has_given self.old given → has_given self.new given }
+        ensures got { (got : List ℕ) → has_got self.old got → has_got self.new got }
+        ensures count { count self.new ≡ count self.old };
+
     /// How often it failed.
     fn failures(&self) -> u64
         ensures { result ≡ count self.now };

@@ -1,8 +1,8 @@
 //! The links of a cache as its driver sees them: it hears what happens there, and sends what the cache gives out.
 
-ghost use Rattle.std.specs.Prelude.{List, ◌∷◌};
+ghost use Rattle.std.specs.Prelude.{◌≡◌, List, ◌∷◌, Ok, None};
 ghost use Rattle.hc_connection.specs.Moves.{Move};
-ghost use Rattle.hc_connection.specs.Moves.Move.{Sent};
+ghost use Rattle.hc_connection.specs.Moves.Move.{Closed, Sent};
 ghost use Rattle.hc_connection.specs.Telling.{TellsNext};
 
 use hc_events::Event;
@@ -23,10 +23,14 @@ pub trait Links {
     /// This is what passed at them so far, as far as they tell it.
     ghost tells: { Self → List Move → Type 0 };
 
+    /// Nothing more will happen.
+    ghost rests: { Self → Type 0 };
+
     /// What happens next, or none where nothing more will. It waits until something does. It fails only where memory
     /// is refused.
     fn next(&mut self) -> Result<Option<Event>, AllocError>
-        ensures { (log : List Move) → tells self.old log → TellsNext (tells self.new) result log };
+        ensures tells { (log : List Move) → tells self.old log → TellsNext (tells self.new) result log }
+        ensures rests { result ≡ Ok None → rests self.new };
 
     /// Sends the octets to the client, or makes a link for the forward and sends them to the origin. A link that
     /// fails, or isn't made, loses them, which happens then, behind what has happened before. It fails only where
@@ -34,7 +38,7 @@ pub trait Links {
     fn send(&mut self, to: Receiver, octets: &MessageText) -> Result<(), AllocError>
         ensures { (log : List Move) → tells self.old log → tells self.new (Sent to octets.now ∷ log) };
 
-    /// Closes a link.
+    /// Closes a client's connection, or a forward. What is closed is heard no more.
     fn close(&mut self, link: Receiver)
-        ensures { (log : List Move) → tells self.old log → tells self.new log };
+        ensures { (log : List Move) → tells self.old log → tells self.new (Closed link ∷ log) };
 }

@@ -2,6 +2,7 @@
 
 ghost use Rattle.std.specs.Prelude.{◌≡◌, ℕ, List};
 ghost use Rattle.hc_connection.specs.Links.{CountsCame, CountsSent, GivesCame, WritesAll};
+ghost use Rattle.hc_connection.specs.Moves.{most_octets};
 
 use crate::link::{Link, LinkFailure};
 use crate::writing::{write_all, write_text};
@@ -25,7 +26,7 @@ pub(crate) enum Came {
 
 /// Reads what there is, at most 8,192 octets. A link that has failed as often as can be counted isn't read.
 pub(crate) fn read_some<L: Link>(alloc: Global, link: &mut L) -> Result<Came, AllocError>
-    ensures given { GivesCame (L.has_given link.old) (L.has_given link.new) result }
+    ensures given { GivesCame most_octets (L.has_given link.old) (L.has_given link.new) result }
     ensures got { (got : List ℕ) → L.has_got link.old got → L.has_got link.new got }
     ensures count { CountsCame result (L.count link.old) (L.count link.new) }
 {

@@ -55,9 +55,9 @@ carried_append : (a b : List Action) (log : List Move) → carried (a ++ b) log 
 carried_append [] b log = refl
 carried_append (action.Record r ∷ a) b log = carried_append a b log
 carried_append (action.ToClient c octets ∷ a) b log = carried_append a b _
-carried_append (action.CloseClient c ∷ a) b log = carried_append a b log
+carried_append (action.CloseClient c ∷ a) b log = carried_append a b _
 carried_append (action.Forward f octets ∷ a) b log = carried_append a b _
-carried_append (action.CloseForward f ∷ a) b log = carried_append a b log
+carried_append (action.CloseForward f ∷ a) b log = carried_append a b _
 
 behind : (text : List ℕ) (a b : List Action) → (text ++ texts_in a) ++ texts_in b ≡ text ++ texts_in (a ++ b)
 behind text a b = append_assoc text (texts_in a) (texts_in b) ∙ ap (λ (t : List ℕ). text ++ t) (sym (texts_append a b))

@@ -1,6 +1,7 @@
 -- Turns, one after another, and what they come to.
-use Rattle.std.proofs.Common.{◌≡◌, ◌≢◌, ◌∙◌, ℕ, ◌+◌, ◌≤◌, List, [], ◌∷◌, ◌++◌, length, Option, Some, None, Ok, Err, ap, append_assoc, append-nil, arith, length-append, refl, rules, subst, sym}
+use Rattle.std.proofs.Common.{◌≡◌, ◌≢◌, ◌⊎◌, ◌∙◌, ℕ, ◌+◌, ◌≤◌, List, [], ◌∷◌, ◌++◌, ◌==◌, ◌&&◌, Bool, true, false, length, Option, Some, None, Ok, Err, ap, append_assoc, append-nil, arith, length-append, inl, inr, refl, rules, subst, sym}
 use Rattle.std.proofs.lemmas.Grind.{flat_map-append}
+use Rattle.std.specs.FinMap.{len}
 use Rattle.std.specs.Global.{Global}
 use Rattle.std.specs.List.{flat_map}
 use Rattle.std.specs.declared.vec.Vec.{Vec}
@@ -23,7 +24,7 @@ use Rattle.hc_connection.specs.Moves.{Move}
 use Rattle.hc_serve.specs.declared.fault.DriveFault.{DriveFault}
 use Rattle.hc_serve.specs.declared.fault.DriveFault.TheVariants as fault
 use Rattle.hc_serve.specs.Carrying.{CountsRecorder, texts_in}
-use Rattle.hc_serve.specs.Drives.{AreServed, AreTurns, BreakOff, EndStands, GivesDrive, Leads, answers_by, events_by, passed, texts_given}
+use Rattle.hc_serve.specs.Drives.{AreServed, AreTurns, BreakOff, EndStands, GivesDrive, GivesUp, IsBusy, Leads, answers_by, events_by, most_turns, passed, texts_given}
 use Rattle.hc_serve.specs.Turns.{Answers, AnswersBy, Break, IsToldBy, IsTurn, StopsAt}
 use Rattle.hc_serve.specs.Turns.Break.{AtAnswer, Before, Carrying}
 
@@ -90,20 +91,22 @@ Leading old new events results = (settings : CoreSettings) (s : State) (h : Hist
     → s.numbers.records + length (records_given results) ≤ greatest_number → IsLed settings s new events results
 
 -- the turns so far
-pub record SoFar (T : List Move → Type 0) (H : List ℕ → Type 0) (old new : Cache) (log : List Move) (text : List ℕ) : Type 0 where
+pub record SoFar (T : List Move → Type 0) (H : List ℕ → Type 0) (old new : Cache) (log : List Move) (text : List ℕ) (turns : ℕ) : Type 0 where
   pub events : List Event
   pub results : List StepResult
   pub leading : Leading old new events results
+  pub many : length events ≡ turns
   pub paired : length events ≡ length results
   pub served : AreServed results
   pub told : T (passed events results log)
   pub held : H (text ++ texts_given results)
 
-pub begins : (T : List Move → Type 0) (H : List ℕ → Type 0) (cache : Cache) (log : List Move) (text : List ℕ) → T log → H text → SoFar T H cache cache log text
+pub begins : (T : List Move → Type 0) (H : List ℕ → Type 0) (cache : Cache) (log : List Move) (text : List ℕ) → T log → H text → SoFar T H cache cache log text 0
 begins T H cache log text told held = record {
   events = [];
   results = [];
   leading = λ settings s h good stands agrees few. record { state = s; stands = stands; steps = refl };
+  many = refl;
   paired = refl;
   served = unit;
   told = told;
@@ -175,12 +178,14 @@ module _ (runs : StepsAreRuns) (keeps : RunsKeepAgreement) (is_ready : Agreement
         runs = runs settings good events results s h (Some led.state) agrees led.steps few;
       }
 
-  module _ (T T' : List Move → Type 0) (H H' : List ℕ → Type 0) (old mid new : Cache) (log : List Move) (text : List ℕ) (f : SoFar T H old mid log text) where
-    pub goes_on : IsTurn T' H' mid new (passed f.events f.results log) (text ++ texts_given f.results) → SoFar T' H' old new log text
+  module _ (T T' : List Move → Type 0) (H H' : List ℕ → Type 0) (old mid new : Cache) (log : List Move) (text : List ℕ) (turns : ℕ)
+      (f : SoFar T H old mid log text turns) where
+    pub goes_on : IsTurn T' H' mid new (passed f.events f.results log) (text ++ texts_given f.results) → SoFar T' H' old new log text (turns + 1)
     goes_on t = record {
       events = f.events ++ t.event ∷ [];
       results = f.results ++ Ok t.actions ∷ [];
       leading = leads_on old mid new f.events f.results f.leading t.event t.actions t.answers;
+      many = omega (arith, f.many, length-append f.events (t.event ∷ []));
       paired = paired_append f.events (t.event ∷ []) f.results (Ok t.actions ∷ []) f.paired refl;
       served = served_append f.results (Ok t.actions ∷ []) f.served unit;
       told = subst T' (sym (passed_append f.events (t.event ∷ []) f.results (Ok t.actions ∷ []) log f.paired)) t.done.0;
@@ -211,7 +216,7 @@ module _ (runs : StepsAreRuns) (keeps : RunsKeepAgreement) (is_ready : Agreement
     break_leads (Carrying event actions) answers =
         leads old new (f.events ++ event ∷ []) (f.results ++ Ok actions ∷ []) (leads_on old mid new f.events f.results f.leading event actions answers)
 
-    pub broke_off : (why : DriveFault) (break : Break) → IsToldBy break why → AnswersBy break mid new
+    pub broke_off : (why : DriveFault) (break : Break) → IsToldBy break why ⊎ GivesUp break why new (length f.events) → AnswersBy break mid new
         → StopsAt break T' H' (passed f.events f.results log) (text ++ texts_given f.results) → BreakOff why T' H' old new log text
     broke_off why break told answers stops = record {
       events = f.events;
@@ -223,19 +228,41 @@ module _ (runs : StepsAreRuns) (keeps : RunsKeepAgreement) (is_ready : Agreement
       stops = stops;
     }
 
--- turns that went well, and then no more is done
-pub as_broken : (why : DriveFault) (T : List Move → Type 0) (H : List ℕ → Type 0) (old new : Cache) (log : List Move) (text : List ℕ) → IsToldBy Before why
-    → AreTurns T H old new log text → BreakOff why T H old new log text
-as_broken why T H old new log text told t = record {
+-- so many turns were made, and no more are
+pub made_all : (T : List Move → Type 0) (H : List ℕ → Type 0) (old new : Cache) (log : List Move) (text : List ℕ) (turns : ℕ) (f : SoFar T H old new log text turns) → turns ≡ most_turns
+    → IsToldBy Before (fault.Core Failed) ⊎ GivesUp Before (fault.Core Failed) new (length f.events)
+made_all T H old new log text turns f all = inr (refl, refl, inl (f.many ∙ all))
+
+-- turns that went well, and then no more is done, though the cache isn't idle
+pub as_broken : (T : List Move → Type 0) (H : List ℕ → Type 0) (old new : Cache) (log : List Move) (text : List ℕ) → IsBusy new
+    → AreTurns T H old new log text → BreakOff (fault.Core Failed) T H old new log text
+as_broken T H old new log text busy t = record {
   events = t.events;
   results = t.results;
   break = Before;
-  told_by = told;
+  told_by = inr (refl, refl, inr busy);
   leads = subst (λ (events : List Event). Leads old new events (t.results ++ [])) (sym (append-nil t.events))
       (subst (λ (results : List StepResult). Leads old new t.events results) (sym (append-nil t.results)) t.leads);
   served = t.served;
   stops = (t.told, t.held);
 }
+
+-- ---- a cache that is idle
+
+true_false : true ≡ false → ⊥
+true_false e = cc
+
+none_open : (connections forwards : ℕ) → connections ≡ 0 → forwards ≡ 0 → (connections == 0 && forwards == 0) ≡ true
+none_open connections forwards no_connection no_forward =
+    ap (λ (n : ℕ). n == 0 && forwards == 0) no_connection ∙ ap (λ (n : ℕ). n == 0) no_forward
+
+pub is_busy : (idle : Bool) (cache : Cache) → idle ≡ false
+    → ((settings : CoreSettings) (s : State) → StandsFor settings cache s → idle ≡ (len s.connections == 0 && len s.forwards == 0)) → IsBusy cache
+is_busy idle cache none is settings s stands i = true_false (sym (none_open _ _ i.0 i.1) ∙ sym (is settings s stands) ∙ none)
+
+pub works_still : (failed idle : Bool) → (failed ≡ true → idle ≡ false) → idle ≡ true → failed ≡ false
+works_still true idle fails is = absurd (true_false (sym is ∙ fails refl))
+works_still false idle fails is = refl
 
 -- a fault behind which turns broke off
 pub breaks : (T U : Type 0) (why : DriveFault) (tells : List Move → Type 0) (holds : List ℕ → Type 0) (old new : Cache) (log : List Move) (text : List ℕ) (before after : ℕ)

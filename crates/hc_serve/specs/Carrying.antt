@@ -9,7 +9,7 @@ use Rattle.hc_service.specs.Sending.{records_of}
 use Rattle.hc_connection.specs.declared.links.Receiver.TheVariants.{Client, Origin}
 use Rattle.hc_connection.specs.Links.{HasFailed, IsBeginning}
 use Rattle.hc_connection.specs.Moves.{Move}
-use Rattle.hc_connection.specs.Moves.Move.{Sent}
+use Rattle.hc_connection.specs.Moves.Move.{Closed, Sent}
 use Rattle.hc_serve.specs.declared.fault.DriveFault.{DriveFault}
 use Rattle.hc_serve.specs.declared.fault.DriveFault.TheVariants as fault
 
@@ -38,8 +38,8 @@ abbrev pub carried : List Action → List Move → List Move
 carried [] log = log
 carried (ToClient c octets ∷ actions) log = carried actions (Sent (Client c) octets ∷ log)
 carried (Forward f octets ∷ actions) log = carried actions (Sent (Origin f) octets ∷ log)
-carried (CloseClient c ∷ actions) log = carried actions log
-carried (CloseForward f ∷ actions) log = carried actions log
+carried (CloseClient c ∷ actions) log = carried actions (Closed (Client c) ∷ log)
+carried (CloseForward f ∷ actions) log = carried actions (Closed (Origin f) ∷ log)
 carried (Record given ∷ actions) log = carried actions log
 
 -- the texts of the records among actions

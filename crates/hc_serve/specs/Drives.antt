@@ -1,10 +1,11 @@
 -- Turns, one after another.
-use Rattle.std.specs.Prelude.{◌≡◌, ℕ, ◌+◌, ◌≤◌, Bool, true, false, List, [], ◌∷◌, ◌++◌, length, Option, Some, None, Result, Ok, Err}
+use Rattle.std.specs.Prelude.{◌≡◌, ◌⊎◌, ℕ, ◌+◌, ◌-◌, ◌^◌, ◌≤◌, Bool, true, false, List, [], ◌∷◌, ◌++◌, length, Option, Some, None, Result, Ok, Err}
 use Rattle.std.specs.FinMap.{len}
 use Rattle.std.specs.List.{flat_map}
 use Rattle.hc_transcript.specs.Limits.{greatest_number}
 use Rattle.hc_transcript.specs.Records.{record_text}
 use Rattle.hc_events.specs.declared.Event.{Event}
+use Rattle.hc_service.specs.declared.fault.StepFault.TheVariants.{Failed}
 use Rattle.hc_service.specs.declared.settings.CoreSettings.{CoreSettings}
 use Rattle.hc_service.specs.Agreement.{Agrees, History}
 use Rattle.hc_service.specs.Runs.{Runs, StepResult, records_given}
@@ -80,11 +81,31 @@ answers_by Before = []
 answers_by (AtAnswer event step) = Err step ∷ []
 answers_by (Carrying event actions) = Ok actions ∷ []
 
+-- ---- a cache that is idle
+
+-- no connection and no forward is open
+abbrev pub IsIdle : State → Type 0
+IsIdle s = (len s.connections ≡ 0) × (len s.forwards ≡ 0)
+
+-- it stands for no state that is
+abbrev pub IsBusy : Cache → Type 0
+IsBusy cache = (settings : CoreSettings) (s : State) → StandsFor settings cache s → IsIdle s → ⊥
+
+-- ---- why they broke off
+
+-- the most turns that a driver makes
+abbrev pub most_turns : ℕ
+most_turns = 2 ^ 64 - 1
+
+-- or the driver gave up between turns: it had made as many as it makes, or nothing more will happen, and the cache isn't idle
+abbrev pub GivesUp : Break → DriveFault → Cache → ℕ → Type 0
+GivesUp break why cache turns = (break ≡ Before) × (why ≡ fault.Core Failed) × ((turns ≡ most_turns) ⊎ IsBusy cache)
+
 pub record BreakOff (why : DriveFault) (tells : List Move → Type 0) (holds : List ℕ → Type 0) (old new : Cache) (log : List Move) (text : List ℕ) : Type 0 where
   pub events : List Event
   pub results : List StepResult
   pub break : Break
-  pub told_by : IsToldBy break why
+  pub told_by : IsToldBy break why ⊎ GivesUp break why new (length events)
   pub leads : Leads old new (events ++ events_by break) (results ++ answers_by break)
   pub served : AreServed results
   pub stops : StopsAt break tells holds (passed events results log) (text ++ texts_given results)
@@ -104,14 +125,14 @@ CountsServed (Err fault.Client) before after = after ≡ before
 CountsServed (Err fault.Recorder) before after = HasFailed before after
 CountsServed (Err (fault.Core step)) before after = after ≡ before
 
--- no connection and no forward is open
-abbrev pub IsIdle : State → Type 0
-IsIdle s = (len s.connections ≡ 0) × (len s.forwards ≡ 0)
+-- it works, and what it stands for is idle
+abbrev pub IsLeftIdle : Cache → Type 0
+IsLeftIdle cache = (cache.failed ≡ false) × ((settings : CoreSettings) (s : State) → StandsFor settings cache s → IsIdle s)
 
 -- the cache is idle where all was served
 abbrev pub LeavesIdle : {T : Type 0} → Result T DriveFault → Cache → Type 0
-LeavesIdle (Ok done) cache = (settings : CoreSettings) (s : State) → StandsFor settings cache s → IsIdle s
-LeavesIdle (Err fault.Client) cache = (settings : CoreSettings) (s : State) → StandsFor settings cache s → IsIdle s
+LeavesIdle (Ok done) cache = IsLeftIdle cache
+LeavesIdle (Err fault.Client) cache = IsLeftIdle cache
 LeavesIdle (Err fault.Recorder) cache = Unit {0}
 LeavesIdle (Err (fault.Core step)) cache = Unit {0}
 

@@ -1,11 +1,11 @@
 -- Turns: something happens, the cache is handed it, and what the cache does is carried out.
-use Rattle.std.specs.Prelude.{◌≡◌, ◌≢◌, ◌⊎◌, ℕ, true, false, Bool, List, ◌∷◌, Result, Ok, Err}
+use Rattle.std.specs.Prelude.{◌≡◌, ◌≢◌, ℕ, true, false, Bool, List, ◌∷◌, Result, Ok, Err}
 use Rattle.std.specs.Global.{Global}
 use Rattle.std.specs.declared.vec.Vec.{Vec}
 use Rattle.hc_events.specs.declared.Event.{Event}
 use Rattle.hc_service.specs.declared.action.Action.{Action}
 use Rattle.hc_service.specs.declared.fault.StepFault.{StepFault}
-use Rattle.hc_service.specs.declared.fault.StepFault.TheVariants.{Memory, Failed}
+use Rattle.hc_service.specs.declared.fault.StepFault.TheVariants.{Memory}
 use Rattle.hc_service.specs.declared.settings.CoreSettings.{CoreSettings}
 use Rattle.hc_service.specs.Agreement.{IsReady}
 use Rattle.hc_service.specs.Runs.{StepResult}
@@ -47,9 +47,9 @@ StopsAt Before tells holds log text = tells log × holds text
 StopsAt (AtAnswer event step) tells holds log text = tells (Heard event ∷ log) × holds text
 StopsAt (Carrying event actions) tells holds log text = AreCut tells holds actions.items (Heard event ∷ log) text
 
--- the fault that tells it: memory was refused to the driver, or it gave up; or what the cache answered
+-- the fault that tells it: memory was refused to the driver, or what the cache answered, or what went wrong at its actions
 abbrev pub IsToldBy : Break → DriveFault → Type 0
-IsToldBy Before fault = (fault ≡ Core Memory) ⊎ (fault ≡ Core Failed)
+IsToldBy Before fault = fault ≡ Core Memory
 IsToldBy (AtAnswer event step) fault = fault ≡ Core step
 IsToldBy (Carrying event actions) fault = IsOfCarrying fault
 

@@ -1,6 +1,6 @@
 //! Turns, as long as something happens.
 
-ghost use Rattle.std.specs.Prelude.{◌≡◌, ℕ, List};
+ghost use Rattle.std.specs.Prelude.{◌≡◌, ℕ, List, IfOk};
 ghost use Rattle.hc_connection.specs.Moves.{Move};
 ghost use Rattle.hc_serve.specs.Carrying.{CountsRecorder};
 ghost use Rattle.hc_serve.specs.Drives.{GivesDrive};
@@ -23,6 +23,7 @@ pub fn drive<S: BuildHasher, L: Links, R: Link>(
 ) -> Result<(), DriveFault>
     ensures drive { (log : List Move) (text : List ℕ) → L.tells links.old log → R.has_got recorder.old text
         → GivesDrive (L.tells links.new) (R.has_got recorder.new) result core.old core.new log text }
+    ensures rest { IfOk result (λ _. L.rests links.new) }
     ensures count { CountsRecorder result (R.count recorder.old) (R.count recorder.new) }
 {
     // Laws, which do nothing: what is proved below rests on them.

@@ -13,7 +13,8 @@ use hc_service::StepFault;
 use std::alloc::Global;
 use std::hash::BuildHasher;
 
-/// Serves one connection to its end, and records that.
+/// Serves one connection to its end, and records that. What is told of it begins with its opening. Where it was served
+/// before, nothing more happens.
 pub fn serve_connection<S: BuildHasher, C: Link, O: Origins, K: Clock, R: Link>(
     alloc: Global,
     core: &mut Core<S>,
@@ -31,7 +32,7 @@ pub fn serve_connection<S: BuildHasher, C: Link, O: Origins, K: Clock, R: Link>(
     ensures opened { LeavesOpened result connection.new.opened }
 {
     drive(alloc, core, connection, recorder)?;
-    if !connection.is_opened() || !core.idle() {
+    if !core.idle() {
         return Err(DriveFault::Core(StepFault::Failed));
     }
     if connection.has_failed() {

@@ -1,6 +1,6 @@
 //! One turn: something happens, the cache is handed it, and what it does is carried out.
 
-ghost use Rattle.std.specs.Prelude.{◌≡◌, ℕ, List};
+ghost use Rattle.std.specs.Prelude.{◌≡◌, ℕ, List, Ok, false};
 ghost use Rattle.hc_connection.specs.Moves.{Move};
 ghost use Rattle.hc_serve.specs.Carrying.{CountsRecorder};
 ghost use Rattle.hc_serve.specs.Turns.{GivesTurn};
@@ -21,6 +21,7 @@ pub(crate) fn turn<S: BuildHasher, L: Links, R: Link>(
 ) -> Result<bool, DriveFault>
     ensures turn { (log : List Move) (text : List ℕ) → L.tells links.old log → R.has_got recorder.old text
         → GivesTurn (L.tells links.new) (R.has_got recorder.new) result core.old core.new log text }
+    ensures rest { result ≡ Ok false → L.rests links.new }
     ensures count { CountsRecorder result (R.count recorder.old) (R.count recorder.new) }
 {
     let Some(event) = links.next()? else {

@@ -42,8 +42,9 @@ fn say_served(
     site: &Site<'_>,
     out: &mut String,
 ) -> Result<(), Unanswered> {
-    let mut recorder = Tally::new(b"");
-    let mut connection = Connection::new(alloc, number, Tally::new(client), site, &Standing)?;
+    let mut recorder = Tally::new(b"", usize::MAX, site.notebook);
+    let link = Tally::new(client, usize::MAX, site.notebook);
+    let mut connection = Connection::new(alloc, number, link, site, &Standing)?;
     if serve_connection(alloc, core, &mut connection, &mut recorder).is_err() {
         out.push_str("not served: ")?;
     }

@@ -87,6 +87,7 @@ impl<'a> Link for Memory<'a> {
     ghost count = { λ link. link.failures };
 
     fn read(&mut self, buffer: &mut [u8]) -> Result<usize, LinkFailure> {
+        self.notebook.count_read();
         if self.notebook.fails(self.device) {
             self.failures += 1;
             return Err(LinkFailure);
@@ -112,25 +113,35 @@ impl<'a> Link for Memory<'a> {
         Ok(count)
     }
 
+    fn end(&mut self) {
+        self.notebook.note(self.device, "ends");
+    }
+
     fn failures(&self) -> u64 {
         self.failures
     }
 }
 
-/// A link that gives octets and then ends, and counts those that it gets.
+/// A link that gives octets and then ends, and counts those that it gets. Its notebook counts its reads, and notes
+/// nothing of it.
 #[derive(Drop)]
 pub(crate) struct Tally<'a> {
     source: Source<'a>,
     got: u64,
     failures: u64,
+    /// The most octets that a read gives.
+    most: usize,
+    notebook: &'a Notebook,
 }
 
 impl<'a> Tally<'a> {
-    pub(crate) fn new(octets: &'a [u8]) -> Self {
+    pub(crate) fn new(octets: &'a [u8], most: usize, notebook: &'a Notebook) -> Self {
         Tally {
             source: Source::new(octets),
             got: 0,
             failures: 0,
+            most,
+            notebook,
         }
     }
 
@@ -148,7 +159,8 @@ impl<'a> Link for Tally<'a> {
     ghost count = { λ link. link.failures };
 
     fn read(&mut self, buffer: &mut [u8]) -> Result<usize, LinkFailure> {
-        Ok(self.source.give(buffer, usize::MAX))
+        self.notebook.count_read();
+        Ok(self.source.give(buffer, self.most))
     }
 
     fn write(&mut self, octets: &[u8]) -> Result<usize, LinkFailure> {
@@ -163,6 +175,8 @@ impl<'a> Link for Tally<'a> {
             }
         }
     }
+
+    fn end(&mut self) {}
 
     fn failures(&self) -> u64 {
         self.failures

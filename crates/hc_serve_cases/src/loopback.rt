@@ -14,12 +14,12 @@ use std::net::{Net, OpenListener, OpenStream, Shutdown, SocketAddr, TcpListener,
 
 /// A connected socket, which doesn't tell what passed.
 #[derive(Drop)]
-struct Socket<T: Read + Write> {
+struct Socket<T: Read + Write + OpenStream> {
     stream: T,
     failures: u64,
 }
 
-impl<T: Read + Write> Link for Socket<T> {
+impl<T: Read + Write + OpenStream> Link for Socket<T> {
     ghost has_given = { λ _ _. Unit {0} };
 
     ghost has_got = { λ _ _. Unit {0} };
@@ -44,6 +44,10 @@ impl<T: Read + Write> Link for Socket<T> {
                 Err(LinkFailure)
             }
         }
+    }
+
+    fn end(&mut self) {
+        let _ = self.stream.shutdown(Shutdown::Write);
     }
 
     fn failures(&self) -> u64 {
@@ -88,7 +92,7 @@ impl<'a, R: Net> Origins for Origin<'a, R> {
 }
 
 /// A listener at a port that the system picks, and its address.
-fn listener<R: Net>(net: &R) -> io::Result<(R::Listener, SocketAddr)> {
+pub(crate) fn listener<R: Net>(net: &R) -> io::Result<(R::Listener, SocketAddr)> {
     let listener = TcpListener::bind(net, "127.0.0.1:0")?;
     let address = listener.local_addr()?;
     Ok((listener, address))
@@ -102,7 +106,7 @@ fn rest_of<S: Read>(alloc: Global, stream: &mut S) -> io::Result<Vec<u8>> {
 }
 
 /// Serves the other side of the client's connection, closes it, and answers what was recorded.
-fn recorded<S: Read + Write + Drop, O: Origins>(
+fn recorded<S: Read + Write + OpenStream + Drop, O: Origins>(
     alloc: Global,
     accepted: S,
     origin: &O,
@@ -163,7 +167,8 @@ fn say_forward<R: Net>(
     say("; forward ", forward.as_slice(), out)
 }
 
-fn say(what: &str, octets: &[u8], out: &mut String) -> Result<(), Unanswered> {
+/// Writes the octets behind a word of what they are.
+pub(crate) fn say(what: &str, octets: &[u8], out: &mut String) -> Result<(), Unanswered> {
     out.push_str(what)?;
     show_short(octets, out)?;
     Ok(())

@@ -8,13 +8,15 @@ mod loopback;
 mod notebook;
 mod runs;
 mod scene;
+mod service;
+mod staged;
 mod telling;
 
 use crate::answers::Connections;
 use std::process::ExitCode;
 
 fn main(rt: HostRuntime) -> ExitCode {
-    let asked = Connections { net: &rt };
+    let asked = Connections { system: &rt };
     let mut output = rt.stdout();
     let mut faults = rt.stderr();
     let status = hc_cases::status(&rt, &asked, "cases.txt", &mut output, &mut faults);

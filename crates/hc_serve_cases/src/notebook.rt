@@ -41,6 +41,8 @@ pub(crate) struct Notebook {
     calls: Cell<u64>,
     /// Whether that call has failed, and none was made since.
     silent: Cell<bool>,
+    /// How many reads there were at all links.
+    reads: Cell<u64>,
     notes: RefCell<String>,
     /// What was written to origins, all forwards one behind another.
     forwards: RefCell<Vec<u8>>,
@@ -53,6 +55,7 @@ impl Notebook {
             fault,
             calls: Cell::new(0),
             silent: Cell::new(false),
+            reads: Cell::new(0),
             notes: RefCell::new(String::new(alloc)),
             forwards: RefCell::new(Vec::new(alloc)),
         }
@@ -88,6 +91,16 @@ impl Notebook {
     /// Whether no call was made behind that one.
     pub(crate) fn is_silent(&self) -> bool {
         self.silent.get()
+    }
+
+    /// Counts a read.
+    pub(crate) fn count_read(&self) {
+        self.reads.set(self.reads.get().saturating_add(1));
+    }
+
+    /// How many reads were counted.
+    pub(crate) fn reads(&self) -> u64 {
+        self.reads.get()
     }
 
     /// Notes what came of a call.
@@ -127,6 +140,7 @@ impl Notebook {
             fault: _,
             calls: _,
             silent: _,
+            reads: _,
             notes,
             forwards,
         } = self;

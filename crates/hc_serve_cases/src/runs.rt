@@ -1,10 +1,10 @@
 //! A connection is served over links in memory.
 
 use crate::notebook::{Device, Fault, Notebook};
-use crate::scene::{Scene, Site, Standing, new_core};
+use crate::scene::{Scene, Site, Standing, Trickle, new_core};
 use hc_audit::{AuditFault, Auditor, FieldNames, Index, Settings, UnmarkedReplies, Verdict};
 use hc_cases::Unanswered;
-use hc_connection::Connection;
+use hc_connection::{Connection, Origins};
 use hc_index::MapIndex;
 use hc_serve::{DriveFault, serve_connection};
 use hc_transcript::OPENING;
@@ -32,6 +32,8 @@ pub(crate) struct Outcome {
     pub(crate) failed: bool,
     /// Whether no call was made behind that one.
     pub(crate) silent: bool,
+    /// How many reads there were at all links.
+    pub(crate) reads: u64,
     /// The calls at all links.
     pub(crate) notes: String,
     /// What was written to origins.
@@ -45,29 +47,52 @@ pub(crate) fn run(
     fault: Option<Fault>,
 ) -> Result<Outcome, Unanswered> {
     let notebook = Notebook::new(alloc, fault);
-    let served = serve(alloc, scene, &notebook)?;
-    let failed = notebook.has_failed();
-    let silent = notebook.is_silent();
-    let (notes, forwards) = notebook.contents();
-    Ok(Outcome {
-        served,
-        failed,
-        silent,
-        notes,
-        forwards,
-    })
-}
-
-fn serve(alloc: Global, scene: &Scene<'_>, notebook: &Notebook) -> Result<Served, Unanswered> {
-    let mut core = new_core(alloc)?;
     let site = Site {
         alloc,
         scene,
-        notebook,
+        notebook: &notebook,
     };
+    let served = serve(alloc, scene, &notebook, &site)?;
+    Ok(outcome_of(served, notebook))
+}
+
+/// The same, where no call fails, origins give one octet a read, and nothing of their links is noted.
+pub(crate) fn run_by_octets(alloc: Global, scene: &Scene<'_>) -> Result<Outcome, Unanswered> {
+    let notebook = Notebook::new(alloc, None);
+    let site = Site {
+        alloc,
+        scene,
+        notebook: &notebook,
+    };
+    let served = serve(alloc, scene, &notebook, &Trickle { site })?;
+    Ok(outcome_of(served, notebook))
+}
+
+fn outcome_of(served: Served, notebook: Notebook) -> Outcome {
+    let failed = notebook.has_failed();
+    let silent = notebook.is_silent();
+    let reads = notebook.reads();
+    let (notes, forwards) = notebook.contents();
+    Outcome {
+        served,
+        failed,
+        silent,
+        reads,
+        notes,
+        forwards,
+    }
+}
+
+fn serve<O: Origins>(
+    alloc: Global,
+    scene: &Scene<'_>,
+    notebook: &Notebook,
+    origins: &O,
+) -> Result<Served, Unanswered> {
+    let mut core = new_core(alloc)?;
     let client = scene.link(alloc, Device::Client, scene.client, notebook);
     let mut recorder = scene.link(alloc, Device::Recorder, b"", notebook);
-    let mut connection = Connection::new(alloc, 1, client, &site, &Standing)?;
+    let mut connection = Connection::new(alloc, 1, client, origins, &Standing)?;
     let result = serve_connection(alloc, &mut core, &mut connection, &mut recorder);
     Ok(Served {
         result,

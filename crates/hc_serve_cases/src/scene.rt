@@ -1,6 +1,6 @@
 //! What a case is about: a client and origins in memory, a new cache, and a clock that stands.
 
-use crate::links::Memory;
+use crate::links::{Memory, Tally};
 use crate::notebook::{Device, Notebook};
 use hc_cases::Unanswered;
 use hc_connection::{Clock, LinkFailure, Origins};
@@ -36,6 +36,31 @@ impl Clock for Standing {
     }
 }
 
+/// The text of a part.
+pub(crate) fn text_of(part: &[u8]) -> Result<&str, Unanswered> {
+    match str::from_utf8(part) {
+        Ok(text) => Ok(text),
+        Err(_) => Err(Unanswered::Unknown),
+    }
+}
+
+/// The number that a part is.
+pub(crate) fn number_of(part: &[u8]) -> Result<usize, Unanswered> {
+    match text_of(part)?.parse() {
+        Ok(number) => Ok(number),
+        Err(_) => Err(Unanswered::Unknown),
+    }
+}
+
+/// The answer at a place, if an origin can be connected to for it.
+pub(crate) fn answer_at(answers: &[Vec<u8>], place: usize) -> Option<&[u8]> {
+    let answer = answers.get(place)?.as_slice();
+    if answer == NONE {
+        return None;
+    }
+    Some(answer)
+}
+
 /// How links move octets, what a client sends, and what origins answer.
 #[derive(Clone, Copy)]
 pub(crate) struct Scene<'a> {
@@ -52,14 +77,8 @@ impl<'a> Scene<'a> {
         let [most, client, answers @ ..] = parts else {
             return Err(Unanswered::Unknown);
         };
-        let Ok(most) = str::from_utf8(most.as_slice()) else {
-            return Err(Unanswered::Unknown);
-        };
-        let Ok(most) = most.parse::<usize>() else {
-            return Err(Unanswered::Unknown);
-        };
         Ok(Scene {
-            most,
+            most: number_of(most.as_slice())?,
             client: client.as_slice(),
             answers,
         })
@@ -89,11 +108,7 @@ impl<'a> Site<'a> {
     /// What the forward is answered, if it can be made.
     fn answer(&self, forward: u64) -> Option<&'a [u8]> {
         let place = forward.checked_sub(1)?;
-        let answer = self.scene.answers.get(place as usize)?;
-        if answer.as_slice() == NONE {
-            return None;
-        }
-        Some(answer.as_slice())
+        answer_at(self.scene.answers, place as usize)
     }
 }
 
@@ -109,5 +124,22 @@ impl<'a> Origins for Site<'a> {
             self.scene
                 .link(self.alloc, Device::Origin, answer, self.notebook),
         )
+    }
+}
+
+/// The same origins, which give one octet a read. Nothing of their links is noted.
+#[derive(Drop)]
+pub(crate) struct Trickle<'a> {
+    pub(crate) site: Site<'a>,
+}
+
+impl<'a> Origins for Trickle<'a> {
+    type Link = Tally<'a>;
+
+    fn connect(&self, forward: u64) -> Result<Tally<'a>, LinkFailure> {
+        match self.site.answer(forward) {
+            Some(answer) => Ok(Tally::new(answer, 1, self.site.notebook)),
+            None => Err(LinkFailure),
+        }
     }
 }

@@ -1,7 +1,7 @@
 //! What is told of connections.
 
 use crate::notebook::{Device, Fault};
-use crate::runs::{Outcome, run, verdict_on};
+use crate::runs::{Outcome, run, run_by_octets, verdict_on};
 use crate::scene::Scene;
 use hc_audit::Verdict;
 use hc_cases::Unanswered;
@@ -34,6 +34,20 @@ pub(crate) fn say_read(
     let run = run(alloc, scene, None)?;
     let read = run.served.read;
     write!(out, "{read} octets read; ")?;
+    say_end(alloc, &run, out)
+}
+
+/// Writes the calls at the links of the client and the recorder, how many reads there were at all links, and how it
+/// ended, where origins give one octet a read.
+pub(crate) fn say_reads(
+    alloc: Global,
+    scene: &Scene<'_>,
+    out: &mut String,
+) -> Result<(), Unanswered> {
+    let run = run_by_octets(alloc, scene)?;
+    out.push_str(run.notes.as_str())?;
+    let reads = run.reads;
+    write!(out, "; {reads} reads; ")?;
     say_end(alloc, &run, out)
 }
 
@@ -90,16 +104,26 @@ fn say_end(alloc: Global, run: &Outcome, out: &mut String) -> Result<(), Unanswe
     if run.served.idle {
         out.push_str(", idle")?;
     }
-    match verdict_on(alloc, run.served.recording.as_slice())? {
+    out.push_str(", ")?;
+    say_verdict(alloc, run.served.recording.as_slice(), out)
+}
+
+/// Writes the verdict on a recording.
+pub(crate) fn say_verdict(
+    alloc: Global,
+    recording: &[u8],
+    out: &mut String,
+) -> Result<(), Unanswered> {
+    match verdict_on(alloc, recording)? {
         Verdict::Yes(counts) => {
             let records = counts.records;
             let replies = counts.replies;
             let hits = counts.hits;
-            write!(out, ", yes records={records} replies={replies} hits={hits}")?;
+            write!(out, "yes records={records} replies={replies} hits={hits}")?;
         }
-        Verdict::No(position, reason) => write!(out, ", no {position} {}", reason.name())?,
+        Verdict::No(position, reason) => write!(out, "no {position} {}", reason.name())?,
         Verdict::Malformed(position, fault) => {
-            write!(out, ", malformed {position} {}", fault.name())?
+            write!(out, "malformed {position} {}", fault.name())?
         }
     }
     Ok(())

@@ -1,6 +1,6 @@
 //! The origin behind its address.
 
-use crate::system_link::SystemLink;
+use crate::system_link::{Socket, SystemLink};
 use hc_connection::{LinkFailure, Origins};
 use std::net::{Net, OpenStream, TcpStream};
 
@@ -13,14 +13,14 @@ pub(crate) struct Origin<'a, R: Net> {
 }
 
 impl<'a, R: Net> Origins for Origin<'a, R> {
-    type Link = SystemLink<R::Stream>;
+    type Link = SystemLink<Socket<R::Stream>>;
 
-    fn connect(&self, _forward: u64) -> Result<SystemLink<R::Stream>, LinkFailure> {
+    fn connect(&self, _forward: u64) -> Result<SystemLink<Socket<R::Stream>>, LinkFailure> {
         match TcpStream::connect(self.net, self.address) {
             Ok(stream) => {
                 // A socket that refuses it works all the same.
                 let _ = stream.set_nodelay(true);
-                Ok(SystemLink::new(stream))
+                Ok(SystemLink::new(Socket { stream }))
             }
             Err(_) => Err(LinkFailure),
         }

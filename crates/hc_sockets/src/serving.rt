@@ -3,7 +3,7 @@
 use crate::clock::SystemClock;
 use crate::fault::ServeFault;
 use crate::origin::Origin;
-use crate::system_link::SystemLink;
+use crate::system_link::{Recording, Socket, SystemLink};
 use hc_connection::Connection;
 use hc_core::{Core, CoreFault};
 use hc_fields::Octets;
@@ -16,7 +16,7 @@ use std::io::{ErrorKind, Read, Write};
 use std::net::{Net, OpenListener, OpenStream, TcpListener};
 use std::random::RandomSource;
 use std::rt::Files;
-use std::time::Clock;
+use std::time::{Clock, Duration};
 use std::{fs, io};
 
 /// The name of the cache.
@@ -30,6 +30,15 @@ const BYTES: u64 = 67_108_864;
 
 /// How many clients in a row may give up before they are accepted.
 const TRIES: u32 = 1_000;
+
+/// How many seconds a client whose connection has ended may be silent before its socket is closed.
+const SILENCE: u64 = 1;
+
+/// The most octets that are read at once of such a client.
+const PIECE: usize = 8_192;
+
+/// How often such a client is read at most.
+const PIECES: u32 = 16;
 
 /// What is served.
 #[derive(Clone, Copy, Debug)]
@@ -47,13 +56,22 @@ pub struct Service<'a> {
 /// Serves so many connections of clients, one after another, with numbers from 1. The file is created, or emptied,
 /// and gets the opening of a transcript before clients can connect. A client whose link fails is served no further,
 /// and the next one is.
+///
+/// A connection that was served is closed in stages (RFC 9112 section 9.6). First what is written to the client ends.
+/// Then what the client still sends is read and dropped, until it ends too: at most 16 reads of 8,192 octets, each of
+/// which waits a second at most. Only then is the socket closed, since the system resets a connection that is closed
+/// while octets of the client are unread, and a reply on its way may be lost by that. Where the system refuses to wait
+/// for a second alone, the socket is closed at once.
+///
+/// No clause says so, since none can say what the system's sockets and files hold. What is recorded of the octets that
+/// links give and get is what `serve_connection` of hc_serve promises.
 pub fn serve<R>(rt: &R, service: Service<'_>) -> Result<(), ServeFault>
 where
     R: Net + Files + Clock + RandomSource + AllocGlobal,
 {
     let mut core = new_core(rt)?;
     let mut recorder = match begun(rt, service.file) {
-        Ok(file) => SystemLink::new(file),
+        Ok(file) => SystemLink::new(Recording { file }),
         Err(reason) => return Err(ServeFault::Record(reason)),
     };
     let listener = match TcpListener::bind(rt, service.listen) {
@@ -115,7 +133,7 @@ fn serve_client<R, F>(
     number: u64,
     stream: R::Stream,
     core: &mut Core<RandomState>,
-    recorder: &mut SystemLink<F>,
+    recorder: &mut SystemLink<Recording<F>>,
 ) -> Result<(), ServeFault>
 where
     R: Net + Clock + AllocGlobal,
@@ -129,11 +147,35 @@ where
         address: origin,
     };
     let clock = SystemClock { system: rt };
-    let client = SystemLink::new(stream);
+    let client = SystemLink::new(Socket { stream });
     let mut connection = Connection::new(alloc, number, client, &origin, &clock)?;
     match serve_connection(alloc, core, &mut connection, recorder) {
-        Ok(()) => Ok(()),
+        Ok(()) => {
+            linger(alloc, connection.into_client().into_device());
+            Ok(())
+        }
         Err(fault) => outcome_of(fault, recorder.reason()),
+    }
+}
+
+/// Reads on what the client of a connection that has ended still sends, and drops it, until the client ends too, is
+/// silent for too long, or has sent too much. Then the socket is closed.
+fn linger<S: Read + Write + OpenStream + Drop>(alloc: Global, socket: Socket<S>) {
+    let Socket { mut stream } = socket;
+    if stream
+        .set_read_timeout(Some(Duration::from_secs(SILENCE)))
+        .is_err()
+    {
+        return;
+    }
+    let Ok(mut piece) = Vec::from_elem(alloc, 0, PIECE) else {
+        return;
+    };
+    for _ in 0..PIECES {
+        match stream.read(piece.as_mut_slice()) {
+            Ok(0) | Err(_) => return,
+            Ok(_) => {}
+        }
     }
 }
 

@@ -1,32 +1,92 @@
 //! A socket or a file as a link.
 
 ghost use Rattle.std.specs.Prelude.{◌≡◌, ◌+◌, ◌<◌, IsErr};
+ghost use Rattle.std.specs.Io.{ReadsAtMost, WritesAtMost};
 ghost use Rattle.hc_connection.specs.Links.{greatest_count};
 
 use hc_connection::{Link, LinkFailure};
 use std::io;
 use std::io::{ErrorKind, Read, Write};
+use std::net::{OpenStream, Shutdown};
 
 /// How often a call that a signal interrupts is made again.
 const TRIES: u32 = 1_000;
 
+/// What the system reads and writes.
+pub(crate) trait Device {
+    /// Reads as `std::io::Read` does.
+    fn read(&mut self, buffer: &mut [u8]) -> io::Result<usize>
+        ensures { ReadsAtMost result buffer.new };
+
+    /// Writes as `std::io::Write` does.
+    fn write(&mut self, octets: &[u8]) -> io::Result<usize>
+        ensures { WritesAtMost result octets.now };
+
+    /// Ends what is written, where that has an end.
+    fn end(&mut self);
+}
+
+/// A connected socket.
+#[derive(Drop)]
+pub(crate) struct Socket<S: Read + Write + OpenStream> {
+    pub(crate) stream: S,
+}
+
+impl<S: Read + Write + OpenStream> Device for Socket<S> {
+    fn read(&mut self, buffer: &mut [u8]) -> io::Result<usize> {
+        self.stream.read(buffer)
+    }
+
+    fn write(&mut self, octets: &[u8]) -> io::Result<usize> {
+        self.stream.write(octets)
+    }
+
+    fn end(&mut self) {
+        // Where the other side has gone, nobody waits for the end.
+        let _ = self.stream.shutdown(Shutdown::Write);
+    }
+}
+
+/// The file that is recorded to.
+#[derive(Drop)]
+pub(crate) struct Recording<F: Read + Write> {
+    pub(crate) file: F,
+}
+
+impl<F: Read + Write> Device for Recording<F> {
+    fn read(&mut self, buffer: &mut [u8]) -> io::Result<usize> {
+        self.file.read(buffer)
+    }
+
+    fn write(&mut self, octets: &[u8]) -> io::Result<usize> {
+        self.file.write(octets)
+    }
+
+    fn end(&mut self) {}
+}
+
 /// A socket or a file as a link.
 #[derive(Drop)]
-pub(crate) struct SystemLink<T: Read + Write> {
-    stream: T,
+pub(crate) struct SystemLink<T: Device> {
+    device: T,
     /// How often it failed.
     failures: u64,
     /// Why it failed last, if it did.
     reason: Option<io::Error>,
 }
 
-impl<T: Read + Write> SystemLink<T> {
-    pub(crate) fn new(stream: T) -> Self {
+impl<T: Device> SystemLink<T> {
+    pub(crate) fn new(device: T) -> Self {
         SystemLink {
-            stream,
+            device,
             failures: 0,
             reason: None,
         }
+    }
+
+    /// The socket or the file.
+    pub(crate) fn into_device(self) -> T {
+        self.device
     }
 
     /// Why it failed last, if it did.
@@ -46,7 +106,7 @@ impl<T: Read + Write> SystemLink<T> {
     }
 }
 
-impl<T: Read + Write> Link for SystemLink<T> {
+impl<T: Device> Link for SystemLink<T> {
     // No clause can know what the system gave or took.
     ghost has_given = { λ _ _. Unit {0} };
 
@@ -56,7 +116,7 @@ impl<T: Read + Write> Link for SystemLink<T> {
 
     fn read(&mut self, buffer: &mut [u8]) -> Result<usize, LinkFailure> {
         'tries: for _ in 0..TRIES {
-            match self.stream.read(buffer) {
+            match self.device.read(buffer) {
                 Ok(count) => return Ok(count),
                 Err(error) if error.kind() == ErrorKind::Interrupted => {}
                 Err(error) => return self.fail(error),
@@ -67,7 +127,7 @@ impl<T: Read + Write> Link for SystemLink<T> {
 
     fn write(&mut self, octets: &[u8]) -> Result<usize, LinkFailure> {
         'tries: for _ in 0..TRIES {
-            match self.stream.write(octets) {
+            match self.device.write(octets) {
                 Ok(0) => return self.fail(io::Error::from(ErrorKind::WriteZero)),
                 Ok(count) => return Ok(count),
                 Err(error) if error.kind() == ErrorKind::Interrupted => {}
@@ -75,6 +135,10 @@ impl<T: Read + Write> Link for SystemLink<T> {
             }
         }
         self.fail(io::Error::from(ErrorKind::Interrupted))
+    }
+
+    fn end(&mut self) {
+        self.device.end();
     }
 
     fn failures(&self) -> u64 {

@@ -1,9 +1,9 @@
-use Rattle.std.proofs.Common.{◌≡◌, ◌∙◌, Bool, Err, ap, inr, refl, rules, true, false}
+use Rattle.std.proofs.Common.{◌≡◌, ◌∙◌, Bool, Err, ap, arith, inl, refl, rules, true, false}
 use Rattle.std.proofs.lemmas.Result.{err_from_is_err_and}
 use Rattle.hc_service.specs.declared.fault.StepFault.TheVariants.{Failed}
 use Rattle.hc_serve.specs.declared.fault.DriveFault.TheVariants.{Core}
 use Rattle.hc_serve.specs.Turns.Break.{Before}
-use Rattle.hc_serve.proofs.DriveLemmas.{begins, breaks, broke_off, ended, goes_on}
+use Rattle.hc_serve.proofs.DriveLemmas.{begins, breaks, broke_off, ended, goes_on, made_all}
 use Rattle.hc_serve.proofs.driving.drive.Goals as goal
 
 pub turns-init : goal.turns-init
@@ -19,7 +19,7 @@ turns-preserved g c = record {
       let f = c.turns.invariant.so_far log text told held in
       goes_on c.steps_are_runs.ensures c.runs_keep_agreement.ensures c.agreement_is_ready.ensures
       (g.L.Links.tells c.turns.links) (g.L.Links.tells c.turn.new.links) (g.R.Link.has_got c.turns.recorder) (g.R.Link.has_got c.turn.new.recorder)
-      _ _ c.turn.new.core log text f ((rw on at c.in_ok-turn.ensures.turn) _ _ f.told f.held);
+      _ _ c.turn.new.core log text _ f ((rw on at c.in_ok-turn.ensures.turn) _ _ f.told f.held);
   count = c.in_ok-turn.ensures.count ∙ c.turns.invariant.count;
 }
 
@@ -32,7 +32,7 @@ returns-in_err-turn-clause-drive g c =
     breaks Bool Bool c.in_err-turn.field-0.0 (g.L.Links.tells c.turn.new.links) (g.R.Link.has_got c.turn.new.recorder) c.args.core.now c.turn.new.core log text _ _ c.in_err-turn.ensures.count
     (broke_off c.steps_are_runs.ensures c.runs_keep_agreement.ensures c.agreement_is_ready.ensures
     (g.L.Links.tells c.turns.links) (g.L.Links.tells c.turn.new.links) (g.R.Link.has_got c.turns.recorder) (g.R.Link.has_got c.turn.new.recorder)
-    c.args.core.now c.turns.core c.turn.new.core log text f c.in_err-turn.field-0.0 b.0 b.1 b.2 b.3))
+    c.args.core.now c.turns.core c.turn.new.core log text _ f c.in_err-turn.field-0.0 b.0 (inl b.1) b.2 b.3))
 
 pub returns-then-not-branch-clause-drive : goal.returns-then-not-branch-clause-drive
 returns-then-not-branch-clause-drive g c = λ log text told held.
@@ -41,11 +41,11 @@ returns-then-not-branch-clause-drive g c = λ log text told held.
     let d = (rw off at c.in_ok-turn.ensures.turn) _ _ f.told f.held in
     ended c.steps_are_runs.ensures c.runs_keep_agreement.ensures c.agreement_is_ready.ensures
     (g.L.Links.tells c.turns.links) (g.L.Links.tells c.turn.new.links) (g.R.Link.has_got c.turns.recorder) (g.R.Link.has_got c.turn.new.recorder)
-    c.args.core.now c.turns.core c.turn.new.core log text f d.0 d.1 d.2
+    c.args.core.now c.turns.core c.turn.new.core log text _ f d.0 d.1 d.2
 
 pub returns-clause-drive : goal.returns-clause-drive
 returns-clause-drive g c = λ log text told held.
     let f = c.turns.invariant.so_far log text told held in
     broke_off c.steps_are_runs.ensures c.runs_keep_agreement.ensures c.agreement_is_ready.ensures
     (g.L.Links.tells c.turns.links) (g.L.Links.tells c.turns.links) (g.R.Link.has_got c.turns.recorder) (g.R.Link.has_got c.turns.recorder)
-    c.args.core.now c.turns.core c.turns.core log text f (Core Failed) Before (inr refl) refl (f.told, f.held)
+    c.args.core.now c.turns.core c.turns.core log text _ f (Core Failed) Before (made_all _ _ _ _ log text _ f (omega (arith, c.turns-test.false))) refl (f.told, f.held)

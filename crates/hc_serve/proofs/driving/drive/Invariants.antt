@@ -7,6 +7,6 @@ use Rattle.hc_serve.proofs.driving.drive.Given as goal
 abbrev pub invariant-turns : goal.invariant-turns
 invariant-turns g l = record {
   so_far : (log : List Move) (text : List ℕ) → g.L.Links.tells l.initial.links log → g.R.Link.has_got l.initial.recorder text
-      → SoFar (g.L.Links.tells l.links) (g.R.Link.has_got l.recorder) l.initial.core l.core log text;
+      → SoFar (g.L.Links.tells l.links) (g.R.Link.has_got l.recorder) l.initial.core l.core log text l.counter;
   count : g.R.Link.count l.recorder ≡ g.R.Link.count l.initial.recorder;
 }

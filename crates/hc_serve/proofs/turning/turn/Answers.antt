@@ -12,7 +12,7 @@ returns-in_err-actions-clause-turn g c =
       AtAnswer c.in-Some.event c.in_err-actions.field-0.0,
       p.2,
       record { gives = c.in_err-actions.ensures.gives; same = c.in_err-actions.ensures.same },
-      ((rw c.in-Some.is at c.in_ok-event.ensures) log told, held),
+      ((rw c.in-Some.is at c.in_ok-event.ensures.tells) log told, held),
     ))
 
 pub returns-in_err-carry_out-clause-turn : goal.returns-in_err-carry_out-clause-turn
@@ -23,7 +23,7 @@ returns-in_err-carry_out-clause-turn g c =
       subst IsOfCarrying (sym p.2) c.in_err-carry_out.ensures.why,
       record { gives = c.in_ok-actions.ensures.gives; same = c.in_ok-actions.ensures.same },
       (rw c.as_slice.ensures.value at c.in_err-carry_out.ensures.done) (Heard c.in-Some.event ∷ log) text
-          ((rw c.in-Some.is at c.in_ok-event.ensures) log told) held,
+          ((rw c.in-Some.is at c.in_ok-event.ensures.tells) log told) held,
     ))
 
 pub returns-clause-turn : goal.returns-clause-turn
@@ -32,5 +32,5 @@ returns-clause-turn g c = λ log text told held. record {
   actions = c.in_ok-actions.actions;
   answers = record { gives = c.in_ok-actions.ensures.gives; same = c.in_ok-actions.ensures.same };
   done = (rw c.as_slice.ensures.value at c.in_ok-carry_out.ensures.done) (Heard c.in-Some.event ∷ log) text
-      ((rw c.in-Some.is at c.in_ok-event.ensures) log told) held;
+      ((rw c.in-Some.is at c.in_ok-event.ensures.tells) log told) held;
 }

@@ -9,9 +9,10 @@ returns-in-Octets-clause-tells g c = λ log tells moment.
     let left = c.if-is_left.ensures refl in
     let works = c.if-self-3.false in
     let same = c.may_read.ensures.same in
+    let came = rw c.in-Octets.is at c.in_ok-octets.ensures.given in
     heard g.C.Link.has_given g.C.Link.has_got g.C.Link.count c.may_read.new.self log read.0 c.read_some.new.link (same.1 ∙ works) c.in_ok-octets.ensures.got c.in-Octets.octets moment
-    (subst (λ (n : ℕ). n < most_replies) (sym same.2) left) (read.1 c.if-not-may_read.false)
-    (rw c.in-Octets.is at c.in_ok-octets.ensures.given) (rw c.in-Octets.is at c.in_ok-octets.ensures.count)
+    (subst (λ (n : ℕ). n < most_replies) (sym same.2) left) (same.3 ∙ c.if-self-2.false) came.0 (read.1 c.if-not-may_read.false)
+    came.1 (rw c.in-Octets.is at c.in_ok-octets.ensures.count)
 
 pub returns-in-Failure-clause-tells : goal.returns-in-Failure-clause-tells
 returns-in-Failure-clause-tells g c = λ log tells.

@@ -1,0 +1,156 @@
+//! Whole runs of `serve`, in one thread.
+
+use crate::loopback::{listener, say};
+use crate::scene::{number_of, text_of};
+use crate::staged::{Manner, Staged};
+use crate::telling::say_verdict;
+use hc_cases::Unanswered;
+use hc_sockets::{ServeFault, Service, serve};
+use hc_transcript::OPENING;
+use std::alloc::Global;
+use std::cell::{Cell, RefCell};
+use std::io::Read;
+use std::net::{Net, OpenStream};
+use std::random::RandomSource;
+use std::rt::Files;
+use std::{fs, io};
+
+/// Where clients connect to, if that is the address at which the origin listens, which is taken then.
+const TAKEN: &str = "-";
+
+/// What a case is about.
+#[derive(Clone, Copy)]
+struct Play<'a> {
+    /// The file that is recorded to.
+    file: &'a str,
+    /// Where clients connect to.
+    listen: &'a str,
+    /// What clients send, one behind another.
+    clients: &'a [Vec<u8>],
+    /// The answers of the origin, forward by forward.
+    answers: &'a [Vec<u8>],
+}
+
+impl<'a> Play<'a> {
+    /// That of those parts: a file, an address, how many clients there are, what they send, and the answers.
+    fn of(parts: &'a [Vec<u8>]) -> Result<Self, Unanswered> {
+        let [file, listen, count, others @ ..] = parts else {
+            return Err(Unanswered::Unknown);
+        };
+        let count = number_of(count.as_slice())?;
+        let Some((clients, answers)) = others.split_at_checked(count) else {
+            return Err(Unanswered::Unknown);
+        };
+        Ok(Play {
+            file: text_of(file.as_slice())?,
+            listen: text_of(listen.as_slice())?,
+            clients,
+            answers,
+        })
+    }
+
+    /// What is served, where the origin has that address.
+    fn service(&self, origin: &'a str) -> Service<'a> {
+        let listen = if self.listen == TAKEN {
+            origin
+        } else {
+            self.listen
+        };
+        Service {
+            listen,
+            origin,
+            connections: self.clients.len() as u64,
+            file: self.file,
+        }
+    }
+}
+
+/// Writes what `serve` answers, what clients are replied, what the origin is sent, and the verdict on the file, which is
+/// removed then.
+pub(crate) fn say_service<R: Net + Files + RandomSource>(
+    system: &R,
+    alloc: Global,
+    about: &[Vec<u8>],
+    manner: Manner,
+    out: &mut String,
+) -> Result<(), Unanswered> {
+    let play = Play::of(about)?;
+    let (origin, address) = listener(system)?;
+    let address = format!(in alloc; "{address}")?;
+    let staged = Staged {
+        system,
+        alloc,
+        clients: play.clients,
+        manner,
+        answers: play.answers,
+        origin,
+        tried: Cell::new(0),
+        connected: RefCell::new(Vec::new(alloc)),
+        forwards: RefCell::new(Vec::new(alloc)),
+    };
+    let answer = serve(&staged, play.service(address.as_str()));
+    let file = fs::read(&staged, play.file);
+    let _ = fs::remove_file(&staged, play.file);
+    let (connected, forwards) = staged.streams();
+    out.push_str(word_of(answer))?;
+    say_streams(alloc, "; reply ", connected, out)?;
+    say_streams(alloc, "; forward ", forwards, out)?;
+    say_file(alloc, file, out)
+}
+
+/// A word for what `serve` answered.
+fn word_of(answer: Result<(), ServeFault>) -> &'static str {
+    match answer {
+        Ok(()) => "served",
+        Err(ServeFault::Memory) => "no memory",
+        Err(ServeFault::Listener(_)) => "listener failed",
+        Err(ServeFault::Record(_)) => "record failed",
+        Err(ServeFault::Random(_)) => "no random numbers",
+        Err(ServeFault::Clock) => "clock failed",
+    }
+}
+
+/// Writes what comes from each of the streams up to its end, and where one was reset.
+fn say_streams<S: Read + OpenStream + Drop>(
+    alloc: Global,
+    what: &str,
+    streams: Vec<S>,
+    out: &mut String,
+) -> Result<(), Unanswered> {
+    for stream in streams {
+        say_stream(alloc, what, stream, out)?;
+    }
+    Ok(())
+}
+
+fn say_stream<S: Read + OpenStream + Drop>(
+    alloc: Global,
+    what: &str,
+    mut stream: S,
+    out: &mut String,
+) -> Result<(), Unanswered> {
+    let mut octets = Vec::new(alloc);
+    let read = stream.read_to_end(&mut octets);
+    say(what, octets.as_slice(), out)?;
+    match (read, stream.take_error()) {
+        (Ok(_), Ok(None)) => Ok(()),
+        _ => {
+            out.push_str(" and a reset")?;
+            Ok(())
+        }
+    }
+}
+
+/// Writes the verdict on what was recorded to the file, if there is one.
+fn say_file(alloc: Global, file: io::Result<Vec<u8>>, out: &mut String) -> Result<(), Unanswered> {
+    let Ok(file) = file else {
+        out.push_str("; no file")?;
+        return Ok(());
+    };
+    let Some(recording) = file.as_slice().strip_prefix(OPENING) else {
+        out.push_str("; no opening")?;
+        return Ok(());
+    };
+    out.push_str("; ")?;
+    say_verdict(alloc, recording, out)
+}
