@@ -261,3 +261,10 @@ opens_sent before false c d to octets log same is o = opens_same before false c 
 pub opens_closed : (before after : Bool) (c d : ℕ) (link : Receiver) (log : List Move) → after ≡ before → d ≡ c → Opens before c log → Opens after d (Closed link ∷ log)
 opens_closed before true c d link log same is o = opens_same before true c d log same is o
 opens_closed before false c d link log same is o = opens_same before false c d log same is o
+
+-- ---- a client of whom more is heard
+
+pub open_and_works : (ended closed failed : Bool) → (if ended then true else (if closed then true else failed)) ≡ false → (closed ≡ false) × (failed ≡ false)
+open_and_works true closed failed is = absurd (cc)
+open_and_works false true failed is = absurd (cc)
+open_and_works false false failed is = (refl, is)

@@ -1,5 +1,5 @@
 -- What the client's side of a connection tells of what passed.
-use Rattle.std.specs.Prelude.{◌≡◌, ℕ, ◌≤◌, ◌<◌, Bool, true, false, List, ◌∷◌, Option, Some, None, Result, Ok, Err}
+use Rattle.std.specs.Prelude.{◌≡◌, ℕ, ◌≤◌, ◌<◌, Bool, true, false, List, ◌∷◌, Option, Some, None, Result, Ok, Err, if◌then◌else◌}
 use Rattle.std.specs.declared.alloc.AllocError.{AllocError}
 use Rattle.hc_events.specs.declared.Happening.{Happening}
 use Rattle.hc_events.specs.declared.Happening.TheVariants.{ClientOpened}
@@ -51,3 +51,13 @@ TellsPerhaps tells None log = tells log
 abbrev pub TellsIfOk : (List Move → Type 0) → Result (Option Happening) AllocError → List Move → Type 0
 TellsIfOk tells (Ok perhaps) log = TellsPerhaps tells perhaps log
 TellsIfOk tells (Err refused) log = tells log
+
+-- ---- what rests
+
+-- nothing more is heard of the client: the cache was told that it sends no more, or has closed its connection, or its link has failed
+abbrev pub is_heard_out : {C : Type 0} → ClientSide C → Bool
+is_heard_out side = if side.ended then true else (if side.closed then true else side.failed)
+
+-- nothing more happens at a connection: that it was opened was told, no forward is open, and nothing more is heard of the client
+abbrev pub Rests : {C : Type 0} → Bool → ℕ → ClientSide C → Type 0
+Rests opened forwards side = (opened ≡ true) × (forwards ≡ 0) × (is_heard_out side ≡ true)

@@ -1,6 +1,6 @@
 //! The client's side of a connection.
 
-ghost use Rattle.std.specs.Prelude.{◌≡◌, ◌<◌, false, ℕ, List, [], ◌∷◌};
+ghost use Rattle.std.specs.Prelude.{◌≡◌, ◌<◌, false, true, ℕ, List, [], ◌∷◌, None, Ok};
 
 use crate::link::{Link, LinkFailure};
 use crate::sides::{Came, read_some, send_text};
@@ -36,7 +36,7 @@ impl<C: Link> ClientSide<C> {
     ghost use Rattle.hc_connection.specs.declared.links.Receiver.TheVariants.{Client};
     ghost use Rattle.hc_connection.specs.Moves.{Move, most_replies};
     ghost use Rattle.hc_connection.specs.Moves.Move.{Before, Closed, Sent};
-    ghost use Rattle.hc_connection.specs.Sides.{LeavesRead, Tells, TellsIfOk, TellsPerhaps};
+    ghost use Rattle.hc_connection.specs.Sides.{LeavesRead, Tells, TellsIfOk, TellsPerhaps, is_heard_out};
 
     /// That of a client who has just connected.
     pub(crate) fn new(number: u64, link: C) -> Self
@@ -118,13 +118,24 @@ impl<C: Link> ClientSide<C> {
         self.replies >= MOST_REPLIES || self.is_spent()
     }
 
+    /// Whether nothing more is heard of the client.
+    fn is_heard_out(&self) -> bool
+        ensures { result ≡ is_heard_out self.now }
+    {
+        self.ended || self.closed || self.failed
+    }
+
     /// That the client sends no more, unless that was told, or the connection has closed.
     pub(crate) fn leave(&mut self) -> Option<Happening>
         ensures tells { (log : List Move) → Tells C.has_given C.has_got C.count self.old log
             → TellsPerhaps (Tells C.has_given C.has_got C.count self.new) result log }
         ensures number { self.new.number ≡ self.old.number }
+        ensures rests { result ≡ None → is_heard_out self.new ≡ true }
     {
-        if self.ended || self.closed {
+        if self.ended {
+            return None;
+        }
+        if self.closed {
             return None;
         }
         self.ended = true;
@@ -148,9 +159,16 @@ impl<C: Link> ClientSide<C> {
         ensures tells { (log : List Move) → Tells C.has_given C.has_got C.count self.old log
             → TellsIfOk (Tells C.has_given C.has_got C.count self.new) result log }
         ensures number { self.new.number ≡ self.old.number }
+        ensures rests { result ≡ Ok None → is_heard_out self.new ≡ true }
     {
-        if self.ended || self.closed || self.failed || self.is_left() || !self.may_read() {
+        if self.is_heard_out() {
             return Ok(None);
+        }
+        if self.is_left() {
+            return Ok(self.leave());
+        }
+        if !self.may_read() {
+            return Ok(self.leave());
         }
         match read_some(alloc, &mut self.link)? {
             Came::Octets(octets) => Ok(Some(Happening::ClientBytes(self.number, octets))),

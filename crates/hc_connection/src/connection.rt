@@ -1,6 +1,6 @@
 //! One client's connection, and the forwards that are open for it.
 
-ghost use Rattle.std.specs.Prelude.{◌≡◌, ◌<◌, false, true, ℕ, List, [], ◌∷◌, IfOk};
+ghost use Rattle.std.specs.Prelude.{◌≡◌, ◌<◌, false, true, ℕ, List, [], ◌∷◌, length, IfOk, IsSome, None, Ok};
 
 use crate::client_side::ClientSide;
 use crate::link::{Clock, Link, LinkFailure, Origins};
@@ -38,11 +38,11 @@ pub struct Connection<'a, C: Link, O: Origins, K: Clock> {
 impl<'a, C: Link, O: Origins, K: Clock> Connection<'a, C, O, K> {
     ghost use Rattle.hc_connection.specs.Moves.{Move, reads_in};
     ghost use Rattle.hc_connection.specs.Moves.Move.{Before, Closed, Sent};
-    ghost use Rattle.hc_connection.specs.Sides.{Tells, TellsIfOk, TellsPerhaps};
+    ghost use Rattle.hc_connection.specs.Sides.{Tells, TellsIfOk, TellsPerhaps, is_heard_out};
     ghost use Rattle.hc_connection.specs.declared.links.Receiver.TheVariants.{Client};
 
-    /// A connection of that number, which a client has just opened. The number is greater than all that the cache was
-    /// told before.
+    /// A connection of that number, which a client has just opened. The number has to be greater than all that the cache
+    /// was told before, else that answers `UnknownNumber`.
     pub fn new(
         alloc: Global,
         number: u64,
@@ -128,6 +128,7 @@ impl<'a, C: Link, O: Origins, K: Clock> Connection<'a, C, O, K> {
             → TellsIfOk (Tells C.has_given C.has_got C.count self.new.client) result log }
         ensures number { self.new.client.number ≡ self.old.client.number }
         ensures opened { self.new.opened ≡ self.old.opened }
+        ensures none { result ≡ Ok None → length self.new.forwards.entries ≡ 0 }
     {
         let Some((forward, link)) = self.forwards.pop_first() else {
             return Ok(None);
@@ -149,6 +150,7 @@ impl<'a, C: Link, O: Origins, K: Clock> Connection<'a, C, O, K> {
             → TellsIfOk (Tells C.has_given C.has_got C.count self.new.client) result log }
         ensures number { self.new.client.number ≡ self.old.client.number }
         ensures opened { self.new.opened ≡ self.old.opened }
+        ensures some { IfOk result IsSome }
     {
         match read_some(self.alloc, &mut link)? {
             Came::Octets(octets) => {
@@ -166,6 +168,8 @@ impl<'a, C: Link, O: Origins, K: Clock> Connection<'a, C, O, K> {
             → TellsIfOk (Tells C.has_given C.has_got C.count self.new.client) result log }
         ensures number { self.new.client.number ≡ self.old.client.number }
         ensures opened { self.new.opened ≡ self.old.opened }
+        ensures rests { result ≡ Ok None
+            → (length self.new.forwards.entries ≡ 0) × (is_heard_out self.new.client ≡ true) }
     {
         if let Some(of) = self.client.leave_in_time() {
             return Ok(Some(of));
@@ -237,13 +241,12 @@ impl<'a, C: Link, O: Origins, K: Clock> Connection<'a, C, O, K> {
 }
 
 impl<'a, C: Link, O: Origins, K: Clock> Links for Connection<'a, C, O, K> {
-    ghost use Rattle.hc_connection.specs.Sides.{Opens, Tells};
+    ghost use Rattle.hc_connection.specs.Sides.{Opens, Rests, Tells};
 
     ghost tells = { λ connection log. Tells C.has_given C.has_got C.count connection.client log
         × Opens connection.opened connection.client.number log };
 
-    // Of a connection that rests the cache was told.
-    ghost rests = { λ connection. connection.opened ≡ true };
+    ghost rests = { λ connection. Rests connection.opened (length connection.forwards.entries) connection.client };
 
     fn next(&mut self) -> Result<Option<Event>, AllocError> {
         if !self.opened {

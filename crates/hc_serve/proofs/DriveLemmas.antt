@@ -216,9 +216,9 @@ module _ (runs : StepsAreRuns) (keeps : RunsKeepAgreement) (is_ready : Agreement
     break_leads (Carrying event actions) answers =
         leads old new (f.events ++ event ∷ []) (f.results ++ Ok actions ∷ []) (leads_on old mid new f.events f.results f.leading event actions answers)
 
-    pub broke_off : (why : DriveFault) (break : Break) → IsToldBy break why ⊎ GivesUp break why new (length f.events) → AnswersBy break mid new
-        → StopsAt break T' H' (passed f.events f.results log) (text ++ texts_given f.results) → BreakOff why T' H' old new log text
-    broke_off why break told answers stops = record {
+    pub broke_off : (rests : Type 0) (why : DriveFault) (break : Break) → IsToldBy break why ⊎ GivesUp break why new rests (length f.events) → AnswersBy break mid new
+        → StopsAt break T' H' (passed f.events f.results log) (text ++ texts_given f.results) → BreakOff why T' H' rests old new log text
+    broke_off rests why break told answers stops = record {
       events = f.events;
       results = f.results;
       break = break;
@@ -229,18 +229,18 @@ module _ (runs : StepsAreRuns) (keeps : RunsKeepAgreement) (is_ready : Agreement
     }
 
 -- so many turns were made, and no more are
-pub made_all : (T : List Move → Type 0) (H : List ℕ → Type 0) (old new : Cache) (log : List Move) (text : List ℕ) (turns : ℕ) (f : SoFar T H old new log text turns) → turns ≡ most_turns
-    → IsToldBy Before (fault.Core Failed) ⊎ GivesUp Before (fault.Core Failed) new (length f.events)
-made_all T H old new log text turns f all = inr (refl, refl, inl (f.many ∙ all))
+pub made_all : (T : List Move → Type 0) (H : List ℕ → Type 0) (rests : Type 0) (old new : Cache) (log : List Move) (text : List ℕ) (turns : ℕ) (f : SoFar T H old new log text turns) → turns ≡ most_turns
+    → IsToldBy Before (fault.Core Failed) ⊎ GivesUp Before (fault.Core Failed) new rests (length f.events)
+made_all T H rests old new log text turns f all = inr (refl, refl, inl (f.many ∙ all))
 
 -- turns that went well, and then no more is done, though the cache isn't idle
-pub as_broken : (T : List Move → Type 0) (H : List ℕ → Type 0) (old new : Cache) (log : List Move) (text : List ℕ) → IsBusy new
-    → AreTurns T H old new log text → BreakOff (fault.Core Failed) T H old new log text
-as_broken T H old new log text busy t = record {
+pub as_broken : (T : List Move → Type 0) (H : List ℕ → Type 0) (rests : Type 0) (old new : Cache) (log : List Move) (text : List ℕ) → IsBusy new → rests
+    → AreTurns T H old new log text → BreakOff (fault.Core Failed) T H rests old new log text
+as_broken T H rests old new log text busy rest t = record {
   events = t.events;
   results = t.results;
   break = Before;
-  told_by = inr (refl, refl, inr busy);
+  told_by = inr (refl, refl, inr (busy, rest));
   leads = subst (λ (events : List Event). Leads old new events (t.results ++ [])) (sym (append-nil t.events))
       (subst (λ (results : List StepResult). Leads old new t.events results) (sym (append-nil t.results)) t.leads);
   served = t.served;
@@ -265,8 +265,8 @@ works_still true idle fails is = absurd (true_false (sym is ∙ fails refl))
 works_still false idle fails is = refl
 
 -- a fault behind which turns broke off
-pub breaks : (T U : Type 0) (why : DriveFault) (tells : List Move → Type 0) (holds : List ℕ → Type 0) (old new : Cache) (log : List Move) (text : List ℕ) (before after : ℕ)
-    → CountsRecorder {T = T} (Err why) before after → BreakOff why tells holds old new log text → GivesDrive {T = U} tells holds (Err why) old new log text
-breaks T U fault.Client tells holds old new log text before after counted b = absurd counted
-breaks T U fault.Recorder tells holds old new log text before after counted b = b
-breaks T U (fault.Core step) tells holds old new log text before after counted b = b
+pub breaks : (T U : Type 0) (why : DriveFault) (tells : List Move → Type 0) (holds : List ℕ → Type 0) (rests : Type 0) (old new : Cache) (log : List Move) (text : List ℕ) (before after : ℕ)
+    → CountsRecorder {T = T} (Err why) before after → BreakOff why tells holds rests old new log text → GivesDrive {T = U} tells holds rests (Err why) old new log text
+breaks T U fault.Client tells holds rests old new log text before after counted b = absurd counted
+breaks T U fault.Recorder tells holds rests old new log text before after counted b = b
+breaks T U (fault.Core step) tells holds rests old new log text before after counted b = b

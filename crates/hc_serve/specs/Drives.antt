@@ -97,24 +97,24 @@ IsBusy cache = (settings : CoreSettings) (s : State) → StandsFor settings cach
 abbrev pub most_turns : ℕ
 most_turns = 2 ^ 64 - 1
 
--- or the driver gave up between turns: it had made as many as it makes, or nothing more will happen, and the cache isn't idle
-abbrev pub GivesUp : Break → DriveFault → Cache → ℕ → Type 0
-GivesUp break why cache turns = (break ≡ Before) × (why ≡ fault.Core Failed) × ((turns ≡ most_turns) ⊎ IsBusy cache)
+-- or the driver gave up between turns: it had made as many as it makes, or the links rest, so that nothing more will happen, and the cache isn't idle
+abbrev pub GivesUp : Break → DriveFault → Cache → Type 0 → ℕ → Type 0
+GivesUp break why cache rests turns = (break ≡ Before) × (why ≡ fault.Core Failed) × ((turns ≡ most_turns) ⊎ (IsBusy cache × rests))
 
-pub record BreakOff (why : DriveFault) (tells : List Move → Type 0) (holds : List ℕ → Type 0) (old new : Cache) (log : List Move) (text : List ℕ) : Type 0 where
+pub record BreakOff (why : DriveFault) (tells : List Move → Type 0) (holds : List ℕ → Type 0) (rests : Type 0) (old new : Cache) (log : List Move) (text : List ℕ) : Type 0 where
   pub events : List Event
   pub results : List StepResult
   pub break : Break
-  pub told_by : IsToldBy break why ⊎ GivesUp break why new (length events)
+  pub told_by : IsToldBy break why ⊎ GivesUp break why new rests (length events)
   pub leads : Leads old new (events ++ events_by break) (results ++ answers_by break)
   pub served : AreServed results
   pub stops : StopsAt break tells holds (passed events results log) (text ++ texts_given results)
 
-abbrev pub GivesDrive : {T : Type 0} → (List Move → Type 0) → (List ℕ → Type 0) → Result T DriveFault → Cache → Cache → List Move → List ℕ → Type 0
-GivesDrive tells holds (Ok done) old new log text = AreTurns tells holds old new log text
-GivesDrive tells holds (Err fault.Client) old new log text = AreTurns tells holds old new log text
-GivesDrive tells holds (Err fault.Recorder) old new log text = BreakOff fault.Recorder tells holds old new log text
-GivesDrive tells holds (Err (fault.Core step)) old new log text = BreakOff (fault.Core step) tells holds old new log text
+abbrev pub GivesDrive : {T : Type 0} → (List Move → Type 0) → (List ℕ → Type 0) → Type 0 → Result T DriveFault → Cache → Cache → List Move → List ℕ → Type 0
+GivesDrive tells holds rests (Ok done) old new log text = AreTurns tells holds old new log text
+GivesDrive tells holds rests (Err fault.Client) old new log text = AreTurns tells holds old new log text
+GivesDrive tells holds rests (Err fault.Recorder) old new log text = BreakOff fault.Recorder tells holds rests old new log text
+GivesDrive tells holds rests (Err (fault.Core step)) old new log text = BreakOff (fault.Core step) tells holds rests old new log text
 
 -- ---- a connection that was served
 

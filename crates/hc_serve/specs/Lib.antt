@@ -1,3 +1,4 @@
+pub mod FaultNames
 pub mod Carrying
 pub mod Turns
 pub mod Drives

@@ -22,7 +22,7 @@ pub fn drive<S: BuildHasher, L: Links, R: Link>(
     recorder: &mut R,
 ) -> Result<(), DriveFault>
     ensures drive { (log : List Move) (text : List ℕ) → L.tells links.old log → R.has_got recorder.old text
-        → GivesDrive (L.tells links.new) (R.has_got recorder.new) result core.old core.new log text }
+        → GivesDrive (L.tells links.new) (R.has_got recorder.new) (L.rests links.new) result core.old core.new log text }
     ensures rest { IfOk result (λ _. L.rests links.new) }
     ensures count { CountsRecorder result (R.count recorder.old) (R.count recorder.new) }
 {

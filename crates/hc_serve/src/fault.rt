@@ -11,15 +11,42 @@ use thiserror::Error;
 /// What went wrong while a connection was served.
 #[derive(Clone, Copy, Debug, PartialEq, Eq, Error)]
 pub enum DriveFault {
-    /// The client's link failed. All that was open was served to its end.
+    /// The client's link failed. All that was open was served to its end, or to the bound on reads.
     #[error("the client's link failed")]
     Client,
     /// The recorder failed. Nothing was read or written behind that.
     #[error("the recorder failed")]
     Recorder,
-    /// The cache didn't serve an event, or memory was refused to the driver itself.
+    /// The cache didn't serve an event, or memory was refused to the driver itself. `Failed` is also that the driver gave
+    /// up: nothing more happens, and the cache isn't idle, or 2^64 - 1 events were served.
     #[error("{0}")]
     Core(StepFault),
+}
+
+impl DriveFault {
+    ghost use Rattle.hc_serve.specs.FaultNames.{fault_name, fault_number};
+
+    /// The number that stands for the fault in reports.
+    pub fn number(&self) -> u32
+        ensures { result ≡ fault_number self.now }
+    {
+        match self {
+            DriveFault::Client => 1,
+            DriveFault::Recorder => 2,
+            DriveFault::Core(_) => 3,
+        }
+    }
+
+    /// The name that stands for the fault in reports.
+    pub fn name(&self) -> &'static str
+        ensures { result.now ≡ fault_name self.now }
+    {
+        match self {
+            DriveFault::Client => "Client",
+            DriveFault::Recorder => "Recorder",
+            DriveFault::Core(_) => "Core",
+        }
+    }
 }
 
 impl From<AllocError> for DriveFault {

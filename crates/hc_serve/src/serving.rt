@@ -1,8 +1,8 @@
 //! Serving one connection.
 
-ghost use Rattle.std.specs.Prelude.{◌≡◌, ℕ, List};
+ghost use Rattle.std.specs.Prelude.{◌≡◌, ℕ, List, length};
 ghost use Rattle.hc_connection.specs.Moves.{Move};
-ghost use Rattle.hc_connection.specs.Sides.{Opens, Tells};
+ghost use Rattle.hc_connection.specs.Sides.{Opens, Rests, Tells};
 ghost use Rattle.hc_serve.specs.Drives.{CountsServed, GivesDrive, LeavesIdle, LeavesOpened, SaysFailed};
 
 use crate::driving::drive;
@@ -14,7 +14,7 @@ use std::alloc::Global;
 use std::hash::BuildHasher;
 
 /// Serves one connection to its end, and records that. What is told of it begins with its opening. Where it was served
-/// before, nothing more happens.
+/// before, nothing more happens, and the answer tells again whether its client's link has failed.
 pub fn serve_connection<S: BuildHasher, C: Link, O: Origins, K: Clock, R: Link>(
     alloc: Global,
     core: &mut Core<S>,
@@ -25,7 +25,8 @@ pub fn serve_connection<S: BuildHasher, C: Link, O: Origins, K: Clock, R: Link>(
         → Tells C.has_given C.has_got C.count connection.old.client log → Opens connection.old.opened connection.old.client.number log
         → R.has_got recorder.old text
         → GivesDrive (λ log. Tells C.has_given C.has_got C.count connection.new.client log × Opens connection.new.opened connection.new.client.number log)
-        (R.has_got recorder.new) result core.old core.new log text }
+        (R.has_got recorder.new) (Rests connection.new.opened (length connection.new.forwards.entries) connection.new.client) result
+        core.old core.new log text }
     ensures count { CountsServed result (R.count recorder.old) (R.count recorder.new) }
     ensures idle { LeavesIdle result core.new }
     ensures failed { SaysFailed result connection.new.client.failed }

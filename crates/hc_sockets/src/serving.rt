@@ -57,11 +57,12 @@ pub struct Service<'a> {
 /// and gets the opening of a transcript before clients can connect. A client whose link fails is served no further,
 /// and the next one is.
 ///
-/// A connection that was served is closed in stages (RFC 9112 section 9.6). First what is written to the client ends.
-/// Then what the client still sends is read and dropped, until it ends too: at most 16 reads of 8,192 octets, each of
-/// which waits a second at most. Only then is the socket closed, since the system resets a connection that is closed
-/// while octets of the client are unread, and a reply on its way may be lost by that. Where the system refuses to wait
-/// for a second alone, the socket is closed at once.
+/// A connection that was served without a fault is closed in stages (RFC 9112 section 9.6). First, where the cache closes
+/// it, what is written to the client ends. Behind all that was open, what the client still sends is read and dropped,
+/// until it ends too: at most 16 reads of 8,192 octets, each of which waits a second at most. Only then is the socket
+/// closed, since the system resets a connection that is closed while octets of the client are unread, and a reply on its
+/// way may be lost by that. Where the system refuses to wait for a second alone, or memory for those reads, the socket is
+/// closed at once.
 ///
 /// No clause says so, since none can say what the system's sockets and files hold. What is recorded of the octets that
 /// links give and get is what `serve_connection` of hc_serve promises.
@@ -173,8 +174,10 @@ fn linger<S: Read + Write + OpenStream + Drop>(alloc: Global, socket: Socket<S>)
     };
     for _ in 0..PIECES {
         match stream.read(piece.as_mut_slice()) {
-            Ok(0) | Err(_) => return,
+            Ok(0) => return,
             Ok(_) => {}
+            Err(error) if error.kind() == ErrorKind::Interrupted => {}
+            Err(_) => return,
         }
     }
 }
@@ -189,7 +192,7 @@ fn outcome_of(fault: DriveFault, reason: Option<io::Error>) -> Result<(), ServeF
             Err(ServeFault::Record(reason.unwrap_or(unknown)))
         }
         DriveFault::Core(StepFault::MomentTooLarge) => Err(ServeFault::Clock),
-        // The others come of no event that a connection tells.
+        // The others come of no event that a new connection tells of to a cache that is idle.
         DriveFault::Core(_) => Err(ServeFault::Memory),
     }
 }

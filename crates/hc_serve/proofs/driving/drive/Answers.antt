@@ -29,10 +29,10 @@ returns-in_err-turn-clause-drive g c =
     rw (p.1 ∙ ap Err p.2) (λ log text told held.
     let f = c.turns.invariant.so_far log text told held in
     let b = c.in_err-turn.ensures.turn _ _ f.told f.held in
-    breaks Bool Bool c.in_err-turn.field-0.0 (g.L.Links.tells c.turn.new.links) (g.R.Link.has_got c.turn.new.recorder) c.args.core.now c.turn.new.core log text _ _ c.in_err-turn.ensures.count
+    breaks Bool Bool c.in_err-turn.field-0.0 (g.L.Links.tells c.turn.new.links) (g.R.Link.has_got c.turn.new.recorder) (g.L.Links.rests c.turn.new.links) c.args.core.now c.turn.new.core log text _ _ c.in_err-turn.ensures.count
     (broke_off c.steps_are_runs.ensures c.runs_keep_agreement.ensures c.agreement_is_ready.ensures
     (g.L.Links.tells c.turns.links) (g.L.Links.tells c.turn.new.links) (g.R.Link.has_got c.turns.recorder) (g.R.Link.has_got c.turn.new.recorder)
-    c.args.core.now c.turns.core c.turn.new.core log text _ f c.in_err-turn.field-0.0 b.0 (inl b.1) b.2 b.3))
+    c.args.core.now c.turns.core c.turn.new.core log text _ f (g.L.Links.rests c.turn.new.links) c.in_err-turn.field-0.0 b.0 (inl b.1) b.2 b.3))
 
 pub returns-then-not-branch-clause-drive : goal.returns-then-not-branch-clause-drive
 returns-then-not-branch-clause-drive g c = λ log text told held.
@@ -48,4 +48,4 @@ returns-clause-drive g c = λ log text told held.
     let f = c.turns.invariant.so_far log text told held in
     broke_off c.steps_are_runs.ensures c.runs_keep_agreement.ensures c.agreement_is_ready.ensures
     (g.L.Links.tells c.turns.links) (g.L.Links.tells c.turns.links) (g.R.Link.has_got c.turns.recorder) (g.R.Link.has_got c.turns.recorder)
-    c.args.core.now c.turns.core c.turns.core log text _ f (Core Failed) Before (made_all _ _ _ _ log text _ f (omega (arith, c.turns-test.false))) refl (f.told, f.held)
+    c.args.core.now c.turns.core c.turns.core log text _ f (g.L.Links.rests c.turns.links) (Core Failed) Before (made_all _ _ _ _ _ log text _ f (omega (arith, c.turns-test.false))) refl (f.told, f.held)
