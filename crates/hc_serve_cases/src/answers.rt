@@ -3,10 +3,10 @@
 use crate::hits::say_hits;
 use crate::loopback::say_loopback;
 use crate::notebook::{Device, Fault};
-use crate::scene::Scene;
+use crate::scene::{Scene, number_before};
 use crate::service::say_service;
 use crate::staged::Manner;
-use crate::telling::{say_failures, say_octets, say_order, say_read, say_reads};
+use crate::telling::{say_failures, say_octets, say_order, say_order_in_time, say_read, say_reads};
 use hc_cases::{Ask, Unanswered};
 use std::alloc::Global;
 use std::net::Net;
@@ -27,12 +27,47 @@ impl<'a, R: Net + Files + RandomSource> Ask for Connections<'a, R> {
         about: &[Vec<u8>],
         out: &mut String,
     ) -> Result<(), Unanswered> {
+        if let Some((manner, about)) = manner_of(question, about)? {
+            return say_service(self.system, alloc, about, manner, out);
+        }
         match question {
-            "serve" => say_service(self.system, alloc, about, Manner::Ends, out),
-            "serve those who stay" => say_service(self.system, alloc, about, Manner::Stays, out),
             "loopback" => say_loopback(self.system, alloc, &Scene::of(about)?, out),
             _ => answer_in_memory(alloc, question, &Scene::of(about)?, out),
         }
+    }
+}
+
+/// What is particular about the question, where it is about a whole run of `serve`, and the parts that the run is of.
+fn manner_of<'a>(
+    question: &str,
+    about: &'a [Vec<u8>],
+) -> Result<Option<(Manner, &'a [Vec<u8>])>, Unanswered> {
+    let manner = match question {
+        "serve" => Manner::Ends,
+        "serve those who stay" => Manner::Stays,
+        "serve behind one who has gone" => Manner::Leaves,
+        "serve with an origin that waits" => Manner::Waits,
+        "serve to a long file" => Manner::Overwrites,
+        _ => return numbered_manner_of(question, about),
+    };
+    Ok(Some((manner, about)))
+}
+
+/// The same of a question behind which a number stands.
+fn numbered_manner_of<'a>(
+    question: &str,
+    about: &'a [Vec<u8>],
+) -> Result<Option<(Manner, &'a [Vec<u8>])>, Unanswered> {
+    match question {
+        "serve to a file that fails" => {
+            let (write, others) = number_before(about)?;
+            Ok(Some((Manner::Fails(write), others)))
+        }
+        "serve at a moment" => {
+            let (moment, others) = number_before(about)?;
+            Ok(Some((Manner::At(moment), others)))
+        }
+        _ => Ok(None),
     }
 }
 
@@ -45,6 +80,7 @@ fn answer_in_memory(
 ) -> Result<(), Unanswered> {
     match question {
         "order" => say_order(alloc, scene, None, out),
+        "order as time passes" => say_order_in_time(alloc, scene, out),
         "third call of the client fails" => say_order(alloc, scene, THIRD, out),
         "each call of the client fails" => say_failures(alloc, scene, Device::Client, out),
         "each call of an origin fails" => say_failures(alloc, scene, Device::Origin, out),

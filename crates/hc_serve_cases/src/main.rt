@@ -2,6 +2,7 @@
 #![tactic(auto)]
 
 mod answers;
+mod failing;
 mod hits;
 mod links;
 mod loopback;

@@ -24,6 +24,14 @@ impl Device {
             Device::Recorder => "recorder",
         }
     }
+
+    /// How many words are told of what is moved: of a record, its moment too.
+    fn words(self) -> u32 {
+        match self {
+            Device::Client | Device::Origin => 2,
+            Device::Recorder => 3,
+        }
+    }
 }
 
 /// The call that is to fail: the how-manieth of that device's links, its reads and writes counted together.
@@ -168,7 +176,7 @@ fn say_moved(
     write!(notes, " {count}")?;
     if count > 0 {
         notes.push_str(" ")?;
-        show_short(first_words(octets), notes)?;
+        show_short(first_words(octets, device.words()), notes)?;
     }
     Ok(())
 }
@@ -176,15 +184,15 @@ fn say_moved(
 /// The most octets of words.
 const LONGEST: usize = 16;
 
-/// The first two words of the octets.
-fn first_words(octets: &[u8]) -> &[u8] {
+/// The first words of the octets, so many of them.
+fn first_words(octets: &[u8], words: u32) -> &[u8] {
     let (front, _) = octets.split_at(octets.len().min(LONGEST));
     let mut spaces = 0u32;
     for (place, octet) in front.iter().enumerate() {
         if *octet == b' ' {
             spaces = spaces.saturating_add(1);
         }
-        if spaces == 2 {
+        if spaces == words {
             return &front[..place];
         }
     }

@@ -1,10 +1,10 @@
 //! A connection is served over links in memory.
 
 use crate::notebook::{Device, Fault, Notebook};
-use crate::scene::{Scene, Site, Standing, Trickle, new_core};
+use crate::scene::{Moving, Scene, Site, Standing, Trickle, new_core};
 use hc_audit::{AuditFault, Auditor, FieldNames, Index, Settings, UnmarkedReplies, Verdict};
 use hc_cases::Unanswered;
-use hc_connection::{Connection, Origins};
+use hc_connection::{Clock, Connection, Origins};
 use hc_index::MapIndex;
 use hc_serve::{DriveFault, serve_connection};
 use hc_transcript::OPENING;
@@ -46,13 +46,27 @@ pub(crate) fn run(
     scene: &Scene<'_>,
     fault: Option<Fault>,
 ) -> Result<Outcome, Unanswered> {
+    run_with(alloc, scene, fault, &Standing)
+}
+
+/// The same, where no call fails, and the clock moves on.
+pub(crate) fn run_in_time(alloc: Global, scene: &Scene<'_>) -> Result<Outcome, Unanswered> {
+    run_with(alloc, scene, None, &Moving::new())
+}
+
+fn run_with<K: Clock>(
+    alloc: Global,
+    scene: &Scene<'_>,
+    fault: Option<Fault>,
+    clock: &K,
+) -> Result<Outcome, Unanswered> {
     let notebook = Notebook::new(alloc, fault);
     let site = Site {
         alloc,
         scene,
         notebook: &notebook,
     };
-    let served = serve(alloc, scene, &notebook, &site)?;
+    let served = serve(alloc, scene, &notebook, &site, clock)?;
     Ok(outcome_of(served, notebook))
 }
 
@@ -64,7 +78,7 @@ pub(crate) fn run_by_octets(alloc: Global, scene: &Scene<'_>) -> Result<Outcome,
         scene,
         notebook: &notebook,
     };
-    let served = serve(alloc, scene, &notebook, &Trickle { site })?;
+    let served = serve(alloc, scene, &notebook, &Trickle { site }, &Standing)?;
     Ok(outcome_of(served, notebook))
 }
 
@@ -83,16 +97,17 @@ fn outcome_of(served: Served, notebook: Notebook) -> Outcome {
     }
 }
 
-fn serve<O: Origins>(
+fn serve<O: Origins, K: Clock>(
     alloc: Global,
     scene: &Scene<'_>,
     notebook: &Notebook,
     origins: &O,
+    clock: &K,
 ) -> Result<Served, Unanswered> {
     let mut core = new_core(alloc)?;
     let client = scene.link(alloc, Device::Client, scene.client, notebook);
     let mut recorder = scene.link(alloc, Device::Recorder, b"", notebook);
-    let mut connection = Connection::new(alloc, 1, client, origins, &Standing)?;
+    let mut connection = Connection::new(alloc, 1, client, origins, clock)?;
     let result = serve_connection(alloc, &mut core, &mut connection, &mut recorder);
     Ok(Served {
         result,

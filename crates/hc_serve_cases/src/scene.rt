@@ -8,6 +8,7 @@ use hc_core::{Core, CoreFault};
 use hc_fields::Octets;
 use hc_service::CoreSettings;
 use std::alloc::Global;
+use std::cell::Cell;
 
 /// The answer of an origin that can't be connected to.
 const NONE: &[u8] = b"-";
@@ -36,6 +37,29 @@ impl Clock for Standing {
     }
 }
 
+/// A clock that is a second further each time.
+#[derive(Drop)]
+pub(crate) struct Moving {
+    moment: Cell<u64>,
+}
+
+impl Moving {
+    /// One that begins at Thu, 01 Jan 1970 00:16:40 GMT.
+    pub(crate) fn new() -> Self {
+        Moving {
+            moment: Cell::new(1_000),
+        }
+    }
+}
+
+impl Clock for Moving {
+    fn now(&self) -> u64 {
+        let moment = self.moment.get();
+        self.moment.set(moment.saturating_add(1));
+        moment
+    }
+}
+
 /// The text of a part.
 pub(crate) fn text_of(part: &[u8]) -> Result<&str, Unanswered> {
     match str::from_utf8(part) {
@@ -50,6 +74,14 @@ pub(crate) fn number_of(part: &[u8]) -> Result<usize, Unanswered> {
         Ok(number) => Ok(number),
         Err(_) => Err(Unanswered::Unknown),
     }
+}
+
+/// The number that the first of the parts is, and the others.
+pub(crate) fn number_before(parts: &[Vec<u8>]) -> Result<(u64, &[Vec<u8>]), Unanswered> {
+    let Some((first, others)) = parts.split_first() else {
+        return Err(Unanswered::Unknown);
+    };
+    Ok((number_of(first.as_slice())? as u64, others))
 }
 
 /// The answer at a place, if an origin can be connected to for it.

@@ -18,6 +18,9 @@ use std::{fs, io};
 /// Where clients connect to, if that is the address at which the origin listens, which is taken then.
 const TAKEN: &str = "-";
 
+/// How many octets a file has before it is recorded to, where it has some.
+const BEFORE: usize = 8_192;
+
 /// What a case is about.
 #[derive(Clone, Copy)]
 struct Play<'a> {
@@ -77,6 +80,10 @@ pub(crate) fn say_service<R: Net + Files + RandomSource>(
     let play = Play::of(about)?;
     let (origin, address) = listener(system)?;
     let address = format!(in alloc; "{address}")?;
+    if manner == Manner::Overwrites {
+        let before = Vec::from_elem(alloc, b'x', BEFORE)?;
+        fs::write(system, play.file, before)?;
+    }
     let staged = Staged {
         system,
         alloc,
@@ -86,13 +93,17 @@ pub(crate) fn say_service<R: Net + Files + RandomSource>(
         origin,
         tried: Cell::new(0),
         connected: RefCell::new(Vec::new(alloc)),
+        heard: RefCell::new(Vec::new(alloc)),
         forwards: RefCell::new(Vec::new(alloc)),
     };
     let answer = serve(&staged, play.service(address.as_str()));
     let file = fs::read(&staged, play.file);
     let _ = fs::remove_file(&staged, play.file);
-    let (connected, forwards) = staged.streams();
+    let (connected, heard, forwards) = staged.contents();
     out.push_str(word_of(answer))?;
+    if manner == Manner::Waits {
+        say("; before the last answer ", heard.as_slice(), out)?;
+    }
     say_streams(alloc, "; reply ", connected, out)?;
     say_streams(alloc, "; forward ", forwards, out)?;
     say_file(alloc, file, out)

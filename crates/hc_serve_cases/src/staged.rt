@@ -1,27 +1,41 @@
 //! What `serve` asks of a system, as a case sets it up: clients who connect as soon as it listens, an origin that
 //! answers as it is connected to, and a clock that stands. Its sockets and files are the system's own.
 
+use crate::failing::Failing;
 use crate::scene::answer_at;
 use std::alloc::{Alloc, Allocator, Global};
 use std::cell::{Cell, RefCell};
 use std::fs::{Metadata, OpenOptions};
 use std::io;
-use std::io::{ErrorKind, Write};
+use std::io::{ErrorKind, Read, Write};
 use std::net::{Net, OpenListener, OpenStream, Shutdown, SocketAddr, TcpStream};
 use std::random::RandomSource;
 use std::rt::Files;
 use std::time::{Clock, Duration};
 
-/// The moment, in seconds since 1970.
+/// The moment, in seconds since 1970, where a case names none.
 const MOMENT: u64 = 1_000;
 
-/// Whether clients end behind what they send.
+/// For how many seconds the origin waits for what clients are replied.
+const PATIENCE: u64 = 1;
+
+/// What is particular about a case.
 #[derive(Clone, Copy, PartialEq, Eq)]
 pub(crate) enum Manner {
-    /// They end at once.
+    /// Clients end behind what they send, as they do but for the next one.
     Ends,
-    /// They end behind all else.
+    /// Clients end behind all else.
     Stays,
+    /// The first client is gone before it is served.
+    Leaves,
+    /// The origin gives its last answer once clients have read all that they are replied.
+    Waits,
+    /// The file has more octets before than are recorded.
+    Overwrites,
+    /// That write to the file fails.
+    Fails(u64),
+    /// It is that moment.
+    At(u64),
 }
 
 /// What a case sets up.
@@ -39,13 +53,16 @@ pub(crate) struct Staged<'a, R: Net> {
     pub(crate) tried: Cell<usize>,
     /// The clients' sides of their connections.
     pub(crate) connected: RefCell<Vec<R::Stream>>,
+    /// What clients had read before the last answer, where the origin waits for that.
+    pub(crate) heard: RefCell<Vec<u8>>,
     /// The origin's sides of forwards.
     pub(crate) forwards: RefCell<Vec<R::Stream>>,
 }
 
 impl<'a, R: Net> Staged<'a, R> {
-    /// The clients' sides of their connections, and the origin's sides of forwards.
-    pub(crate) fn streams(self) -> (Vec<R::Stream>, Vec<R::Stream>) {
+    /// The clients' sides of their connections, what they had read before the last answer, and the origin's sides of
+    /// forwards.
+    pub(crate) fn contents(self) -> (Vec<R::Stream>, Vec<u8>, Vec<R::Stream>) {
         let Staged {
             system: _,
             alloc: _,
@@ -55,19 +72,61 @@ impl<'a, R: Net> Staged<'a, R> {
             origin: _,
             tried: _,
             connected,
+            heard,
             forwards,
         } = self;
-        (connected.into_inner(), forwards.into_inner())
+        (
+            connected.into_inner(),
+            heard.into_inner(),
+            forwards.into_inner(),
+        )
+    }
+
+    /// The moment, in seconds since 1970.
+    fn moment(&self) -> Duration {
+        match self.manner {
+            Manner::At(moment) => Duration::from_secs(moment),
+            _ => Duration::from_secs(MOMENT),
+        }
+    }
+
+    /// The write to the file that fails, if one does.
+    fn fault(&self) -> Option<u64> {
+        match self.manner {
+            Manner::Fails(fault) => Some(fault),
+            _ => None,
+        }
+    }
+
+    /// Whether the client at that place is gone before it is served.
+    fn leaves(&self, place: usize) -> bool {
+        self.manner == Manner::Leaves && place == 0
     }
 
     /// A client who has connected and sent those octets.
     fn client(&self, address: SocketAddr, octets: &[u8]) -> io::Result<R::Stream> {
         let mut stream = TcpStream::connect(self.system, address)?;
         stream.write_all(octets)?;
-        if self.manner == Manner::Ends {
+        if self.manner != Manner::Stays {
             stream.shutdown(Shutdown::Write)?;
         }
         Ok(stream)
+    }
+
+    /// Reads what clients are replied, each up to its end.
+    fn hear(&self) -> io::Result<()> {
+        let mut connected = self.connected.try_borrow_mut()?;
+        let mut heard = self.heard.try_borrow_mut()?;
+        for stream in connected.as_mut_slice() {
+            stream.set_read_timeout(Some(Duration::from_secs(PATIENCE)))?;
+            let _ = stream.read_to_end(&mut *heard);
+        }
+        Ok(())
+    }
+
+    /// Whether clients are to read all that they are replied before the forward that was tried last is answered.
+    fn is_awaited(&self) -> bool {
+        self.manner == Manner::Waits && self.tried.get() == self.answers.len()
     }
 
     /// The answer to the next forward, if the origin can be connected to for it.
@@ -93,9 +152,11 @@ impl<'a, R: Net> Net for Staged<'a, R> {
     fn bind(&self, addr: SocketAddr) -> io::Result<R::Listener> {
         let listener = self.system.bind(addr)?;
         let address = listener.local_addr()?;
-        for octets in self.clients {
+        for (place, octets) in self.clients.iter().enumerate() {
             let client = self.client(address, octets.as_slice())?;
-            keep(&self.connected, client)?;
+            if !self.leaves(place) {
+                keep(&self.connected, client)?;
+            }
         }
         Ok(listener)
     }
@@ -104,6 +165,9 @@ impl<'a, R: Net> Net for Staged<'a, R> {
         let Some(answer) = self.next_answer() else {
             return Err(io::Error::from(ErrorKind::ConnectionRefused));
         };
+        if self.is_awaited() {
+            self.hear()?;
+        }
         let stream = self.system.connect(addr)?;
         let (mut accepted, _) = self.origin.accept()?;
         accepted.write_all(answer)?;
@@ -115,11 +179,11 @@ impl<'a, R: Net> Net for Staged<'a, R> {
 
 impl<'a, R: Net> Clock for Staged<'a, R> {
     fn monotonic(&self) -> io::Result<Duration> {
-        Ok(Duration::from_secs(MOMENT))
+        Ok(self.moment())
     }
 
     fn since_1970(&self) -> io::Result<Duration> {
-        Ok(Duration::from_secs(MOMENT))
+        Ok(self.moment())
     }
 }
 
@@ -138,12 +202,13 @@ impl<'a, R: Net + RandomSource> RandomSource for Staged<'a, R> {
 }
 
 impl<'a, R: Net + Files> Files for Staged<'a, R> {
-    type File = R::File;
+    type File = Failing<R::File>;
 
     type Dir = R::Dir;
 
-    fn open_file(&self, how: &OpenOptions, path: &str) -> io::Result<R::File> {
-        self.system.open_file(how, path)
+    fn open_file(&self, how: &OpenOptions, path: &str) -> io::Result<Failing<R::File>> {
+        let file = self.system.open_file(how, path)?;
+        Ok(Failing::new(file, self.fault()))
     }
 
     fn open_dir(&self, path: &str) -> io::Result<R::Dir> {

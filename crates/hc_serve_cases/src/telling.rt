@@ -1,7 +1,7 @@
 //! What is told of connections.
 
 use crate::notebook::{Device, Fault};
-use crate::runs::{Outcome, run, run_by_octets, verdict_on};
+use crate::runs::{Outcome, run, run_by_octets, run_in_time, verdict_on};
 use crate::scene::Scene;
 use hc_audit::Verdict;
 use hc_cases::Unanswered;
@@ -19,10 +19,22 @@ pub(crate) fn say_order(
     fault: Option<Fault>,
     out: &mut String,
 ) -> Result<(), Unanswered> {
-    let run = run(alloc, scene, fault)?;
+    say_calls(alloc, &run(alloc, scene, fault)?, out)
+}
+
+/// The same, where no call fails, and the clock moves on.
+pub(crate) fn say_order_in_time(
+    alloc: Global,
+    scene: &Scene<'_>,
+    out: &mut String,
+) -> Result<(), Unanswered> {
+    say_calls(alloc, &run_in_time(alloc, scene)?, out)
+}
+
+fn say_calls(alloc: Global, run: &Outcome, out: &mut String) -> Result<(), Unanswered> {
     out.push_str(run.notes.as_str())?;
     out.push_str("; ")?;
-    say_end(alloc, &run, out)
+    say_end(alloc, run, out)
 }
 
 /// Writes how many octets of the client are read, and how it ended.
