@@ -1,13 +1,13 @@
 -- What the client's side of a connection tells, behind one move more.
-use Rattle.std.proofs.Common.{◌≡◌, ℕ, ◌+◌, ◌<◌, ◌==◌, Bool, true, false, List, [], ◌∷◌, ◌++◌, ◌||◌, ◌≤◌, length, if◌then◌else◌, min, sym, ap, ◌∙◌, subst, arith, append_assoc, append-nil, refl}
+use Rattle.std.proofs.Common.{◌≡◌, ℕ, ◌+◌, ◌<◌, ◌==◌, Bool, true, false, List, [], ◌∷◌, ◌++◌, ◌≤◌, length, if◌then◌else◌, min, sym, ap, ◌∙◌, subst, arith, append_assoc, append-nil, refl}
 use Rattle.std.proofs.lemmas.Bool.Decides.{nat_tests}
 use Rattle.hc_events.specs.declared.Happening.TheVariants.{ClientBytes}
 use Rattle.hc_connection.specs.declared.client_side.ClientSide.{ClientSide}
 use Rattle.hc_connection.specs.declared.links.Receiver.{Receiver}
 use Rattle.hc_connection.specs.declared.links.Receiver.TheVariants.{Client}
 use Rattle.hc_connection.specs.Links.{HasFailed, IsBeginning}
-use Rattle.hc_connection.specs.Moves.{Move, failures_before, given_in, is_closed_in, is_its, most_octets, most_replies, one_for, reads_in, replies_in, sent_by, sent_in}
-use Rattle.hc_connection.specs.Moves.Move.{Closed, Heard, Sent}
+use Rattle.hc_connection.specs.Moves.{Move, failures_before, given_in, most_octets, most_replies, one_for, reads_in, replies_in, sent_by, sent_in}
+use Rattle.hc_connection.specs.Moves.Move.{Heard, Sent}
 use Rattle.hc_connection.specs.Sides.{CountsFailed, Opens, Tells}
 
 same_itself : (n : ℕ) → (n == n) ≡ true
@@ -202,47 +202,6 @@ module _ {C : Type 0} (has_given has_got : C → List ℕ → Type 0) (count : C
     short = t.short;
   }
 
-  module _ (side : ClientSide C) (log : List Move) (t : Tells has_given has_got count side log) where
-    -- the connection is closed, and what is written to its link is ended, unless that has failed
-    pub closes : (link : C) → ((given : List ℕ) → has_given side.link given → has_given link given)
-        → ((got : List ℕ) → has_got side.link got → has_got link got) → count link ≡ count side.link
-        → Tells has_given has_got count
-        (record { number = side.number; link = link; failed = side.failed; ended = side.ended; closed = true; reads = side.reads; replies = side.replies })
-        (Closed (Client side.number) ∷ log)
-    closes link gives gets same = record {
-      own = t.own;
-      given = gives (given_in log) t.given;
-      got = t.got;
-      has_it = gets t.got t.has_it;
-      begins = t.begins;
-      whole = t.whole;
-      counted = subst (CountsFailed side.failed (failures_before log)) (sym same) t.counted;
-      replies = t.replies;
-      reads = t.reads;
-      few = t.few;
-      closed = sym (ap (λ (b : Bool). b || is_closed_in side.number log) (same_itself side.number));
-      in_time = t.in_time;
-      short = t.short;
-    }
-
-    -- another link is closed
-    pub closes_another : (link : Receiver) → is_its side.number link ≡ false → Tells has_given has_got count side (Closed link ∷ log)
-    closes_another link other = record {
-      own = t.own;
-      given = t.given;
-      got = t.got;
-      has_it = t.has_it;
-      begins = t.begins;
-      whole = t.whole;
-      counted = t.counted;
-      replies = t.replies;
-      reads = t.reads;
-      few = t.few;
-      closed = t.closed ∙ sym (ap (λ (b : Bool). b || is_closed_in side.number log) other);
-      in_time = t.in_time;
-      short = t.short;
-    }
-
 pub not_its : (c d : ℕ) (octets : List ℕ) → (d == c) ≡ false → sent_by c (Client d) octets ≡ []
 not_its c d octets other = ap (λ (b : Bool). if b then octets else []) other
 
@@ -257,10 +216,6 @@ opens_same before after c d log same is o = subst (λ (n : ℕ). Opens after n l
 pub opens_sent : (before after : Bool) (c d : ℕ) (to : Receiver) (octets : List ℕ) (log : List Move) → after ≡ before → d ≡ c → Opens before c log → Opens after d (Sent to octets ∷ log)
 opens_sent before true c d to octets log same is o = opens_same before true c d log same is o
 opens_sent before false c d to octets log same is o = opens_same before false c d log same is o
-
-pub opens_closed : (before after : Bool) (c d : ℕ) (link : Receiver) (log : List Move) → after ≡ before → d ≡ c → Opens before c log → Opens after d (Closed link ∷ log)
-opens_closed before true c d link log same is o = opens_same before true c d log same is o
-opens_closed before false c d link log same is o = opens_same before false c d log same is o
 
 -- ---- a client of whom more is heard
 

@@ -260,10 +260,6 @@ pub is_busy : (idle : Bool) (cache : Cache) → idle ≡ false
     → ((settings : CoreSettings) (s : State) → StandsFor settings cache s → idle ≡ (len s.connections == 0 && len s.forwards == 0)) → IsBusy cache
 is_busy idle cache none is settings s stands i = true_false (sym (none_open _ _ i.0 i.1) ∙ sym (is settings s stands) ∙ none)
 
-pub works_still : (failed idle : Bool) → (failed ≡ true → idle ≡ false) → idle ≡ true → failed ≡ false
-works_still true idle fails is = absurd (true_false (sym is ∙ fails refl))
-works_still false idle fails is = refl
-
 -- a fault behind which turns broke off
 pub breaks : (T U : Type 0) (why : DriveFault) (tells : List Move → Type 0) (holds : List ℕ → Type 0) (rests : Type 0) (old new : Cache) (log : List Move) (text : List ℕ) (before after : ℕ)
     → CountsRecorder {T = T} (Err why) before after → BreakOff why tells holds rests old new log text → GivesDrive {T = U} tells holds rests (Err why) old new log text
