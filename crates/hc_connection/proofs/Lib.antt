@@ -1,1 +1,3 @@
+pub mod ConnectionLemmas
+pub mod ForwardLemmas
 pub mod TellLemmas

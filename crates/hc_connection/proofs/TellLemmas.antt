@@ -1,14 +1,16 @@
 -- What the client's side of a connection tells, behind one move more.
-use Rattle.std.proofs.Common.{◌≡◌, ℕ, ◌+◌, ◌<◌, ◌==◌, Bool, true, false, List, [], ◌∷◌, ◌++◌, ◌≤◌, length, if◌then◌else◌, min, sym, ap, ◌∙◌, subst, arith, append_assoc, append-nil, refl}
+use Rattle.std.proofs.Common.{◌≡◌, ℕ, ◌+◌, ◌<◌, ◌==◌, Bool, true, false, Option, Some, List, [], ◌∷◌, ◌++◌, ◌≤◌, length, if◌then◌else◌, min, sym, ap, ◌∙◌, subst, arith, append_assoc, append-nil, refl}
 use Rattle.std.proofs.lemmas.Bool.Decides.{nat_tests}
-use Rattle.hc_events.specs.declared.Happening.TheVariants.{ClientBytes}
+use Rattle.hc_events.specs.declared.Event.{Event}
+use Rattle.hc_events.specs.declared.Happening.{Happening}
+use Rattle.hc_events.specs.declared.Happening.TheVariants.{ClientBytes, ClientOpened}
 use Rattle.hc_connection.specs.declared.client_side.ClientSide.{ClientSide}
 use Rattle.hc_connection.specs.declared.links.Receiver.{Receiver}
 use Rattle.hc_connection.specs.declared.links.Receiver.TheVariants.{Client}
 use Rattle.hc_connection.specs.Links.{HasFailed, IsBeginning}
-use Rattle.hc_connection.specs.Moves.{Move, failures_before, given_in, most_octets, most_replies, one_for, reads_in, replies_in, sent_by, sent_in}
+use Rattle.hc_connection.specs.Moves.{Move, earlier_or, failures_before, first_in, given_in, most_octets, most_replies, one_for, client_reads_in, origin_reads_in, reads_before, replies_in, sent_by, sent_in}
 use Rattle.hc_connection.specs.Moves.Move.{Heard, Sent}
-use Rattle.hc_connection.specs.Sides.{CountsFailed, Opens, Tells}
+use Rattle.hc_connection.specs.Sides.{CountsFailed, CountsReads, Opens, Tells, TellsSparing}
 
 same_itself : (n : ℕ) → (n == n) ≡ true
 same_itself n = grind (arith, nat_tests)
@@ -51,15 +53,45 @@ begins_behind got sent front more same b =
 whole_begins : (got sent : List ℕ) → got ≡ sent → IsBeginning got sent
 whole_begins got sent same = ([], sym same ∙ sym (append-nil got))
 
+-- ---- reads
+
+module _ {C : Type 0} {was_read : C → ℕ → Type 0} {link : C} {before came others spare counted : ℕ} (r : CountsReads was_read link before came others spare counted) where
+  -- the link is another, or the same, and was read no more
+  pub reads_kept : (now : C) → ((times : ℕ) → was_read link times → was_read now times) → CountsReads was_read now before came others spare counted
+  reads_kept now keeps = record { since = r.since; was = keeps (r.since + before) r.was; all = r.all; within = r.within }
+
+module _ {C : Type 0} {was_read : C → ℕ → Type 0} {link : C} {before came others counted : ℕ} (r : CountsReads was_read link before came others 1 counted) where
+  -- it came, and brought octets
+  pub read_came : (now : C) → ((times : ℕ) → was_read link times → was_read now (1 + times)) → CountsReads was_read now before (1 + came) (0 + others) 0 counted
+  read_came now reads = let within = r.within in let all = r.all in record {
+    since = 1 + r.since;
+    was = subst (was_read now) (omega arith) (reads (r.since + before) r.was);
+    all = omega (arith, all);
+    within = omega (arith, within);
+  }
+
+  -- it came, or not, and brought none
+  pub read_perhaps : (now : C) → ((times : ℕ) → was_read link times → (more : ℕ) × (more ≤ 1) × was_read now (more + times)) → CountsReads was_read now before came others 0 counted
+  read_perhaps now reads =
+      let perhaps = reads (r.since + before) r.was in
+      let within = r.within in
+      let all = r.all in
+      let most = perhaps.1 in record {
+        since = perhaps.0 + r.since;
+        was = subst (was_read now) (omega arith) perhaps.2;
+        all = omega (arith, all);
+        within = omega (arith, within, most);
+      }
+
 -- ---- moves
 
-module _ {C : Type 0} (has_given has_got : C → List ℕ → Type 0) (count : C → ℕ) where
+module _ {C : Type 0} (has_given has_got : C → List ℕ → Type 0) (was_read : C → ℕ → Type 0) (count : C → ℕ) where
   -- the link of a side, and what was counted, once octets were sent
   abbrev replied : ClientSide C → C → Bool → ℕ → ClientSide C
   replied side link failed replies =
       record { number = side.number; link = link; failed = failed; ended = side.ended; closed = side.closed; reads = side.reads; replies = replies }
 
-  module _ (side : ClientSide C) (log : List Move) (t : Tells has_given has_got count side log) (octets : List ℕ) (replies : ℕ)
+  module _ (side : ClientSide C) (log : List Move) (t : Tells has_given has_got was_read count side log) (octets : List ℕ) (replies : ℕ)
       (more : replies < most_replies → replies ≡ 1 + side.replies) where
     sent_is : sent_in side.number log ++ sent_by side.number (Client side.number) octets ≡ sent_in side.number log ++ octets
     sent_is = ap (λ (o : List ℕ). sent_in side.number log ++ o) (its_own side.number octets)
@@ -71,7 +103,7 @@ module _ {C : Type 0} (has_given has_got : C → List ℕ → Type 0) (count : C
         ap (λ (n : ℕ). n + replies_in side.number log) (one_for_itself side.number) ∙ ap (λ (n : ℕ). 1 + n) before ∙ sym is
 
     -- the link had failed before
-    pub lost : side.failed ≡ true → Tells has_given has_got count (replied side side.link side.failed replies) (Sent (Client side.number) octets ∷ log)
+    pub lost : side.failed ≡ true → Tells has_given has_got was_read count (replied side side.link side.failed replies) (Sent (Client side.number) octets ∷ log)
     lost failed = record {
       own = t.own;
       given = t.given;
@@ -93,9 +125,9 @@ module _ {C : Type 0} (has_given has_got : C → List ℕ → Type 0) (count : C
 
     -- all of them were written
     pub wrote : (link : C) → side.failed ≡ false → ((given : List ℕ) → has_given side.link given → has_given link given)
-        → ((got : List ℕ) → has_got side.link got → has_got link (got ++ octets)) → count link ≡ count side.link
-        → Tells has_given has_got count (replied side link side.failed replies) (Sent (Client side.number) octets ∷ log)
-    wrote link none gives gets same = record {
+        → ((got : List ℕ) → has_got side.link got → has_got link (got ++ octets)) → ((times : ℕ) → was_read side.link times → was_read link times) → count link ≡ count side.link
+        → Tells has_given has_got was_read count (replied side link side.failed replies) (Sent (Client side.number) octets ∷ log)
+    wrote link none gives gets reads same = record {
       own = t.own;
       given = gives (given_in log) t.given;
       got = t.got ++ octets;
@@ -104,7 +136,7 @@ module _ {C : Type 0} (has_given has_got : C → List ℕ → Type 0) (count : C
       whole = λ still. all;
       counted = as_before side.failed (failures_before log) (count link) none (same ∙ works side.failed (failures_before log) (count side.link) none t.counted);
       replies = count_is;
-      reads = t.reads;
+      reads = reads_kept t.reads link reads;
       few = t.few;
       closed = t.closed;
       in_time = t.in_time;
@@ -116,9 +148,10 @@ module _ {C : Type 0} (has_given has_got : C → List ℕ → Type 0) (count : C
 
     -- the link failed at that
     pub failed_now : (link : C) → side.failed ≡ false → ((given : List ℕ) → has_given side.link given → has_given link given)
-        → ((got : List ℕ) → has_got side.link got → (front : List ℕ) × IsBeginning front octets × has_got link (got ++ front)) → HasFailed (count side.link) (count link)
-        → Tells has_given has_got count (replied side link true replies) (Sent (Client side.number) octets ∷ log)
-    failed_now link none gives gets fails =
+        → ((got : List ℕ) → has_got side.link got → (front : List ℕ) × IsBeginning front octets × has_got link (got ++ front))
+        → ((times : ℕ) → was_read side.link times → was_read link times) → HasFailed (count side.link) (count link)
+        → Tells has_given has_got was_read count (replied side link true replies) (Sent (Client side.number) octets ∷ log)
+    failed_now link none gives gets reads fails =
         let part = gets t.got t.has_it in record {
           own = t.own;
           given = gives (given_in log) t.given;
@@ -129,7 +162,7 @@ module _ {C : Type 0} (has_given has_got : C → List ℕ → Type 0) (count : C
           whole = λ still. absurd (true_false still);
           counted = has_failed side.failed (failures_before log) (count side.link) (count link) none t.counted fails;
           replies = count_is;
-          reads = t.reads;
+          reads = reads_kept t.reads link reads;
           few = t.few;
           closed = t.closed;
           in_time = t.in_time;
@@ -139,13 +172,13 @@ module _ {C : Type 0} (has_given has_got : C → List ℕ → Type 0) (count : C
         true_false : true ≡ false → ⊥
         true_false e = cc
 
-  module _ (side : ClientSide C) (log : List Move) (t : Tells has_given has_got count side log) (link : C) (none : side.failed ≡ false)
+  module _ (side : ClientSide C) (log : List Move) (t : TellsSparing has_given has_got was_read count 1 side log) (link : C) (none : side.failed ≡ false)
       (gets : (got : List ℕ) → has_got side.link got → has_got link got) where
     -- octets were read
-    pub heard : (octets : List ℕ) (moment : ℕ) → side.replies < most_replies → side.closed ≡ false → length octets ≤ most_octets → reads_in log < side.reads
-        → ((given : List ℕ) → has_given side.link given → has_given link (given ++ octets)) → count link ≡ count side.link
-        → Tells has_given has_got count (replied side link side.failed side.replies) (Heard (record { moment = moment; of = ClientBytes side.number octets }) ∷ log)
-    heard octets moment few still_open short one gives same = record {
+    pub heard : (octets : List ℕ) (moment : ℕ) → side.replies < most_replies → side.closed ≡ false → length octets ≤ most_octets
+        → ((given : List ℕ) → has_given side.link given → has_given link (given ++ octets)) → ((times : ℕ) → was_read side.link times → was_read link (1 + times)) → count link ≡ count side.link
+        → Tells has_given has_got was_read count (replied side link side.failed side.replies) (Heard (record { moment = moment; of = ClientBytes side.number octets }) ∷ log)
+    heard octets moment few still_open short gives reads same = record {
       own = (refl, t.own);
       given = gives (given_in log) t.given;
       got = t.got;
@@ -154,17 +187,37 @@ module _ {C : Type 0} (has_given has_got : C → List ℕ → Type 0) (count : C
       whole = t.whole;
       counted = as_before side.failed (failures_before log) (count link) none (same ∙ works side.failed (failures_before log) (count side.link) none t.counted);
       replies = t.replies;
-      reads = omega (arith, one);
+      reads = read_came t.reads link reads;
       few = t.few;
       closed = t.closed;
       in_time = ((λ is_read. (subst (λ (n : ℕ). n < most_replies) (sym (t.replies few)) few, sym t.closed ∙ still_open)), t.in_time);
       short = (short, t.short);
     }
 
+    -- no more will come
+    pub ended : ((given : List ℕ) → has_given side.link given → has_given link given) → ((times : ℕ) → was_read side.link times → was_read link (1 + times))
+        → count link ≡ count side.link → Tells has_given has_got was_read count (replied side link side.failed side.replies) log
+    ended gives reads same = record {
+      own = t.own;
+      given = gives (given_in log) t.given;
+      got = t.got;
+      has_it = gets t.got t.has_it;
+      begins = t.begins;
+      whole = t.whole;
+      counted = as_before side.failed (failures_before log) (count link) none (same ∙ works side.failed (failures_before log) (count side.link) none t.counted);
+      replies = t.replies;
+      reads = read_perhaps t.reads link (λ times was. (1, omega arith, reads times was));
+      few = t.few;
+      closed = t.closed;
+      in_time = t.in_time;
+      short = t.short;
+    }
+
     -- the link failed
-    pub broken : ((given : List ℕ) → has_given side.link given → has_given link given) → HasFailed (count side.link) (count link)
-        → Tells has_given has_got count (replied side link true side.replies) log
-    broken gives fails = record {
+    pub broken : ((given : List ℕ) → has_given side.link given → has_given link given)
+        → ((times : ℕ) → was_read side.link times → (more : ℕ) × (more ≤ 1) × was_read link (more + times)) → HasFailed (count side.link) (count link)
+        → Tells has_given has_got was_read count (replied side link true side.replies) log
+    broken gives reads fails = record {
       own = t.own;
       given = gives (given_in log) t.given;
       got = t.got;
@@ -173,7 +226,7 @@ module _ {C : Type 0} (has_given has_got : C → List ℕ → Type 0) (count : C
       whole = λ still. absurd (true_false still);
       counted = has_failed side.failed (failures_before log) (count side.link) (count link) none t.counted fails;
       replies = t.replies;
-      reads = t.reads;
+      reads = read_perhaps t.reads link reads;
       few = t.few;
       closed = t.closed;
       in_time = t.in_time;
@@ -185,7 +238,7 @@ module _ {C : Type 0} (has_given has_got : C → List ℕ → Type 0) (count : C
 
   -- octets that go elsewhere
   pub elsewhere : (side : ClientSide C) (log : List Move) (to : Receiver) (octets : List ℕ) → sent_by side.number to octets ≡ [] → one_for side.number to ≡ 0
-      → Tells has_given has_got count side log → Tells has_given has_got count side (Sent to octets ∷ log)
+      → Tells has_given has_got was_read count side log → Tells has_given has_got was_read count side (Sent to octets ∷ log)
   elsewhere side log to octets none no_reply t = record {
     own = t.own;
     given = t.given;
@@ -210,12 +263,13 @@ no_reply_of_its c d other = ap (λ (b : Bool). if b then 1 else 0) other
 
 -- ---- what happened first
 
-pub opens_same : (before after : Bool) (c d : ℕ) (log : List Move) → after ≡ before → d ≡ c → Opens before c log → Opens after d log
-opens_same before after c d log same is o = subst (λ (n : ℕ). Opens after n log) (sym is) (subst (λ (b : Bool). Opens b c log) (sym same) o)
+pub opens_by : (opened : Bool) (c d : ℕ) (log log' : List Move) → first_in log' ≡ first_in log → d ≡ c → Opens opened c log → Opens opened d log'
+opens_by true c d log log' same is o = same ∙ o ∙ ap (λ (n : ℕ). Some (ClientOpened n)) (sym is)
+opens_by false c d log log' same is o = same ∙ o
 
-pub opens_sent : (before after : Bool) (c d : ℕ) (to : Receiver) (octets : List ℕ) (log : List Move) → after ≡ before → d ≡ c → Opens before c log → Opens after d (Sent to octets ∷ log)
-opens_sent before true c d to octets log same is o = opens_same before true c d log same is o
-opens_sent before false c d to octets log same is o = opens_same before false c d log same is o
+pub opens_heard : (opened : Bool) (c d : ℕ) (event : Event) (log : List Move) → opened ≡ true → d ≡ c → Opens opened c log → Opens opened d (Heard event ∷ log)
+opens_heard true c d event log was is o = ap (λ (first : Option Happening). earlier_or first event.of) o ∙ ap (λ (n : ℕ). Some (ClientOpened n)) (sym is)
+opens_heard false c d event log was is o = absurd (cc)
 
 -- ---- a client of whom more is heard
 

@@ -1,3 +1,5 @@
+pub mod Connections
+pub mod Forwards
 pub mod Links
 pub mod Moves
 pub mod Sides

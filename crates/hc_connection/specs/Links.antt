@@ -41,6 +41,13 @@ GivesCame most before after (Ok End) = (given : List ℕ) → before given → a
 GivesCame most before after (Ok Failure) = (given : List ℕ) → before given → after given
 GivesCame most before after (Err refused) = (given : List ℕ) → before given → after given
 
+-- what came was read by one read; a failure by one at the most, and where memory is refused nothing was read
+abbrev pub ReadsCame : (ℕ → Type 0) → (ℕ → Type 0) → Result Came AllocError → Type 0
+ReadsCame before after (Ok (Octets octets)) = (times : ℕ) → before times → after (1 + times)
+ReadsCame before after (Ok End) = (times : ℕ) → before times → after (1 + times)
+ReadsCame before after (Ok Failure) = (times : ℕ) → before times → (more : ℕ) × (more ≤ 1) × after (more + times)
+ReadsCame before after (Err refused) = (times : ℕ) → before times → after times
+
 -- a failure is counted, as far as can be counted
 abbrev pub HasFailed : ℕ → ℕ → Type 0
 HasFailed before after = (after ≡ 1 + before) ⊎ ((greatest_count ≤ before) × (after ≡ before))

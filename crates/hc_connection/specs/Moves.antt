@@ -7,8 +7,8 @@ use Rattle.hc_connection.specs.declared.links.Receiver.{Receiver}
 use Rattle.hc_connection.specs.declared.links.Receiver.TheVariants.{Client, Origin}
 
 pub data Move : Type 0 where
-  -- before all others: that is the number of the client's connection, these octets were read from its link and written to it already, and it had failed so often
-  Before : (number : ℕ) (given got : List ℕ) (failures : ℕ) → Move
+  -- before all others: that is the number of the client's connection, these octets were read from its link and written to it already, and it had been read and had failed so often
+  Before : (number : ℕ) (given got : List ℕ) (reads failures : ℕ) → Move
   -- this happened
   Heard : (event : Event) → Move
   -- these octets were sent to that link, which may have failed before, or at that
@@ -29,7 +29,7 @@ IsOf c (OriginFailed f) = Unit {0}
 
 abbrev pub AreOf : ℕ → List Move → Type 0
 AreOf c [] = Unit {0}
-AreOf c (Before number given got failures ∷ log) = number ≡ c
+AreOf c (Before number given got reads failures ∷ log) = number ≡ c
 AreOf c (Heard event ∷ log) = IsOf c event.of × AreOf c log
 AreOf c (Sent to octets ∷ log) = AreOf c log
 AreOf c (Closed link ∷ log) = AreOf c log
@@ -41,7 +41,7 @@ given_by other = []
 -- the octets that were read from its link
 abbrev pub given_in : List Move → List ℕ
 given_in [] = []
-given_in (Before number given got failures ∷ log) = given
+given_in (Before number given got reads failures ∷ log) = given
 given_in (Heard event ∷ log) = given_in log ++ given_by event.of
 given_in (Sent to octets ∷ log) = given_in log
 given_in (Closed link ∷ log) = given_in log
@@ -53,7 +53,7 @@ sent_by c (Origin f) octets = []
 -- the octets that were to be written to it
 abbrev pub sent_in : ℕ → List Move → List ℕ
 sent_in c [] = []
-sent_in c (Before number given got failures ∷ log) = got
+sent_in c (Before number given got reads failures ∷ log) = got
 sent_in c (Heard event ∷ log) = sent_in c log
 sent_in c (Sent to octets ∷ log) = sent_in c log ++ sent_by c to octets
 sent_in c (Closed link ∷ log) = sent_in c log
@@ -61,10 +61,18 @@ sent_in c (Closed link ∷ log) = sent_in c log
 -- how often it had failed before
 abbrev pub failures_before : List Move → ℕ
 failures_before [] = 0
-failures_before (Before number given got failures ∷ log) = failures
+failures_before (Before number given got reads failures ∷ log) = failures
 failures_before (Heard event ∷ log) = failures_before log
 failures_before (Sent to octets ∷ log) = failures_before log
 failures_before (Closed link ∷ log) = failures_before log
+
+-- how often it had been read before
+abbrev pub reads_before : List Move → ℕ
+reads_before [] = 0
+reads_before (Before number given got reads failures ∷ log) = reads
+reads_before (Heard event ∷ log) = reads_before log
+reads_before (Sent to octets ∷ log) = reads_before log
+reads_before (Closed link ∷ log) = reads_before log
 
 -- ---- what happened first
 
@@ -74,7 +82,7 @@ earlier_or None of = Some of
 
 abbrev pub first_in : List Move → Option Happening
 first_in [] = None
-first_in (Before number given got failures ∷ log) = None
+first_in (Before number given got reads failures ∷ log) = None
 first_in (Heard event ∷ log) = earlier_or (first_in log) event.of
 first_in (Sent to octets ∷ log) = first_in log
 first_in (Closed link ∷ log) = first_in log
@@ -88,23 +96,35 @@ one_for c (Origin f) = 0
 -- how many replies were sent to it
 abbrev pub replies_in : ℕ → List Move → ℕ
 replies_in c [] = 0
-replies_in c (Before number given got failures ∷ log) = 0
+replies_in c (Before number given got reads failures ∷ log) = 0
 replies_in c (Heard event ∷ log) = replies_in c log
 replies_in c (Sent to octets ∷ log) = one_for c to + replies_in c log
 replies_in c (Closed link ∷ log) = replies_in c log
 
-abbrev pub one_read : Happening → ℕ
-one_read (ClientBytes c octets) = 1
-one_read (OriginBytes f octets) = 1
-one_read other = 0
+abbrev pub one_of_client : Happening → ℕ
+one_of_client (ClientBytes c octets) = 1
+one_of_client other = 0
 
--- how often octets were read
-abbrev pub reads_in : List Move → ℕ
-reads_in [] = 0
-reads_in (Before number given got failures ∷ log) = 0
-reads_in (Heard event ∷ log) = one_read event.of + reads_in log
-reads_in (Sent to octets ∷ log) = reads_in log
-reads_in (Closed link ∷ log) = reads_in log
+-- how often octets of the client came
+abbrev pub client_reads_in : List Move → ℕ
+client_reads_in [] = 0
+client_reads_in (Before number given got reads failures ∷ log) = 0
+client_reads_in (Heard event ∷ log) = one_of_client event.of + client_reads_in log
+client_reads_in (Sent to octets ∷ log) = client_reads_in log
+client_reads_in (Closed link ∷ log) = client_reads_in log
+
+abbrev pub one_of_origin : Happening → ℕ
+one_of_origin (OriginBytes f octets) = 1
+one_of_origin (OriginEnd f) = 1
+one_of_origin other = 0
+
+-- how often octets of an origin came, or its end
+abbrev pub origin_reads_in : List Move → ℕ
+origin_reads_in [] = 0
+origin_reads_in (Before number given got reads failures ∷ log) = 0
+origin_reads_in (Heard event ∷ log) = one_of_origin event.of + origin_reads_in log
+origin_reads_in (Sent to octets ∷ log) = origin_reads_in log
+origin_reads_in (Closed link ∷ log) = origin_reads_in log
 
 abbrev pub is_of_client : Happening → Bool
 is_of_client (ClientBytes c octets) = true
@@ -125,7 +145,7 @@ is_its c (Origin f) = false
 -- whether its connection was closed
 abbrev pub is_closed_in : ℕ → List Move → Bool
 is_closed_in c [] = false
-is_closed_in c (Before number given got failures ∷ log) = false
+is_closed_in c (Before number given got reads failures ∷ log) = false
 is_closed_in c (Heard event ∷ log) = is_closed_in c log
 is_closed_in c (Sent to octets ∷ log) = is_closed_in c log
 is_closed_in c (Closed link ∷ log) = is_its c link || is_closed_in c log
@@ -133,11 +153,23 @@ is_closed_in c (Closed link ∷ log) = is_its c link || is_closed_in c log
 -- no octets of the client are read behind so many replies, nor once its connection was closed
 abbrev pub ReadsInTime : ℕ → List Move → Type 0
 ReadsInTime c [] = Unit {0}
-ReadsInTime c (Before number given got failures ∷ log) = Unit {0}
+ReadsInTime c (Before number given got reads failures ∷ log) = Unit {0}
 ReadsInTime c (Heard event ∷ log) =
     (is_of_client event.of ≡ true → (replies_in c log < most_replies) × (is_closed_in c log ≡ false)) × ReadsInTime c log
 ReadsInTime c (Sent to octets ∷ log) = ReadsInTime c log
 ReadsInTime c (Closed link ∷ log) = ReadsInTime c log
+
+-- ---- moments
+
+-- each moment is one that the clock may tell
+abbrev pub AreMoments : (ℕ → Type 0) → List Move → Type 0
+AreMoments may_tell [] = Unit {0}
+AreMoments may_tell (Before number given got reads failures ∷ log) = AreMoments may_tell log
+AreMoments may_tell (Heard event ∷ log) = may_tell event.moment × AreMoments may_tell log
+AreMoments may_tell (Sent to octets ∷ log) = AreMoments may_tell log
+AreMoments may_tell (Closed link ∷ log) = AreMoments may_tell log
+
+-- ---- bounds on octets
 
 -- the most octets that a read brings
 abbrev pub most_octets : ℕ
@@ -151,7 +183,7 @@ octets_of other = []
 -- each read brought at most so many octets
 abbrev pub ReadsFew : List Move → Type 0
 ReadsFew [] = Unit {0}
-ReadsFew (Before number given got failures ∷ log) = Unit {0}
+ReadsFew (Before number given got reads failures ∷ log) = Unit {0}
 ReadsFew (Heard event ∷ log) = (length (octets_of event.of) ≤ most_octets) × ReadsFew log
 ReadsFew (Sent to octets ∷ log) = ReadsFew log
 ReadsFew (Closed link ∷ log) = ReadsFew log

@@ -1,11 +1,11 @@
 -- What the client's side of a connection tells of what passed.
-use Rattle.std.specs.Prelude.{◌≡◌, ℕ, ◌≤◌, ◌<◌, Bool, true, false, List, ◌∷◌, Option, Some, None, Result, Ok, Err, if◌then◌else◌}
+use Rattle.std.specs.Prelude.{◌≡◌, ℕ, ◌+◌, ◌≤◌, ◌<◌, Bool, true, false, List, ◌∷◌, Option, Some, None, Result, Ok, Err, if◌then◌else◌}
 use Rattle.std.specs.declared.alloc.AllocError.{AllocError}
 use Rattle.hc_events.specs.declared.Happening.{Happening}
 use Rattle.hc_events.specs.declared.Happening.TheVariants.{ClientOpened}
 use Rattle.hc_connection.specs.declared.client_side.ClientSide.{ClientSide}
 use Rattle.hc_connection.specs.Links.{HasFailed, IsBeginning}
-use Rattle.hc_connection.specs.Moves.{AreOf, Move, ReadsFew, ReadsInTime, failures_before, first_in, given_in, is_closed_in, most_reads, most_replies, reads_in, replies_in, sent_in}
+use Rattle.hc_connection.specs.Moves.{AreOf, Move, ReadsFew, ReadsInTime, client_reads_in, failures_before, first_in, given_in, is_closed_in, most_reads, most_replies, origin_reads_in, reads_before, replies_in, sent_in}
 use Rattle.hc_connection.specs.Moves.Move.{Heard}
 
 -- its link's failures: none where it works, else one more, as far as can be counted
@@ -13,8 +13,15 @@ abbrev pub CountsFailed : Bool → ℕ → ℕ → Type 0
 CountsFailed false before after = after ≡ before
 CountsFailed true before after = HasFailed before after
 
--- what passed at its link is what the log says, nothing happened to other clients, and the bounds were kept
-pub record Tells {C : Type 0} (has_given has_got : C → List ℕ → Type 0) (count : C → ℕ) (side : ClientSide C) (log : List Move) : Type 0 where
+-- a link was read so often since, which is at least as often as octets of it came; with the reads of others, and so many that are still to come, that is no more than was counted
+pub record CountsReads {C : Type 0} (was_read : C → ℕ → Type 0) (link : C) (before came others spare counted : ℕ) : Type 0 where
+  pub since : ℕ
+  pub was : was_read link (since + before)
+  pub all : came ≤ since
+  pub within : (since + others) + spare ≤ counted
+
+-- what passed at its link is what the log says, nothing happened to other clients, and the bounds were kept, also by so many reads more
+pub record TellsSparing {C : Type 0} (has_given has_got : C → List ℕ → Type 0) (was_read : C → ℕ → Type 0) (count : C → ℕ) (spare : ℕ) (side : ClientSide C) (log : List Move) : Type 0 where
   pub own : AreOf side.number log
   pub given : has_given side.link (given_in log)
   -- what was written is a beginning of what was sent, and all of it unless the link has failed
@@ -24,20 +31,20 @@ pub record Tells {C : Type 0} (has_given has_got : C → List ℕ → Type 0) (c
   pub whole : side.failed ≡ false → got ≡ sent_in side.number log
   pub counted : CountsFailed side.failed (failures_before log) (count side.link)
   pub replies : side.replies < most_replies → replies_in side.number log ≡ side.replies
-  pub reads : reads_in log ≤ side.reads
+  -- its link's reads, and those of origins that brought octets or an end
+  pub reads : CountsReads was_read side.link (reads_before log) (client_reads_in log) (origin_reads_in log) spare side.reads
   pub few : side.reads ≤ most_reads
   pub closed : side.closed ≡ is_closed_in side.number log
   pub in_time : ReadsInTime side.number log
   pub short : ReadsFew log
 
+abbrev pub Tells : {C : Type 0} → (C → List ℕ → Type 0) → (C → List ℕ → Type 0) → (C → ℕ → Type 0) → (C → ℕ) → ClientSide C → List Move → Type 0
+Tells has_given has_got was_read count side log = TellsSparing has_given has_got was_read count 0 side log
+
 -- once the cache was told that the client opened its connection, that is what happened first; before, nothing has happened
 abbrev pub Opens : Bool → ℕ → List Move → Type 0
 Opens true c log = first_in log ≡ Some (ClientOpened c)
 Opens false c log = first_in log ≡ None
-
--- there may be one read more than the log tells
-abbrev pub LeavesRead : {C : Type 0} → Bool → ClientSide C → List Move → Type 0
-LeavesRead may side log = may ≡ true → reads_in log < side.reads
 
 -- it happens at some moment, behind the log
 abbrev pub TellsHappening : (List Move → Type 0) → Happening → List Move → Type 0

@@ -1,12 +1,18 @@
 -- What the links of a driver tell.
-use Rattle.std.specs.Prelude.{List, ◌∷◌, Option, Some, None, Result, Ok, Err}
+use Rattle.std.specs.Prelude.{ℕ, List, ◌∷◌, Option, Some, None, Result, Ok, Err}
 use Rattle.std.specs.declared.alloc.AllocError.{AllocError}
 use Rattle.hc_events.specs.declared.Event.{Event}
 use Rattle.hc_connection.specs.Moves.{Move}
-use Rattle.hc_connection.specs.Moves.Move.{Heard}
+use Rattle.hc_connection.specs.declared.links.Receiver.{Receiver}
+use Rattle.hc_connection.specs.Moves.Move.{Heard, Sent}
 
 -- something happened next, or nothing did
 abbrev pub TellsNext : (List Move → Type 0) → Result (Option Event) AllocError → List Move → Type 0
 TellsNext tells (Ok (Some event)) log = tells (Heard event ∷ log)
 TellsNext tells (Ok None) log = tells log
 TellsNext tells (Err refused) log = tells log
+
+-- the octets were sent; where memory was refused nothing was
+abbrev pub TellsSent : {T : Type 0} → (List Move → Type 0) → Result T AllocError → Receiver → List ℕ → List Move → Type 0
+TellsSent tells (Ok done) to octets log = tells (Sent to octets ∷ log)
+TellsSent tells (Err refused) to octets log = tells log

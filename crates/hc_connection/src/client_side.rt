@@ -1,6 +1,6 @@
 //! The client's side of a connection.
 
-ghost use Rattle.std.specs.Prelude.{◌≡◌, ◌<◌, false, true, ℕ, List, [], ◌∷◌, None, Ok};
+ghost use Rattle.std.specs.Prelude.{◌≡◌, ◌<◌, false, true, ℕ, List, [], ◌∷◌, None, Ok, IfOk, IfSome};
 
 use crate::link::{Link, LinkFailure};
 use crate::sides::{Came, read_some, send_text};
@@ -34,14 +34,16 @@ pub(crate) struct ClientSide<C: Link> {
 
 impl<C: Link> ClientSide<C> {
     ghost use Rattle.hc_connection.specs.declared.links.Receiver.TheVariants.{Client};
+    ghost use Rattle.hc_events.specs.declared.Happening.TheVariants.{ClientEnd};
+    ghost use Rattle.hc_connection.specs.Forwards.{IsOfClient};
     ghost use Rattle.hc_connection.specs.Moves.{Move, most_replies};
     ghost use Rattle.hc_connection.specs.Moves.Move.{Before, Closed, Sent};
-    ghost use Rattle.hc_connection.specs.Sides.{LeavesRead, Tells, TellsIfOk, TellsPerhaps, is_heard_out};
+    ghost use Rattle.hc_connection.specs.Sides.{Tells, TellsIfOk, TellsPerhaps, TellsSparing, is_heard_out};
 
     /// That of a client who has just connected.
     pub(crate) fn new(number: u64, link: C) -> Self
-        ensures tells { (given got : List ℕ) → C.has_given link given → C.has_got link got
-            → Tells C.has_given C.has_got C.count result (Before number given got (C.count link) ∷ []) }
+        ensures tells { (given got : List ℕ) (reads : ℕ) → C.has_given link given → C.has_got link got → C.was_read link reads
+            → Tells C.has_given C.has_got C.was_read C.count result (Before number given got reads (C.count link) ∷ []) }
         ensures number { result.number ≡ number }
     {
         ClientSide {
@@ -81,8 +83,8 @@ impl<C: Link> ClientSide<C> {
 
     /// The cache has closed the connection: nothing more is written to the client, nor read of it.
     pub(crate) fn close(&mut self)
-        ensures tells { (log : List Move) → Tells C.has_given C.has_got C.count self.old log
-            → Tells C.has_given C.has_got C.count self.new (Closed (Client self.old.number) ∷ log) }
+        ensures tells { (log : List Move) → Tells C.has_given C.has_got C.was_read C.count self.old log
+            → Tells C.has_given C.has_got C.was_read C.count self.new (Closed (Client self.old.number) ∷ log) }
         ensures number { self.new.number ≡ self.old.number }
     {
         self.closed = true;
@@ -93,8 +95,10 @@ impl<C: Link> ClientSide<C> {
 
     /// Counts a read, if there may be one more.
     pub(crate) fn may_read(&mut self) -> bool
-        ensures tells { (log : List Move) → Tells C.has_given C.has_got C.count self.old log
-            → (Tells C.has_given C.has_got C.count self.new log) × LeavesRead result self.new log }
+        ensures tells { (log : List Move) → Tells C.has_given C.has_got C.was_read C.count self.old log
+            → Tells C.has_given C.has_got C.was_read C.count self.new log }
+        ensures may { (log : List Move) → Tells C.has_given C.has_got C.was_read C.count self.old log
+            → result ≡ true → TellsSparing C.has_given C.has_got C.was_read C.count 1 self.new log }
         ensures same { (self.new.link ≡ self.old.link) × (self.new.failed ≡ self.old.failed) × (self.new.replies ≡ self.old.replies)
             × (self.new.closed ≡ self.old.closed) }
         ensures number { self.new.number ≡ self.old.number }
@@ -127,10 +131,11 @@ impl<C: Link> ClientSide<C> {
 
     /// That the client sends no more, unless that was told, or the connection has closed.
     pub(crate) fn leave(&mut self) -> Option<Happening>
-        ensures tells { (log : List Move) → Tells C.has_given C.has_got C.count self.old log
-            → TellsPerhaps (Tells C.has_given C.has_got C.count self.new) result log }
+        ensures tells { (log : List Move) → Tells C.has_given C.has_got C.was_read C.count self.old log
+            → TellsPerhaps (Tells C.has_given C.has_got C.was_read C.count self.new) result log }
         ensures number { self.new.number ≡ self.old.number }
         ensures rests { result ≡ None → is_heard_out self.new ≡ true }
+        ensures its { IfSome result (λ of. of ≡ ClientEnd self.old.number) }
     {
         if self.ended {
             return None;
@@ -144,9 +149,10 @@ impl<C: Link> ClientSide<C> {
 
     /// The same, where the client is read no more, though its link works.
     pub(crate) fn leave_in_time(&mut self) -> Option<Happening>
-        ensures tells { (log : List Move) → Tells C.has_given C.has_got C.count self.old log
-            → TellsPerhaps (Tells C.has_given C.has_got C.count self.new) result log }
+        ensures tells { (log : List Move) → Tells C.has_given C.has_got C.was_read C.count self.old log
+            → TellsPerhaps (Tells C.has_given C.has_got C.was_read C.count self.new) result log }
         ensures number { self.new.number ≡ self.old.number }
+        ensures its { IfSome result (λ of. of ≡ ClientEnd self.old.number) }
     {
         if !self.is_left() {
             return None;
@@ -156,10 +162,11 @@ impl<C: Link> ClientSide<C> {
 
     /// What comes of the client next, if something may.
     pub(crate) fn hear(&mut self, alloc: Global) -> Result<Option<Happening>, AllocError>
-        ensures tells { (log : List Move) → Tells C.has_given C.has_got C.count self.old log
-            → TellsIfOk (Tells C.has_given C.has_got C.count self.new) result log }
+        ensures tells { (log : List Move) → Tells C.has_given C.has_got C.was_read C.count self.old log
+            → TellsIfOk (Tells C.has_given C.has_got C.was_read C.count self.new) result log }
         ensures number { self.new.number ≡ self.old.number }
         ensures rests { result ≡ Ok None → is_heard_out self.new ≡ true }
+        ensures its { IfOk result (λ perhaps. IfSome perhaps IsOfClient) }
     {
         if self.is_heard_out() {
             return Ok(None);
@@ -183,8 +190,8 @@ impl<C: Link> ClientSide<C> {
     /// Sends octets to the client, and answers whether the link failed at that. One that has failed before loses
     /// them.
     pub(crate) fn reply(&mut self, text: &MessageText) -> bool
-        ensures tells { (log : List Move) → Tells C.has_given C.has_got C.count self.old log
-            → Tells C.has_given C.has_got C.count self.new (Sent (Client self.old.number) text.now ∷ log) }
+        ensures tells { (log : List Move) → Tells C.has_given C.has_got C.was_read C.count self.old log
+            → Tells C.has_given C.has_got C.was_read C.count self.new (Sent (Client self.old.number) text.now ∷ log) }
         ensures number { self.new.number ≡ self.old.number }
     {
         self.replies = self.replies.saturating_add(1);

@@ -3,8 +3,10 @@
 
 mod client_side;
 mod connection;
+mod forwards;
 mod link;
 mod links;
+mod peers;
 mod sides;
 mod writing;
 

@@ -1,6 +1,6 @@
 //! What a driver needs of the world: links, origins to connect to, and a clock.
 
-ghost use Rattle.std.specs.Prelude.{◌≡◌, ◌<◌, ℕ, List};
+ghost use Rattle.std.specs.Prelude.{◌≡◌, ◌<◌, ◌+◌, ℕ, List, [], IfOk};
 ghost use Rattle.hc_connection.specs.Links.{Counts, Reads, Writes, greatest_count};
 
 /// That a link has failed, or that none was made. What went wrong is known to whoever made the link.
@@ -15,6 +15,9 @@ pub trait Link {
     /// These octets were written to it so far, likewise.
     ghost has_got: { Self → List ℕ → Type 0 };
 
+    /// It was read so often so far, likewise.
+    ghost was_read: { Self → ℕ → Type 0 };
+
     /// How often it failed.
     ghost count: { Self → ℕ };
 
@@ -24,6 +27,7 @@ pub trait Link {
         requires { count self.old < greatest_count }
         ensures given { Reads (has_given self.old) (has_given self.new) result buffer.new }
         ensures got { (octets : List ℕ) → has_got self.old octets → has_got self.new octets }
+        ensures reads { (times : ℕ) → was_read self.old times → was_read self.new (1 + times) }
         ensures count { Counts result (count self.old) (count self.new) };
 
     /// Writes a beginning of the octets, at least one where there is one, and answers how many.
@@ -31,6 +35,7 @@ pub trait Link {
         requires { count self.old < greatest_count }
         ensures given { (given : List ℕ) → has_given self.old given → has_given self.new given }
         ensures got { Writes (has_got self.old) (has_got self.new) result octets.now }
+        ensures reads { (times : ℕ) → was_read self.old times → was_read self.new times }
         ensures count { Counts result (count self.old) (count self.new) };
 
     /// Ends what is written: behind that the other side finds an end, and may send on. What has no such end, as a file,
@@ -38,6 +43,7 @@ pub trait Link {
     fn end(&mut self)
         ensures given { (given : List ℕ) → has_given self.old given → has_given self.new given }
         ensures got { (got : List ℕ) → has_got self.old got → has_got self.new got }
+        ensures reads { (times : ℕ) → was_read self.old times → was_read self.new times }
         ensures count { count self.new ≡ count self.old };
 
     /// How often it failed.
@@ -50,12 +56,17 @@ pub trait Origins {
     /// A link to an origin.
     type Link: Link + Drop;
 
-    /// Makes a link for the forward of that number.
-    fn connect(&self, forward: u64) -> Result<Self::Link, LinkFailure>;
+    /// Makes a link for the forward of that number, from which nothing was read, and to which nothing was written.
+    fn connect(&self, forward: u64) -> Result<Self::Link, LinkFailure>
+        ensures { IfOk result (λ link. Self.Link.has_given link [] × Self.Link.has_got link []) };
 }
 
 /// What tells the moment.
 pub trait Clock {
+    /// That moment it may tell. A clock of which nothing is known lets any moment stand.
+    ghost may_tell: { Self → ℕ → Type 0 };
+
     /// The moment, in whole seconds since 1970.
-    fn now(&self) -> u64;
+    fn now(&self) -> u64
+        ensures { may_tell self.now result };
 }

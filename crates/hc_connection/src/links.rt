@@ -2,8 +2,8 @@
 
 ghost use Rattle.std.specs.Prelude.{◌≡◌, List, ◌∷◌, Ok, None};
 ghost use Rattle.hc_connection.specs.Moves.{Move};
-ghost use Rattle.hc_connection.specs.Moves.Move.{Closed, Sent};
-ghost use Rattle.hc_connection.specs.Telling.{TellsNext};
+ghost use Rattle.hc_connection.specs.Moves.Move.{Closed};
+ghost use Rattle.hc_connection.specs.Telling.{TellsNext, TellsSent};
 
 use hc_events::Event;
 use hc_framing::MessageText;
@@ -34,9 +34,9 @@ pub trait Links {
 
     /// Sends the octets to the client, or makes a link for the forward and sends them to the origin. A link that
     /// fails, or isn't made, loses them, which happens then, behind what has happened before. It fails only where
-    /// memory is refused.
+    /// memory is refused, and sends nothing then.
     fn send(&mut self, to: Receiver, octets: &MessageText) -> Result<(), AllocError>
-        ensures { (log : List Move) → tells self.old log → tells self.new (Sent to octets.now ∷ log) };
+        ensures { (log : List Move) → tells self.old log → TellsSent (tells self.new) result to octets.now log };
 
     /// Closes a client's connection, or a forward. What is closed is heard no more.
     fn close(&mut self, link: Receiver)

@@ -1,7 +1,7 @@
 //! What is read from a link, and what is written to it.
 
 ghost use Rattle.std.specs.Prelude.{◌≡◌, ℕ, List};
-ghost use Rattle.hc_connection.specs.Links.{CountsCame, CountsSent, GivesCame, WritesAll};
+ghost use Rattle.hc_connection.specs.Links.{CountsCame, CountsSent, GivesCame, ReadsCame, WritesAll};
 ghost use Rattle.hc_connection.specs.Moves.{most_octets};
 
 use crate::link::{Link, LinkFailure};
@@ -28,6 +28,7 @@ pub(crate) enum Came {
 pub(crate) fn read_some<L: Link>(alloc: Global, link: &mut L) -> Result<Came, AllocError>
     ensures given { GivesCame most_octets (L.has_given link.old) (L.has_given link.new) result }
     ensures got { (got : List ℕ) → L.has_got link.old got → L.has_got link.new got }
+    ensures reads { ReadsCame (L.was_read link.old) (L.was_read link.new) result }
     ensures count { CountsCame result (L.count link.old) (L.count link.new) }
 {
     let mut buffer = Vec::from_elem(alloc, 0, MOST_OCTETS)?;
@@ -49,6 +50,7 @@ pub(crate) fn read_some<L: Link>(alloc: Global, link: &mut L) -> Result<Came, Al
 pub fn send_octets<L: Link>(link: &mut L, octets: &[u8]) -> Result<(), LinkFailure>
     ensures given { (given : List ℕ) → L.has_given link.old given → L.has_given link.new given }
     ensures got { WritesAll (L.has_got link.old) (L.has_got link.new) result octets.now }
+    ensures reads { (times : ℕ) → L.was_read link.old times → L.was_read link.new times }
     ensures count { CountsSent result (L.count link.old) (L.count link.new) }
 {
     if link.failures() == u64::MAX {
@@ -62,6 +64,7 @@ pub fn send_octets<L: Link>(link: &mut L, octets: &[u8]) -> Result<(), LinkFailu
 pub(crate) fn send_text<L: Link>(link: &mut L, text: &MessageText) -> Result<(), LinkFailure>
     ensures given { (given : List ℕ) → L.has_given link.old given → L.has_given link.new given }
     ensures got { WritesAll (L.has_got link.old) (L.has_got link.new) result text.now }
+    ensures reads { (times : ℕ) → L.was_read link.old times → L.was_read link.new times }
     ensures count { CountsSent result (L.count link.old) (L.count link.new) }
 {
     if link.failures() == u64::MAX {

@@ -72,18 +72,19 @@ module _ (T : List Move → Type 0) (H : List ℕ → Type 0) (a : Action) (log 
   pub written_done : (written : List ℕ) → texts_in (a ∷ []) ≡ written → H (text ++ written) → AreDone T H (a ∷ []) log text
   written_done written is held = (told, subst (λ (t : List ℕ). H (text ++ t)) (sym is) held)
 
-  -- of its record a beginning was written
-  pub one_cut : (front : List ℕ) → IsBeginning front (texts_in (a ∷ [])) → H (text ++ front) → AreCut T H (a ∷ []) log text
-  one_cut front begins held = record {
-    done = [];
-    last = a;
-    left = [];
-    actions_are = refl;
-    told = told;
-    front = front;
-    begins = begins;
-    held = held;
-  }
+-- of its record a beginning was written
+pub one_cut : (T : List Move → Type 0) (H : List ℕ → Type 0) (a : Action) (log : List Move) (text : List ℕ) → T log → (front : List ℕ) → IsBeginning front (texts_in (a ∷ []))
+    → H (text ++ front) → AreCut T H (a ∷ []) log text
+one_cut T H a log text told front begins held = record {
+  done = [];
+  last = a;
+  left = [];
+  actions_are = refl;
+  told = told;
+  front = front;
+  begins = begins;
+  held = held;
+}
 
 pub nothing_begins : (octets : List ℕ) → IsBeginning [] octets
 nothing_begins octets = (octets, refl)
@@ -92,7 +93,7 @@ pub begins_alone : (front : List ℕ) (r : Record) → IsBeginning front (record
 begins_alone front r b = subst (IsBeginning front) (sym (append-nil (record_text r))) b
 
 -- of no octets nothing was written
-pub quiet_cut : (T : List Move → Type 0) (H : List ℕ → Type 0) (a : Action) (log : List Move) (text : List ℕ) → T (carried (a ∷ []) log) → H text → AreCut T H (a ∷ []) log text
+pub quiet_cut : (T : List Move → Type 0) (H : List ℕ → Type 0) (a : Action) (log : List Move) (text : List ℕ) → T log → H text → AreCut T H (a ∷ []) log text
 quiet_cut T H a log text told held = one_cut T H a log text told [] (nothing_begins (texts_in (a ∷ []))) (subst H (sym (append-nil text)) held)
 
 -- ---- one action behind others
@@ -111,7 +112,7 @@ module _ (T : List Move → Type 0) (H : List ℕ → Type 0) (before : List Act
     left = c.left ++ left;
     actions_are = ap (λ (t : List Action). before ++ (t ++ left)) c.actions_are
         ∙ ap (λ (t : List Action). before ++ t) (append_assoc c.done (c.last ∷ c.left) left) ∙ sym (append_assoc before c.done (c.last ∷ (c.left ++ left)));
-    told = subst T (sym (ap (λ (t : List Action). carried t log) (append_assoc before c.done (c.last ∷ [])) ∙ carried_append before (c.done ++ c.last ∷ []) log)) c.told;
+    told = subst T (sym (carried_append before c.done log)) c.told;
     front = c.front;
     begins = c.begins;
     held = subst H (sym (append_assoc (text ++ texts_in before) (texts_in c.done) c.front)

@@ -50,13 +50,13 @@ texts_in actions = flat_map record_text (records_of actions)
 abbrev pub AreDone : (List Move → Type 0) → (List ℕ → Type 0) → List Action → List Move → List ℕ → Type 0
 AreDone tells holds actions log text = tells (carried actions log) × holds (text ++ texts_in actions)
 
--- those up to one were; of that one's record a beginning stands behind the texts of the others, and behind it nothing was done
+-- those before one were; that one sent nothing; of its record, if it is one, a beginning stands behind the texts of the others, and behind it nothing was done
 pub record AreCut (tells : List Move → Type 0) (holds : List ℕ → Type 0) (actions : List Action) (log : List Move) (text : List ℕ) : Type 0 where
   pub done : List Action
   pub last : Action
   pub left : List Action
   pub actions_are : actions ≡ done ++ last ∷ left
-  pub told : tells (carried (done ++ last ∷ []) log)
+  pub told : tells (carried done log)
   pub front : List ℕ
   pub begins : IsBeginning front (texts_in (last ∷ []))
   pub held : holds (text ++ (texts_in done ++ front))

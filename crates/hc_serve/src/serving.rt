@@ -1,8 +1,9 @@
 //! Serving one connection.
 
 ghost use Rattle.std.specs.Prelude.{◌≡◌, ℕ, List, length};
+ghost use Rattle.hc_connection.specs.Connections.{HasPassed};
 ghost use Rattle.hc_connection.specs.Moves.{Move};
-ghost use Rattle.hc_connection.specs.Sides.{Opens, Rests, Tells};
+ghost use Rattle.hc_connection.specs.Sides.{Rests};
 ghost use Rattle.hc_serve.specs.Drives.{CountsServed, GivesDrive, LeavesIdle, LeavesOpened, SaysFailed};
 
 use crate::driving::drive;
@@ -22,14 +23,16 @@ pub fn serve_connection<S: BuildHasher, C: Link, O: Origins, K: Clock, R: Link>(
     recorder: &mut R,
 ) -> Result<(), DriveFault>
     ensures serves { (log : List Move) (text : List ℕ)
-        → Tells C.has_given C.has_got C.count connection.old.client log → Opens connection.old.opened connection.old.client.number log
+        → HasPassed C.has_given C.has_got C.was_read C.count O.Link.has_given O.Link.has_got (K.may_tell connection.old.clock.now)
+        connection.old.opened connection.old.peers.client connection.old.peers.forwards.links log
         → R.has_got recorder.old text
-        → GivesDrive (λ log. Tells C.has_given C.has_got C.count connection.new.client log × Opens connection.new.opened connection.new.client.number log)
-        (R.has_got recorder.new) (Rests connection.new.opened (length connection.new.forwards.entries) connection.new.client) result
-        core.old core.new log text }
+        → GivesDrive (λ log. HasPassed C.has_given C.has_got C.was_read C.count O.Link.has_given O.Link.has_got (K.may_tell connection.new.clock.now)
+        connection.new.opened connection.new.peers.client connection.new.peers.forwards.links log)
+        (R.has_got recorder.new) (Rests connection.new.opened (length connection.new.peers.forwards.links.entries) connection.new.peers.client)
+        result core.old core.new log text }
     ensures count { CountsServed result (R.count recorder.old) (R.count recorder.new) }
     ensures idle { LeavesIdle result core.new }
-    ensures failed { SaysFailed result connection.new.client.failed }
+    ensures failed { SaysFailed result connection.new.peers.client.failed }
     ensures opened { LeavesOpened result connection.new.opened }
 {
     drive(alloc, core, connection, recorder)?;

@@ -1,5 +1,7 @@
 //! Connections of clients, one after another.
 
+ghost use Rattle.hc_sockets.specs.Outcomes.{MeansFor};
+
 use crate::clock::SystemClock;
 use crate::fault::ServeFault;
 use crate::origin::Origin;
@@ -149,7 +151,7 @@ where
     };
     let clock = SystemClock { system: rt };
     let client = SystemLink::new(Socket { stream });
-    let mut connection = Connection::new(alloc, number, client, &origin, &clock)?;
+    let mut connection = Connection::new(alloc, number, client, &origin, &clock);
     match serve_connection(alloc, core, &mut connection, recorder) {
         Ok(()) => {
             linger(alloc, connection.into_client().into_device());
@@ -183,7 +185,9 @@ fn linger<S: Read + Write + OpenStream + Drop>(alloc: Global, socket: Socket<S>)
 }
 
 /// What a fault of one connection means for the others. The reason is that for which the recorder failed last.
-fn outcome_of(fault: DriveFault, reason: Option<io::Error>) -> Result<(), ServeFault> {
+fn outcome_of(fault: DriveFault, reason: Option<io::Error>) -> Result<(), ServeFault>
+    ensures { MeansFor fault result }
+{
     match fault {
         // That is the client's own fault.
         DriveFault::Client => Ok(()),

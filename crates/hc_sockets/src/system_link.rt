@@ -112,6 +112,8 @@ impl<T: Device> Link for SystemLink<T> {
 
     ghost has_got = { λ _ _. Unit {0} };
 
+    ghost was_read = { λ _ _. Unit {0} };
+
     ghost count = { λ link. link.failures };
 
     fn read(&mut self, buffer: &mut [u8]) -> Result<usize, LinkFailure> {

@@ -9,6 +9,7 @@ invariant-pieces g l = record {
   few : g.L.Link.count l.link < greatest_count;
   count : g.L.Link.count l.link ≡ g.L.Link.count l.initial.link;
   given : (given : List ℕ) → g.L.Link.has_given l.initial.link given → g.L.Link.has_given l.link given;
+  reads : (times : ℕ) → g.L.Link.was_read l.initial.link times → g.L.Link.was_read l.link times;
   got : (got : List ℕ) → g.L.Link.has_got l.initial.link got → g.L.Link.has_got l.link (got ++ take l.at l.octets);
 }
 

@@ -1,15 +1,11 @@
-use Rattle.std.proofs.Common.{refl}
-use Rattle.hc_connection.proofs.TellLemmas.{elsewhere, opens_sent}
+use Rattle.hc_connection.specs.Forwards.{AreKept}
+use Rattle.hc_connection.specs.Sides.{Tells}
+use Rattle.hc_connection.proofs.ConnectionLemmas.{all_sent}
 use Rattle.hc_connection.proofs.connection.ConnectionLinks.send.Goals as goal
 
-pub returns-in-Origin : goal.returns-in-Origin
-returns-in-Origin g c = rw (c.in-Origin.is, c.open.ensures.client, c.open.ensures.opened) (λ log tells. (
-  elsewhere g.C.Link.has_given g.C.Link.has_got g.C.Link.count c.args.self.now.client log _ c.args.octets.now refl refl tells.0,
-  opens_sent c.args.self.now.opened c.args.self.now.opened _ _ _ _ log refl refl tells.1,
-))
-
-pub returns-in-Client : goal.returns-in-Client
-returns-in-Client g c = rw (c.in-Client.is) (λ log tells. (
-  c.reply.ensures.tells log tells.0,
-  opens_sent c.args.self.now.opened _ c.args.self.now.client.number _ _ _ log c.reply.ensures.opened c.reply.ensures.number tells.1,
-))
+pub returns : goal.returns
+returns g c = λ log t.
+    all_sent (Tells g.C.Link.has_given g.C.Link.has_got g.C.Link.was_read g.C.Link.count c.send.new.self.client)
+    (AreKept g.O.Link.Link.has_given g.O.Link.Link.has_got c.send.new.self.forwards.links)
+    (g.K.Clock.may_tell c.args.self.now.clock.now) c.args.self.now.opened _ _ c.send.result c.args.to c.args.octets.now log c.send.ensures.number t.1 t.2 t.4
+    (c.send.ensures.tells log t.0) (c.send.ensures.kept log t.3)

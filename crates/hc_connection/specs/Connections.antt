@@ -1,0 +1,14 @@
+-- What passed at a connection.
+use Rattle.std.specs.Prelude.{ℕ, Bool, List, Option}
+use Rattle.std.specs.BTreeMap.{BTreeMap}
+use Rattle.hc_connection.specs.declared.client_side.ClientSide.{ClientSide}
+use Rattle.hc_connection.specs.Forwards.{AreInOrder, AreKept}
+use Rattle.hc_connection.specs.Moves.{AreMoments, Move}
+use Rattle.hc_connection.specs.Sides.{Opens, Tells}
+
+-- what passed at the client's link, and at those of forwards that are open, is what the log says; that the connection was opened happened first, at moments that the clock may tell, and links were read in order
+abbrev pub HasPassed : {C L : Type 0} (client_gave client_got : C → List ℕ → Type 0) (client_was_read : C → ℕ → Type 0) (count : C → ℕ) (origin_gave origin_got : L → List ℕ → Type 0)
+    (may_tell : ℕ → Type 0) (opened : Bool) → ClientSide C → BTreeMap ℕ (Option L) → List Move → Type 0
+HasPassed client_gave client_got client_was_read count origin_gave origin_got may_tell opened client links log =
+    Tells client_gave client_got client_was_read count client log × Opens opened client.number log × AreMoments may_tell log
+    × AreKept origin_gave origin_got links log × AreInOrder log
