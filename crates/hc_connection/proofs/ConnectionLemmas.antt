@@ -1,10 +1,12 @@
 -- What a connection tells, once octets were sent.
-use Rattle.std.proofs.Common.{◌≡◌, ℕ, ◌∷◌, Bool, List, Result, Ok, Err, refl}
+use Rattle.std.proofs.Common.{◌≡◌, ℕ, ◌∷◌, Bool, List, Result, Ok, Err, refl, subst, sym}
 use Rattle.std.specs.declared.alloc.AllocError.{AllocError}
+use Rattle.hc_events.specs.declared.Event.{Event}
+use Rattle.hc_events.specs.declared.Happening.{Happening}
 use Rattle.hc_connection.specs.declared.links.Receiver.{Receiver}
-use Rattle.hc_connection.specs.Forwards.{AreInOrder}
+use Rattle.hc_connection.specs.Forwards.{AreInOrder, IsNext}
 use Rattle.hc_connection.specs.Moves.{AreMoments, Move}
-use Rattle.hc_connection.specs.Moves.Move.{Sent}
+use Rattle.hc_connection.specs.Moves.Move.{Heard, Sent}
 use Rattle.hc_connection.specs.Sides.{Opens}
 use Rattle.hc_connection.specs.Telling.{TellsSent}
 use Rattle.hc_connection.proofs.TellLemmas.{opens_by}
@@ -16,3 +18,12 @@ all_sent tells keeps may_tell opened c d (Ok done) to octets log is opens moment
     (told, opens_by opened c d log (Sent to octets ∷ log) refl is opens, moments, kept, in_order)
 all_sent tells keeps may_tell opened c d (Err refused) to octets log is opens moments in_order told kept =
     (told, opens_by opened c d log log refl is opens, moments, kept, in_order)
+
+-- ---- what happens now
+
+pub heard_now : (P : List Move → Type 0) (event : Event) (of : Happening) (log : List Move) → event.of ≡ of → ((moment : ℕ) → P (Heard (record { moment = moment; of = of }) ∷ log))
+    → P (Heard event ∷ log)
+heard_now P event of log is at_any = subst (λ (o : Happening). P (Heard (record { moment = event.moment; of = o }) ∷ log)) (sym is) (at_any event.moment)
+
+pub next_now : (event : Event) (of : Happening) (log : List Move) → event.of ≡ of → IsNext of log → IsNext event.of log
+next_now event of log is next = subst (λ (o : Happening). IsNext o log) (sym is) next

@@ -1,5 +1,5 @@
 -- What is kept of forwards, and which of them is the least.
-use Rattle.std.proofs.Common.{◌≡◌, ℕ, ◌==◌, ◌∷◌, ◌++◌, ◌≤◌, Bool, true, false, cond, List, [], length, Option, Some, None, Result, Ok, Err, IfOk, IfSome, IsSome, is_some, if◌then◌else◌, refl, sym, ap, ◌∙◌, subst, arith, rules}
+use Rattle.std.proofs.Common.{◌≡◌, ℕ, ◌==◌, ◌++◌, Bool, true, false, cond, List, length, Option, Some, None, Result, Ok, Err, IfOk, IfSome, IsSome, is_some, if◌then◌else◌, refl, sym, ap, ◌∙◌, subst, arith, rules}
 use Rattle.std.proofs.lemmas.Bool.Decides.{nat_tests}
 use Rattle.std.proofs.lemmas.List.{nil_from_length}
 use Rattle.std.proofs.lemmas.Map.Keys.{le_from_not_gt}
@@ -21,7 +21,7 @@ module _ {L : Type 0} (has_given has_got : L → List ℕ → Type 0) where
 
   is_open : (o : Option (Option L)) (now : Bool) (read sent : List ℕ) → IsSome o → IsKept has_given has_got now read sent o → now ≡ true
   is_open None now read sent some kept = absurd (cc)
-  is_open (Some None) now read sent some kept = kept
+  is_open (Some None) now read sent some kept = kept.0
   is_open (Some (Some link)) now read sent some kept = kept.0
 
   is_there : (o : Option (Option L)) (now : Bool) (read sent : List ℕ) → now ≡ true → IsKept has_given has_got now read sent o → IsSome o
@@ -79,11 +79,15 @@ module _ {L : Type 0} (has_given has_got : L → List ℕ → Type 0) where
         (left_at (k == f) (is_open_in f log) (read_on f log) (sent_on f log) slot' (get nat_cmp links f)
         (λ same. subst (λ (g : ℕ). IsKept has_given has_got (is_open_in g log) (read_on g log) (sent_on g log) (Some slot')) (same_number k f same) now) (kept f))
 
+    at_end : (slot : Option L) (now : Bool) (read sent : List ℕ) → KeepsSlot has_given has_got now read sent (Ok End) slot → IsKept has_given has_got now read sent (Some slot)
+    at_end None now read sent gives = absurd gives
+    at_end (Some link) now read sent gives = gives
+
     pub heard_kept : (result : Result Came AllocError)
         → ((read sent : List ℕ) (now : Bool) → IsKept has_given has_got now read sent (Some slot) → KeepsSlot has_given has_got now read sent result slot')
         → KeepsCame (AreKept has_given has_got links') k result log
     heard_kept (Ok (Octets octets)) gives = came octets (gives _ _ _ its_slot)
-    heard_kept (Ok End) gives = left (gives _ _ _ its_slot)
+    heard_kept (Ok End) gives = left (at_end slot' _ _ _ (gives _ _ _ its_slot))
     heard_kept (Ok Failure) gives = left (gives _ _ _ its_slot)
     heard_kept (Err refused) gives = left (gives _ _ _ its_slot)
 

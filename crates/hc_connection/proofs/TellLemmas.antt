@@ -8,7 +8,7 @@ use Rattle.hc_connection.specs.declared.client_side.ClientSide.{ClientSide}
 use Rattle.hc_connection.specs.declared.links.Receiver.{Receiver}
 use Rattle.hc_connection.specs.declared.links.Receiver.TheVariants.{Client}
 use Rattle.hc_connection.specs.Links.{HasFailed, IsBeginning}
-use Rattle.hc_connection.specs.Moves.{Move, earlier_or, failures_before, first_in, given_in, most_octets, most_replies, one_for, client_reads_in, origin_reads_in, reads_before, replies_in, sent_by, sent_in}
+use Rattle.hc_connection.specs.Moves.{Move, earlier_or, failures_before, first_in, given_in, most_octets, most_replies, one_for, replies_in, sent_by, sent_in}
 use Rattle.hc_connection.specs.Moves.Move.{Heard, Sent}
 use Rattle.hc_connection.specs.Sides.{CountsFailed, CountsReads, Opens, Tells, TellsSparing}
 
@@ -116,6 +116,7 @@ module _ {C : Type 0} (has_given has_got : C → List ℕ → Type 0) (was_read 
       reads = t.reads;
       few = t.few;
       closed = t.closed;
+      ended = t.ended;
       in_time = t.in_time;
       short = t.short;
     }
@@ -139,6 +140,7 @@ module _ {C : Type 0} (has_given has_got : C → List ℕ → Type 0) (was_read 
       reads = reads_kept t.reads link reads;
       few = t.few;
       closed = t.closed;
+      ended = t.ended;
       in_time = t.in_time;
       short = t.short;
     }
@@ -165,6 +167,7 @@ module _ {C : Type 0} (has_given has_got : C → List ℕ → Type 0) (was_read 
           reads = reads_kept t.reads link reads;
           few = t.few;
           closed = t.closed;
+          ended = t.ended;
           in_time = t.in_time;
           short = t.short;
         }
@@ -175,10 +178,10 @@ module _ {C : Type 0} (has_given has_got : C → List ℕ → Type 0) (was_read 
   module _ (side : ClientSide C) (log : List Move) (t : TellsSparing has_given has_got was_read count 1 side log) (link : C) (none : side.failed ≡ false)
       (gets : (got : List ℕ) → has_got side.link got → has_got link got) where
     -- octets were read
-    pub heard : (octets : List ℕ) (moment : ℕ) → side.replies < most_replies → side.closed ≡ false → length octets ≤ most_octets
+    pub heard : (octets : List ℕ) (moment : ℕ) → side.replies < most_replies → side.closed ≡ false → side.ended ≡ false → length octets ≤ most_octets
         → ((given : List ℕ) → has_given side.link given → has_given link (given ++ octets)) → ((times : ℕ) → was_read side.link times → was_read link (1 + times)) → count link ≡ count side.link
         → Tells has_given has_got was_read count (replied side link side.failed side.replies) (Heard (record { moment = moment; of = ClientBytes side.number octets }) ∷ log)
-    heard octets moment few still_open short gives reads same = record {
+    heard octets moment few still_open on short gives reads same = record {
       own = (refl, t.own);
       given = gives (given_in log) t.given;
       got = t.got;
@@ -190,9 +193,17 @@ module _ {C : Type 0} (has_given has_got : C → List ℕ → Type 0) (was_read 
       reads = read_came t.reads link reads;
       few = t.few;
       closed = t.closed;
-      in_time = ((λ is_read. (subst (λ (n : ℕ). n < most_replies) (sym (t.replies few)) few, sym t.closed ∙ still_open)), t.in_time);
+      ended = t.ended;
+      in_time = (
+        (λ is_read. (subst (λ (n : ℕ). n < most_replies) (sym (t.replies few)) few, (sym t.ended ∙ on, sym t.closed ∙ still_open))),
+        (λ is_end. absurd (false_true is_end)),
+        t.in_time,
+      );
       short = (short, t.short);
     }
+      where
+        false_true : false ≡ true → ⊥
+        false_true e = cc
 
     -- no more will come
     pub ended : ((given : List ℕ) → has_given side.link given → has_given link given) → ((times : ℕ) → was_read side.link times → was_read link (1 + times))
@@ -209,6 +220,7 @@ module _ {C : Type 0} (has_given has_got : C → List ℕ → Type 0) (was_read 
       reads = read_perhaps t.reads link (λ times was. (1, omega arith, reads times was));
       few = t.few;
       closed = t.closed;
+      ended = t.ended;
       in_time = t.in_time;
       short = t.short;
     }
@@ -229,6 +241,7 @@ module _ {C : Type 0} (has_given has_got : C → List ℕ → Type 0) (was_read 
       reads = read_perhaps t.reads link reads;
       few = t.few;
       closed = t.closed;
+      ended = t.ended;
       in_time = t.in_time;
       short = t.short;
     }
@@ -251,6 +264,7 @@ module _ {C : Type 0} (has_given has_got : C → List ℕ → Type 0) (was_read 
     reads = t.reads;
     few = t.few;
     closed = t.closed;
+    ended = t.ended;
     in_time = t.in_time;
     short = t.short;
   }
@@ -273,7 +287,6 @@ opens_heard false c d event log was is o = absurd (cc)
 
 -- ---- a client of whom more is heard
 
-pub open_and_works : (ended closed failed : Bool) → (if ended then true else (if closed then true else failed)) ≡ false → (closed ≡ false) × (failed ≡ false)
-open_and_works true closed failed is = absurd (cc)
-open_and_works false true failed is = absurd (cc)
-open_and_works false false failed is = (refl, is)
+pub is_on : (ended closed : Bool) → (if ended then true else closed) ≡ false → (ended ≡ false) × (closed ≡ false)
+is_on true closed is = absurd (cc)
+is_on false closed is = (refl, is)

@@ -6,7 +6,7 @@ use Rattle.hc_connection.specs.Forwards.{AreInOrder, AreKept}
 use Rattle.hc_connection.specs.Moves.{AreMoments, Move}
 use Rattle.hc_connection.specs.Sides.{Opens, Tells}
 
--- what passed at the client's link, and at those of forwards that are open, is what the log says; that the connection was opened happened first, at moments that the clock may tell, and links were read in order
+-- what passed at the client's link, and at those of forwards that are open, is what the log says; what happened first is that the connection was opened; each moment is one that the clock may tell; and links were read in order
 abbrev pub HasPassed : {C L : Type 0} (client_gave client_got : C → List ℕ → Type 0) (client_was_read : C → ℕ → Type 0) (count : C → ℕ) (origin_gave origin_got : L → List ℕ → Type 0)
     (may_tell : ℕ → Type 0) (opened : Bool) → ClientSide C → BTreeMap ℕ (Option L) → List Move → Type 0
 HasPassed client_gave client_got client_was_read count origin_gave origin_got may_tell opened client links log =

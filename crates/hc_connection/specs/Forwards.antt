@@ -41,15 +41,15 @@ IsLeastOpen f log = (is_open_in f log ≡ true) × ((g : ℕ) → is_open_in g l
 
 -- ---- what passed there
 
-abbrev pub behind : ℕ → Happening → List ℕ → List ℕ
-behind f (OriginBytes g octets) before = if g == f then before ++ octets else before
-behind f other before = before
+abbrev pub read_behind : ℕ → Happening → List ℕ → List ℕ
+read_behind f (OriginBytes g octets) before = if g == f then before ++ octets else before
+read_behind f other before = before
 
 -- the octets that were read there since it was opened
 abbrev pub read_on : ℕ → List Move → List ℕ
 read_on f [] = []
 read_on f (Before number given got reads failures ∷ log) = []
-read_on f (Heard event ∷ log) = behind f event.of (read_on f log)
+read_on f (Heard event ∷ log) = read_behind f event.of (read_on f log)
 read_on f (Sent to octets ∷ log) = if is_on f to then [] else read_on f log
 read_on f (Closed link ∷ log) = read_on f log
 
@@ -61,10 +61,10 @@ sent_on f (Heard event ∷ log) = sent_on f log
 sent_on f (Sent to octets ∷ log) = if is_on f to then octets else sent_on f log
 sent_on f (Closed link ∷ log) = sent_on f log
 
--- what is kept of a forward: nothing where it isn't open; else its link, which gave what was read there, and got what was sent there; one that couldn't be made, or failed at that, has none
+-- what is kept of a forward: nothing where it isn't open; else its link, which gave what was read there, and got what was sent there; or no link, and then nothing was read there
 abbrev pub IsKept : {L : Type 0} → (L → List ℕ → Type 0) → (L → List ℕ → Type 0) → Bool → List ℕ → List ℕ → Option (Option L) → Type 0
 IsKept has_given has_got is_open read sent None = is_open ≡ false
-IsKept has_given has_got is_open read sent (Some None) = is_open ≡ true
+IsKept has_given has_got is_open read sent (Some None) = (is_open ≡ true) × (read ≡ [])
 IsKept has_given has_got is_open read sent (Some (Some link)) = (is_open ≡ true) × has_given link read × has_got link sent
 
 -- what is kept of each
@@ -74,11 +74,12 @@ AreKept has_given has_got links log =
 
 -- ---- in which order links are read
 
--- octets, or an end, come of the open forward of the least number; the client's where none is open
+-- octets, or an end, come of the open forward of the least number, a failure of one that is open; the client's octets where none is
 abbrev pub IsNext : Happening → List Move → Type 0
 IsNext (ClientBytes c octets) log = NoneOpen log
 IsNext (OriginBytes f octets) log = IsLeastOpen f log
 IsNext (OriginEnd f) log = IsLeastOpen f log
+IsNext (OriginFailed f) log = is_open_in f log ≡ true
 IsNext other log = Unit {0}
 
 abbrev pub AreInOrder : List Move → Type 0
@@ -88,7 +89,7 @@ AreInOrder (Heard event ∷ log) = IsNext event.of log × AreInOrder log
 AreInOrder (Sent to octets ∷ log) = AreInOrder log
 AreInOrder (Closed link ∷ log) = AreInOrder log
 
--- it happens at some moment, behind the log, and in order
+-- it happens, whatever the moment, behind the log, and in order
 abbrev pub KeepsHappening : (List Move → Type 0) → Happening → List Move → Type 0
 KeepsHappening keeps of log = IsNext of log × ((moment : ℕ) → keeps (Heard (record { moment = moment; of = of }) ∷ log))
 
@@ -118,10 +119,11 @@ KeepsCame keeps f (Ok End) log = keeps log
 KeepsCame keeps f (Ok Failure) log = keeps log
 KeepsCame keeps f (Err refused) log = keeps log
 
--- the same of one link
+-- the same of one link; without one there is no end
 abbrev pub KeepsSlot : {L : Type 0} → (L → List ℕ → Type 0) → (L → List ℕ → Type 0) → Bool → List ℕ → List ℕ → Result Came AllocError → Option L → Type 0
 KeepsSlot has_given has_got is_open read sent (Ok (Octets octets)) slot = IsKept has_given has_got is_open (read ++ octets) sent (Some slot)
-KeepsSlot has_given has_got is_open read sent (Ok End) slot = IsKept has_given has_got is_open read sent (Some slot)
+KeepsSlot has_given has_got is_open read sent (Ok End) None = ⊥
+KeepsSlot has_given has_got is_open read sent (Ok End) (Some link) = IsKept has_given has_got is_open read sent (Some (Some link))
 KeepsSlot has_given has_got is_open read sent (Ok Failure) slot = IsKept has_given has_got is_open read sent (Some slot)
 KeepsSlot has_given has_got is_open read sent (Err refused) slot = IsKept has_given has_got is_open read sent (Some slot)
 

@@ -150,12 +150,28 @@ is_closed_in c (Heard event ∷ log) = is_closed_in c log
 is_closed_in c (Sent to octets ∷ log) = is_closed_in c log
 is_closed_in c (Closed link ∷ log) = is_its c link || is_closed_in c log
 
--- no octets of the client are read behind so many replies, nor once its connection was closed
+abbrev pub is_end_of : ℕ → Happening → Bool
+is_end_of c (ClientEnd d) = d == c
+is_end_of c other = false
+
+-- whether it was told that the client sends no more
+abbrev pub is_ended_in : ℕ → List Move → Bool
+is_ended_in c [] = false
+is_ended_in c (Before number given got reads failures ∷ log) = false
+is_ended_in c (Heard event ∷ log) = if is_end_of c event.of then true else is_ended_in c log
+is_ended_in c (Sent to octets ∷ log) = is_ended_in c log
+is_ended_in c (Closed link ∷ log) = is_ended_in c log
+
+-- nothing is heard of the client behind its end, nor once its connection was closed
+abbrev pub IsHeard : ℕ → List Move → Type 0
+IsHeard c log = (is_ended_in c log ≡ false) × (is_closed_in c log ≡ false)
+
+-- no octets of it are read there, nor behind so many replies, and its end comes once at the most
 abbrev pub ReadsInTime : ℕ → List Move → Type 0
 ReadsInTime c [] = Unit {0}
 ReadsInTime c (Before number given got reads failures ∷ log) = Unit {0}
 ReadsInTime c (Heard event ∷ log) =
-    (is_of_client event.of ≡ true → (replies_in c log < most_replies) × (is_closed_in c log ≡ false)) × ReadsInTime c log
+    (is_of_client event.of ≡ true → (replies_in c log < most_replies) × IsHeard c log) × (is_end_of c event.of ≡ true → IsHeard c log) × ReadsInTime c log
 ReadsInTime c (Sent to octets ∷ log) = ReadsInTime c log
 ReadsInTime c (Closed link ∷ log) = ReadsInTime c log
 

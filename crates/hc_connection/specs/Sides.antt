@@ -5,7 +5,7 @@ use Rattle.hc_events.specs.declared.Happening.{Happening}
 use Rattle.hc_events.specs.declared.Happening.TheVariants.{ClientOpened}
 use Rattle.hc_connection.specs.declared.client_side.ClientSide.{ClientSide}
 use Rattle.hc_connection.specs.Links.{HasFailed, IsBeginning}
-use Rattle.hc_connection.specs.Moves.{AreOf, Move, ReadsFew, ReadsInTime, client_reads_in, failures_before, first_in, given_in, is_closed_in, most_reads, most_replies, origin_reads_in, reads_before, replies_in, sent_in}
+use Rattle.hc_connection.specs.Moves.{AreOf, Move, ReadsFew, ReadsInTime, client_reads_in, failures_before, first_in, given_in, is_closed_in, is_ended_in, most_reads, most_replies, origin_reads_in, reads_before, replies_in, sent_in}
 use Rattle.hc_connection.specs.Moves.Move.{Heard}
 
 -- its link's failures: none where it works, else one more, as far as can be counted
@@ -35,6 +35,7 @@ pub record TellsSparing {C : Type 0} (has_given has_got : C → List ℕ → Typ
   pub reads : CountsReads was_read side.link (reads_before log) (client_reads_in log) (origin_reads_in log) spare side.reads
   pub few : side.reads ≤ most_reads
   pub closed : side.closed ≡ is_closed_in side.number log
+  pub ended : side.ended ≡ is_ended_in side.number log
   pub in_time : ReadsInTime side.number log
   pub short : ReadsFew log
 
@@ -46,7 +47,7 @@ abbrev pub Opens : Bool → ℕ → List Move → Type 0
 Opens true c log = first_in log ≡ Some (ClientOpened c)
 Opens false c log = first_in log ≡ None
 
--- it happens at some moment, behind the log
+-- it happens, whatever the moment, behind the log
 abbrev pub TellsHappening : (List Move → Type 0) → Happening → List Move → Type 0
 TellsHappening tells of log = (moment : ℕ) → tells (Heard (record { moment = moment; of = of }) ∷ log)
 
@@ -61,9 +62,9 @@ TellsIfOk tells (Err refused) log = tells log
 
 -- ---- what rests
 
--- nothing more is heard of the client: the cache was told that it sends no more, or has closed its connection, or its link has failed
+-- nothing more is heard of the client: the cache was told that it sends no more, or has closed its connection
 abbrev pub is_heard_out : {C : Type 0} → ClientSide C → Bool
-is_heard_out side = if side.ended then true else (if side.closed then true else side.failed)
+is_heard_out side = if side.ended then true else side.closed
 
 -- nothing more happens at a connection: that it was opened was told, no forward is open, and nothing more is heard of the client
 abbrev pub Rests : {C : Type 0} → Bool → ℕ → ClientSide C → Type 0

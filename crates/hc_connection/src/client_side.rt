@@ -100,7 +100,7 @@ impl<C: Link> ClientSide<C> {
         ensures may { (log : List Move) → Tells C.has_given C.has_got C.was_read C.count self.old log
             → result ≡ true → TellsSparing C.has_given C.has_got C.was_read C.count 1 self.new log }
         ensures same { (self.new.link ≡ self.old.link) × (self.new.failed ≡ self.old.failed) × (self.new.replies ≡ self.old.replies)
-            × (self.new.closed ≡ self.old.closed) }
+            × (self.new.closed ≡ self.old.closed) × (self.new.ended ≡ self.old.ended) }
         ensures number { self.new.number ≡ self.old.number }
     {
         if self.reads >= MOST_READS {
@@ -126,7 +126,7 @@ impl<C: Link> ClientSide<C> {
     fn is_heard_out(&self) -> bool
         ensures { result ≡ is_heard_out self.now }
     {
-        self.ended || self.closed || self.failed
+        self.ended || self.closed
     }
 
     /// That the client sends no more, unless that was told, or the connection has closed.
@@ -170,6 +170,9 @@ impl<C: Link> ClientSide<C> {
     {
         if self.is_heard_out() {
             return Ok(None);
+        }
+        if self.failed {
+            return Ok(self.leave());
         }
         if self.is_left() {
             return Ok(self.leave());

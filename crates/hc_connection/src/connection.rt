@@ -57,6 +57,17 @@ impl<'a, C: Link, O: Origins, K: Clock> Connection<'a, C, O, K> {
         self.peers.into_client().into_link()
     }
 
+    /// That happens now.
+    fn now(&self, of: Happening) -> Event
+        ensures of { result.of ≡ of }
+        ensures moment { K.may_tell self.now.clock.now result.moment }
+    {
+        Event {
+            moment: self.clock.now(),
+            of,
+        }
+    }
+
     /// Whether the client's link has failed.
     pub fn has_failed(&self) -> bool
         ensures { result ≡ self.now.peers.client.failed }
@@ -72,22 +83,19 @@ impl<'a, C: Link, O: Origins, K: Clock> Links for Connection<'a, C, O, K> {
     ghost tells = { λ connection log. HasPassed C.has_given C.has_got C.was_read C.count O.Link.has_given O.Link.has_got
         (K.may_tell connection.clock.now) connection.opened connection.peers.client connection.peers.forwards.links log };
 
+    ghost may_tell = { λ connection. K.may_tell connection.clock.now };
+
     ghost rests = { λ connection. Rests connection.opened (length connection.peers.forwards.links.entries) connection.peers.client };
 
     fn next(&mut self) -> Result<Option<Event>, AllocError> {
         if !self.opened {
             self.opened = true;
-            return Ok(Some(Event {
-                moment: self.clock.now(),
-                of: Happening::ClientOpened(self.peers.client().number()),
-            }));
+            let number = self.peers.client().number();
+            return Ok(Some(self.now(Happening::ClientOpened(number))));
         }
         match self.peers.happening()? {
             None => Ok(None),
-            Some(of) => Ok(Some(Event {
-                moment: self.clock.now(),
-                of,
-            })),
+            Some(of) => Ok(Some(self.now(of))),
         }
     }
 

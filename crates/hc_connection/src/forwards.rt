@@ -1,6 +1,6 @@
 //! The forwards that are open for a connection.
 
-ghost use Rattle.std.specs.Prelude.{◌≡◌, ℕ, List, [], ◌∷◌, length, Bool, false, IfOk, None, Some};
+ghost use Rattle.std.specs.Prelude.{◌≡◌, ℕ, List, [], ◌∷◌, length, Bool, false, true, IfOk, None, Some};
 ghost use Rattle.hc_connection.specs.Forwards.{HasFew, IsKept, KeepsSlot};
 
 use crate::link::{Link, LinkFailure, Origins};
@@ -19,7 +19,7 @@ pub(crate) struct Forwards<'a, O: Origins> {
 }
 
 impl<'a, O: Origins> Forwards<'a, O> {
-    ghost use Rattle.hc_connection.specs.Forwards.{AreKept, KeepsCame, NoneOpen, TellsLeast};
+    ghost use Rattle.hc_connection.specs.Forwards.{AreKept, KeepsCame, NoneOpen, TellsLeast, is_open_in};
     ghost use Rattle.hc_connection.specs.Moves.{Move};
     ghost use Rattle.hc_connection.specs.Moves.Move.{Closed, Heard};
     ghost use Rattle.hc_connection.specs.Telling.{TellsSent};
@@ -81,6 +81,7 @@ impl<'a, O: Origins> Forwards<'a, O> {
             → AreKept O.Link.has_given O.Link.has_got self.new.links (Heard (record { moment = moment; of = OriginEnd forward }) ∷ log) }
         ensures closed { (log : List Move) → AreKept O.Link.has_given O.Link.has_got self.old.links log
             → AreKept O.Link.has_given O.Link.has_got self.new.links (Closed (Origin forward) ∷ log) }
+        ensures was { result ≡ true → (log : List Move) → AreKept O.Link.has_given O.Link.has_got self.old.links log → is_open_in forward log ≡ true }
         ensures same { result ≡ false → (log : List Move) → AreKept O.Link.has_given O.Link.has_got self.old.links log
             → AreKept O.Link.has_given O.Link.has_got self.new.links log }
     {

@@ -63,7 +63,7 @@ pub trait Origins {
 
 /// What tells the moment.
 pub trait Clock {
-    /// That moment it may tell. A clock of which nothing is known lets any moment stand.
+    /// It may tell that moment. A clock of which nothing is known may tell any.
     ghost may_tell: { Self → ℕ → Type 0 };
 
     /// The moment, in whole seconds since 1970.

@@ -1,6 +1,6 @@
 //! The links of a cache as its driver sees them: it hears what happens there, and sends what the cache gives out.
 
-ghost use Rattle.std.specs.Prelude.{◌≡◌, List, ◌∷◌, Ok, None};
+ghost use Rattle.std.specs.Prelude.{◌≡◌, ℕ, List, ◌∷◌, Ok, None};
 ghost use Rattle.hc_connection.specs.Moves.{Move};
 ghost use Rattle.hc_connection.specs.Moves.Move.{Closed};
 ghost use Rattle.hc_connection.specs.Telling.{TellsNext, TellsSent};
@@ -26,19 +26,25 @@ pub trait Links {
     /// Nothing more will happen.
     ghost rests: { Self → Type 0 };
 
+    /// The moments at which things may happen.
+    ghost may_tell: { Self → ℕ → Type 0 };
+
     /// What happens next, or none where nothing more will. It waits until something does. It fails only where memory
     /// is refused.
     fn next(&mut self) -> Result<Option<Event>, AllocError>
         ensures tells { (log : List Move) → tells self.old log → TellsNext (tells self.new) result log }
-        ensures rests { result ≡ Ok None → rests self.new };
+        ensures rests { result ≡ Ok None → rests self.new }
+        ensures moments { (moment : ℕ) → may_tell self.new moment → may_tell self.old moment };
 
-    /// Sends the octets to the client, or makes a link for the forward and sends them to the origin. A link that
-    /// fails, or isn't made, loses them, which happens then, behind what has happened before. It fails only where
-    /// memory is refused, and sends nothing then.
+    /// Sends the octets to the client, or makes a link for the forward and sends them to the origin. Where a link fails,
+    /// or isn't made, they are lost, and that is told in its turn. It fails only where memory is refused, and sends
+    /// nothing then.
     fn send(&mut self, to: Receiver, octets: &MessageText) -> Result<(), AllocError>
-        ensures { (log : List Move) → tells self.old log → TellsSent (tells self.new) result to octets.now log };
+        ensures sent { (log : List Move) → tells self.old log → TellsSent (tells self.new) result to octets.now log }
+        ensures moments { (moment : ℕ) → may_tell self.new moment → may_tell self.old moment };
 
-    /// Closes a client's connection, or a forward. What is closed is heard no more.
+    /// Closes a client's connection, or a forward.
     fn close(&mut self, link: Receiver)
-        ensures { (log : List Move) → tells self.old log → tells self.new (Closed link ∷ log) };
+        ensures closed { (log : List Move) → tells self.old log → tells self.new (Closed link ∷ log) }
+        ensures moments { (moment : ℕ) → may_tell self.new moment → may_tell self.old moment };
 }

@@ -12,12 +12,12 @@ use hc_framing::MessageText;
 use std::alloc::{AllocError, Global};
 use std::collections::VecDeque;
 
-/// What has happened, and wasn't told yet.
+/// What the cache may have to be told, in its turn.
 #[derive(Clone, Copy, Debug, PartialEq, Eq)]
 enum Waiting {
-    /// The client's link failed.
+    /// That the client sends no more, since its link failed as a reply was sent.
     Leaving,
-    /// The forward of that number couldn't be made, or broke.
+    /// That the forward of that number failed, since no link could be made, or that one failed as octets were sent.
     Losing(u64),
 }
 
@@ -66,7 +66,7 @@ impl<'a, C: Link, O: Origins> Peers<'a, C, O> {
         self.client
     }
 
-    /// The first of what waits to be told that the cache is still to be told of.
+    /// The first of what waits that is still to be told.
     fn waited(&mut self) -> Option<Happening>
         ensures tells { (log : List Move) → Tells C.has_given C.has_got C.was_read C.count self.old.client log
             → TellsPerhaps (Tells C.has_given C.has_got C.was_read C.count self.new.client) result log }
@@ -83,7 +83,8 @@ impl<'a, C: Link, O: Origins> Peers<'a, C, O> {
         None
     }
 
-    /// The same. Where no more may be read, what is open fails in the order of its numbers instead.
+    /// The same, as long as links may be read. Behind that nothing that waits is told, since all that is open fails in the
+    /// order of numbers.
     fn waited_in_time(&mut self) -> Option<Happening>
         ensures tells { (log : List Move) → Tells C.has_given C.has_got C.was_read C.count self.old.client log
             → TellsPerhaps (Tells C.has_given C.has_got C.was_read C.count self.new.client) result log }
@@ -97,7 +98,7 @@ impl<'a, C: Link, O: Origins> Peers<'a, C, O> {
         self.waited()
     }
 
-    /// What the cache is told of what waited, if it is still to be told.
+    /// What is told of what waited, if it is still to be told.
     fn told(&mut self, waiting: Waiting) -> Option<Happening>
         ensures tells { (log : List Move) → Tells C.has_given C.has_got C.was_read C.count self.old.client log
             → TellsPerhaps (Tells C.has_given C.has_got C.was_read C.count self.new.client) result log }

@@ -97,7 +97,7 @@ IsBusy cache = (settings : CoreSettings) (s : State) → StandsFor settings cach
 abbrev pub most_turns : ℕ
 most_turns = 2 ^ 64 - 1
 
--- or the driver gave up between turns: it had made as many as it makes, or the links rest, so that nothing more will happen, and the cache isn't idle
+-- the driver gave up between turns: it had made as many as it makes, or the links rest, so that nothing more will happen, and the cache isn't idle
 abbrev pub GivesUp : Break → DriveFault → Cache → Type 0 → ℕ → Type 0
 GivesUp break why cache rests turns = (break ≡ Before) × (why ≡ fault.Core Failed) × ((turns ≡ most_turns) ⊎ (IsBusy cache × rests))
 
@@ -135,6 +135,13 @@ LeavesIdle (Ok done) cache = IsLeftIdle cache
 LeavesIdle (Err fault.Client) cache = IsLeftIdle cache
 LeavesIdle (Err fault.Recorder) cache = Unit {0}
 LeavesIdle (Err (fault.Core step)) cache = Unit {0}
+
+-- nothing more happens where all was served
+abbrev pub LeavesResting : {T : Type 0} → Result T DriveFault → Type 0 → Type 0
+LeavesResting (Ok done) rests = rests
+LeavesResting (Err fault.Client) rests = rests
+LeavesResting (Err fault.Recorder) rests = Unit {0}
+LeavesResting (Err (fault.Core step)) rests = Unit {0}
 
 -- what the answer says of the client's link
 abbrev pub SaysFailed : {T : Type 0} → Result T DriveFault → Bool → Type 0

@@ -19,6 +19,8 @@ fn carry_out_one<L: Links, R: Link>(
 ) -> Result<(), DriveFault>
     ensures done { (log : List Move) (text : List ℕ) → L.tells links.old log → R.has_got recorder.old text
         → GivesDone (L.tells links.new) (R.has_got recorder.new) result («action».now ∷ []) log text }
+    ensures moments { (moment : ℕ) → L.may_tell links.new moment → L.may_tell links.old moment }
+    ensures unread { (times : ℕ) → R.was_read recorder.old times → R.was_read recorder.new times }
     ensures count { CountsRecorder result (R.count recorder.old) (R.count recorder.new) }
     ensures why { IfErr result IsOfCarrying }
 {
@@ -41,6 +43,8 @@ pub(crate) fn carry_out<L: Links, R: Link>(
 ) -> Result<(), DriveFault>
     ensures done { (log : List Move) (text : List ℕ) → L.tells links.old log → R.has_got recorder.old text
         → GivesDone (L.tells links.new) (R.has_got recorder.new) result actions.now log text }
+    ensures moments { (moment : ℕ) → L.may_tell links.new moment → L.may_tell links.old moment }
+    ensures unread { (times : ℕ) → R.was_read recorder.old times → R.was_read recorder.new times }
     ensures count { CountsRecorder result (R.count recorder.old) (R.count recorder.new) }
     ensures why { IfErr result IsOfCarrying }
 {

@@ -24,6 +24,8 @@ pub fn drive<S: BuildHasher, L: Links, R: Link>(
     ensures drive { (log : List Move) (text : List ℕ) → L.tells links.old log → R.has_got recorder.old text
         → GivesDrive (L.tells links.new) (R.has_got recorder.new) (L.rests links.new) result core.old core.new log text }
     ensures rest { IfOk result (λ _. L.rests links.new) }
+    ensures moments { (moment : ℕ) → L.may_tell links.new moment → L.may_tell links.old moment }
+    ensures unread { (times : ℕ) → R.was_read recorder.old times → R.was_read recorder.new times }
     ensures count { CountsRecorder result (R.count recorder.old) (R.count recorder.new) }
 {
     // Laws, which do nothing: what is proved below rests on them.

@@ -12,6 +12,7 @@ use std::alloc::Global;
 /// Writes octets. Where the recorder fails, a beginning of them is written.
 fn write<R: Link>(recorder: &mut R, octets: &[u8]) -> Result<(), DriveFault>
     ensures got { WritesRecord (R.has_got recorder.old) (R.has_got recorder.new) result octets.now }
+    ensures unread { (times : ℕ) → R.was_read recorder.old times → R.was_read recorder.new times }
     ensures count { CountsRecorder result (R.count recorder.old) (R.count recorder.new) }
     ensures why { IfErr result IsOfCarrying }
 {
@@ -29,6 +30,7 @@ pub(crate) fn record<R: Link>(
     record: &Record,
 ) -> Result<(), DriveFault>
     ensures got { WritesRecord (R.has_got recorder.old) (R.has_got recorder.new) result (record_text «record».now) }
+    ensures unread { (times : ℕ) → R.was_read recorder.old times → R.was_read recorder.new times }
     ensures count { CountsRecorder result (R.count recorder.old) (R.count recorder.new) }
     ensures why { IfErr result IsOfCarrying }
 {

@@ -4,7 +4,7 @@ ghost use Rattle.std.specs.Prelude.{◌≡◌, ℕ, List, length};
 ghost use Rattle.hc_connection.specs.Connections.{HasPassed};
 ghost use Rattle.hc_connection.specs.Moves.{Move};
 ghost use Rattle.hc_connection.specs.Sides.{Rests};
-ghost use Rattle.hc_serve.specs.Drives.{CountsServed, GivesDrive, LeavesIdle, LeavesOpened, SaysFailed};
+ghost use Rattle.hc_serve.specs.Drives.{CountsServed, GivesDrive, LeavesIdle, LeavesOpened, LeavesResting, SaysFailed};
 
 use crate::driving::drive;
 use crate::fault::DriveFault;
@@ -14,7 +14,7 @@ use hc_service::StepFault;
 use std::alloc::Global;
 use std::hash::BuildHasher;
 
-/// Serves one connection to its end, and records that. What is told of it begins with its opening. Where it was served
+/// Serves one connection to its end, and records that. What is told of a new one begins with its opening. Where it was served
 /// before, nothing more happens, and the answer tells again whether its client's link has failed.
 pub fn serve_connection<S: BuildHasher, C: Link, O: Origins, K: Clock, R: Link>(
     alloc: Global,
@@ -30,6 +30,9 @@ pub fn serve_connection<S: BuildHasher, C: Link, O: Origins, K: Clock, R: Link>(
         connection.new.opened connection.new.peers.client connection.new.peers.forwards.links log)
         (R.has_got recorder.new) (Rests connection.new.opened (length connection.new.peers.forwards.links.entries) connection.new.peers.client)
         result core.old core.new log text }
+    ensures moments { (moment : ℕ) → K.may_tell connection.new.clock.now moment → K.may_tell connection.old.clock.now moment }
+    ensures unread { (times : ℕ) → R.was_read recorder.old times → R.was_read recorder.new times }
+    ensures rest { LeavesResting result (Rests connection.new.opened (length connection.new.peers.forwards.links.entries) connection.new.peers.client) }
     ensures count { CountsServed result (R.count recorder.old) (R.count recorder.new) }
     ensures idle { LeavesIdle result core.new }
     ensures failed { SaysFailed result connection.new.peers.client.failed }

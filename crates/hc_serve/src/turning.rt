@@ -22,6 +22,8 @@ pub(crate) fn turn<S: BuildHasher, L: Links, R: Link>(
     ensures turn { (log : List Move) (text : List ℕ) → L.tells links.old log → R.has_got recorder.old text
         → GivesTurn (L.tells links.new) (R.has_got recorder.new) result core.old core.new log text }
     ensures rest { result ≡ Ok false → L.rests links.new }
+    ensures moments { (moment : ℕ) → L.may_tell links.new moment → L.may_tell links.old moment }
+    ensures unread { (times : ℕ) → R.was_read recorder.old times → R.was_read recorder.new times }
     ensures count { CountsRecorder result (R.count recorder.old) (R.count recorder.new) }
 {
     let Some(event) = links.next()? else {

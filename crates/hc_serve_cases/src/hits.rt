@@ -44,7 +44,7 @@ fn say_served(
 ) -> Result<(), Unanswered> {
     let mut recorder = Tally::new(b"", usize::MAX, site.notebook);
     let link = Tally::new(client, usize::MAX, site.notebook);
-    let mut connection = Connection::new(alloc, number, link, site, &Standing)?;
+    let mut connection = Connection::new(alloc, number, link, site, &Standing);
     if serve_connection(alloc, core, &mut connection, &mut recorder).is_err() {
         out.push_str("not served: ")?;
     }

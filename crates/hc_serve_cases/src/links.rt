@@ -1,6 +1,6 @@
 //! Links in memory, which tell what was read from them and written to them.
 
-ghost use Rattle.std.specs.Prelude.{◌≡◌, ◌≤◌, ◌++◌, length, take};
+ghost use Rattle.std.specs.Prelude.{◌≡◌, ◌≤◌, ◌++◌, [], length, take};
 
 use crate::notebook::{Device, Notebook};
 use hc_connection::{Link, LinkFailure};
@@ -14,7 +14,9 @@ pub(crate) struct Source<'a> {
 }
 
 impl<'a> Source<'a> {
-    pub(crate) fn new(octets: &'a [u8]) -> Self {
+    pub(crate) fn new(octets: &'a [u8]) -> Self
+        ensures { result.at ≡ 0 }
+    {
         Source { octets, at: 0 }
     }
 
@@ -43,6 +45,7 @@ impl<'a> Source<'a> {
 pub(crate) struct Memory<'a> {
     source: Source<'a>,
     got: Vec<u8>,
+    reads: u64,
     failures: u64,
     /// The most octets that a call moves.
     most: usize,
@@ -57,10 +60,14 @@ impl<'a> Memory<'a> {
         octets: &'a [u8],
         most: usize,
         notebook: &'a Notebook,
-    ) -> Self {
+    ) -> Self
+        ensures given { result.source.at ≡ 0 }
+        ensures got { result.got.items ≡ [] }
+    {
         Memory {
             source: Source::new(octets),
             got: Vec::new(alloc),
+            reads: 0,
             failures: 0,
             most,
             device,
@@ -84,9 +91,12 @@ impl<'a> Link for Memory<'a> {
 
     ghost has_got = { λ link octets. octets ≡ link.got.items };
 
+    ghost was_read = { λ link times. link.reads ≤ times };
+
     ghost count = { λ link. link.failures };
 
     fn read(&mut self, buffer: &mut [u8]) -> Result<usize, LinkFailure> {
+        self.reads = self.reads.saturating_add(1);
         self.notebook.count_read();
         if self.notebook.fails(self.device) {
             self.failures += 1;
@@ -128,6 +138,7 @@ impl<'a> Link for Memory<'a> {
 pub(crate) struct Tally<'a> {
     source: Source<'a>,
     got: u64,
+    reads: u64,
     failures: u64,
     /// The most octets that a read gives.
     most: usize,
@@ -135,10 +146,14 @@ pub(crate) struct Tally<'a> {
 }
 
 impl<'a> Tally<'a> {
-    pub(crate) fn new(octets: &'a [u8], most: usize, notebook: &'a Notebook) -> Self {
+    pub(crate) fn new(octets: &'a [u8], most: usize, notebook: &'a Notebook) -> Self
+        ensures given { result.source.at ≡ 0 }
+        ensures got { result.got ≡ 0 }
+    {
         Tally {
             source: Source::new(octets),
             got: 0,
+            reads: 0,
             failures: 0,
             most,
             notebook,
@@ -156,9 +171,12 @@ impl<'a> Link for Tally<'a> {
 
     ghost has_got = { λ link octets. length octets ≡ link.got };
 
+    ghost was_read = { λ link times. link.reads ≤ times };
+
     ghost count = { λ link. link.failures };
 
     fn read(&mut self, buffer: &mut [u8]) -> Result<usize, LinkFailure> {
+        self.reads = self.reads.saturating_add(1);
         self.notebook.count_read();
         Ok(self.source.give(buffer, self.most))
     }

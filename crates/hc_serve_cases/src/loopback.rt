@@ -24,6 +24,8 @@ impl<T: Read + Write + OpenStream> Link for Socket<T> {
 
     ghost has_got = { λ _ _. Unit {0} };
 
+    ghost was_read = { λ _ _. Unit {0} };
+
     ghost count = { λ link. link.failures };
 
     fn read(&mut self, buffer: &mut [u8]) -> Result<usize, LinkFailure> {
@@ -118,7 +120,7 @@ fn recorded<S: Read + Write + OpenStream + Drop, O: Origins>(
         stream: accepted,
         failures: 0,
     };
-    let mut connection = Connection::new(alloc, 1, client, origin, &Standing)?;
+    let mut connection = Connection::new(alloc, 1, client, origin, &Standing);
     let _ = serve_connection(alloc, &mut core, &mut connection, &mut recorder);
     Ok(Vec::from_slice(alloc, recorder.got())?)
 }

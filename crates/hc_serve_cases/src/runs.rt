@@ -92,7 +92,7 @@ fn serve<O: Origins>(
     let mut core = new_core(alloc)?;
     let client = scene.link(alloc, Device::Client, scene.client, notebook);
     let mut recorder = scene.link(alloc, Device::Recorder, b"", notebook);
-    let mut connection = Connection::new(alloc, 1, client, origins, &Standing)?;
+    let mut connection = Connection::new(alloc, 1, client, origins, &Standing);
     let result = serve_connection(alloc, &mut core, &mut connection, &mut recorder);
     Ok(Served {
         result,

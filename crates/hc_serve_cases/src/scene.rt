@@ -1,5 +1,7 @@
 //! What a case is about: a client and origins in memory, a new cache, and a clock that stands.
 
+ghost use Rattle.std.specs.Prelude.{◌≡◌, []};
+
 use crate::links::{Memory, Tally};
 use crate::notebook::{Device, Notebook};
 use hc_cases::Unanswered;
@@ -31,6 +33,8 @@ pub(crate) fn new_core(alloc: Global) -> Result<Core, Unanswered> {
 pub(crate) struct Standing;
 
 impl Clock for Standing {
+    ghost may_tell = { λ _ moment. moment ≡ 1000 };
+
     fn now(&self) -> u64 {
         1_000
     }
@@ -91,7 +95,10 @@ impl<'a> Scene<'a> {
         device: Device,
         octets: &'a [u8],
         notebook: &'a Notebook,
-    ) -> Memory<'a> {
+    ) -> Memory<'a>
+        ensures given { result.source.at ≡ 0 }
+        ensures got { result.got.items ≡ [] }
+    {
         Memory::new(alloc, device, octets, self.most, notebook)
     }
 }

@@ -6,7 +6,7 @@ use Rattle.hc_service.specs.declared.fault.StepFault.TheVariants.{MomentTooLarge
 use Rattle.hc_sockets.specs.declared.fault.ServeFault.{ServeFault}
 use Rattle.hc_sockets.specs.declared.fault.ServeFault.TheVariants as serve
 
--- a client that fails is its own fault, and the next one is served; a recorder that fails, or a moment that can't be told, ends all; what else goes wrong is want of memory
+-- a client that fails is its own fault, and the next one is served; a recorder that fails, or a moment that can't be told, ends all; any other fault counts as want of memory
 abbrev pub MeansFor : {T : Type 0} → DriveFault → Result T ServeFault → Type 0
 MeansFor Client (Ok done) = Unit {0}
 MeansFor Client (Err fault) = ⊥

@@ -196,7 +196,7 @@ fn outcome_of(fault: DriveFault, reason: Option<io::Error>) -> Result<(), ServeF
             Err(ServeFault::Record(reason.unwrap_or(unknown)))
         }
         DriveFault::Core(StepFault::MomentTooLarge) => Err(ServeFault::Clock),
-        // The others come of no event that a new connection tells of to a cache that is idle.
+        // It is want of memory: a new connection tells an idle cache of nothing that it answers by another fault.
         DriveFault::Core(_) => Err(ServeFault::Memory),
     }
 }

@@ -8,5 +8,7 @@ abbrev pub invariant-actions : goal.invariant-actions
 invariant-actions g l = record {
   done : (log : List Move) (text : List ℕ) → g.L.Links.tells l.initial.links log → g.R.Link.has_got l.initial.recorder text
       → AreDone (g.L.Links.tells l.links) (g.R.Link.has_got l.recorder) (take l.action-index l.actions) log text;
+  moments : (moment : ℕ) → g.L.Links.may_tell l.links moment → g.L.Links.may_tell l.initial.links moment;
+  unread : (times : ℕ) → g.R.Link.was_read l.initial.recorder times → g.R.Link.was_read l.recorder times;
   count : g.R.Link.count l.recorder ≡ g.R.Link.count l.initial.recorder;
 }

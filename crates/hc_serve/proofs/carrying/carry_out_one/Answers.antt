@@ -6,13 +6,13 @@ pub returns-in_err-send-in-ToClient-clause-done : goal.returns-in_err-send-in-To
 returns-in_err-send-in-ToClient-clause-done g c =
     let p = err_from_is_err_and c.from_residual.result c.from_residual.ensures.1 in
     rw (p.1, c.in-ToClient.is)
-    (λ log text told held. quiet_cut (g.L.Links.tells c.send.new.self) (g.R.Link.has_got c.args.recorder.now) _ log text (c.in_err-send-in-ToClient.ensures log told) held)
+    (λ log text told held. quiet_cut (g.L.Links.tells c.send.new.self) (g.R.Link.has_got c.args.recorder.now) _ log text (c.in_err-send-in-ToClient.ensures.sent log told) held)
 
 pub returns-in_err-send-in-Forward-clause-done : goal.returns-in_err-send-in-Forward-clause-done
 returns-in_err-send-in-Forward-clause-done g c =
     let p = err_from_is_err_and c.from_residual-in_err-send-in-Forward.result c.from_residual-in_err-send-in-Forward.ensures.1 in
     rw (p.1, c.in-Forward.is)
-    (λ log text told held. quiet_cut (g.L.Links.tells c.send-in-Forward.new.self) (g.R.Link.has_got c.args.recorder.now) _ log text (c.in_err-send-in-Forward.ensures log told) held)
+    (λ log text told held. quiet_cut (g.L.Links.tells c.send-in-Forward.new.self) (g.R.Link.has_got c.args.recorder.now) _ log text (c.in_err-send-in-Forward.ensures.sent log told) held)
 
 pub returns-in_err-record-in-Record-clause-done : goal.returns-in_err-record-in-Record-clause-done
 returns-in_err-record-in-Record-clause-done g c =

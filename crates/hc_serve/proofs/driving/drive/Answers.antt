@@ -9,6 +9,8 @@ use Rattle.hc_serve.proofs.driving.drive.Goals as goal
 pub turns-init : goal.turns-init
 turns-init g c = record {
   so_far = λ log text told held. begins (g.L.Links.tells c.args.links.now) (g.R.Link.has_got c.args.recorder.now) c.args.core.now log text told held;
+  moments = λ moment may. may;
+  unread = λ times was. was;
   count = refl;
 }
 
@@ -20,6 +22,8 @@ turns-preserved g c = record {
       goes_on c.steps_are_runs.ensures c.runs_keep_agreement.ensures c.agreement_is_ready.ensures
       (g.L.Links.tells c.turns.links) (g.L.Links.tells c.turn.new.links) (g.R.Link.has_got c.turns.recorder) (g.R.Link.has_got c.turn.new.recorder)
       _ _ c.turn.new.core log text _ f ((rw on at c.in_ok-turn.ensures.turn) _ _ f.told f.held);
+  moments = λ moment may. c.turns.invariant.moments moment (c.in_ok-turn.ensures.moments moment may);
+  unread = λ times was. c.in_ok-turn.ensures.unread times (c.turns.invariant.unread times was);
   count = c.in_ok-turn.ensures.count ∙ c.turns.invariant.count;
 }
 

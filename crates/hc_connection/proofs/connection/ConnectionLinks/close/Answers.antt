@@ -3,8 +3,8 @@ use Rattle.hc_connection.specs.Moves.Move.{Closed}
 use Rattle.hc_connection.proofs.TellLemmas.{opens_by}
 use Rattle.hc_connection.proofs.connection.ConnectionLinks.close.Goals as goal
 
-pub returns : goal.returns
-returns g c = λ log t. (
+pub returns-clause-closed : goal.returns-clause-closed
+returns-clause-closed g c = λ log t. (
   c.close.ensures.tells log t.0,
   opens_by c.args.self.now.opened _ _ log (Closed c.args.link ∷ log) refl c.close.ensures.number t.1,
   t.2,

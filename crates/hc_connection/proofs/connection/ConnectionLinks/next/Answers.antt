@@ -1,5 +1,8 @@
 use Rattle.std.proofs.Common.{refl}
 use Rattle.std.proofs.lemmas.Result.{err_from_is_err_and}
+use Rattle.hc_connection.specs.Forwards.{AreKept}
+use Rattle.hc_connection.specs.Sides.{Tells}
+use Rattle.hc_connection.proofs.ConnectionLemmas.{heard_now, next_now}
 use Rattle.hc_connection.proofs.TellLemmas.{opens_by, opens_heard}
 use Rattle.hc_connection.proofs.connection.ConnectionLinks.next.Goals as goal
 
@@ -25,10 +28,13 @@ returns-in-None-clause-tells g c = λ log t. (
 
 pub returns-in-Some-clause-tells : goal.returns-in-Some-clause-tells
 returns-in-Some-clause-tells g c = λ log t.
+    let event = c.now-in-Some.result in
+    let is = c.now-in-Some.ensures.of in
     let kept = (rw c.in-Some.is at c.in_ok-happening.ensures.kept) log t.3 in (
-      (rw c.in-Some.is at c.in_ok-happening.ensures.tells) log t.0 c.now-in-Some.result,
-      opens_heard c.args.self.now.opened _ _ _ log c.if-not-self.false c.in_ok-happening.ensures.number t.1,
-      (c.now-in-Some.ensures, t.2),
-      kept.1 c.now-in-Some.result,
-      (kept.0, t.4),
+      heard_now (Tells g.C.Link.has_given g.C.Link.has_got g.C.Link.was_read g.C.Link.count c.happening.new.self.client) event c.in-Some.of log is
+          ((rw c.in-Some.is at c.in_ok-happening.ensures.tells) log t.0),
+      opens_heard c.args.self.now.opened _ _ event log c.if-not-self.false c.in_ok-happening.ensures.number t.1,
+      (c.now-in-Some.ensures.moment, t.2),
+      heard_now (AreKept g.O.Link.Link.has_given g.O.Link.Link.has_got c.happening.new.self.forwards.links) event c.in-Some.of log is kept.1,
+      (next_now event c.in-Some.of log is kept.0, t.4),
     )

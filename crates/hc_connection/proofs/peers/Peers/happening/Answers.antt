@@ -1,4 +1,4 @@
-use Rattle.std.proofs.Common.{◌≡◌, Ok, ap}
+use Rattle.std.proofs.Common.{Ok, ap}
 use Rattle.std.proofs.lemmas.Result.{err_from_is_err_and}
 use Rattle.hc_connection.proofs.ForwardLemmas.{client_heard}
 use Rattle.hc_connection.proofs.peers.Peers.happening.Goals as goal

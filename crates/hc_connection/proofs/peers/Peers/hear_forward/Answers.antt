@@ -8,4 +8,4 @@ returns-in-End-clause-kept g c = λ log least kept. (least, λ moment. c.forget.
 
 pub returns-in-Failure-clause-kept : goal.returns-in-Failure-clause-kept
 returns-in-Failure-clause-kept g c = λ log least kept.
-    (tt, λ moment. c.forget-in-Failure.ensures.failed log moment ((rw c.in-Failure.is at c.in_ok-octets.ensures.kept) log kept))
+    (least.0, λ moment. c.forget-in-Failure.ensures.failed log moment ((rw c.in-Failure.is at c.in_ok-octets.ensures.kept) log kept))
