@@ -45,6 +45,7 @@ fn answer_in_memory(
 ) -> Result<(), Unanswered> {
     match question {
         "order" => say_order(alloc, scene, None, out),
+        "order as time passes" => say_order(alloc, &Scene { step: 1, ..*scene }, None, out),
         "third call of the client fails" => say_order(alloc, scene, THIRD, out),
         "each call of the client fails" => say_failures(alloc, scene, Device::Client, out),
         "each call of an origin fails" => say_failures(alloc, scene, Device::Origin, out),
