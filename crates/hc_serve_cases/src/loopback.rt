@@ -169,7 +169,7 @@ fn say_forward<R: Net>(
 }
 
 /// Writes the octets behind a word of what they are.
-pub(crate) fn say(what: &str, octets: &[u8], out: &mut String) -> Result<(), Unanswered> {
+fn say(what: &str, octets: &[u8], out: &mut String) -> Result<(), Unanswered> {
     out.push_str(what)?;
     show_short(octets, out)?;
     Ok(())
