@@ -3,7 +3,7 @@
 use crate::hits::say_hits;
 use crate::loopback::say_loopback;
 use crate::notebook::{Device, Fault};
-use crate::scene::Scene;
+use crate::scene::{Scene, number_of};
 use crate::service::say_service;
 use crate::staged::Manner;
 use crate::telling::{say_failures, say_octets, say_order, say_read, say_reads};
@@ -27,13 +27,34 @@ impl<'a, R: Net + Files + RandomSource> Ask for Connections<'a, R> {
         about: &[Vec<u8>],
         out: &mut String,
     ) -> Result<(), Unanswered> {
+        if let Some(manner) = manner_of(question)? {
+            return say_service(self.system, alloc, about, manner, out);
+        }
         match question {
-            "serve" => say_service(self.system, alloc, about, Manner::Ends, out),
-            "serve those who stay" => say_service(self.system, alloc, about, Manner::Stays, out),
             "loopback" => say_loopback(self.system, alloc, &Scene::of(about)?, out),
             _ => answer_in_memory(alloc, question, &Scene::of(about)?, out),
         }
     }
+}
+
+/// What is particular about the run of `serve` that is asked for, if one is.
+fn manner_of(question: &str) -> Result<Option<Manner>, Unanswered> {
+    if let Some(moment) = question.strip_prefix("serve at ") {
+        let moment = number_of(moment.as_bytes())? as u64;
+        return Ok(Some(Manner::At(moment)));
+    }
+    if let Some(write) = question.strip_prefix("serve to a file that fails at write ") {
+        let write = number_of(write.as_bytes())? as u64;
+        return Ok(Some(Manner::Fails(write)));
+    }
+    Ok(match question {
+        "serve" => Some(Manner::Ends),
+        "serve those who stay" => Some(Manner::Stays),
+        "serve behind one who has gone" => Some(Manner::Leaves),
+        "serve with an origin that waits" => Some(Manner::Waits),
+        "serve to a longer file" => Some(Manner::Overwrites),
+        _ => None,
+    })
 }
 
 /// Writes the answer to a question about links in memory.
@@ -45,6 +66,7 @@ fn answer_in_memory(
 ) -> Result<(), Unanswered> {
     match question {
         "order" => say_order(alloc, scene, None, out),
+        "order as time passes" => say_order(alloc, &Scene { step: 1, ..*scene }, None, out),
         "third call of the client fails" => say_order(alloc, scene, THIRD, out),
         "each call of the client fails" => say_failures(alloc, scene, Device::Client, out),
         "each call of an origin fails" => say_failures(alloc, scene, Device::Origin, out),

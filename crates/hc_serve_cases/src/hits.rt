@@ -2,7 +2,7 @@
 
 use crate::links::Tally;
 use crate::notebook::Notebook;
-use crate::scene::{Scene, Site, Standing, new_core};
+use crate::scene::{Scene, Site, Ticking, new_core};
 use hc_cases::Unanswered;
 use hc_connection::Connection;
 use hc_core::Core;
@@ -44,7 +44,8 @@ fn say_served(
 ) -> Result<(), Unanswered> {
     let mut recorder = Tally::new(b"", usize::MAX, site.notebook);
     let link = Tally::new(client, usize::MAX, site.notebook);
-    let mut connection = Connection::new(alloc, number, link, site, &Standing);
+    let clock = Ticking::new(site.scene.step);
+    let mut connection = Connection::new(alloc, number, link, site, &clock);
     if serve_connection(alloc, core, &mut connection, &mut recorder).is_err() {
         out.push_str("not served: ")?;
     }

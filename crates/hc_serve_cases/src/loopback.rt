@@ -2,7 +2,7 @@
 
 use crate::links::Memory;
 use crate::notebook::{Device, Notebook};
-use crate::scene::{Scene, Standing, new_core};
+use crate::scene::{Scene, Ticking, new_core};
 use hc_cases::{Unanswered, show_short};
 use hc_connection::{Connection, Link, LinkFailure, Origins};
 use hc_serve::serve_connection;
@@ -120,7 +120,8 @@ fn recorded<S: Read + Write + OpenStream + Drop, O: Origins>(
         stream: accepted,
         failures: 0,
     };
-    let mut connection = Connection::new(alloc, 1, client, origin, &Standing);
+    let clock = Ticking::new(0);
+    let mut connection = Connection::new(alloc, 1, client, origin, &clock);
     let _ = serve_connection(alloc, &mut core, &mut connection, &mut recorder);
     Ok(Vec::from_slice(alloc, recorder.got())?)
 }
@@ -170,7 +171,7 @@ fn say_forward<R: Net>(
 }
 
 /// Writes the octets behind a word of what they are.
-pub(crate) fn say(what: &str, octets: &[u8], out: &mut String) -> Result<(), Unanswered> {
+fn say(what: &str, octets: &[u8], out: &mut String) -> Result<(), Unanswered> {
     out.push_str(what)?;
     show_short(octets, out)?;
     Ok(())

@@ -2,6 +2,8 @@
 #![tactic(auto)]
 
 mod answers;
+mod failing;
+mod hearing;
 mod hits;
 mod links;
 mod loopback;

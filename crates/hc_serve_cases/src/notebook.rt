@@ -24,6 +24,14 @@ impl Device {
             Device::Recorder => "recorder",
         }
     }
+
+    /// How many words are noted of octets that it moves: of a record its kind, its number and its moment.
+    fn words(self) -> u32 {
+        match self {
+            Device::Client | Device::Origin => 2,
+            Device::Recorder => 3,
+        }
+    }
 }
 
 /// The call that is to fail: the how-manieth of that device's links, its reads and writes counted together.
@@ -136,15 +144,7 @@ impl Notebook {
 
     /// All notes, the oldest first, and what was written to origins.
     pub(crate) fn contents(self) -> (String, Vec<u8>) {
-        let Notebook {
-            fault: _,
-            calls: _,
-            silent: _,
-            reads: _,
-            notes,
-            forwards,
-        } = self;
-        (notes.into_inner(), forwards.into_inner())
+        (self.notes.into_inner(), self.forwards.into_inner())
     }
 }
 
@@ -168,7 +168,7 @@ fn say_moved(
     write!(notes, " {count}")?;
     if count > 0 {
         notes.push_str(" ")?;
-        show_short(first_words(octets), notes)?;
+        show_short(first_words(octets, device.words()), notes)?;
     }
     Ok(())
 }
@@ -176,15 +176,15 @@ fn say_moved(
 /// The most octets of words.
 const LONGEST: usize = 16;
 
-/// The first two words of the octets.
-fn first_words(octets: &[u8]) -> &[u8] {
+/// So many words with which the octets begin.
+fn first_words(octets: &[u8], words: u32) -> &[u8] {
     let (front, _) = octets.split_at(octets.len().min(LONGEST));
     let mut spaces = 0u32;
     for (place, octet) in front.iter().enumerate() {
         if *octet == b' ' {
             spaces = spaces.saturating_add(1);
         }
-        if spaces == 2 {
+        if spaces == words {
             return &front[..place];
         }
     }

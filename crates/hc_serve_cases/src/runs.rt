@@ -1,7 +1,7 @@
 //! A connection is served over links in memory.
 
 use crate::notebook::{Device, Fault, Notebook};
-use crate::scene::{Scene, Site, Standing, Trickle, new_core};
+use crate::scene::{Scene, Site, Ticking, Trickle, new_core};
 use hc_audit::{AuditFault, Auditor, FieldNames, Index, Settings, UnmarkedReplies, Verdict};
 use hc_cases::Unanswered;
 use hc_connection::{Connection, Origins};
@@ -92,7 +92,8 @@ fn serve<O: Origins>(
     let mut core = new_core(alloc)?;
     let client = scene.link(alloc, Device::Client, scene.client, notebook);
     let mut recorder = scene.link(alloc, Device::Recorder, b"", notebook);
-    let mut connection = Connection::new(alloc, 1, client, origins, &Standing);
+    let clock = Ticking::new(scene.step);
+    let mut connection = Connection::new(alloc, 1, client, origins, &clock);
     let result = serve_connection(alloc, &mut core, &mut connection, &mut recorder);
     Ok(Served {
         result,

@@ -1,4 +1,4 @@
-//! What a case is about: a client and origins in memory, a new cache, and a clock that stands.
+//! What a case is about: a client and origins in memory, a new cache, and a clock.
 
 ghost use Rattle.std.specs.Prelude.{◌≡◌, []};
 
@@ -10,6 +10,7 @@ use hc_core::{Core, CoreFault};
 use hc_fields::Octets;
 use hc_service::CoreSettings;
 use std::alloc::Global;
+use std::cell::Cell;
 
 /// The answer of an origin that can't be connected to.
 const NONE: &[u8] = b"-";
@@ -28,15 +29,31 @@ pub(crate) fn new_core(alloc: Global) -> Result<Core, Unanswered> {
     }
 }
 
-/// A clock that stands at Thu, 01 Jan 1970 00:16:40 GMT.
-#[derive(Clone, Copy)]
-pub(crate) struct Standing;
+/// A clock that begins at Thu, 01 Jan 1970 00:16:40 GMT.
+#[derive(Drop)]
+pub(crate) struct Ticking {
+    moment: Cell<u64>,
+    /// How many seconds it moves on each time that it is asked.
+    step: u64,
+}
 
-impl Clock for Standing {
-    ghost may_tell = { λ _ moment. moment ≡ 1000 };
+impl Ticking {
+    pub(crate) fn new(step: u64) -> Self {
+        Ticking {
+            moment: Cell::new(1_000),
+            step,
+        }
+    }
+}
+
+impl Clock for Ticking {
+    // What a cell holds no clause can know.
+    ghost may_tell = { λ _ _. Unit {0} };
 
     fn now(&self) -> u64 {
-        1_000
+        let moment = self.moment.get();
+        self.moment.set(moment.saturating_add(self.step));
+        moment
     }
 }
 
@@ -65,24 +82,27 @@ pub(crate) fn answer_at(answers: &[Vec<u8>], place: usize) -> Option<&[u8]> {
     Some(answer)
 }
 
-/// How links move octets, what a client sends, and what origins answer.
+/// How links move octets, how time passes, what a client sends, and what origins answer.
 #[derive(Clone, Copy)]
 pub(crate) struct Scene<'a> {
     /// The most octets that a call moves.
     pub(crate) most: usize,
+    /// How many seconds pass from one thing that happens to the next.
+    pub(crate) step: u64,
     pub(crate) client: &'a [u8],
     /// The answers of origins, forward by forward.
     pub(crate) answers: &'a [Vec<u8>],
 }
 
 impl<'a> Scene<'a> {
-    /// The scene of those parts: a number, what the client sends, and the answers.
+    /// The scene of those parts: a number, what the client sends, and the answers. No time passes.
     pub(crate) fn of(parts: &'a [Vec<u8>]) -> Result<Self, Unanswered> {
         let [most, client, answers @ ..] = parts else {
             return Err(Unanswered::Unknown);
         };
         Ok(Scene {
             most: number_of(most.as_slice())?,
+            step: 0,
             client: client.as_slice(),
             answers,
         })

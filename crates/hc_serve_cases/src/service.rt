@@ -1,6 +1,7 @@
 //! Whole runs of `serve`, in one thread.
 
-use crate::loopback::{listener, say};
+use crate::hearing::say_streams;
+use crate::loopback::listener;
 use crate::scene::{number_of, text_of};
 use crate::staged::{Manner, Staged};
 use crate::telling::say_verdict;
@@ -9,14 +10,16 @@ use hc_sockets::{ServeFault, Service, serve};
 use hc_transcript::OPENING;
 use std::alloc::Global;
 use std::cell::{Cell, RefCell};
-use std::io::Read;
-use std::net::{Net, OpenStream};
+use std::net::Net;
 use std::random::RandomSource;
 use std::rt::Files;
 use std::{fs, io};
 
 /// Where clients connect to, if that is the address at which the origin listens, which is taken then.
 const TAKEN: &str = "-";
+
+/// How many octets stand in a file that is longer before: more than are recorded.
+const BEFORE: usize = 8_192;
 
 /// What a case is about.
 #[derive(Clone, Copy)]
@@ -77,6 +80,9 @@ pub(crate) fn say_service<R: Net + Files + RandomSource>(
     let play = Play::of(about)?;
     let (origin, address) = listener(system)?;
     let address = format!(in alloc; "{address}")?;
+    if manner == Manner::Overwrites {
+        fs::write(system, play.file, Vec::from_elem(alloc, b'x', BEFORE)?)?;
+    }
     let staged = Staged {
         system,
         alloc,
@@ -86,15 +92,17 @@ pub(crate) fn say_service<R: Net + Files + RandomSource>(
         origin,
         tried: Cell::new(0),
         connected: RefCell::new(Vec::new(alloc)),
+        early: RefCell::new(String::new(alloc)),
         forwards: RefCell::new(Vec::new(alloc)),
     };
     let answer = serve(&staged, play.service(address.as_str()));
     let file = fs::read(&staged, play.file);
     let _ = fs::remove_file(&staged, play.file);
-    let (connected, forwards) = staged.streams();
+    let (early, connected, forwards) = staged.contents();
     out.push_str(word_of(answer))?;
-    say_streams(alloc, "; reply ", connected, out)?;
-    say_streams(alloc, "; forward ", forwards, out)?;
+    out.push_str(early.as_str())?;
+    say_streams(alloc, "reply", connected, out)?;
+    say_streams(alloc, "forward", forwards, out)?;
     say_file(alloc, file, out)
 }
 
@@ -107,37 +115,6 @@ fn word_of(answer: Result<(), ServeFault>) -> &'static str {
         Err(ServeFault::Record(_)) => "record failed",
         Err(ServeFault::Random(_)) => "no random numbers",
         Err(ServeFault::Clock) => "clock failed",
-    }
-}
-
-/// Writes what comes from each of the streams up to its end, and where one was reset.
-fn say_streams<S: Read + OpenStream + Drop>(
-    alloc: Global,
-    what: &str,
-    streams: Vec<S>,
-    out: &mut String,
-) -> Result<(), Unanswered> {
-    for stream in streams {
-        say_stream(alloc, what, stream, out)?;
-    }
-    Ok(())
-}
-
-fn say_stream<S: Read + OpenStream + Drop>(
-    alloc: Global,
-    what: &str,
-    mut stream: S,
-    out: &mut String,
-) -> Result<(), Unanswered> {
-    let mut octets = Vec::new(alloc);
-    let read = stream.read_to_end(&mut octets);
-    say(what, octets.as_slice(), out)?;
-    match (read, stream.take_error()) {
-        (Ok(_), Ok(None)) => Ok(()),
-        _ => {
-            out.push_str(" and a reset")?;
-            Ok(())
-        }
     }
 }
 

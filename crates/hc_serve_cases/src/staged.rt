@@ -1,27 +1,39 @@
 //! What `serve` asks of a system, as a case sets it up: clients who connect as soon as it listens, an origin that
 //! answers as it is connected to, and a clock that stands. Its sockets and files are the system's own.
 
+use crate::failing::Failing;
+use crate::hearing::say_streams;
 use crate::scene::answer_at;
 use std::alloc::{Alloc, Allocator, Global};
 use std::cell::{Cell, RefCell};
 use std::fs::{Metadata, OpenOptions};
-use std::io;
 use std::io::{ErrorKind, Write};
 use std::net::{Net, OpenListener, OpenStream, Shutdown, SocketAddr, TcpStream};
 use std::random::RandomSource;
 use std::rt::Files;
 use std::time::{Clock, Duration};
+use std::{io, mem};
 
-/// The moment, in seconds since 1970.
+/// The moment, in seconds since 1970, where a case names none.
 const MOMENT: u64 = 1_000;
 
-/// Whether clients end behind what they send.
+/// What is particular about a case.
 #[derive(Clone, Copy, PartialEq, Eq)]
 pub(crate) enum Manner {
-    /// They end at once.
+    /// Nothing: clients end behind what they send.
     Ends,
-    /// They end behind all else.
+    /// Clients end behind all else.
     Stays,
+    /// The first client is gone before it is served.
+    Leaves,
+    /// The origin gives its last answer once clients have read what they are replied.
+    Waits,
+    /// The file is longer before.
+    Overwrites,
+    /// That write to the file fails, the how-manieth.
+    Fails(u64),
+    /// It is that moment.
+    At(u64),
 }
 
 /// What a case sets up.
@@ -39,35 +51,72 @@ pub(crate) struct Staged<'a, R: Net> {
     pub(crate) tried: Cell<usize>,
     /// The clients' sides of their connections.
     pub(crate) connected: RefCell<Vec<R::Stream>>,
+    /// What clients read before the last answer, where the origin waits for that.
+    pub(crate) early: RefCell<String>,
     /// The origin's sides of forwards.
     pub(crate) forwards: RefCell<Vec<R::Stream>>,
 }
 
 impl<'a, R: Net> Staged<'a, R> {
-    /// The clients' sides of their connections, and the origin's sides of forwards.
-    pub(crate) fn streams(self) -> (Vec<R::Stream>, Vec<R::Stream>) {
-        let Staged {
-            system: _,
-            alloc: _,
-            clients: _,
-            manner: _,
-            answers: _,
-            origin: _,
-            tried: _,
-            connected,
-            forwards,
-        } = self;
-        (connected.into_inner(), forwards.into_inner())
+    /// What clients read before the last answer, the clients' sides of their connections, and the origin's sides of
+    /// forwards.
+    pub(crate) fn contents(self) -> (String, Vec<R::Stream>, Vec<R::Stream>) {
+        (
+            self.early.into_inner(),
+            self.connected.into_inner(),
+            self.forwards.into_inner(),
+        )
+    }
+
+    /// The moment, in seconds since 1970.
+    fn moment(&self) -> Duration {
+        match self.manner {
+            Manner::At(moment) => Duration::from_secs(moment),
+            _ => Duration::from_secs(MOMENT),
+        }
+    }
+
+    /// The write to the file that fails, if one does.
+    fn fault(&self) -> Option<u64> {
+        match self.manner {
+            Manner::Fails(fault) => Some(fault),
+            _ => None,
+        }
+    }
+
+    /// Whether the client at that place is gone before it is served.
+    fn leaves(&self, place: usize) -> bool {
+        self.manner == Manner::Leaves && place == 0
     }
 
     /// A client who has connected and sent those octets.
     fn client(&self, address: SocketAddr, octets: &[u8]) -> io::Result<R::Stream> {
         let mut stream = TcpStream::connect(self.system, address)?;
         stream.write_all(octets)?;
-        if self.manner == Manner::Ends {
+        if self.manner != Manner::Stays {
             stream.shutdown(Shutdown::Write)?;
         }
         Ok(stream)
+    }
+
+    /// Lets clients read what they are replied, and then go.
+    fn hear(&self) -> io::Result<()> {
+        let streams = mem::replace(&mut *self.connected.try_borrow_mut()?, Vec::new(self.alloc));
+        let mut early = self.early.try_borrow_mut()?;
+        match say_streams(
+            self.alloc,
+            "reply before the last answer",
+            streams,
+            &mut early,
+        ) {
+            Ok(()) => Ok(()),
+            Err(_) => Err(io::Error::from(ErrorKind::Other)),
+        }
+    }
+
+    /// Whether clients read what they are replied before the forward that was tried last is answered.
+    fn waits(&self) -> bool {
+        self.manner == Manner::Waits && self.tried.get() == self.answers.len()
     }
 
     /// The answer to the next forward, if the origin can be connected to for it.
@@ -93,9 +142,11 @@ impl<'a, R: Net> Net for Staged<'a, R> {
     fn bind(&self, addr: SocketAddr) -> io::Result<R::Listener> {
         let listener = self.system.bind(addr)?;
         let address = listener.local_addr()?;
-        for octets in self.clients {
+        for (place, octets) in self.clients.iter().enumerate() {
             let client = self.client(address, octets.as_slice())?;
-            keep(&self.connected, client)?;
+            if !self.leaves(place) {
+                keep(&self.connected, client)?;
+            }
         }
         Ok(listener)
     }
@@ -106,6 +157,9 @@ impl<'a, R: Net> Net for Staged<'a, R> {
         };
         let stream = self.system.connect(addr)?;
         let (mut accepted, _) = self.origin.accept()?;
+        if self.waits() {
+            self.hear()?;
+        }
         accepted.write_all(answer)?;
         accepted.shutdown(Shutdown::Write)?;
         keep(&self.forwards, accepted)?;
@@ -115,11 +169,11 @@ impl<'a, R: Net> Net for Staged<'a, R> {
 
 impl<'a, R: Net> Clock for Staged<'a, R> {
     fn monotonic(&self) -> io::Result<Duration> {
-        Ok(Duration::from_secs(MOMENT))
+        Ok(self.moment())
     }
 
     fn since_1970(&self) -> io::Result<Duration> {
-        Ok(Duration::from_secs(MOMENT))
+        Ok(self.moment())
     }
 }
 
@@ -138,12 +192,16 @@ impl<'a, R: Net + RandomSource> RandomSource for Staged<'a, R> {
 }
 
 impl<'a, R: Net + Files> Files for Staged<'a, R> {
-    type File = R::File;
+    type File = Failing<R::File>;
 
     type Dir = R::Dir;
 
-    fn open_file(&self, how: &OpenOptions, path: &str) -> io::Result<R::File> {
-        self.system.open_file(how, path)
+    fn open_file(&self, how: &OpenOptions, path: &str) -> io::Result<Failing<R::File>> {
+        Ok(Failing {
+            file: self.system.open_file(how, path)?,
+            fault: self.fault(),
+            writes: 0,
+        })
     }
 
     fn open_dir(&self, path: &str) -> io::Result<R::Dir> {
