@@ -6,8 +6,6 @@ mod command;
 mod names;
 mod order;
 mod refusal;
-#[cfg(test)]
-mod tests;
 mod values;
 
 pub use arguments::{not_text, parsed};

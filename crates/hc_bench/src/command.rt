@@ -7,7 +7,7 @@ use std::convert::AsStr;
 /// What the program is asked to do.
 #[derive(Clone, Copy, Debug, PartialEq, Eq)]
 pub enum Task {
-    /// To count calls.
+    /// To count calls, and to measure small samples by a clock that always goes alike.
     Count,
     /// To measure what calls cost.
     Measure,

@@ -1,10 +1,11 @@
 //! `hc_bench`: what it costs to read messages in pieces, to audit transcripts, and to call a store.
 //!
-//! Without an argument it reads two short messages in pieces and says how many calls that took. With
-//! `measure` it reads long ones against the clock. With `audit` it audits transcripts against it, and with
-//! `audit-long` also one of a million records. With `transcript` it writes one of those that it audits, so
-//! that other programs can be timed over the same octets. With `store` it asks stores of few keys and of
-//! many for responses, and puts others in their place.
+//! Without an argument it reads two short messages in pieces and says how many calls that took, and
+//! measures small samples by a clock that always goes alike. With `measure` it reads long messages
+//! against the clock. With `audit` it audits transcripts against it, and with `audit-long` also one of a
+//! million records. With `transcript` it writes one of those that it audits, so that other programs can
+//! be timed over the same octets. With `store` it asks stores of few keys and of many for responses, and
+//! puts others in their place.
 #![tactic(auto)]
 
 mod auditing;
@@ -19,10 +20,9 @@ mod print;
 mod rate;
 mod responses;
 mod run;
+mod samples;
 mod stores;
 mod storing;
-#[cfg(test)]
-mod tests;
 mod transcripts;
 mod trouble;
 

@@ -4,7 +4,7 @@ ghost use Rattle.hc_bench.specs.Responses.{forward, path, request_fields, respon
 
 use hc_fields::{Field, Fields, Octets, SharedOctets};
 use hc_framing::Message;
-use hc_head::{RequestHead, ResponseHead, Target, Version};
+use hc_head::{Method, RequestHead, ResponseHead, StatusCode, Target, Version};
 use hc_update::{Stored, initial};
 use std::alloc::{AllocError, Global};
 
@@ -56,7 +56,7 @@ fn forward(alloc: Global, number: usize) -> Result<RequestHead, AllocError>
     ensures { IfOk result (λ head. head ≡ forward number) }
 {
     Ok(RequestHead {
-        method: Octets::from_slice(alloc, b"GET")?,
+        method: Method::GET,
         target: path(alloc, number)?,
         version: Version::Http11,
         fields: request_fields(alloc)?,
@@ -80,10 +80,10 @@ fn response(alloc: Global) -> Result<Message<ResponseHead>, AllocError>
     let body = "x".repeat(alloc, BODY)?;
     Ok(Message {
         head: ResponseHead {
-            status: 200,
+            status: StatusCode::OK,
             version: Version::Http11,
             fields: response_fields(alloc)?,
         },
-        body: SharedOctets::from_vec(body.into_bytes())?,
+        body: SharedOctets::from_vec(alloc, body.into_bytes())?,
     })
 }

@@ -5,9 +5,9 @@ ghost use Rattle.hc_bench.specs.Command.{asked};
 
 use crate::audits::{LONG_BODIES, audit, write_sample};
 use crate::command::{Task, USAGE, asked};
-use crate::counts::count;
 use crate::measures::measure;
 use crate::print::printed;
+use crate::samples::sample;
 use crate::stores::store;
 use crate::trouble::Trouble;
 use std::convert::AsStr;
@@ -47,7 +47,7 @@ where
     ensures well { result ≡ 0 → Keeps (E.contents faults.old) (E.contents faults.new) }
 {
     let done = match asked(words) {
-        Some(Task::Count) => count(rt.alloc(), output),
+        Some(Task::Count) => sample(rt.alloc(), output),
         Some(Task::Measure) => measure(rt.alloc(), rt, output),
         Some(Task::Audit) => audit(rt.alloc(), rt, false, output),
         Some(Task::AuditLong) => audit(rt.alloc(), rt, true, output),

@@ -148,7 +148,7 @@ fn get_request(alloc: Global, target: usize) -> Result<MessageText, AllocError>
     ensures { IfOk result (λ text. text ≡ get_request target) }
 {
     let text = format!(in alloc; "GET /{target} HTTP/1.1\r\nhost: h\r\n\r\n")?;
-    Ok(MessageText::from_vec(text.into_bytes())?)
+    MessageText::from_vec(alloc, text.into_bytes())
 }
 
 // A response with that body that may be stored, with such lines more.
@@ -159,5 +159,5 @@ fn fresh_response(alloc: Global, lines: &str, body: &str) -> Result<MessageText,
     let text = format!(in alloc;
         "HTTP/1.1 200 \r\ndate: Thu, 01 Jan 1970 00:16:40 GMT\r\ncache-control: max-age=3600\r\ncontent-length: {size}\r\n{lines}\r\n{body}"
     )?;
-    Ok(MessageText::from_vec(text.into_bytes())?)
+    MessageText::from_vec(alloc, text.into_bytes())
 }

@@ -2,7 +2,7 @@
 ghost use Rattle.std.specs.Prelude.{◌≡◌, map, string_bytes, IfOk, OnOk};
 ghost use Rattle.hc_cases.specs.Answers.{AnswersEach, AnswersSome, IsLineOf, case_line};
 
-use crate::asking::{Ask, Unanswered};
+use crate::asking::{Ask, Case, Unanswered};
 use crate::list::{cases_of, parts_of};
 use crate::print::printed;
 use crate::words::octets_of;
@@ -11,12 +11,14 @@ use std::io::Write;
 use std::rt::Files;
 use std::{fs, io};
 
-/// Answers the cases of the list in that file, and answers the exit status: 1 where the list can't
-/// be read, memory is refused or the answers can't be written, and a line on `faults` says so.
+/// The file that lists the cases of a program.
+const LIST: &str = "cases.txt";
+
+/// Answers the cases of the program's list, and answers the exit status: 1 where the list can't be
+/// read, memory is refused or the answers can't be written, and a line on `faults` says so.
 pub fn status<R, A: Ask, W: Write, E: Write>(
     rt: &R,
     asked: &A,
-    list: &str,
     output: &mut W,
     faults: &mut E,
 ) -> u8
@@ -24,7 +26,7 @@ where
     R: Files + AllocGlobal,
     ensures { result ≡ 0 → AnswersSome (W.contents output.old) (W.contents output.new) }
 {
-    match answer_list(rt, asked, list, output) {
+    match answer_list(rt, asked, output) {
         Ok(()) => 0,
         Err(_) => {
             let _ = printed("error: the cases were not all answered\n", faults);
@@ -33,13 +35,13 @@ where
     }
 }
 
-// Answers the cases of the list in that file.
-fn answer_list<R, A: Ask, W: Write>(rt: &R, asked: &A, list: &str, output: &mut W) -> io::Result<()>
+// Answers the cases of the list.
+fn answer_list<R, A: Ask, W: Write>(rt: &R, asked: &A, output: &mut W) -> io::Result<()>
 where
     R: Files + AllocGlobal,
     ensures { OnOk result (AnswersSome (W.contents output.old) (W.contents output.new)) }
 {
-    let text = fs::read_to_string(rt, list)?;
+    let text = fs::read_to_string(rt, LIST)?;
     let cases = cases_of(rt.alloc(), text.as_str())?;
     answer_all(rt, asked, cases.as_slice(), output)
 }
@@ -74,6 +76,8 @@ where
         Ok(()) => answer.as_str(),
         Err(Unanswered::Memory) => return Err(AllocError),
         Err(Unanswered::Unreadable) => "a file can't be read",
+        Err(Unanswered::NoMethod) => "no method",
+        Err(Unanswered::NoStatus) => "no status",
         Err(Unanswered::Unknown) => "nothing known is asked",
     };
     case_line(rt.alloc(), case, text)
@@ -99,5 +103,10 @@ where
     for part in others {
         about.push(octets_of(rt, part)?)?;
     }
-    asked.answer(rt.alloc(), question, about.as_slice(), answer)
+    let case = Case {
+        alloc: rt.alloc(),
+        question,
+        about: about.as_slice(),
+    };
+    asked.answer(&case, answer)
 }

@@ -12,22 +12,31 @@ pub enum Unanswered {
     Memory,
     /// A file of the case, or the list, can't be read.
     Unreadable,
+    /// What stands in place of a method is no token.
+    NoMethod,
+    /// What stands in place of a status doesn't have three digits.
+    NoStatus,
     /// The case asks nothing that the program knows, or of the wrong things.
     Unknown,
 }
 
+/// A case.
+#[derive(Clone, Copy)]
+pub struct Case<'a> {
+    /// What an answer takes its memory of.
+    pub alloc: Global,
+    /// What is asked: its first part.
+    pub question: &'a str,
+    /// What it is asked of: the octets of each other part.
+    pub about: &'a [Vec<u8>],
+}
+
 /// A program's answers.
 pub trait Ask {
-    /// Writes the answer to the question behind what `out` has. It has no line feed.
+    /// Writes the answer to the case behind what `out` has. It has no line feed.
     ///
     /// After an error some of it may be written.
-    fn answer(
-        &self,
-        alloc: Global,
-        question: &str,
-        about: &[Vec<u8>],
-        out: &mut String,
-    ) -> Result<(), Unanswered>;
+    fn answer(&self, case: &Case<'_>, out: &mut String) -> Result<(), Unanswered>;
 }
 
 impl From<AllocError> for Unanswered {

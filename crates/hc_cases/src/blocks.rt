@@ -1,7 +1,7 @@
 //! Fields in cases.
 ghost use Rattle.std.specs.Prelude.{◌<◌, length, IfSome};
 
-use hc_fields::{Field, Fields, Octets};
+use hc_fields::{Field, Fields};
 use std::alloc::{AllocError, Global};
 
 /// The fields of a block: lines `NAME: VALUE` with a line feed between them, as they stand.
@@ -40,10 +40,7 @@ pub fn fields_of_lines(alloc: Global, lines: &[Vec<u8>]) -> Result<Fields, Alloc
 /// The field of a line: what stands before the first colon, and what stands behind it and a space.
 fn field_of(alloc: Global, line: &[u8]) -> Result<Field, AllocError> {
     let (name, value) = name_and_value(line);
-    Ok(Field {
-        name: Octets::from_slice(alloc, name)?,
-        value: Octets::from_slice(alloc, value)?,
-    })
+    Field::new(alloc, name, value)
 }
 
 fn name_and_value(line: &[u8]) -> (&[u8], &[u8]) {

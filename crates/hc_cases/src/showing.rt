@@ -1,5 +1,6 @@
-//! Octets as text.
+//! Octets and answers as text.
 
+use hc_fields::Field;
 use std::alloc::AllocError;
 use std::fmt::Write;
 
@@ -35,4 +36,24 @@ fn show_octet(octet: u8, out: &mut String) -> Result<(), AllocError> {
         b' '..=b'~' => out.push(char::from(octet)),
         _ => write!(out, "\\x{octet:02x}"),
     }
+}
+
+/// Writes the name and the value of a line of fields.
+pub fn show_line(line: &Field, out: &mut String) -> Result<(), AllocError> {
+    show_short(line.name.as_slice(), out)?;
+    out.push_str(": ")?;
+    show(line.value.as_slice(), out)
+}
+
+/// Writes `yes` or `no`.
+pub fn yes_or_no(answer: bool, out: &mut String) -> Result<(), AllocError> {
+    out.push_str(if answer { "yes" } else { "no" })
+}
+
+/// Writes a number and a name behind those that stand there.
+pub fn show_named(number: u32, name: &str, out: &mut String) -> Result<(), AllocError> {
+    if !out.is_empty() {
+        out.push_str(", ")?;
+    }
+    write!(out, "{number} {name}")
 }

@@ -1,9 +1,9 @@
 -- What comes of a replay, by the script that the input had.
 use Rattle.std.proofs.Common.{◌≡◌, ◌≢◌, ◌∙◌, ℕ, List, ◌++◌, Option, None, Some, ap, append-nil, inl, inr, refl, subst, sym}
 use Rattle.std.specs.Io.KnownBytes.{Consumes, IsAtEnd, Keeps}
-use Rattle.hc_drive.specs.declared.fault.ScriptFault.{ScriptFault}
-use Rattle.hc_drive.specs.declared.fault.ScriptFault.TheVariants.{Opening, Line, Torn, Memory, Settings}
-use Rattle.hc_drive.specs.Replays.{StopsReplay}
+use Rattle.hc_scripts.specs.declared.fault.ScriptFault.{ScriptFault}
+use Rattle.hc_scripts.specs.declared.fault.ScriptFault.TheVariants.{Opening, Line, Torn, Memory, Settings}
+use Rattle.hc_scripts.specs.Replays.{StopsReplay}
 use Rattle.hc_command.specs.Replay.{RefusesScript, ReplaysFor, refusal_status}
 
 keeps_same : (known : Option (List ℕ)) → Keeps known known

@@ -2,9 +2,9 @@
 use Rattle.std.specs.Prelude.{◌≡◌, ◌≢◌, ◌⊎◌, ℕ, List, Option, None, IfSome}
 use Rattle.std.specs.Io.KnownBytes.{Appends, Keeps}
 use Rattle.hc_history.specs.declared.verdicts.Verdict.{Verdict}
-use Rattle.hc_drive.specs.declared.fault.ScriptFault.{ScriptFault}
-use Rattle.hc_drive.specs.declared.fault.ScriptFault.TheVariants.{Memory}
-use Rattle.hc_drive.specs.Replays.{Replays, StopsReplay}
+use Rattle.hc_scripts.specs.declared.fault.ScriptFault.{ScriptFault}
+use Rattle.hc_scripts.specs.declared.fault.ScriptFault.TheVariants.{Memory}
+use Rattle.hc_scripts.specs.Replays.{Replays, StopsReplay}
 use Rattle.hc_command.specs.Audit.{SaysLine}
 
 -- the output got the transcript of the script that the input had, where that is known, and the faults got the line of its verdict, which says the status

@@ -6,8 +6,6 @@ mod line;
 mod print;
 mod replaying;
 mod run;
-#[cfg(test)]
-mod tests;
 mod trouble;
 
 pub use auditing::audit;

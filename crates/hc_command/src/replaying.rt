@@ -8,7 +8,7 @@ use crate::auditing::{READS, buffer, status};
 use crate::line::verdict_line;
 use crate::print::printed;
 use crate::trouble::Trouble;
-use hc_drive::ScriptFault;
+use hc_drive::ReplayFault;
 use hc_history::Verdict;
 use std::alloc::Global;
 use std::io;
@@ -116,20 +116,20 @@ fn written<W: Write, E: Write>(
 }
 
 // Says why there is no transcript, and answers the exit status.
-fn refused<E: Write>(fault: ScriptFault, faults: &mut E) -> u8
+fn refused<E: Write>(fault: ReplayFault, faults: &mut E) -> u8
     ensures { result ≡ refusal_status fault }
 {
     match fault {
-        ScriptFault::Memory => Trouble::Memory.told("", faults),
-        ScriptFault::Opening => blamed(fault, faults),
-        ScriptFault::Line => blamed(fault, faults),
-        ScriptFault::Torn => blamed(fault, faults),
-        ScriptFault::Settings => blamed(fault, faults),
+        ReplayFault::Memory => Trouble::Memory.told("", faults),
+        ReplayFault::Opening => blamed(fault, faults),
+        ReplayFault::Line => blamed(fault, faults),
+        ReplayFault::Torn => blamed(fault, faults),
+        ReplayFault::Settings => blamed(fault, faults),
     }
 }
 
 // Says by which fault the script can't be played, and answers the exit status.
-fn blamed<E: Write>(fault: ScriptFault, faults: &mut E) -> u8
+fn blamed<E: Write>(fault: ReplayFault, faults: &mut E) -> u8
     ensures { result ≡ 2 }
 {
     let number = fault.number();

@@ -1,3 +1,4 @@
+pub mod Clients
 pub mod Connections
 pub mod Forwards
 pub mod Links

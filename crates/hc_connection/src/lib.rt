@@ -2,6 +2,7 @@
 #![tactic(auto)]
 
 mod client_side;
+mod clients;
 mod connection;
 mod forwards;
 mod link;
@@ -10,6 +11,7 @@ mod peers;
 mod sides;
 mod writing;
 
+pub use clients::Clients;
 pub use connection::Connection;
 pub use link::{Clock, Link, LinkFailure, Origins};
 pub use links::{Links, Receiver};

@@ -1,9 +1,4 @@
 pub mod Names
-pub mod Tables
-pub mod Links
-pub mod Reading
-pub mod Ending
-pub mod Standing
-pub mod Happenings
-pub mod Steps
-pub mod Settings
+pub mod Results
+pub mod Runs
+pub mod Recordings

@@ -1,26 +1,25 @@
-//! Why there is no cache of some settings.
+//! Why there is no run.
 
 ghost use Rattle.std.specs.Prelude.{◌≡◌};
-ghost use Rattle.hc_core.specs.declared.fault.CoreFault.TheVariants.{Memory};
+ghost use Rattle.hc_core.specs.declared.fault.RunFault.TheVariants.{Memory};
+ghost use Rattle.hc_core.specs.Names.{run_fault};
 
-use std::alloc::AllocError;
+use hc_machine::CoreFault;
+use std::alloc::{AllocError, AllocFailed};
 use thiserror::Error;
 
-/// Why there is no cache of some settings.
+/// Why there is no run.
 #[derive(Clone, Copy, Debug, PartialEq, Eq, Error)]
-pub enum CoreFault {
-    /// Memory was refused.
+pub enum RunFault {
+    /// Memory was refused to the run itself, and not to a step of it.
     #[error("out of memory")]
     Memory,
-    /// The name isn't a letter followed by up to 31 letters, digits, `-`, `_` and `.`.
-    #[error("the name is none that a cache may have")]
-    Name,
-    /// Responses of no target, or of more than 65,536 targets would be kept.
-    #[error("the number of keys is none from 1 to 65536")]
-    Size,
+    /// No cache can have such settings.
+    #[error("no cache has such settings")]
+    Settings,
 }
 
-impl CoreFault {
+impl RunFault {
     ghost use Rattle.std.specs.Prelude.{◌≡◌};
     ghost use Rattle.hc_core.specs.Names.{fault_number, fault_name};
 
@@ -29,9 +28,8 @@ impl CoreFault {
         ensures { result ≡ fault_number self.now }
     {
         match self {
-            CoreFault::Memory => 1,
-            CoreFault::Name => 2,
-            CoreFault::Size => 3,
+            RunFault::Memory => 1,
+            RunFault::Settings => 2,
         }
     }
 
@@ -40,17 +38,36 @@ impl CoreFault {
         ensures { result.now ≡ fault_name self.now }
     {
         match self {
-            CoreFault::Memory => "Memory",
-            CoreFault::Name => "Name",
-            CoreFault::Size => "Size",
+            RunFault::Memory => "Memory",
+            RunFault::Settings => "Settings",
         }
     }
 }
 
-impl From<AllocError> for CoreFault {
+impl From<AllocError> for RunFault {
     ghost from_gives = { λ _ e. e ≡ Memory };
 
-    fn from(_e: AllocError) -> CoreFault {
-        CoreFault::Memory
+    fn from(_e: AllocError) -> RunFault {
+        RunFault::Memory
+    }
+}
+
+impl<T: Drop> From<AllocFailed<T>> for RunFault {
+    ghost from_gives = { λ _ e. e ≡ Memory };
+
+    fn from(_e: AllocFailed<T>) -> RunFault {
+        RunFault::Memory
+    }
+}
+
+impl From<CoreFault> for RunFault {
+    ghost from_gives = { λ fault e. e ≡ run_fault fault };
+
+    fn from(fault: CoreFault) -> RunFault {
+        match fault {
+            CoreFault::Memory => RunFault::Memory,
+            CoreFault::Name => RunFault::Settings,
+            CoreFault::Size => RunFault::Settings,
+        }
     }
 }

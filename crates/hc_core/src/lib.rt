@@ -1,21 +1,16 @@
-//! The shared cache as a step function: events in, actions and records out.
+//! The cache, and its runs: a cache that is handed events, one after another, and the transcript that it
+//! records. The cache itself stands in hc_machine, and what it is told and does in hc_events and
+//! hc_service; this crate gives all of it.
 #![tactic(auto)]
 
-mod admission;
-mod answering;
-mod clients;
-mod desk;
-mod ending;
 mod fault;
-mod keeping;
-mod leaving;
-mod links;
-mod machine;
-mod moving;
-mod open_links;
-mod reading;
-mod serving;
-mod telling;
+mod outcome;
+mod recording;
+mod running;
 
-pub use fault::CoreFault;
-pub use machine::Core;
+pub use fault::RunFault;
+pub use hc_events::{Event, Happening};
+pub use hc_machine::{Core, CoreFault};
+pub use hc_service::{Action, CoreSettings, StepFault};
+pub use outcome::{Run, StepResult};
+pub use running::run;

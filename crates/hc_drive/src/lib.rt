@@ -1,28 +1,7 @@
-//! What drives a cache: scripts of events, and what a cache makes of them.
+//! What drives a cache: scripts of events that are replayed, and the links of clients and origins that
+//! are served. What is given here stands in hc_scripts, hc_connection and hc_serve.
 #![tactic(auto)]
 
-mod event_line;
-mod fault;
-mod first_line;
-mod kind;
-mod laws;
-mod limits;
-mod numeral;
-mod opening;
-mod reading;
-mod replaying;
-mod script;
-mod settings_line;
-mod splitting;
-
-pub use event_line::EventLine;
-pub use fault::ScriptFault;
-pub use kind::EventKind;
-pub use laws::{breaks_once, broken_is_no_script, fronts_are_torn, octets_alone_break, one_script};
-pub use limits::{GREATEST_COUNT, GREATEST_KEYS};
-pub use opening::OPENING;
-pub use replaying::replay;
-pub use script::{Script, read_script};
-
-#[cfg(test)]
-mod tests;
+pub use hc_connection::{Clients, Clock, Connection, Link, LinkFailure, Origins};
+pub use hc_scripts::{ScriptFault as ReplayFault, replay};
+pub use hc_serve::{DriveFault, ServingFault, serve_clients, serve_connection};

@@ -40,9 +40,16 @@ impl Field {
 }
 
 /// Field lines in order, which contracts see as the list of them.
-#[derive(Debug, Drop)]
+#[derive(Debug)]
 pub struct Fields {
     lines: Vec<Field>,
+}
+
+impl Drop for Fields {
+    fn drop(self) {
+        let Fields { lines } = self;
+        drop(lines);
+    }
 }
 
 impl Model for Fields {

@@ -9,6 +9,7 @@ mod numbers;
 mod octets;
 mod shared;
 mod tokens;
+mod waiting;
 
 pub use connection::is_among;
 pub use fields::{Field, Fields, Values};
@@ -18,3 +19,4 @@ pub use numbers::{END_OF_MOMENTS, LARGEST_NUMBER, decimal, number};
 pub use octets::Octets;
 pub use shared::SharedOctets;
 pub use tokens::is_token;
+pub use waiting::Waiting;

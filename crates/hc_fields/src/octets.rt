@@ -12,9 +12,16 @@ use std::hash::{Hash, Hasher};
 use std::marker::Model;
 
 /// A run of octets, which contracts see as the list of them.
-#[derive(Debug, Drop)]
+#[derive(Debug)]
 pub struct Octets {
     bytes: Vec<u8>,
+}
+
+impl Drop for Octets {
+    fn drop(self) {
+        let Octets { bytes } = self;
+        drop(bytes);
+    }
 }
 
 impl Model for Octets {
@@ -53,7 +60,8 @@ impl Octets {
     pub fn into_vec(self) -> Vec<u8>
         ensures { result.items ≡ self }
     {
-        self.bytes
+        let Octets { bytes } = self;
+        bytes
     }
 
     /// The octets themselves.

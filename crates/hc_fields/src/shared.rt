@@ -1,20 +1,28 @@
 ghost use Rattle.std.specs.Prelude.{◌≡◌, ◌==◌, List, ℕ, [], length, IfOk};
+ghost use Rattle.hc_fields.specs.Shared.{octets_of};
 
-use bytes::Bytes;
-use std::alloc::AllocError;
+use std::alloc::{AllocError, Global};
 use std::marker::Model;
+use std::rc::Rc;
 
 /// A run of octets that several owners share and none changes, which contracts see as the list of
 /// them. The octets are freed with their last owner.
-#[derive(Debug, Drop)]
+#[derive(Debug)]
 pub struct SharedOctets {
-    bytes: Bytes,
+    kept: Option<Rc<Vec<u8>>>,
+}
+
+impl Drop for SharedOctets {
+    fn drop(self) {
+        let SharedOctets { kept } = self;
+        drop(kept);
+    }
 }
 
 impl Model for SharedOctets {
     ghost Value = { List ℕ };
 
-    ghost view = { λ o. o.bytes };
+    ghost view = { λ o. octets_of o.kept };
 }
 
 impl SharedOctets {
@@ -22,45 +30,53 @@ impl SharedOctets {
     pub fn new() -> Self
         ensures { result ≡ [] }
     {
-        SharedOctets {
-            bytes: Bytes::new(),
-        }
+        SharedOctets { kept: None }
     }
 
     /// The octets of a vector, which stay where they are. Memory is taken for the count of their
     /// owners alone, and none where there are no octets.
-    pub fn from_vec(octets: Vec<u8>) -> Result<Self, AllocError>
+    pub fn from_vec(alloc: Global, octets: Vec<u8>) -> Result<Self, AllocError>
         ensures { IfOk result (λ o. o ≡ octets.items) }
     {
-        Ok(SharedOctets {
-            bytes: Bytes::from_vec(octets)?,
-        })
+        if octets.is_empty() {
+            return Ok(SharedOctets::new());
+        }
+        match Rc::new(alloc, octets) {
+            Ok(kept) => Ok(SharedOctets { kept: Some(kept) }),
+            Err(_) => Err(AllocError),
+        }
     }
 
     /// The octets themselves.
     pub fn as_slice(&self) -> &[u8]
         ensures { result.now ≡ self.now }
     {
-        self.bytes.as_slice()
+        match &self.kept {
+            Some(kept) => kept.as_ref().as_slice(),
+            None => &[],
+        }
     }
 
     /// How many octets there are.
     pub fn len(&self) -> usize
         ensures { result ≡ length self.now }
     {
-        self.bytes.len()
+        self.as_slice().len()
     }
 
     /// Whether there are none.
     pub fn is_empty(&self) -> bool
         ensures { result ≡ (length self.now == 0) }
     {
-        self.bytes.is_empty()
+        self.as_slice().is_empty()
     }
 
     /// Whether there is another owner of the octets at this moment; never where there are none.
     pub fn is_shared(&self) -> bool {
-        !self.is_empty() && !self.bytes.is_unique()
+        match &self.kept {
+            Some(kept) => Rc::strong_count(kept) > 1,
+            None => false,
+        }
     }
 
     /// Another owner of the same octets. It takes no memory, and fails only where the count of owners
@@ -68,8 +84,11 @@ impl SharedOctets {
     pub fn share(&self) -> Result<Self, AllocError>
         ensures { IfOk result (λ o. o ≡ self.now) }
     {
-        Ok(SharedOctets {
-            bytes: self.bytes.clone()?,
-        })
+        match &self.kept {
+            Some(kept) => Ok(SharedOctets {
+                kept: Some(kept.clone()?),
+            }),
+            None => Ok(SharedOctets::new()),
+        }
     }
 }

@@ -5,7 +5,10 @@ use Rattle.std.proofs.lemmas.List.{drop-append-le, take-append-drop, drop_all, t
 use Rattle.std.proofs.lemmas.List.Folds.{concat-append}
 use Rattle.hc_framing.specs.declared.fault.FrameFault.{FrameFault}
 use Rattle.hc_framing.specs.declared.fault.FrameFault.TheVariants.{Head, BothLengths, BadLength, BadCoding, BadChunk, BodyTooLong, Truncated, Memory, Failed}
-use Rattle.hc_framing.specs.declared.trailer.TrailerReader.{TrailerReader}
+use Rattle.hc_chunks.specs.declared.fault.ChunkFault.{ChunkFault}
+use Rattle.hc_chunks.specs.declared.fault.ChunkFault.TheVariants as chunks
+use Rattle.hc_chunks.specs.declared.trailer.TrailerReader.{TrailerReader}
+use Rattle.hc_framing.specs.Names.{of_chunk}
 use Rattle.hc_framing.specs.declared.framing.Framing.{Framing}
 use Rattle.hc_framing.specs.declared.framing.Framing.TheVariants.{Nothing, Sized, Chunked, UntilClose}
 use Rattle.hc_framing.specs.declared.body.Stage.{Stage}
@@ -13,18 +16,18 @@ use Rattle.hc_framing.specs.declared.body.Stage.TheVariants as at
 use Rattle.hc_framing.specs.declared.body.BodyReader.{BodyReader}
 use Rattle.hc_framing.specs.declared.body.Part.TheVariants.{On, End}
 use Rattle.std.proofs.Math.Seq.{take-add}
-use Rattle.hc_framing.specs.ChunkLines.{BeginsChunkLine, NeverHasChunkLine}
-use Rattle.hc_framing.specs.ChunkLineReading.{AgreesLine}
-use Rattle.hc_framing.specs.Trailers.{IsTrailerThen, NeverHasTrailer, IsOpenTrailer}
-use Rattle.hc_framing.specs.TrailerReading.{end_of, AgreesTrailer, GivesTrailer}
+use Rattle.hc_chunks.specs.ChunkLines.{BeginsChunkLine, NeverHasChunkLine}
+use Rattle.hc_chunks.specs.ChunkLineReading.{AgreesLine}
+use Rattle.hc_chunks.specs.Trailers.{IsTrailerThen, NeverHasTrailer, IsOpenTrailer}
+use Rattle.hc_chunks.specs.TrailerReading.{end_of, AgreesTrailer, GivesTrailer}
 use Rattle.hc_head.specs.Writable.{longest_body}
 use Rattle.hc_framing.specs.Chunks.{IsChunkThen, AreChunksThen, IsChunkedThen, NeverHasChunked, IsTooLong, OpenLine, OpenData, OpenTrailer, IsOpenChunked}
 use Rattle.std.specs.Prelude.{◌⊎◌}
 use Rattle.hc_framing.specs.Messages.{BeginsBody, BeginsChunked, IsWholeBody}
 use Rattle.hc_framing.specs.Bodies.{IsOpenBody, BreaksBody}
 use Rattle.hc_framing.specs.BodyReading.{AtLine, AtData, AtLineFeed, AtTrailer, AgreesAt, AgreesBody, FaultsBody, GivesPart, with_data}
-use Rattle.hc_framing.proofs.ChunkLineLemmas.{chunk_line-append, chunk_line_within, agrees_none, agrees_can}
-use Rattle.hc_framing.proofs.ListLemmas.{tail_is, fronts}
+use Rattle.hc_chunks.proofs.ChunkLineLemmas.{chunk_line-append, chunk_line_within, agrees_none, agrees_can}
+use Rattle.hc_chunks.proofs.ListLemmas.{tail_is, fronts}
 use Rattle.hc_framing.proofs.ChunkLemmas.{chunks-append, chunks_more, BodyBehind, body_behind, begins_with_line, chunk_behind, trailer_behind, open_chunked_has_none, chunked_unique, chunked-append}
 
 -- ---- octets behind a line
@@ -269,17 +272,10 @@ pub whole_piece : (P : List ℕ → Type 0) (octets piece : List ℕ) → P (oct
 whole_piece P octets piece h = subst (λ (o : List ℕ). P (octets ++ o)) (sym (take_all (length piece) piece (omega arith))) h
 
 -- a fault in the trailer section
-pub trailer_faults : (r : BodyReader) (s : TrailerReader) (octets piece : List ℕ) (framing : Framing) (fault : FrameFault) → framing ≡ Chunked → (a : AtTrailer r octets)
-    → GivesTrailer (Err fault) s (drop a.len a.last) piece → FaultsBody fault framing (octets ++ piece)
-trailer_faults r s octets piece framing Memory is a gives = tt
-trailer_faults r s octets piece framing BadChunk is a gives = (is, trailer_breaks a.chunks octets a.last piece a.len a.are a.line gives)
-trailer_faults r s octets piece framing (Head f) is a gives = absurd gives
-trailer_faults r s octets piece framing BothLengths is a gives = absurd gives
-trailer_faults r s octets piece framing BadLength is a gives = absurd gives
-trailer_faults r s octets piece framing BadCoding is a gives = absurd gives
-trailer_faults r s octets piece framing BodyTooLong is a gives = absurd gives
-trailer_faults r s octets piece framing Truncated is a gives = absurd gives
-trailer_faults r s octets piece framing Failed is a gives = absurd gives
+pub trailer_faults : (r : BodyReader) (s : TrailerReader) (octets piece : List ℕ) (framing : Framing) (fault : ChunkFault) → framing ≡ Chunked → (a : AtTrailer r octets)
+    → GivesTrailer (Err fault) s (drop a.len a.last) piece → FaultsBody (of_chunk fault) framing (octets ++ piece)
+trailer_faults r s octets piece framing chunks.Memory is a gives = tt
+trailer_faults r s octets piece framing chunks.Syntax is a gives = (is, trailer_breaks a.chunks octets a.last piece a.len a.are a.line gives)
 
 -- ---- the parts of a piece
 

@@ -1,6 +1,3 @@
-pub mod ListLemmas
-pub mod ChunkLineLemmas
-pub mod TrailerLemmas
 pub mod ChunkLemmas
 pub mod BodyLemmas
 pub mod FramingLemmas

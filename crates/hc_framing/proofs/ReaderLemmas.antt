@@ -29,14 +29,9 @@ use Rattle.hc_framing.specs.Bodies.{BreaksBody}
 use Rattle.hc_framing.specs.Framing.{IsFramingFault}
 use Rattle.hc_framing.specs.BodyReading.{AgreesBody, FaultsBody}
 use Rattle.hc_framing.specs.Faults.{ShowsFault, BreaksBehind, StandsIn, StandsAtEnd, GoesOnBehind, IsWholeIn, GivesMessage, FindsMessage}
-use Rattle.hc_framing.specs.Reader.{HasFailed, Holds, HasMessage, HasRoomLeft, KeepsHead, KeepsBody, AgreesAt, Agrees, CanFeed, HasNoMessage, BeginsIn, EndsAfter, FeedGives, FeedFinds, IsInTime, EndsHere, EndGives, OnWhole, IsHeadOf, ShowsHead, ShowsHeadAfter}
+use Rattle.hc_framing.specs.Reader.{HasFailed, Holds, HasMessage, HasRoomLeft, KeepsHead, KeepsBody, AgreesAt, Agrees, CanFeed, HasNoMessage, BeginsIn, EndsAfter, FeedGives, FeedFinds, IsInTime, EndsHere, OnWhole, IsHeadOf, ShowsHead, ShowsHeadAfter}
 use Rattle.hc_framing.specs.ReaderParts.{HasRead, FaultsHead, ReadsHead, FeedsBody, BeginsBodyGives}
 use Rattle.hc_head.specs.declared.head.Step.TheVariants as steps
-use Rattle.hc_framing.specs.declared.body.Stage as bodies
-use Rattle.hc_framing.specs.declared.body.Stage.TheVariants as stages
-use Rattle.hc_framing.specs.declared.body.BodyReader.{BodyReader}
-use Rattle.hc_head.specs.Writable.{longest_body}
-use Rattle.hc_framing.specs.BodyReading.{AgreesAt as BodyAgreesAt}
 use Rattle.hc_framing.specs.Faults.{head_fault}
 use Rattle.hc_head.proofs.ReadingLemmas.{finds_head}
 use Rattle.hc_framing.proofs.BodyLemmas.{body_is_open, open_has_no_body, broken_has_no_body, body_unique, body-append, one_whole_body, ends_whole, broken_is_not_whole, open_is_not_whole, shorter_is_not_whole}

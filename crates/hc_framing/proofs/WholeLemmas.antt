@@ -1,11 +1,8 @@
 -- Octets that are to be one message, read at once.
-use Rattle.std.proofs.Common.{◌≡◌, ◌≢◌, ℕ, ◌+◌, ◌≤◌, ◌<◌, ◌==◌, Bool, true, false, List, [], ◌∷◌, ◌++◌, length, take, drop, Result, Ok, Err, rules, refl, sym, ap, subst, ◌∙◌, arith, length-drop, inl, inr}
-use Rattle.std.proofs.lemmas.List.{take-append-drop, take_all}
+use Rattle.std.proofs.Common.{◌≡◌, ℕ, ◌+◌, ◌<◌, ◌==◌, false, List, [], ◌∷◌, length, take, drop, Result, Ok, Err, rules, refl, sym, subst, arith, length-drop, inl, inr}
+use Rattle.std.proofs.lemmas.List.{take-append-drop}
 use Rattle.hc_head.specs.declared.head.Room.{Room}
-use Rattle.hc_head.specs.declared.head.Step.TheVariants as steps
-use Rattle.hc_head.specs.declared.fault.HeadFault.{HeadFault}
-use Rattle.hc_head.specs.declared.fault.HeadFault.TheVariants as heads
-use Rattle.hc_head.specs.Reading.{IsWholeHead, GivesHead, CanBecomeHead}
+use Rattle.hc_head.specs.Reading.{IsWholeHead}
 use Rattle.hc_framing.specs.declared.message.Message.{Message}
 use Rattle.hc_framing.specs.declared.kind.Kind.{Kind}
 use Rattle.hc_framing.specs.declared.fault.FrameFault.{FrameFault}
@@ -13,15 +10,15 @@ use Rattle.hc_framing.specs.declared.fault.FrameFault.TheVariants as faults
 use Rattle.hc_framing.specs.declared.framing.Framing.{Framing}
 use Rattle.hc_framing.specs.declared.framing.Framing.TheVariants.{Nothing, Sized, Chunked, UntilClose}
 use Rattle.hc_framing.specs.declared.body.BodyReader.{BodyReader}
-use Rattle.hc_framing.specs.declared.progress.Progress.TheVariants.{More, Whole}
+use Rattle.hc_framing.specs.declared.progress.Progress.TheVariants.{Whole}
 use Rattle.hc_framing.specs.Forms.{Form, FormLaws}
-use Rattle.hc_framing.specs.Messages.{BeginsBody, IsWholeBody}
+use Rattle.hc_framing.specs.Messages.{BeginsBody}
 use Rattle.hc_framing.specs.Bodies.{has_octets}
 use Rattle.hc_framing.specs.Framing.{IsFramingFault}
-use Rattle.hc_framing.specs.BodyReading.{AgreesBody, FaultsBody, GivesBody}
-use Rattle.hc_framing.specs.Faults.{ShowsFault, StandsInWhole, GivesMessage, head_fault}
-use Rattle.hc_framing.specs.WholeParts.{EndsBefore, GivesWholeBody, GivesFramed, GivesBehind}
-use Rattle.hc_framing.proofs.BodyLemmas.{body-append, whole_body}
+use Rattle.hc_framing.specs.BodyReading.{GivesBody}
+use Rattle.hc_framing.specs.Faults.{ShowsFault, StandsInWhole, GivesMessage}
+use Rattle.hc_framing.specs.WholeParts.{EndsBefore, GivesFramed, GivesBehind}
+use Rattle.hc_framing.proofs.BodyLemmas.{body-append}
 use Rattle.hc_framing.proofs.ReaderLemmas.{body_faults}
 
 -- ---- bodies

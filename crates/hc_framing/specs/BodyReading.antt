@@ -12,9 +12,9 @@ use Rattle.hc_framing.specs.declared.body.Part.{Part}
 use Rattle.hc_framing.specs.declared.body.Part.TheVariants.{On, End}
 use Rattle.hc_framing.specs.declared.progress.Progress.{Progress}
 use Rattle.hc_framing.specs.declared.progress.Progress.TheVariants.{More, Whole}
-use Rattle.hc_framing.specs.ChunkLines.{BeginsChunkLine}
-use Rattle.hc_framing.specs.ChunkLineReading.{AgreesLine}
-use Rattle.hc_framing.specs.TrailerReading.{AgreesTrailer}
+use Rattle.hc_chunks.specs.ChunkLines.{BeginsChunkLine}
+use Rattle.hc_chunks.specs.ChunkLineReading.{AgreesLine}
+use Rattle.hc_chunks.specs.TrailerReading.{AgreesTrailer}
 use Rattle.hc_head.specs.Writable.{longest_body}
 use Rattle.hc_framing.specs.Chunks.{AreChunksThen}
 use Rattle.hc_framing.specs.Messages.{BeginsBody}

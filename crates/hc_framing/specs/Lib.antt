@@ -1,8 +1,4 @@
 pub mod Names
-pub mod ChunkLines
-pub mod ChunkLineReading
-pub mod Trailers
-pub mod TrailerReading
 pub mod Chunks
 pub mod Framing
 pub mod Forms

@@ -1,5 +1,7 @@
 -- The numbers and the names of the faults of a message.
 use Rattle.std.specs.Prelude.{ℕ, List, codes}
+use Rattle.hc_chunks.specs.declared.fault.ChunkFault.{ChunkFault}
+use Rattle.hc_chunks.specs.declared.fault.ChunkFault.TheVariants as chunks
 use Rattle.hc_framing.specs.declared.fault.FrameFault.{FrameFault}
 use Rattle.hc_framing.specs.declared.fault.FrameFault.TheVariants.{Head, BothLengths, BadLength, BadCoding, BadChunk, BodyTooLong, Truncated, Memory, Failed}
 
@@ -24,3 +26,8 @@ fault_name BodyTooLong = codes "BodyTooLong"
 fault_name Truncated = codes "Truncated"
 fault_name Memory = codes "Memory"
 fault_name Failed = codes "Failed"
+
+-- what is wrong with a message of which a part of a chunked body is wrong
+abbrev pub of_chunk : ChunkFault → FrameFault
+of_chunk chunks.Syntax = BadChunk
+of_chunk chunks.Memory = Memory

@@ -3,11 +3,10 @@
 ghost use Rattle.std.specs.Prelude.{◌≡◌};
 ghost use Rattle.hc_framing.specs.Bodies.{has_octets};
 
-use crate::chunk_line::ChunkLineReader;
 use crate::fault::FrameFault;
 use crate::framing::Framing;
 use crate::progress::Progress;
-use crate::trailer::TrailerReader;
+use hc_chunks::{ChunkLineReader, TrailerReader};
 use hc_fields::{Octets, SharedOctets};
 use hc_head::LONGEST_BODY;
 use std::alloc::{AllocError, Global};
@@ -53,7 +52,7 @@ pub(crate) fn has_octets(framing: Framing) -> bool
 }
 
 /// Reads a body that comes in pieces. It keeps the octets of the body, and none of its framing.
-#[derive(Debug, Drop)]
+#[derive(Debug)]
 pub(crate) struct BodyReader {
     alloc: Global,
     /// The octets of the body so far, while it isn't whole.
@@ -65,6 +64,23 @@ pub(crate) struct BodyReader {
     left: usize,
     line: ChunkLineReader,
     trailer: TrailerReader,
+}
+
+impl Drop for BodyReader {
+    fn drop(self) {
+        let BodyReader {
+            alloc: _,
+            octets,
+            whole,
+            stage: _,
+            left: _,
+            line: _,
+            trailer,
+        } = self;
+        drop(octets);
+        drop(whole);
+        drop(trailer);
+    }
 }
 
 impl BodyReader {
@@ -109,7 +125,7 @@ impl BodyReader {
         ensures { IfOk result (λ done. self.new.whole ≡ self.old.octets) }
     {
         let octets = mem::replace(&mut self.octets, Octets::new(self.alloc));
-        self.whole = SharedOctets::from_vec(octets.into_vec())?;
+        self.whole = SharedOctets::from_vec(self.alloc, octets.into_vec())?;
         Ok(())
     }
 
@@ -117,7 +133,18 @@ impl BodyReader {
     pub(crate) fn into_whole(self) -> SharedOctets
         ensures { result ≡ self.whole }
     {
-        self.whole
+        let BodyReader {
+            alloc: _,
+            octets,
+            whole,
+            stage: _,
+            left: _,
+            line: _,
+            trailer,
+        } = self;
+        drop(octets);
+        drop(trailer);
+        whole
     }
 
     /// Takes the next piece.
@@ -191,7 +218,7 @@ impl BodyReader {
             → GivesPart result framing self.new octets piece.now }
     {
         match self.line.feed(piece) {
-            Err(fault) => Err(fault),
+            Err(fault) => Err(FrameFault::from(fault)),
             Ok(None) => Ok(Part::On(piece.len())),
             Ok(Some((size, used))) => {
                 if size == 0 {
@@ -256,7 +283,7 @@ impl BodyReader {
             → GivesPart result framing self.new octets piece.now }
     {
         match self.trailer.feed(piece) {
-            Err(fault) => Err(fault),
+            Err(fault) => Err(FrameFault::from(fault)),
             Ok(None) => Ok(Part::On(piece.len())),
             Ok(Some(used)) => Ok(Part::End(used)),
         }

@@ -2,7 +2,9 @@
 
 ghost use Rattle.std.specs.Prelude.{◌≡◌};
 ghost use Rattle.hc_framing.specs.declared.fault.FrameFault.TheVariants.{Memory};
+ghost use Rattle.hc_framing.specs.Names.{of_chunk};
 
+use hc_chunks::ChunkFault;
 use hc_head::HeadFault;
 use std::alloc::AllocError;
 use thiserror::Error;
@@ -86,5 +88,16 @@ impl From<AllocError> for FrameFault {
 
     fn from(_e: AllocError) -> FrameFault {
         FrameFault::Memory
+    }
+}
+
+impl From<ChunkFault> for FrameFault {
+    ghost from_gives = { λ fault e. e ≡ of_chunk fault };
+
+    fn from(fault: ChunkFault) -> FrameFault {
+        match fault {
+            ChunkFault::Syntax => FrameFault::BadChunk,
+            ChunkFault::Memory => FrameFault::Memory,
+        }
     }
 }

@@ -8,7 +8,7 @@ ghost use Rattle.hc_framing.specs.Framing.{is_comma, members_of, member_length, 
 
 use crate::fault::FrameFault;
 use hc_fields::{Fields, decimal, trimmed};
-use hc_head::{LONGEST_BODY, NO_CONTENT, NOT_MODIFIED, Version, is_interim};
+use hc_head::{LONGEST_BODY, StatusCode, Version, is_interim};
 
 /// No length has more digits.
 const MOST_DIGITS: usize = 18;
@@ -129,16 +129,19 @@ pub(crate) fn request_framing(version: Version, fields: &Fields) -> Result<Frami
 }
 
 /// Whether a response ends with its head, whatever its fields say.
-pub(crate) fn ends_with_head(to_head: bool, status: u16) -> bool
+pub(crate) fn ends_with_head(to_head: bool, status: StatusCode) -> bool
     ensures { result ≡ ends_with_head to_head status }
 {
-    to_head || is_interim(status) || status == NO_CONTENT || status == NOT_MODIFIED
+    to_head
+        || is_interim(status)
+        || status == StatusCode::NO_CONTENT
+        || status == StatusCode::NOT_MODIFIED
 }
 
 /// How the body of a response is framed; `to_head` tells whether it answers HEAD.
 pub(crate) fn response_framing(
     to_head: bool,
-    status: u16,
+    status: StatusCode,
     version: Version,
     fields: &Fields,
 ) -> Result<Framing, FrameFault>

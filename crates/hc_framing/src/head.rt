@@ -123,7 +123,7 @@ impl MessageHead for RequestHead {
     }
 
     fn tells_length(message: &Message<RequestHead>, _kind: Kind) -> bool {
-        !message.body.is_empty() || is_unsafe(message.head.method.as_slice())
+        !message.body.is_empty() || is_unsafe(&message.head.method)
     }
 
     ghost laws = { request_laws };

@@ -2,7 +2,6 @@
 #![tactic(auto)]
 
 mod body;
-mod chunk_line;
 mod fault;
 mod framing;
 mod head;
@@ -11,7 +10,6 @@ mod message;
 mod progress;
 mod reader;
 mod text;
-mod trailer;
 mod whole;
 mod writing;
 

@@ -28,7 +28,7 @@ enum Stage {
 
 /// Reads a message that comes in pieces. Each octet of its body is kept once, and stays where it is
 /// when the message is whole.
-#[derive(Debug, Drop)]
+#[derive(Debug)]
 pub struct MessageReader<H> {
     alloc: Global,
     kind: Kind,
@@ -42,6 +42,25 @@ pub struct MessageReader<H> {
     tried: usize,
     head: Option<H>,
     body: BodyReader,
+}
+
+impl<H: Drop> Drop for MessageReader<H> {
+    fn drop(self) {
+        let MessageReader {
+            alloc: _,
+            kind: _,
+            room: _,
+            stage: _,
+            start,
+            search: _,
+            tried: _,
+            head,
+            body,
+        } = self;
+        drop(start);
+        drop(head);
+        drop(body);
+    }
 }
 
 /// The first octets, at most so many.
@@ -99,7 +118,18 @@ impl<H: MessageHead> MessageReader<H> {
         requires { HasMessage self }
         ensures { (message : Message H) → Holds self message → result ≡ message }
     {
-        let MessageReader { head, body, .. } = self;
+        let MessageReader {
+            alloc: _,
+            kind: _,
+            room: _,
+            stage: _,
+            start,
+            search: _,
+            tried: _,
+            head,
+            body,
+        } = self;
+        drop(start);
         Message {
             head: head.unwrap(),
             body: body.into_whole(),

@@ -1,16 +1,24 @@
 //! The text of a message.
 
 use hc_fields::SharedOctets;
-use std::alloc::AllocError;
+use std::alloc::{AllocError, Global};
 use std::marker::Model;
 
 /// The text of a message as it goes out, in two parts that each may have more owners: its head, and
 /// its body. Contracts see the octets, the one part followed by the other. A small body lies behind
 /// the head, and then nothing is left for the second part.
-#[derive(Debug, Drop)]
+#[derive(Debug)]
 pub struct MessageText {
     front: SharedOctets,
     rest: SharedOctets,
+}
+
+impl Drop for MessageText {
+    fn drop(self) {
+        let MessageText { front, rest } = self;
+        drop(front);
+        drop(rest);
+    }
 }
 
 impl Model for MessageText {
@@ -32,11 +40,11 @@ impl MessageText {
     }
 
     /// A text that lies in one piece: the octets of a vector, which stay where they are.
-    pub fn from_vec(octets: Vec<u8>) -> Result<Self, AllocError>
+    pub fn from_vec(alloc: Global, octets: Vec<u8>) -> Result<Self, AllocError>
         ensures { IfOk result (λ text. text ≡ octets.items) }
     {
         Ok(MessageText {
-            front: SharedOctets::from_vec(octets)?,
+            front: SharedOctets::from_vec(alloc, octets)?,
             rest: SharedOctets::new(),
         })
     }

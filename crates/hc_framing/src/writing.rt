@@ -39,9 +39,9 @@ pub fn write_message<H: MessageHead>(
     let mut head = message.head.write(alloc, length)?.into_vec();
     if message.body.len() <= LONGEST_COPIED_BODY {
         head.extend_from_slice(message.body.as_slice())?;
-        return MessageText::from_vec(head);
+        return MessageText::from_vec(alloc, head);
     }
-    let head = SharedOctets::from_vec(head)?;
+    let head = SharedOctets::from_vec(alloc, head)?;
     Ok(MessageText::of_parts(head, message.body.share()?))
 }
 

@@ -47,6 +47,10 @@ freshness_lifetime fields date = unwrap_or (stated_lifetime fields date) 0
 abbrev pub says : List ℕ → List Field → Bool
 says name fields = has_directive name (cache_control fields).directives
 
+-- the seconds that the first directive of that name says
+abbrev pub seconds_said : List ℕ → List Field → Seconds
+seconds_said name fields = seconds_of (first_directive name (cache_control fields).directives)
+
 -- whether s-maxage, max-age or Expires is there, whatever it says
 abbrev pub explicit : List Field → Bool
 explicit fields = says (codes "s-maxage") fields || says (codes "max-age") fields || has_name (codes "expires") fields

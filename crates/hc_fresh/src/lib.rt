@@ -6,6 +6,7 @@ mod date_lines;
 mod dates;
 mod laws;
 mod lifetimes;
+mod saying;
 
 pub use ages::{Times, age_value, current_age, fresh, staleness};
 pub use date_lines::{date_stated, dated};
@@ -15,3 +16,4 @@ pub use laws::{
     stale_response_stays_stale, written_date_read_back,
 };
 pub use lifetimes::{explicit, lifetime, stale_forbidden};
+pub use saying::{says, seconds_said};

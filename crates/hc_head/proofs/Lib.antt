@@ -1,3 +1,6 @@
+pub mod SameTargetLemmas
+pub mod MethodLemmas
+pub mod DigitLemmas
 pub mod FrontLemmas
 pub mod ReadingLemmas
 pub mod RequestLemmas
@@ -9,5 +12,4 @@ pub mod HostLemmas
 pub mod TargetLemmas
 pub mod PlainLemmas
 pub mod WeightLemmas
-pub mod PassingLemmas
 pub mod ForwardLemmas

@@ -3,7 +3,7 @@ use Rattle.std.proofs.Common.{◌≡◌, ℕ, ◌+◌, ◌/◌, ◌%◌, ◌<◌
 use Rattle.std.specs.Prelude.{codes, decimal, All, IfSome}
 use Rattle.std.specs.List.{list_all, list_any}
 use Rattle.std.specs.Fmt.{digits}
-use Rattle.std.specs.Char.{is_ascii_digit, is_ascii_uppercase, to_ascii_lowercase, digit_value}
+use Rattle.std.specs.Char.{is_ascii_digit, is_ascii_uppercase, to_ascii_lowercase}
 use Rattle.std.specs.Str.Parse.{digits_value}
 use Rattle.std.proofs.lemmas.Str.Parse.{IsNumeralModel, numerals_by_value}
 use Rattle.std.specs.Str.{str_to_ascii_lowercase}
@@ -18,6 +18,7 @@ use Rattle.std.proofs.lemmas.Fmt.{decimal_digit, decimal_step, length-decimal-le
 use Rattle.httparse.specs.Grammar.{is_token, is_token_byte, is_ows, is_uri_byte, is_value_byte, AllPass, IsToken, crlf, Field as Line, print_field, IsField, skip_ows, trim_ows, print_section, print_version, RequestHead as RequestSyntax, print_request, IsRequestHead, ResponseHead as ResponseSyntax, print_response, IsResponseHead, status_code}
 use Rattle.httparse.proofs.TrimLemmas.{trim_ows_space, AllPass-trim_ows, AllPass-reverse}
 use Rattle.httparse.proofs.GrammarLemmas.{cons-append}
+use Rattle.hc_head.proofs.DigitLemmas.{status_small}
 use Rattle.hc_fields.specs.declared.fields.Field.{Field}
 use Rattle.hc_head.specs.declared.head.RequestHead.{RequestHead}
 use Rattle.hc_head.specs.declared.head.ResponseHead.{ResponseHead}
@@ -328,27 +329,10 @@ begun_request_plain octets head len begins =
     } in
     subst IsPlainRequest (sym begins.head_is) plain
 
-digit_small : (b : ℕ) → is_ascii_digit b ≡ true → digit_value b ≤ 9
-digit_small b digit = grind (arith, nat_tests)
-
-three_small : (ds : List ℕ) → length ds ≡ 3 → list_all is_ascii_digit ds ≡ true → digits_value 10 ds < 1000
-three_small [] three all = absurd (omega arith)
-three_small (a ∷ []) three all = absurd (omega arith)
-three_small (a ∷ b ∷ []) three all = absurd (omega arith)
-three_small (a ∷ b ∷ c ∷ []) three all =
-    let first = and_parts (is_ascii_digit a) _ all in
-    let second = and_parts (is_ascii_digit b) _ first.1 in
-    let third = and_parts (is_ascii_digit c) _ second.1 in
-    let hundreds = digit_small a first.0 in
-    let tens = digit_small b second.0 in
-    let ones = digit_small c third.0 in
-    omega arith
-three_small (a ∷ b ∷ c ∷ d ∷ ds) three all = absurd (omega arith)
-
 pub begun_response_plain : (octets : List ℕ) (head : ResponseHead) (len : ℕ) → BeginsResponseHead octets head len → IsPlainResponse head
 begun_response_plain octets head len begins =
     let is = begins.reads.0 in
-    let small = three_small begins.syntax.digits is.digits.0 (list_all-from_AllPass is_ascii_digit begins.syntax.digits is.digits.1) in
+    let small = status_small begins.syntax is in
     record {
       least = begins.has_status;
       greatest = omega (arith, small, ap (λ (h : ResponseHead). h.status) begins.head_is);

@@ -12,6 +12,5 @@ pub mod Texts
 pub mod Writable
 pub mod Plain
 pub mod Weights
-pub mod Passing
 pub mod Methods
 pub mod Statuses

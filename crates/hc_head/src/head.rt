@@ -2,6 +2,7 @@ ghost use Rattle.std.specs.Prelude.{◌≡◌, IfOk};
 ghost use Rattle.hc_head.specs.declared.head.Target.{Target};
 
 use hc_fields::{Fields, Octets};
+use http::{Method, StatusCode};
 use std::alloc::{AllocError, Global};
 
 /// The version of a message (RFC 9112 section 2.3).
@@ -14,10 +15,10 @@ pub enum Version {
 }
 
 /// The head of a request: its request line and its field lines (RFC 9112 section 3).
-#[derive(Debug, Drop)]
+#[derive(Debug)]
 pub struct RequestHead {
     /// The method, in its own case (RFC 9110 section 9).
-    pub method: Octets,
+    pub method: Method,
     /// The target as it was written (RFC 9112 section 3.2).
     pub target: Octets,
     /// The version of whoever sent it.
@@ -26,26 +27,59 @@ pub struct RequestHead {
     pub fields: Fields,
 }
 
+impl Drop for RequestHead {
+    fn drop(self) {
+        let RequestHead {
+            method,
+            target,
+            version: _,
+            fields,
+        } = self;
+        drop(method);
+        drop(target);
+        drop(fields);
+    }
+}
+
 /// The head of a response: its status line, without the reason phrase, and its field lines
 /// (RFC 9112 section 4).
-#[derive(Debug, Drop)]
+#[derive(Debug)]
 pub struct ResponseHead {
     /// From 100 to 999 (RFC 9110 section 15).
-    pub status: u16,
+    pub status: StatusCode,
     /// The version of whoever sent it.
     pub version: Version,
     /// The field lines, in order.
     pub fields: Fields,
 }
 
+impl Drop for ResponseHead {
+    fn drop(self) {
+        let ResponseHead {
+            status: _,
+            version: _,
+            fields,
+        } = self;
+        drop(fields);
+    }
+}
+
 /// What a request is about: a host with its port, and a path with its query (RFC 9112 section 3.3).
 /// Targets are compared by the host and then by the path, octet by octet.
-#[derive(PartialEq, Eq, PartialOrd, Ord, Hash, Debug, Drop)]
+#[derive(PartialEq, Eq, PartialOrd, Ord, Hash, Debug)]
 pub struct Target {
     /// The host in lower case, and its port unless that is 80.
     pub host: Octets,
     /// The path with its query, as it was written.
     pub path: Octets,
+}
+
+impl Drop for Target {
+    fn drop(self) {
+        let Target { host, path } = self;
+        drop(host);
+        drop(path);
+    }
 }
 
 impl Target {

@@ -7,13 +7,13 @@ mod head;
 mod hosts;
 mod methods;
 mod parts;
-mod passing;
 mod plain;
 mod requests;
 mod responses;
 mod statuses;
 mod targets;
 mod unfinished;
+mod weighing;
 mod weights;
 mod writable;
 mod writing;
@@ -21,19 +21,17 @@ mod writing;
 pub use empty_line::{Search, find_empty_line};
 pub use fault::HeadFault;
 pub use head::{RequestHead, ResponseHead, Room, Step, Target, Version};
-pub use methods::{is_get, is_head, is_unsafe};
-pub use passing::{
-    kept_lines, no_framing_stays, no_name_stays, passed_request_is_writable,
-    passed_response_is_writable, plain_head_is_writable, received_heads,
-};
+pub use http::{Method, StatusCode};
+pub use methods::{is_get, is_get_or_head, is_head, is_unsafe};
 pub use plain::{plain_fields_stay_plain, plain_names, plain_values, read_head_is_plain};
 pub use requests::{one_request_head, read_request};
 pub use responses::{one_response_head, read_response};
-pub use statuses::{NO_CONTENT, NOT_MODIFIED, PARTIAL_CONTENT, is_interim};
+pub use statuses::{is_error_status, is_interim};
 pub use targets::{
     forwarded_target_is_the_same, one_target, same_target, target, target_parts_are_plain,
     targets_compare_by_host_and_path,
 };
+pub use weighing::room_behind_lines;
 pub use weights::{read_head_is_short, weights_add_up, written_head_length};
 pub use writable::{
     LONGEST_BODY, request_text_read_back, response_text_read_back, writable_request,

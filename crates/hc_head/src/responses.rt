@@ -11,27 +11,27 @@ use crate::fault::HeadFault;
 use crate::head::{ResponseHead, Room, Step};
 use crate::parts::{fields_at, front_of, version_of};
 use crate::unfinished::has_low_status;
+use http::StatusCode;
 use httparse::spans::{EMPTY_HEADER_SPAN, HeaderSpan, ResponseSpans, parse_response};
 use httparse::{Error, Status};
 use std::alloc::{AllocError, Global};
-
-/// The least status of a response (RFC 9110 section 15).
-const LEAST_STATUS: u16 = 100;
 
 /// The head that the spans cover.
 fn head_at(
     alloc: Global,
     bytes: &[u8],
+    status: StatusCode,
     found: ResponseSpans,
     spans: &[HeaderSpan],
 ) -> Result<ResponseHead, AllocError>
-    requires { IsResponseWithin bytes.now spans.now found }
+    requires within { IsResponseWithin bytes.now spans.now found }
+    requires status { status ≡ found.code }
     ensures status { IfOk result (λ head. head.status ≡ found.code) }
     ensures head { (syntax : Syntax) → IsResponseAt bytes.now spans.now found syntax
         → IfOk result (λ head. head ≡ response_head_of syntax) }
 {
     Ok(ResponseHead {
-        status: found.code,
+        status,
         version: version_of(found.version),
         fields: fields_at(alloc, bytes, &spans[..found.headers])?,
     })
@@ -51,10 +51,10 @@ fn read_into(
     let front = front_of(bytes, room.octets);
     match parse_response(front, spans) {
         Ok(Status::Complete(found)) => {
-            if found.code < LEAST_STATUS {
+            let Ok(status) = StatusCode::from_u16(found.code) else {
                 return Err(HeadFault::Syntax);
-            }
-            let head = head_at(alloc, front, found, spans)?;
+            };
+            let head = head_at(alloc, front, status, found, spans)?;
             Ok(Step::Whole(head, found.len))
         }
         Ok(Status::Partial) => {

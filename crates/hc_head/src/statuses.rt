@@ -1,20 +1,29 @@
 //! Statuses of which caches treat each in its own way (RFC 9110 section 15).
 
 ghost use Rattle.std.specs.Prelude.{◌≡◌};
-ghost use Rattle.hc_head.specs.Statuses.{is_interim};
+ghost use Rattle.hc_head.specs.Statuses.{is_interim, is_error_status};
 
-/// The status of a response without content (RFC 9110 section 15.3.5).
-pub const NO_CONTENT: u16 = 204;
-
-/// The status of a response with a part of the content (RFC 9110 section 15.3.7).
-pub const PARTIAL_CONTENT: u16 = 206;
-
-/// The status that says that a stored response still holds (RFC 9110 section 15.4.5).
-pub const NOT_MODIFIED: u16 = 304;
+use http::StatusCode;
 
 /// Whether a response of that status comes before the final one (RFC 9110 section 15.2).
-pub fn is_interim(status: u16) -> bool
+pub fn is_interim(status: StatusCode) -> bool
     ensures { result ≡ is_interim status }
 {
-    100 <= status && status <= 199
+    status.is_informational()
+}
+
+/// The statuses that say that the origin can't answer now.
+const ERRORS: [StatusCode; 4] = [
+    StatusCode::INTERNAL_SERVER_ERROR,
+    StatusCode::BAD_GATEWAY,
+    StatusCode::SERVICE_UNAVAILABLE,
+    StatusCode::GATEWAY_TIMEOUT,
+];
+
+/// Whether a stored response may take the place of an origin's response of that status (RFC 5861
+/// section 4): 500, 502, 503 or 504.
+pub fn is_error_status(status: StatusCode) -> bool
+    ensures { result ≡ is_error_status status }
+{
+    ERRORS.contains(&status)
 }

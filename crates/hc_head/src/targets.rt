@@ -21,6 +21,7 @@ use crate::fault::HeadFault;
 use crate::head::{RequestHead, Target};
 use crate::hosts::{HostAndPort, host_and_port, normal_host};
 use hc_fields::Octets;
+use http::Method;
 use http_uri::{PathAndQuery, UriError};
 use std::alloc::{AllocError, Global};
 
@@ -98,7 +99,7 @@ fn is_origin_form(alloc: Global, text: &[u8]) -> Result<bool, HeadFault>
 fn is_asterisk_form(head: &RequestHead) -> bool
     ensures { IsTrue result ↔ HasForm head.now Asterisk }
 {
-    head.target.as_slice() == b"*".as_slice() && head.method.as_slice() == b"OPTIONS".as_slice()
+    head.target.as_slice() == b"*".as_slice() && head.method == Method::OPTIONS
 }
 
 /// What follows the scheme.
@@ -150,11 +151,11 @@ fn absolute_form(alloc: Global, text: &[u8]) -> Result<Option<AbsoluteForm<'_>>,
     Ok(Some(AbsoluteForm { authority, rest }))
 }
 
-fn absolute_path(alloc: Global, method: &[u8], rest: &[u8]) -> Result<Octets, AllocError>
+fn absolute_path(alloc: Global, method: &Method, rest: &[u8]) -> Result<Octets, AllocError>
     ensures { IfOk result (λ path. path ≡ absolute_path method.now rest.now) }
 {
     match rest.first() {
-        None if method == b"OPTIONS".as_slice() => Octets::from_slice(alloc, b"*"),
+        None if *method == Method::OPTIONS => Octets::from_slice(alloc, b"*"),
         None => Octets::from_slice(alloc, b"/"),
         Some(b'?') => {
             let mut path = Octets::from_slice(alloc, b"/")?;
@@ -168,7 +169,7 @@ fn absolute_path(alloc: Global, method: &[u8], rest: &[u8]) -> Result<Octets, Al
 fn may_name(head: &RequestHead) -> bool
     ensures { IsTrue result ↔ MayName head.now }
 {
-    head.method.as_slice() != b"CONNECT".as_slice()
+    head.method != Method::CONNECT
         && !head.target.as_slice().contains(&b'#')
         && head.target.len() <= LONGEST_TARGET
 }
@@ -193,7 +194,7 @@ fn read_target(alloc: Global, head: &RequestHead) -> Result<Target, HeadFault>
     };
     Ok(Target {
         host: normal_host(alloc, form.authority)?,
-        path: absolute_path(alloc, head.method.as_slice(), form.rest)?,
+        path: absolute_path(alloc, &head.method, form.rest)?,
     })
 }
 

@@ -1,11 +1,11 @@
 //! Whether a head is read as itself once it is written.
 
-ghost use Rattle.std.specs.Prelude.{◌≡◌, ℕ, ◌-◌, ◌<◌, ◌≤◌, ◌↔◌, IsTrue, List, ◌++◌, length, flat_map, Option, Some, IfSome};
+ghost use Rattle.std.specs.Prelude.{◌≡◌, ℕ, ◌-◌, ◌<◌, ◌≤◌, ◌↔◌, IsTrue, List, ◌++◌, length, Option, Some, IfSome};
 ghost use Rattle.std.specs.Option.{SomeIff};
 ghost use Rattle.std.specs.List.{list_all, list_any};
 ghost use Rattle.std.specs.Char.{is_ascii_uppercase};
 ghost use Rattle.httparse.specs.Grammar.{is_uri_byte};
-ghost use Rattle.hc_head.specs.Texts.{field_line, request_head_text, response_head_text};
+ghost use Rattle.hc_head.specs.Texts.{request_head_text, response_head_text};
 ghost use Rattle.hc_head.specs.Writable.{has_framing, longest_body, BeginsWrittenRequest, BeginsWrittenResponse, IsWritableRequest, IsWritableResponse};
 ghost use Rattle.hc_head.specs.declared.head.RequestHead.{RequestHead};
 ghost use Rattle.hc_head.specs.declared.head.ResponseHead.{ResponseHead};
@@ -13,6 +13,7 @@ ghost use Rattle.hc_head.specs.declared.head.Room.{Room};
 ghost use Rattle.hc_head.specs.Plain.{is_plain_name, is_plain_value, is_plain_field, IsPlainTarget, IsPlainRequest, IsPlainResponse};
 
 use crate::head::{RequestHead, ResponseHead, Room};
+use crate::weighing::room_behind_lines;
 use hc_fields::{Field, Fields};
 use httparse::{is_header_value, is_space_or_tab, is_token, is_uri_token};
 
@@ -24,9 +25,6 @@ const REQUEST_FRAME: &[u8] = b"  HTTP/1.1\r\ncontent-length: 16777216\r\n\r\n";
 
 /// What a response's text has beside its fields.
 const RESPONSE_FRAME: &[u8] = b"HTTP/1.1 200 \r\ncontent-length: 16777216\r\n\r\n";
-
-/// What a field line has beside the name and the value.
-const FIELD_FRAME: &[u8] = b": \r\n";
 
 fn has_framing(fields: &Fields) -> bool
     ensures { result ≡ has_framing fields.now }
@@ -80,7 +78,7 @@ fn is_plain_target(target: &[u8]) -> bool
 fn is_plain_request(head: &RequestHead) -> bool
     ensures { IsTrue result ↔ IsPlainRequest head.now }
 {
-    is_token(head.method.as_slice())
+    is_token(head.method.as_str().as_bytes())
         && is_plain_target(head.target.as_slice())
         && are_plain_fields(head.fields.lines())
 }
@@ -88,47 +86,29 @@ fn is_plain_request(head: &RequestHead) -> bool
 fn is_plain_response(head: &ResponseHead) -> bool
     ensures { IsTrue result ↔ IsPlainResponse head.now }
 {
-    head.status >= 100 && head.status < 1000 && are_plain_fields(head.fields.lines())
-}
-
-/// What of the room lies behind the field's line.
-fn room_behind_field(room: usize, field: &Field) -> Option<usize>
-    ensures { SomeIff result (length (field_line field.now) ≤ room)
-        (room - length (field_line field.now)) }
-{
-    let room = room.checked_sub(field.name.len())?;
-    let room = room.checked_sub(field.value.len())?;
-    room.checked_sub(FIELD_FRAME.len())
-}
-
-fn room_behind_fields(mut room: usize, fields: &[Field]) -> Option<usize>
-    ensures { SomeIff result (length (flat_map field_line fields.now) ≤ room)
-        (room - length (flat_map field_line fields.now)) }
-{
-    for field in fields {
-        room = room_behind_field(room, field)?;
-    }
-    Some(room)
+    // It has three digits, whatever it is.
+    let _status = head.status.as_u16();
+    are_plain_fields(head.fields.lines())
 }
 
 fn room_behind_request(room: usize, head: &RequestHead) -> Option<usize>
     ensures { SomeIff result (length (request_head_text head.now (Some longest_body)) ≤ room)
         (room - length (request_head_text head.now (Some longest_body))) }
 {
-    let room = room.checked_sub(head.method.len())?;
+    let room = room.checked_sub(head.method.as_str().len())?;
     let room = room.checked_sub(head.target.len())?;
     let room = room.checked_sub(REQUEST_FRAME.len())?;
-    room_behind_fields(room, head.fields.lines())
+    room_behind_lines(room, head.fields.lines())
 }
 
 fn room_behind_response(room: usize, head: &ResponseHead) -> Option<usize>
-    requires least { 100 ≤ head.now.status }
-    requires greatest { head.now.status < 1000 }
     ensures { SomeIff result (length (response_head_text head.now (Some longest_body)) ≤ room)
         (room - length (response_head_text head.now (Some longest_body))) }
 {
+    // It has three digits, whatever it is.
+    let _status = head.status.as_u16();
     let room = room.checked_sub(RESPONSE_FRAME.len())?;
-    room_behind_fields(room, head.fields.lines())
+    room_behind_lines(room, head.fields.lines())
 }
 
 /// A request's head that is writable, written with the length of a body or none, is read in the room

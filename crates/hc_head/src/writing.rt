@@ -20,7 +20,7 @@ fn version_text(version: Version) -> &'static str
 fn write_request_line(text: &mut Vec<u8>, head: &RequestHead) -> Result<(), AllocError>
     ensures { OnOk result (text.new.items ≡ text.old.items ++ request_line head.now) }
 {
-    text.extend_from_slice(head.method.as_slice())?;
+    text.extend_from_slice(head.method.as_str().as_bytes())?;
     text.extend_from_slice(b" ")?;
     text.extend_from_slice(head.target.as_slice())?;
     text.extend_from_slice(b" ")?;
@@ -32,7 +32,7 @@ fn write_status_line(text: &mut Vec<u8>, head: &ResponseHead) -> Result<(), Allo
     ensures { OnOk result (text.new.items ≡ text.old.items ++ status_line head.now) }
 {
     let version = version_text(head.version);
-    let status = head.status;
+    let status = head.status.as_u16();
     write!(text, "{version} {status} \r\n").map_err(|_| AllocError)
 }
 

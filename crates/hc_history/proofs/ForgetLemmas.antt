@@ -47,7 +47,7 @@ kept_twice p (x ∷ xs) = go (p x) refl (kept_twice p xs)
 remnant_of : Stored → List Field → Stored
 remnant_of state fields = record {
   request = state.request;
-  status = 0;
+  status = state.status;
   fields = fields;
   body = [];
   times = record { date = 0; age_value = 0; request_time = 0; response_time = 0 };

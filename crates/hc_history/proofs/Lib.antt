@@ -1,4 +1,3 @@
-pub mod TargetLemmas
 pub mod StateLemmas
 pub mod ValidatedLemmas
 pub mod WindowLemmas

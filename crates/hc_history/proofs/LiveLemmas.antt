@@ -20,7 +20,7 @@ use Rattle.hc_history.specs.Filters.{filters}
 use Rattle.hc_update.specs.Remnants.{is_lost, vary_lines}
 use Rattle.hc_history.specs.Seen.{remaining, Live, live_at, live_up_to, live_of}
 use Rattle.hc_history.specs.Furthest.{passed, passed_later, furthest_up_to, furthest, furthest_live}
-use Rattle.hc_history.proofs.TargetLemmas.{same_target_one}
+use Rattle.hc_head.proofs.SameTargetLemmas.{same_target_one}
 use Rattle.hc_history.proofs.ForgetLemmas.{remaining_lost, remaining_kept}
 
 -- lines that were kept by their name have its values

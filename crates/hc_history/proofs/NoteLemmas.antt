@@ -16,7 +16,7 @@ use Rattle.hc_history.specs.States.{begun_by, begun_to, state_begun, state_answe
 use Rattle.hc_history.specs.Windows.{is_error_by, is_failure_by, is_error, is_failure}
 use Rattle.hc_history.specs.Seen.{remaining, Live, live_at, live_up_to, live_of, WindowResponse, response_in, responses_since, window_responses_of, Seen, IsSeenAs}
 use Rattle.hc_history.specs.Noting.{live_answered, lives_answered, lives_after, added_to_window, window_after, Notes}
-use Rattle.hc_history.proofs.TargetLemmas.{same_target_one}
+use Rattle.hc_head.proofs.SameTargetLemmas.{same_target_one}
 use Rattle.hc_history.proofs.StateLemmas.{earlier_at}
 use Rattle.hc_history.proofs.ForgetLemmas.{remaining_answered}
 

@@ -1,10 +1,8 @@
 -- Whether a stored response may be used for a reply (RFC 9111 section 4).
-use Rattle.std.specs.Prelude.{ℕ, Bool, true, false, ◌&&◌, ◌||◌, ◌+◌, not, nat_lt, nat_le, List, Option, Some, None, codes}
-use Rattle.hc_fields.specs.declared.fields.Field.{Field}
+use Rattle.std.specs.Prelude.{ℕ, Bool, true, false, ◌&&◌, ◌||◌, ◌+◌, not, nat_lt, nat_le, Option, Some, None, codes}
 use Rattle.hc_directives.specs.declared.cache_control.Seconds.{Seconds}
 use Rattle.hc_directives.specs.declared.cache_control.Seconds.TheVariants.{Bare, Value}
-use Rattle.hc_directives.specs.Directives.{cache_control, first_directive, seconds_of}
-use Rattle.hc_fresh.specs.Lifetimes.{freshness_lifetime, says, stale_forbidden}
+use Rattle.hc_fresh.specs.Lifetimes.{freshness_lifetime, says, seconds_said, stale_forbidden}
 use Rattle.hc_fresh.specs.Ages.{current_age, staleness as staleness_by}
 use Rattle.hc_update.specs.declared.stored.Stored.{Stored}
 use Rattle.hc_history.specs.Claims.{Claim}
@@ -24,10 +22,6 @@ abbrev pub staleness_of : Claim → Stored → ℕ
 staleness_of claim state = staleness_by (lifetime_of state) (age_of claim state)
 
 -- ---- what permits staleness (RFC 9111 section 4.2.4)
-
--- the seconds that the first directive of that name says
-abbrev pub seconds_said : List ℕ → List Field → Seconds
-seconds_said name fields = seconds_of (first_directive name (cache_control fields).directives)
 
 -- whether a directive of so many seconds permits the staleness; one that says no number permits none
 abbrev pub permits : Claim → ℕ → Seconds → Bool

@@ -1,6 +1,6 @@
 -- The window of a reply: the items after its request, whose positions are later than that of the request.
-use Rattle.std.specs.Prelude.{ℕ, Bool, false, ◌&&◌, ◌||◌, ◌==◌, nat_lt, List, [], ◌∷◌, Option, Some, None, if◌then◌else◌}
-use Rattle.std.specs.List.{list_any}
+use Rattle.std.specs.Prelude.{ℕ, Bool, false, ◌&&◌, ◌||◌, nat_lt, List, [], ◌∷◌, Option, Some, None, if◌then◌else◌}
+use Rattle.hc_head.specs.Statuses.{is_error_status}
 use Rattle.hc_head.specs.declared.head.Target.{Target}
 use Rattle.hc_transcript.specs.Items.{Item, OriginResponse, OriginFailure, Forward}
 use Rattle.hc_transcript.specs.History.{next_position, forward_of}
@@ -17,10 +17,6 @@ latest test [] = 0
 latest test (item ∷ h) = if test h item then next_position h else latest test h
 
 -- ---- what permits stale responses in its place: errors (RFC 5861 section 4), and that the origin can't be reached (RFC 9111 section 4.2.4)
-
--- a status that says that the origin can't answer now
-abbrev pub is_error_status : ℕ → Bool
-is_error_status status = list_any (λ known. known == status) (500 ∷ 502 ∷ 503 ∷ 504 ∷ [])
 
 -- whether it is an open forward of that target
 abbrev pub is_forward_of : Target → Option Forward → Bool

@@ -57,7 +57,7 @@ impl<'a> Model for ReplyClaim<'a> {
 pub(crate) fn asks_head(claim: &ReplyClaim<'_>) -> bool
     ensures { result ≡ asks_head claim.now }
 {
-    is_head(claim.request.method.as_slice())
+    is_head(&claim.request.method)
 }
 
 /// The seconds of a hit.

@@ -8,7 +8,7 @@ ghost use Rattle.hc_history.specs.Filters.{has_its_fields, is_exempt, rewritten_
 
 use crate::claim::ReplyClaim;
 use hc_fields::{Fields, is_among};
-use hc_head::NOT_MODIFIED;
+use hc_head::StatusCode;
 use hc_rules::REPEATED_NAMES;
 use hc_update::Stored;
 
@@ -19,7 +19,7 @@ const REWRITTEN: [&[u8]; 4] = [b"content-length", b"via", b"cache-status", b"age
 pub(crate) fn is_not_modified(claim: &ReplyClaim<'_>) -> bool
     ensures { result ≡ (claim.now.reply.head.status == not_modified) }
 {
-    claim.reply.head.status == NOT_MODIFIED
+    claim.reply.head.status == StatusCode::NOT_MODIFIED
 }
 
 fn is_rewritten(name: &[u8]) -> bool

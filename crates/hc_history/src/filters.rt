@@ -27,8 +27,7 @@ fn within(slack: u32, one: u32, other: u32) -> bool
 fn is_asked_for(claim: &ReplyClaim<'_>, target: &Target) -> bool
     ensures { result ≡ is_asked_for claim.now target.now }
 {
-    (is_get(claim.request.method.as_slice()) || asks_head(claim))
-        && same_target(target, claim.target)
+    (is_get(&claim.request.method) || asks_head(claim)) && same_target(target, claim.target)
 }
 
 /// Whether its Vary selects the request (RFC 9111 section 4.1).

@@ -5,18 +5,18 @@ ghost use Rattle.hc_history.specs.Forwarded.{asks_the_same, carries};
 
 use crate::claim::{ReplyClaim, asks_head};
 use crate::filters::has_body;
-use hc_head::is_get;
+use hc_head::{Method, StatusCode, is_get};
 
 /// Whether a forward of that method asks what the request asks: by its method, or by GET for HEAD
 /// (RFC 9110 section 9.3.2).
-fn asks_the_same(claim: &ReplyClaim<'_>, method: &[u8]) -> bool
+fn asks_the_same(claim: &ReplyClaim<'_>, method: &Method) -> bool
     ensures { result ≡ asks_the_same claim.now method.now }
 {
-    method == claim.request.method.as_slice() || (asks_head(claim) && is_get(method))
+    *method == claim.request.method || (asks_head(claim) && is_get(method))
 }
 
 /// Whether a response of that status and that body, to that method, is what the reply carries.
-pub fn carries(claim: &ReplyClaim<'_>, method: &[u8], status: u16, body: &[u8]) -> bool
+pub fn carries(claim: &ReplyClaim<'_>, method: &Method, status: StatusCode, body: &[u8]) -> bool
     ensures { result ≡ carries claim.now method.now status body.now }
 {
     asks_the_same(claim, method) && claim.reply.head.status == status && has_body(claim, body)

@@ -15,7 +15,6 @@ mod right;
 mod settings;
 mod usable;
 mod verdicts;
-mod windows;
 
 pub use claim::{ReplyClaim, ttl_of};
 pub use filters::passed;
@@ -33,6 +32,5 @@ pub use marks::{MarkedReply, reply_mark};
 pub use reasons::Reason;
 pub use right::allows_unmarked;
 pub use settings::{FieldNames, Settings, UnmarkedReplies};
-pub use usable::age_of;
+pub use usable::{age_of, lifetime_of};
 pub use verdicts::{Counts, Finding, Verdict};
-pub use windows::is_error_status;

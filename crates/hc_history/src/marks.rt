@@ -4,18 +4,18 @@ ghost use Rattle.std.specs.Prelude.{◌≡◌, IfOk};
 ghost use Rattle.hc_history.specs.Marks.{judged_mark, reply_mark};
 
 use hc_framing::Message;
-use hc_head::{PARTIAL_CONTENT, ResponseHead};
+use hc_head::{ResponseHead, StatusCode};
 use hc_status::{Mark, MarkFault, mark};
 use std::alloc::{AllocError, Global};
 use std::marker::Model;
 
 /// The mark by which a reply of that status is judged, whose Cache-Status says this.
-fn judged_mark(status: u16, mark: Mark) -> Mark
+fn judged_mark(status: StatusCode, mark: Mark) -> Mark
     ensures { result ≡ judged_mark status mark }
 {
     match mark {
         Mark::Hit { ttl } => {
-            if status == PARTIAL_CONTENT {
+            if status == StatusCode::PARTIAL_CONTENT {
                 Mark::Unmarked
             } else {
                 Mark::Hit { ttl }

@@ -1,17 +1,17 @@
 //! Whether a stored response may be used for a reply (RFC 9111 section 4).
 
 ghost use Rattle.std.specs.Prelude.{◌≡◌, codes};
-ghost use Rattle.hc_fresh.specs.Lifetimes.{says};
-ghost use Rattle.hc_history.specs.Usable.{age_of, by_request, is_fresh_enough, is_usable, lifetime_of, max_stale_permits, on_error, permits, permits_stale, seconds_said, staleness_of, validated_since, while_revalidating};
+ghost use Rattle.hc_fresh.specs.Lifetimes.{says, seconds_said};
+ghost use Rattle.hc_history.specs.Usable.{age_of, by_request, is_fresh_enough, is_usable, lifetime_of, max_stale_permits, on_error, permits, permits_stale, staleness_of, validated_since, while_revalidating};
 
 use crate::claim::ReplyClaim;
-use hc_directives::{Directives, Seconds};
+use hc_directives::Seconds;
 use hc_fields::Fields;
-use hc_fresh::{current_age, lifetime, stale_forbidden, staleness};
+use hc_fresh::{current_age, lifetime, says, seconds_said, stale_forbidden, staleness};
 use hc_update::Stored;
 
 /// The freshness lifetime of a stored response (RFC 9111 section 4.2.1).
-pub(crate) fn lifetime_of(state: &Stored) -> u32
+pub fn lifetime_of(state: &Stored) -> u32
     ensures { result ≡ lifetime_of state.now }
 {
     lifetime(&state.fields, state.times.date)
@@ -29,20 +29,6 @@ fn staleness_of(claim: &ReplyClaim<'_>, state: &Stored) -> u32
     ensures { result ≡ staleness_of claim.now state.now }
 {
     staleness(lifetime_of(state), age_of(claim, state))
-}
-
-/// The seconds that the first directive of that name says.
-fn seconds_said(name: &[u8], fields: &Fields) -> Seconds
-    ensures { result ≡ seconds_said name.now fields.now }
-{
-    Directives::read(fields).seconds(name)
-}
-
-/// Whether there is a directive of that name, whatever its argument.
-fn says(name: &[u8], fields: &Fields) -> bool
-    ensures { result ≡ says name.now fields.now }
-{
-    Directives::read(fields).has(name)
 }
 
 /// Whether a directive of those seconds permits that staleness, give or take the slack.

@@ -3,9 +3,9 @@
 use crate::kind::Kind;
 use crate::messages::{fresh_response, request, stale_response};
 use crate::trouble::Trouble;
-use hc_core::Core;
 use hc_events::{Event, Happening};
 use hc_fields::Octets;
+use hc_machine::Core;
 use hc_service::{Action, CoreSettings};
 use std::alloc::{AllocError, Global};
 

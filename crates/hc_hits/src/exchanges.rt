@@ -4,10 +4,10 @@ use crate::cache::{Size, happen};
 use crate::kind::Kind;
 use crate::messages::{not_modified, request, validated_head};
 use crate::trouble::Trouble;
-use hc_core::Core;
 use hc_events::Happening;
 use hc_fields::Octets;
 use hc_framing::MessageText;
+use hc_machine::Core;
 use hc_service::Action;
 use std::alloc::{AllocError, Global};
 

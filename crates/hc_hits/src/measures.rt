@@ -4,7 +4,7 @@ use crate::cache::{Size, filled};
 use crate::exchanges::{Exchange, Validated, exchanges, serve_all, validated_reply};
 use crate::kind::Kind;
 use crate::trouble::Trouble;
-use hc_core::Core;
+use hc_machine::Core;
 use std::alloc::Global;
 use std::io::Write;
 use std::rt::Clock;

@@ -2,7 +2,7 @@
 ghost use Rattle.std.specs.Prelude.{◌≡◌};
 ghost use Rattle.hc_hits.specs.declared.trouble.Trouble.TheVariants.{Memory};
 
-use hc_core::CoreFault;
+use hc_machine::CoreFault;
 use hc_service::StepFault;
 use std::alloc::{AllocError, AllocFailed};
 use std::io;

@@ -23,7 +23,7 @@ use Rattle.hc_history.specs.Furthest.{passed, passed_later, furthest, furthest_l
 use Rattle.hc_history.specs.Reused.{anywhere, filter_count}
 use Rattle.hc_history.specs.Right.{IsFoundBy, IsFinding}
 use Rattle.hc_history.specs.Seen.{Seen, IsSeenAs, WindowResponse, live_of, responses_since, window_responses_of}
-use Rattle.hc_history.proofs.TargetLemmas.{same_target_one}
+use Rattle.hc_head.proofs.SameTargetLemmas.{same_target_one}
 use Rattle.hc_history.proofs.WindowLemmas.{carried}
 use Rattle.hc_history.proofs.FurthestLemmas.{passed_few}
 use Rattle.hc_history.proofs.LiveLemmas.{passed_other, furthest_is_live, HavePositions, live_positions}

@@ -21,7 +21,7 @@ use Rattle.hc_history.specs.Seen.{Live, live_at, remaining}
 use Rattle.hc_history.specs.States.{begun_by, state_answered}
 use Rattle.hc_history.specs.Noting.{live_answered}
 use Rattle.hc_history.proofs.ForgetLemmas.{lost_remnant, remaining_lost, remaining_kept}
-use Rattle.hc_history.proofs.TargetLemmas.{same_target_one}
+use Rattle.hc_head.proofs.SameTargetLemmas.{same_target_one}
 use Rattle.hc_index.specs.declared.kept.LiveResponse.{LiveResponse}
 use Rattle.hc_index.specs.Lists.{live_seen, live_in, may_change, Targeted, targeted, targeted_answered}
 
@@ -152,7 +152,7 @@ remnant_twice : (state : Stored) → remnant (remnant state) ≡ remnant state
 remnant_twice state =
     ap (λ (fields : List Field). let s : Stored = record {
       request = state.request;
-      status = 0;
+      status = state.status;
       fields = fields;
       body = [];
       times = record { date = 0; age_value = 0; request_time = 0; response_time = 0 };

@@ -12,10 +12,11 @@ use Rattle.hc_head.specs.Targets.{same_target}
 use Rattle.hc_framing.specs.declared.message.Message.{Message}
 use Rattle.hc_transcript.specs.Items.{ClientRequest, ClientReply, OriginResponse, OriginFailure, Exchange, Forward}
 use Rattle.hc_history.specs.States.{begun_by}
-use Rattle.hc_history.specs.Windows.{is_error_status, is_forward_of}
+use Rattle.hc_head.specs.Statuses.{is_error_status}
+use Rattle.hc_history.specs.Windows.{is_forward_of}
 use Rattle.hc_history.specs.Seen.{live_at, response_to}
 use Rattle.hc_history.specs.Noting.{live_answered, lives_answered, added_to_window, Notes}
-use Rattle.hc_history.proofs.TargetLemmas.{same_target_one}
+use Rattle.hc_head.proofs.SameTargetLemmas.{same_target_one}
 use Rattle.hc_index.specs.declared.kept.OpenForward.{OpenForward}
 use Rattle.hc_index.specs.declared.kept.PooledExchange.{PooledExchange}
 use Rattle.hc_index.specs.declared.at_target.AtTarget.{AtTarget}

@@ -12,7 +12,8 @@ use Rattle.hc_transcript.specs.Items.{OriginResponse, Forward}
 use Rattle.hc_rules.specs.Storing.{may_store}
 use Rattle.hc_update.specs.States.{initial_state}
 use Rattle.hc_history.specs.States.{begun_by}
-use Rattle.hc_history.specs.Windows.{is_error_status, is_forward_of}
+use Rattle.hc_head.specs.Statuses.{is_error_status}
+use Rattle.hc_history.specs.Windows.{is_forward_of}
 use Rattle.hc_history.specs.Seen.{Live, live_at}
 use Rattle.hc_history.specs.Noting.{live_answered, lives_answered, added_to_window, Notes}
 use Rattle.hc_index.specs.declared.kept.LiveResponse.{LiveResponse}

@@ -6,10 +6,10 @@ use Rattle.hc_head.specs.declared.head.Target.{Target}
 use Rattle.hc_framing.specs.declared.message.Message.{Message}
 use Rattle.hc_transcript.specs.Items.{Forward}
 use Rattle.hc_history.specs.States.{begun_by}
-use Rattle.hc_history.specs.Windows.{is_error_status}
+use Rattle.hc_head.specs.Statuses.{is_error_status}
 use Rattle.hc_history.specs.Noting.{live_answered}
 use Rattle.hc_history.specs.Seen.{Live, live_at, WindowResponse}
-use Rattle.hc_history.proofs.TargetLemmas.{same_target_itself}
+use Rattle.hc_head.proofs.SameTargetLemmas.{same_target_itself}
 use Rattle.hc_index.specs.declared.kept.LiveResponse.{LiveResponse}
 use Rattle.hc_index.specs.declared.at_target.AtTarget.{AtTarget}
 use Rattle.hc_index.specs.Lists.{by_target, live_in, targeted, targeted_answered}

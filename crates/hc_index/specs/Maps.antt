@@ -10,7 +10,7 @@ use Rattle.hc_head.specs.Targets.{same_target}
 use Rattle.hc_framing.specs.declared.message.Message.{Message}
 use Rattle.hc_transcript.specs.Items.{Exchange, Forward}
 use Rattle.hc_history.specs.States.{begun_by}
-use Rattle.hc_history.specs.Windows.{is_error_status}
+use Rattle.hc_head.specs.Statuses.{is_error_status}
 use Rattle.hc_history.specs.Noting.{live_answered}
 use Rattle.hc_history.specs.Seen.{Live, live_at, WindowResponse, Seen}
 use Rattle.hc_index.specs.declared.kept.PooledExchange.{PooledExchange}

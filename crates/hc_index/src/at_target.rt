@@ -3,7 +3,7 @@
 ghost use Rattle.std.specs.Prelude.{◌≡◌, ◌<◌, ◌≤◌, ℕ, true, Some, None, Decides, IfOk, OnOk, if◌then◌else◌};
 ghost use Rattle.hc_fields.specs.Numbers.{end_of_moments};
 ghost use Rattle.hc_head.specs.declared.head.Target.{Target};
-ghost use Rattle.hc_history.specs.Windows.{is_error_status};
+ghost use Rattle.hc_head.specs.Statuses.{is_error_status};
 ghost use Rattle.hc_index.specs.Lists.{forward_seen};
 ghost use Rattle.hc_index.specs.Maps.{AnswersAt, ClosesAt, FailsAt, KeepsSame, OpensAt};
 
@@ -12,8 +12,7 @@ use crate::lives::{answer_lives, begin_live};
 use crate::pool::Pool;
 use hc_fields::SharedOctets;
 use hc_framing::Message;
-use hc_head::ResponseHead;
-use hc_history::is_error_status;
+use hc_head::{ResponseHead, StatusCode, is_error_status};
 use std::alloc::{AllocError, Global};
 
 /// What is kept of a target.
@@ -30,7 +29,7 @@ pub(crate) struct AtTarget {
 }
 
 /// The position of the latest error behind a response of that status.
-fn error_after(error: u64, status: u16, position: u64) -> u64
+fn error_after(error: u64, status: StatusCode, position: u64) -> u64
     ensures { result ≡ (if is_error_status status then position else error) }
 {
     if is_error_status(status) {
@@ -111,12 +110,11 @@ impl AtTarget {
         requires { moment < end_of_moments }
         ensures { OnOk result (AnswersAt (forward_seen forward) position moment response (Some self.old) (Some self.new)) }
     {
-        let response = Message {
-            head: response.head,
-            body: shared_body(self.lives.as_slice(), response.body)?,
-        };
+        let Message { head, body } = response;
+        self.error = error_after(self.error, head.status, position);
+        let body = shared_body(self.lives.as_slice(), body)?;
+        let response = Message { head, body };
         self.pool.add(alloc, &forward, &response)?;
-        self.error = error_after(self.error, response.head.status, position);
         let lives = &mut self.lives;
         answer_lives(alloc, &forward, position, moment, &response, lives)?;
         begin_live(alloc, forward, position, moment, response, lives)

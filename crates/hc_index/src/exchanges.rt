@@ -42,7 +42,7 @@ fn add_to_window(
         return Ok(());
     }
     exchange.window.push(WindowAnswer {
-        method: forward.request.method.copy(alloc)?,
+        method: forward.request.method.clone()?,
         status: response.head.status,
         body: response.body.share()?,
     })?;

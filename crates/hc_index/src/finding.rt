@@ -62,12 +62,7 @@ pub(crate) fn carries_one(claim: &ReplyClaim<'_>, answers: &[WindowAnswer]) -> b
     ensures { result ≡ list_any (λ answer. carries claim.now answer.method answer.status answer.body) answers.now }
 {
     answers.iter().any(|answer| {
-        carries(
-            claim,
-            answer.method.as_slice(),
-            answer.status,
-            answer.body.as_slice(),
-        )
+        carries(claim, &answer.method, answer.status, answer.body.as_slice())
     })
 }
 

@@ -3,12 +3,13 @@
 ghost use Rattle.std.specs.Prelude.{◌≡◌};
 ghost use Rattle.hc_history.specs.Seen.{remaining};
 
-use hc_fields::{Octets, SharedOctets};
-use hc_head::{RequestHead, Target};
+use hc_fields::SharedOctets;
+use hc_framing::Message;
+use hc_head::{Method, RequestHead, StatusCode, Target};
 use hc_update::Stored;
 
 /// A response that may be stored, as the records behind it have left it.
-#[derive(Debug, Drop)]
+#[derive(Debug)]
 pub(crate) struct LiveResponse {
     /// The position of its record.
     pub(crate) position: u64,
@@ -19,23 +20,79 @@ pub(crate) struct LiveResponse {
     ghost remains: { remaining state ≡ state },
 }
 
+impl Drop for LiveResponse {
+    fn drop(self) {
+        let LiveResponse {
+            position: _,
+            target,
+            state,
+        } = self;
+        drop(target);
+        drop(state);
+    }
+}
+
 /// What the origin answered in the window of an exchange.
-#[derive(Debug, Drop)]
+#[derive(Debug)]
 pub(crate) struct WindowAnswer {
     /// The method of the forward.
-    pub(crate) method: Octets,
-    pub(crate) status: u16,
+    pub(crate) method: Method,
+    pub(crate) status: StatusCode,
     pub(crate) body: SharedOctets,
 }
 
+impl Drop for WindowAnswer {
+    fn drop(self) {
+        let WindowAnswer {
+            method,
+            status: _,
+            body,
+        } = self;
+        drop(method);
+        drop(body);
+    }
+}
+
 /// An open exchange.
-#[derive(Debug, Drop)]
+#[derive(Debug)]
 pub(crate) struct OpenExchange {
     pub(crate) number: u64,
     /// The position of its request.
     pub(crate) position: u64,
     pub(crate) request: RequestHead,
     pub(crate) target: Target,
+}
+
+impl Drop for OpenExchange {
+    fn drop(self) {
+        let OpenExchange {
+            number: _,
+            position: _,
+            request,
+            target,
+        } = self;
+        drop(request);
+        drop(target);
+    }
+}
+
+impl OpenExchange {
+    /// The exchange of a request.
+    pub(crate) fn new(
+        number: u64,
+        position: u64,
+        request: Message<RequestHead>,
+        target: Target,
+    ) -> Self
+        ensures { result ≡ record { number = number; position = position; request = request.head; target = target } }
+    {
+        OpenExchange {
+            number,
+            position,
+            request: request.head,
+            target,
+        }
+    }
 }
 
 /// An open exchange with a window of its own.
@@ -60,4 +117,17 @@ pub(crate) struct OpenForward {
     pub(crate) moment: u64,
     pub(crate) request: RequestHead,
     pub(crate) target: Target,
+}
+
+impl OpenForward {
+    /// The forward of a request that was sent at that moment.
+    pub(crate) fn new(moment: u64, request: Message<RequestHead>, target: Target) -> Self
+        ensures { result ≡ record { moment = moment; request = request.head; target = target } }
+    {
+        OpenForward {
+            moment,
+            request: request.head,
+            target,
+        }
+    }
 }

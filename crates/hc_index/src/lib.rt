@@ -12,6 +12,7 @@ mod list_index;
 mod lives;
 mod map_finding;
 mod map_index;
+mod noting;
 mod pool;
 mod targets;
 

@@ -6,7 +6,7 @@ ghost use Rattle.hc_fields.specs.Numbers.{end_of_moments};
 ghost use Rattle.hc_head.specs.declared.head.Target.{Target};
 ghost use Rattle.hc_head.specs.Targets.{same_target};
 ghost use Rattle.hc_transcript.specs.Items.{Item, ClientRequest, OriginRequest, OriginResponse, OriginFailure, ClientReply, item_of};
-ghost use Rattle.hc_history.specs.Windows.{is_error_status};
+ghost use Rattle.hc_head.specs.Statuses.{is_error_status};
 ghost use Rattle.hc_history.specs.Seen.{IsSeenAs};
 ghost use Rattle.hc_history.specs.Noting.{Notes};
 ghost use Rattle.hc_index.specs.Lists.{by_target, position_in, seen_in};
@@ -16,10 +16,11 @@ use crate::index::Index;
 use crate::kept::{LiveResponse, OpenExchange, OpenForward, WatchedExchange};
 use crate::list_finding::finding;
 use crate::lives::{answer_lives, begin_live};
+use crate::noting::{Noting, note_item};
 use hc_framing::Message;
-use hc_head::{RequestHead, ResponseHead, Target};
-use hc_history::{Finding, MarkedReply, Settings, is_error_status};
-use hc_transcript::{Meaning, OwnedItem};
+use hc_head::{RequestHead, ResponseHead, Target, is_error_status};
+use hc_history::{Finding, MarkedReply, Settings};
+use hc_transcript::OwnedItem;
 use std::alloc::{AllocError, Global};
 use std::collections::BTreeMap;
 
@@ -82,81 +83,55 @@ impl ListIndex {
             failures: BTreeMap::new(alloc),
         }
     }
+}
 
-    /// Notes a request of a client.
+impl Noting for ListIndex {
+    ghost knows = { λ index. seen_in index };
+
     fn open_exchange(
         &mut self,
         number: u64,
         position: u64,
         request: Message<RequestHead>,
         target: Target,
-    ) -> Result<(), AllocError>
-        ensures { (moment : ℕ) → OnOk result
-            (Notes (seen_in self.old) position (ClientRequest number moment request target) (seen_in self.new)) }
-    {
+    ) -> Result<(), AllocError> {
         let watched = WatchedExchange {
-            exchange: OpenExchange {
-                number,
-                position,
-                request: request.head,
-                target,
-            },
+            exchange: OpenExchange::new(number, position, request, target),
             window: Vec::new(self.alloc),
         };
         open_exchange(&mut self.exchanges, watched)
     }
 
-    /// Notes a reply to a client.
-    fn close_exchange(&mut self, number: u64)
-        ensures { (position moment : ℕ) (reply : Message ResponseHead)
-            → Notes (seen_in self.old) position (ClientReply number moment reply) (seen_in self.new) }
-    {
+    fn close_exchange(&mut self, number: u64) {
         close_exchange(&mut self.exchanges, number);
     }
 
-    /// Notes a request to the origin.
     fn open_forward(
         &mut self,
         number: u64,
         moment: u64,
         request: Message<RequestHead>,
         target: Target,
-    ) -> Result<(), AllocError>
-        ensures { (position : ℕ) → OnOk result
-            (Notes (seen_in self.old) position (OriginRequest number moment request target) (seen_in self.new)) }
-    {
-        let forward = OpenForward {
-            moment,
-            request: request.head,
-            target,
-        };
+    ) -> Result<(), AllocError> {
+        let forward = OpenForward::new(moment, request, target);
         self.forwards.insert(number, forward)?;
         Ok(())
     }
 
-    /// Notes that the origin gave no answer.
-    fn fail_forward(&mut self, number: u64, position: u64) -> Result<(), AllocError>
-        ensures { (moment : ℕ) → OnOk result
-            (Notes (seen_in self.old) position (OriginFailure number moment) (seen_in self.new)) }
-    {
+    fn fail_forward(&mut self, number: u64, position: u64) -> Result<(), AllocError> {
         let Some(forward) = self.forwards.remove(&number) else {
             return Ok(());
         };
         keep_position(&mut self.failures, forward.target, position)
     }
 
-    /// Notes a response of the origin.
     fn answer_forward(
         &mut self,
         number: u64,
         position: u64,
         moment: u64,
         response: Message<ResponseHead>,
-    ) -> Result<(), AllocError>
-        requires { moment < end_of_moments }
-        ensures { OnOk result
-            (Notes (seen_in self.old) position (OriginResponse number moment response) (seen_in self.new)) }
-    {
+    ) -> Result<(), AllocError> {
         let alloc = self.alloc;
         let Some(forward) = self.forwards.remove(&number) else {
             return Ok(());
@@ -167,35 +142,13 @@ impl ListIndex {
         answer_lives(alloc, &forward, position, moment, &response, lives)?;
         begin_live(alloc, forward, position, moment, response, lives)
     }
-
-    /// Notes the next item, which stands at that position.
-    fn take(&mut self, position: u64, item: OwnedItem) -> Result<(), AllocError>
-        ensures { OnOk result (Notes (seen_in self.old) position (item_of item) (seen_in self.new)) }
-    {
-        let number = item.number;
-        let moment = item.moment;
-        let of = item.of;
-        match of {
-            Meaning::ClientRequest { request, target } => {
-                self.open_exchange(number, position, request, target)
-            }
-            Meaning::OriginRequest { request, target } => {
-                self.open_forward(number, moment, request, target)
-            }
-            Meaning::OriginResponse(response) => {
-                self.answer_forward(number, position, moment, response)
-            }
-            Meaning::OriginFailure => self.fail_forward(number, position),
-            Meaning::ClientReply(_) => Ok(self.close_exchange(number)),
-        }
-    }
 }
 
 impl Index for ListIndex {
     ghost seen = { λ index. seen_in index };
 
     fn note(&mut self, position: u64, item: OwnedItem) -> Result<(), AllocError> {
-        self.take(position, item)
+        note_item(self, position, item)
     }
 
     fn find(

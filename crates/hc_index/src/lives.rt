@@ -12,7 +12,7 @@ ghost use Rattle.hc_index.specs.Lists.{forward_seen, live_in, may_change, target
 use crate::kept::{LiveResponse, OpenForward};
 use hc_fields::Fields;
 use hc_framing::Message;
-use hc_head::{NOT_MODIFIED, ResponseHead, same_target};
+use hc_head::{ResponseHead, StatusCode, same_target};
 use hc_rules::{last_modified, may_store, tag};
 use hc_update::{Stored, identifies, initial, invalidates};
 use std::alloc::{AllocError, Global};
@@ -57,7 +57,7 @@ fn answer_state(
 {
     if identifies(alloc, state, &forward.request, &response.head)? {
         state.freshen(&response.head, forward.moment, moment, position)?;
-    } else if invalidates(forward.request.method.as_slice(), response.head.status) {
+    } else if invalidates(&forward.request.method, response.head.status) {
         state.invalidate();
     }
     Ok(())
@@ -87,8 +87,8 @@ fn answer_live(
 fn may_change(forward: &OpenForward, response: &Message<ResponseHead>) -> bool
     ensures { result ≡ may_change forward.now.request.method response.now.head.status }
 {
-    response.head.status == NOT_MODIFIED
-        || invalidates(forward.request.method.as_slice(), response.head.status)
+    response.head.status == StatusCode::NOT_MODIFIED
+        || invalidates(&forward.request.method, response.head.status)
 }
 
 /// What a response to a forward makes of the live responses. It looks at none that it can't change.

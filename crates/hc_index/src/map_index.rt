@@ -11,11 +11,12 @@ use crate::at_target::AtTarget;
 use crate::index::Index;
 use crate::kept::{OpenExchange, OpenForward, PooledExchange};
 use crate::map_finding::finding;
+use crate::noting::{Noting, note_item};
 use crate::targets::{answer_at, close_at, fail_at, open_at};
 use hc_framing::Message;
 use hc_head::{RequestHead, ResponseHead, Target};
 use hc_history::{Finding, MarkedReply, Settings};
-use hc_transcript::{Meaning, OwnedItem};
+use hc_transcript::OwnedItem;
 use std::alloc::{AllocError, Global};
 use std::collections::BTreeMap;
 
@@ -41,113 +42,65 @@ impl MapIndex {
             forwards: BTreeMap::new(alloc),
         }
     }
+}
 
-    /// Notes a request of a client.
+impl Noting for MapIndex {
+    ghost knows = { λ index. seen_in index };
+
     fn open_exchange(
         &mut self,
         number: u64,
         position: u64,
         request: Message<RequestHead>,
         target: Target,
-    ) -> Result<(), AllocError>
-        ensures { (moment : ℕ) → OnOk result
-            (Notes (seen_in self.old) position (ClientRequest number moment request target) (seen_in self.new)) }
-    {
+    ) -> Result<(), AllocError> {
         let behind = open_at(self.alloc, &mut self.targets, &target, number)?;
         let pooled = PooledExchange {
-            exchange: OpenExchange {
-                number,
-                position,
-                request: request.head,
-                target,
-            },
+            exchange: OpenExchange::new(number, position, request, target),
             behind,
         };
         self.exchanges.insert(number, pooled)?;
         Ok(())
     }
 
-    /// Notes a reply to a client.
-    fn close_exchange(&mut self, number: u64)
-        ensures { (position moment : ℕ) (reply : Message ResponseHead)
-            → Notes (seen_in self.old) position (ClientReply number moment reply) (seen_in self.new) }
-    {
+    fn close_exchange(&mut self, number: u64) {
         if let Some(pooled) = self.exchanges.remove(&number) {
             let target = &pooled.exchange.target;
             close_at(&mut self.targets, target, pooled.behind, number);
         }
     }
 
-    /// Notes a request to the origin.
     fn open_forward(
         &mut self,
         number: u64,
         moment: u64,
         request: Message<RequestHead>,
         target: Target,
-    ) -> Result<(), AllocError>
-        ensures { (position : ℕ) → OnOk result
-            (Notes (seen_in self.old) position (OriginRequest number moment request target) (seen_in self.new)) }
-    {
-        let forward = OpenForward {
-            moment,
-            request: request.head,
-            target,
-        };
+    ) -> Result<(), AllocError> {
+        let forward = OpenForward::new(moment, request, target);
         self.forwards.insert(number, forward)?;
         Ok(())
     }
 
-    /// Notes that the origin gave no answer.
-    fn fail_forward(&mut self, number: u64, position: u64) -> Result<(), AllocError>
-        ensures { (moment : ℕ) → OnOk result
-            (Notes (seen_in self.old) position (OriginFailure number moment) (seen_in self.new)) }
-    {
+    fn fail_forward(&mut self, number: u64, position: u64) -> Result<(), AllocError> {
         let Some(forward) = self.forwards.remove(&number) else {
             return Ok(());
         };
         fail_at(self.alloc, &mut self.targets, forward.target, position)
     }
 
-    /// Notes a response of the origin.
     fn answer_forward(
         &mut self,
         number: u64,
         position: u64,
         moment: u64,
         response: Message<ResponseHead>,
-    ) -> Result<(), AllocError>
-        requires { moment < end_of_moments }
-        ensures { OnOk result
-            (Notes (seen_in self.old) position (OriginResponse number moment response) (seen_in self.new)) }
-    {
+    ) -> Result<(), AllocError> {
         let Some(forward) = self.forwards.remove(&number) else {
             return Ok(());
         };
         let targets = &mut self.targets;
         answer_at(self.alloc, targets, forward, position, moment, response)
-    }
-
-    /// Notes the next item, which stands at that position.
-    fn take(&mut self, position: u64, item: OwnedItem) -> Result<(), AllocError>
-        ensures { OnOk result (Notes (seen_in self.old) position (item_of item) (seen_in self.new)) }
-    {
-        let number = item.number;
-        let moment = item.moment;
-        let of = item.of;
-        match of {
-            Meaning::ClientRequest { request, target } => {
-                self.open_exchange(number, position, request, target)
-            }
-            Meaning::OriginRequest { request, target } => {
-                self.open_forward(number, moment, request, target)
-            }
-            Meaning::OriginResponse(response) => {
-                self.answer_forward(number, position, moment, response)
-            }
-            Meaning::OriginFailure => self.fail_forward(number, position),
-            Meaning::ClientReply(_) => Ok(self.close_exchange(number)),
-        }
     }
 }
 
@@ -155,7 +108,7 @@ impl Index for MapIndex {
     ghost seen = { λ index. seen_in index };
 
     fn note(&mut self, position: u64, item: OwnedItem) -> Result<(), AllocError> {
-        self.take(position, item)
+        note_item(self, position, item)
     }
 
     fn find(

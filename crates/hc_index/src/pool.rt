@@ -132,7 +132,7 @@ impl Pool {
             return Ok(());
         }
         self.answers.push_back(WindowAnswer {
-            method: forward.request.method.copy(alloc)?,
+            method: forward.request.method.clone()?,
             status: response.head.status,
             body: response.body.share()?,
         })?;

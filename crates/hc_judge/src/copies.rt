@@ -25,7 +25,7 @@ pub(crate) fn copy_of_request_head(
     ensures { IfOk result (λ h. h ≡ head.now) }
 {
     Ok(RequestHead {
-        method: head.method.copy(alloc)?,
+        method: head.method.clone()?,
         target: head.target.copy(alloc)?,
         version: head.version,
         fields: copy_of_fields(alloc, &head.fields)?,

@@ -22,7 +22,7 @@ fn is_carried(claim: &ReplyClaim<'_>, earlier: &[PastItem], past: &PastItem) -> 
     let Some(forward) = open_forward(earlier, item.number) else {
         return false;
     };
-    let method = forward.request.method.as_slice();
+    let method = &forward.request.method;
     let body = response.body.as_slice();
     same_target(forward.target, claim.target) && carries(claim, method, response.head.status, body)
 }

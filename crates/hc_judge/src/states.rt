@@ -70,7 +70,7 @@ fn state_answered(
     let mut state = state;
     if identifies(alloc, &state, forward.request, &response.head)? {
         state.freshen(&response.head, forward.moment, moment, position)?;
-    } else if invalidates(forward.request.method.as_slice(), response.head.status) {
+    } else if invalidates(&forward.request.method, response.head.status) {
         state.invalidate();
     }
     Ok(state)

@@ -7,8 +7,7 @@ ghost use Rattle.hc_history.specs.Windows.{is_forward_of, is_error, is_failure, 
 
 use crate::open::{OpenForward, open_forward};
 use crate::past::PastItem;
-use hc_head::{Target, same_target};
-use hc_history::is_error_status;
+use hc_head::{Target, is_error_status, same_target};
 use hc_transcript::Meaning;
 
 fn is_forward_of(target: &Target, forward: Option<OpenForward<'_>>) -> bool

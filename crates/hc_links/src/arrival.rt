@@ -1,7 +1,7 @@
 //! What is read off a link.
 
 use hc_framing::Message;
-use hc_head::{RequestHead, ResponseHead, Target};
+use hc_head::{RequestHead, ResponseHead, StatusCode, Target};
 
 /// What the octets of a client connection are.
 #[derive(Debug, Drop)]
@@ -9,7 +9,7 @@ pub enum Arrival {
     /// A whole request, and what it asks for.
     Request(Message<RequestHead>, Target),
     /// Nothing that is served: the status of the reply, behind which the connection closes.
-    Refused(u16),
+    Refused(StatusCode),
     /// Nothing yet.
     More,
 }
@@ -30,7 +30,7 @@ impl Arrival {
     }
 
     /// The status of a refusal, if it is one.
-    pub(crate) fn refusal(&self) -> Option<u16>
+    pub(crate) fn refusal(&self) -> Option<StatusCode>
         ensures { result ≡ refusal_of self.now }
     {
         match self {

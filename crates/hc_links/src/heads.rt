@@ -8,23 +8,8 @@ ghost use Rattle.hc_links.specs.Requests.{expects, fault_status};
 ghost use Rattle.hc_links.specs.HeadParts.{GivesTested, last_status};
 
 use hc_framing::FrameFault;
-use hc_head::{HeadFault, RequestHead, Target, Version, target};
+use hc_head::{HeadFault, RequestHead, StatusCode, Target, Version, target};
 use std::alloc::{AllocError, Global};
-
-/// Bad Request (RFC 9110 section 15.5.1).
-const BAD_REQUEST: u16 = 400;
-
-/// Content Too Large (RFC 9110 section 15.5.14).
-const CONTENT_TOO_LARGE: u16 = 413;
-
-/// Expectation Failed (RFC 9110 section 15.5.18).
-const EXPECTATION_FAILED: u16 = 417;
-
-/// Request Header Fields Too Large (RFC 6585 section 5).
-const FIELDS_TOO_LARGE: u16 = 431;
-
-/// Not Implemented (RFC 9110 section 15.6.2).
-const NOT_IMPLEMENTED: u16 = 501;
 
 /// What the tests of a head say.
 #[derive(Debug, Drop)]
@@ -32,7 +17,7 @@ pub(crate) enum Tested {
     /// It asks for the target.
     Served(Target),
     /// It is refused with the status.
-    Refused(u16),
+    Refused(StatusCode),
 }
 
 /// Whether the client waits for an interim response before it sends the body.
@@ -49,7 +34,7 @@ fn without_target(fault: HeadFault) -> Result<Tested, AllocError>
     if fault == HeadFault::Memory {
         return Err(AllocError);
     }
-    Ok(Tested::Refused(BAD_REQUEST))
+    Ok(Tested::Refused(StatusCode::BAD_REQUEST))
 }
 
 /// Tests a head: first its Host line, then its target, then whether it expects something.
@@ -60,7 +45,7 @@ pub(crate) fn test_head(alloc: Global, head: &RequestHead) -> Result<Tested, All
         Err(fault) => without_target(fault),
         Ok(target) => {
             if expects(head) {
-                return Ok(Tested::Refused(EXPECTATION_FAILED));
+                return Ok(Tested::Refused(StatusCode::EXPECTATION_FAILED));
             }
             Ok(Tested::Served(target))
         }
@@ -68,19 +53,20 @@ pub(crate) fn test_head(alloc: Global, head: &RequestHead) -> Result<Tested, All
 }
 
 /// The status that answers a fault.
-pub(crate) fn fault_status(fault: FrameFault) -> u16
+pub(crate) fn fault_status(fault: FrameFault) -> StatusCode
     ensures { result ≡ fault_status fault }
 {
     match fault {
-        FrameFault::Head(HeadFault::TooManyFields | HeadFault::TooLong) => FIELDS_TOO_LARGE,
-        FrameFault::BodyTooLong => CONTENT_TOO_LARGE,
-        FrameFault::BadCoding => NOT_IMPLEMENTED,
-        _ => BAD_REQUEST,
+        FrameFault::Head(HeadFault::TooManyFields | HeadFault::TooLong) =>
+            StatusCode::REQUEST_HEADER_FIELDS_TOO_LARGE,
+        FrameFault::BodyTooLong => StatusCode::PAYLOAD_TOO_LARGE,
+        FrameFault::BadCoding => StatusCode::NOT_IMPLEMENTED,
+        _ => StatusCode::BAD_REQUEST,
     }
 }
 
 /// The status that answers a fault at the client's end, where what is merely cut off has no reply.
-pub(crate) fn last_status(fault: FrameFault) -> Option<u16>
+pub(crate) fn last_status(fault: FrameFault) -> Option<StatusCode>
     ensures { result ≡ last_status fault }
 {
     match fault {

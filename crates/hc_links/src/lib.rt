@@ -7,7 +7,6 @@ mod heads;
 mod laws;
 mod requests;
 mod responses;
-mod waiting;
 
 pub use arrival::{Arrival, Heard};
 pub use laws::{one_request_arrives, one_response_arrives};

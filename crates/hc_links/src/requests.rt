@@ -4,15 +4,15 @@ ghost use Rattle.std.specs.Prelude.{◌≡◌};
 
 use crate::arrival::Arrival;
 use crate::heads::{Tested, fault_status, last_status, test_head, unless_memory};
-use crate::waiting::Waiting;
+use hc_fields::Waiting;
 use hc_framing::{FrameFault, Kind, MessageReader, Progress};
-use hc_head::{RequestHead, Room, Target};
+use hc_head::{RequestHead, Room, StatusCode, Target};
 use std::alloc::{AllocError, Global};
 use std::mem;
 
 /// Reads the requests of a client connection, one after the other. What is behind a whole request
 /// waits until the next is asked for. Heads are read in the room `RECEIVED`.
-#[derive(Debug, Drop)]
+#[derive(Debug)]
 pub struct RequestReader {
     alloc: Global,
     /// The request that has begun.
@@ -21,6 +21,20 @@ pub struct RequestReader {
     target: Option<Target>,
     /// The octets that were heard and not yet read.
     waits: Waiting,
+}
+
+impl Drop for RequestReader {
+    fn drop(self) {
+        let RequestReader {
+            alloc: _,
+            reader,
+            target,
+            waits,
+        } = self;
+        drop(reader);
+        drop(target);
+        drop(waits);
+    }
 }
 
 impl RequestReader {
@@ -95,7 +109,7 @@ impl RequestReader {
     }
 
     /// Tests the head, once it has come: the status that refuses it, if it fails a test.
-    fn test(&mut self) -> Result<Option<u16>, AllocError>
+    fn test(&mut self) -> Result<Option<StatusCode>, AllocError>
         ensures { GivesTest result self.old self.new }
     {
         if self.target.is_some() {
@@ -164,7 +178,7 @@ impl RequestReader {
 
     /// Says that the client sends no more: the status of a last reply, or none. A request that waits
     /// whole is given up.
-    pub fn end(&mut self) -> Result<Option<u16>, AllocError>
+    pub fn end(&mut self) -> Result<Option<StatusCode>, AllocError>
         requires { CanRead self.old }
         // Each answer stands only where it says so.
         ensures gives { (octets : List ℕ) → Agrees self.old octets → GivesEnd result octets }
@@ -177,7 +191,7 @@ impl RequestReader {
     }
 
     /// Gives up what has begun, or refuses it where no head can come of it.
-    fn close(&mut self) -> Result<Option<u16>, AllocError>
+    fn close(&mut self) -> Result<Option<StatusCode>, AllocError>
         requires { CanRead self.old }
         ensures gives { (octets : List ℕ) → IsUnfinished octets → HasRead self.old octets → GivesEnd result octets }
     {

@@ -5,15 +5,12 @@ ghost use Rattle.std.specs.Prelude.{◌≡◌};
 use crate::arrival::Heard;
 use crate::heads::unless_memory;
 use hc_framing::{Kind, Message, MessageReader, Progress};
-use hc_head::{ResponseHead, Room, is_interim};
+use hc_head::{ResponseHead, Room, StatusCode, is_interim};
 use std::alloc::{AllocError, Global};
 use std::mem;
 
 /// The most interim responses before the final one.
 const MOST_INTERIM: u8 = 16;
-
-/// Switching Protocols (RFC 9110 section 15.2.2).
-const SWITCHING_PROTOCOLS: u16 = 101;
 
 /// What one response of a piece is.
 #[derive(Drop)]
@@ -24,9 +21,15 @@ enum Part {
     Last(Heard),
 }
 
+fn status_of(head: &ResponseHead) -> StatusCode
+    ensures { result ≡ head.now.status }
+{
+    head.status
+}
+
 /// Reads the response to a forward. Interim responses before it are dropped, at most 16; 101, which
 /// changes the protocol, is none of them. Heads are read in the room `RECEIVED`.
-#[derive(Debug, Drop)]
+#[derive(Debug)]
 pub struct ResponseReader {
     alloc: Global,
     /// Whether the forward's method is HEAD.
@@ -35,6 +38,18 @@ pub struct ResponseReader {
     interim: u8,
     /// The response that has begun.
     reader: MessageReader<ResponseHead>,
+}
+
+impl Drop for ResponseReader {
+    fn drop(self) {
+        let ResponseReader {
+            alloc: _,
+            to_head: _,
+            interim: _,
+            reader,
+        } = self;
+        drop(reader);
+    }
 }
 
 impl ResponseReader {
@@ -123,11 +138,11 @@ impl ResponseReader {
         ensures can { PartReadsOn (Ok result) self.new }
     {
         let message = self.take_message();
-        let status = message.head.status;
+        let status = status_of(&message.head);
         if !is_interim(status) {
             return Part::Last(Heard::Response(message));
         }
-        if status == SWITCHING_PROTOCOLS || self.interim >= MOST_INTERIM {
+        if status == StatusCode::SWITCHING_PROTOCOLS || self.interim >= MOST_INTERIM {
             return Part::Last(Heard::Failed);
         }
         self.interim += 1;

@@ -1,6 +1,6 @@
 //! Heads, messages and faults as text.
 
-use hc_cases::{show, show_short};
+use hc_cases::{show, show_line, show_short};
 use hc_fields::Fields;
 use hc_framing::{FrameFault, Kind, Message, MessageHead, whole_request, whole_response};
 use hc_head::{HeadFault, RequestHead, ResponseHead, Version};
@@ -18,7 +18,7 @@ pub trait ShownHead: MessageHead {
 
 impl ShownHead for RequestHead {
     fn show(&self, out: &mut String) -> Result<(), AllocError> {
-        show_short(self.method.as_slice(), out)?;
+        show_short(self.method.as_str().as_bytes(), out)?;
         out.push_str(" ")?;
         show(self.target.as_slice(), out)?;
         out.push_str(" ")?;
@@ -33,7 +33,7 @@ impl ShownHead for RequestHead {
 
 impl ShownHead for ResponseHead {
     fn show(&self, out: &mut String) -> Result<(), AllocError> {
-        let status = self.status;
+        let status = self.status.as_u16();
         write!(out, "{status} ")?;
         out.push_str(version(self.version))?;
         lines(&self.fields, out)
@@ -55,9 +55,7 @@ fn version(version: Version) -> &'static str {
 fn lines(fields: &Fields, out: &mut String) -> Result<(), AllocError> {
     for line in fields.lines() {
         out.push_str("; ")?;
-        show_short(line.name.as_slice(), out)?;
-        out.push_str(": ")?;
-        show(line.value.as_slice(), out)?;
+        show_line(line, out)?;
     }
     Ok(())
 }
@@ -91,9 +89,4 @@ pub fn frame_fault(fault: FrameFault, out: &mut String) -> Result<(), AllocError
         }
         _ => Ok(()),
     }
-}
-
-/// Writes `yes` or `no`.
-pub fn yes_or_no(answer: bool, out: &mut String) -> Result<(), AllocError> {
-    out.push_str(if answer { "yes" } else { "no" })
 }

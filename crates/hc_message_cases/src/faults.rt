@@ -1,7 +1,7 @@
 //! The faults of reading, by their numbers and names.
 
 use crate::describing::{frame_fault, head_fault};
-use hc_cases::Unanswered;
+use hc_cases::{Case, Unanswered};
 use hc_framing::FrameFault;
 use hc_head::HeadFault;
 use std::alloc::AllocError;
@@ -35,8 +35,8 @@ fn frame_faults() -> [FrameFault; 9] {
 }
 
 /// Writes all faults of heads or of messages.
-pub fn all(about: &[Vec<u8>], out: &mut String) -> Result<(), Unanswered> {
-    match about {
+pub fn all(case: &Case<'_>, out: &mut String) -> Result<(), Unanswered> {
+    match case.about {
         [of] if of.as_slice() == b"head".as_slice() => Ok(of_heads(out)?),
         [of] if of.as_slice() == b"message".as_slice() => Ok(of_messages(out)?),
         _ => Err(Unanswered::Unknown),
@@ -60,8 +60,8 @@ fn of_messages(out: &mut String) -> Result<(), AllocError> {
 }
 
 /// Writes what is said of a head that is too long.
-pub fn text(about: &[Vec<u8>], out: &mut String) -> Result<(), Unanswered> {
-    match about {
+pub fn text(case: &Case<'_>, out: &mut String) -> Result<(), Unanswered> {
+    match case.about {
         [of] if of.as_slice() == b"head".as_slice() => {
             Ok(write!(out, "{}", HeadFault::TooLong)?)
         }

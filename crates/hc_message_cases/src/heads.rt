@@ -2,52 +2,41 @@
 
 use crate::describing::{ShownHead, head_fault};
 use crate::parts::room;
-use hc_cases::Unanswered;
-use hc_head::{
-    HeadFault, RequestHead, ResponseHead, Room, Search, Step, find_empty_line, read_request,
-    read_response,
-};
+use hc_cases::{Case, Unanswered};
+use hc_head::{Room, Search, Step, find_empty_line};
 use std::alloc::{AllocError, Global};
 use std::fmt::Write;
 
-/// Writes the head of a request that octets begin with.
-pub fn request(alloc: Global, about: &[Vec<u8>], out: &mut String) -> Result<(), Unanswered> {
-    let [within, octets] = about else {
+/// Writes the head that octets begin with.
+pub fn read<H: ShownHead>(case: &Case<'_>, out: &mut String) -> Result<(), Unanswered> {
+    let [within, octets] = case.about else {
         return Err(Unanswered::Unknown);
     };
-    let room = room(within.as_slice())?;
-    let read = read_request(alloc, octets.as_slice(), room);
-    described(alloc, read, octets.as_slice(), room, out)
+    let room = room(within)?;
+    Ok(described::<H>(case.alloc, octets, room, out)?)
 }
 
-/// Writes the head of a response that octets begin with.
-pub fn response(alloc: Global, about: &[Vec<u8>], out: &mut String) -> Result<(), Unanswered> {
-    let [within, octets] = about else {
-        return Err(Unanswered::Unknown);
-    };
-    let room = room(within.as_slice())?;
-    let read = read_response(alloc, octets.as_slice(), room);
-    described(alloc, read, octets.as_slice(), room, out)
-}
-
-// Writes what was read. Of a head it says how many octets it takes, and which front of them is
+// Writes what is read. Of a head it says how many octets it takes, and which front of them is
 // anything but unfinished.
 fn described<H: ShownHead>(
     alloc: Global,
-    read: Result<Step<H>, HeadFault>,
     octets: &[u8],
     room: Room,
     out: &mut String,
-) -> Result<(), Unanswered> {
-    match read {
-        Err(fault) => Ok(head_fault(fault, out)?),
-        Ok(Step::More) => Ok(out.push_str("more")?),
+) -> Result<(), AllocError> {
+    match H::read(alloc, octets, room) {
+        Err(fault) => head_fault(fault, out),
+        Ok(Step::More) => out.push_str("more"),
         Ok(Step::Whole(head, length)) => {
-            head.show(out)?;
-            write!(out, "; {length} octets")?;
-            Ok(fronts::<H>(alloc, octets, length, room, out)?)
+            shown(&head, length, out)?;
+            fronts::<H>(alloc, octets, length, room, out)
         }
     }
+}
+
+fn shown<H: ShownHead>(head: &H, length: usize, out: &mut String) -> Result<(), AllocError> {
+    head.show(out)?;
+    write!(out, "; {length} octets")
 }
 
 // Writes each front that is read as anything but unfinished, and the whole that isn't read so again.
@@ -71,8 +60,8 @@ fn fronts<H: ShownHead>(
 }
 
 /// Writes where a search for the empty line stands, and how many octets it looked at.
-pub fn empty_line(about: &[Vec<u8>], out: &mut String) -> Result<(), Unanswered> {
-    let [from, octets] = about else {
+pub fn empty_line(case: &Case<'_>, out: &mut String) -> Result<(), Unanswered> {
+    let [from, octets] = case.about else {
         return Err(Unanswered::Unknown);
     };
     let (found, seen) = find_empty_line(search(from.as_slice())?, octets.as_slice());

@@ -4,23 +4,33 @@ ghost use Rattle.hc_links.specs.RequestReading.{CanRead};
 ghost use Rattle.hc_links.specs.ResponseReading.{CanRead as CanHear};
 
 use crate::describing;
-use crate::messages::{joined, other};
-use crate::parts::kind;
-use hc_cases::{Unanswered, show};
+use crate::messages::other;
+use crate::parts::{joined, kind};
+use hc_cases::{Case, Unanswered, show};
 use hc_framing::{Kind, Message};
-use hc_head::{RequestHead, ResponseHead, Target};
+use hc_head::{RequestHead, ResponseHead, StatusCode, Target};
 use hc_links::{Arrival, Heard, RequestReader, ResponseReader};
 use std::alloc::{AllocError, Global};
 use std::fmt::Write;
 
 /// Writes what arrives on a client connection with the octets and its end, in one piece, and what
 /// arrives octet by octet where that is something else.
-pub fn arrivals(alloc: Global, about: &[Vec<u8>], out: &mut String) -> Result<(), Unanswered> {
-    let octets = joined(alloc, about)?;
-    let text = arrivals_of(alloc, octets.as_slice(), octets.len().max(1))?;
-    out.push_str(text.as_str())?;
-    let cut = arrivals_of(alloc, octets.as_slice(), 1)?;
-    Ok(other(cut, "octet by octet", text.as_str(), out)?)
+pub fn arrivals(case: &Case<'_>, out: &mut String) -> Result<(), Unanswered> {
+    let octets = joined(case.alloc, case.about)?;
+    Ok(arrivals_both_ways(case.alloc, &octets, out)?)
+}
+
+fn arrivals_both_ways(alloc: Global, octets: &[u8], out: &mut String) -> Result<(), AllocError> {
+    let text = arrivals_of(alloc, octets, octets.len().max(1))?;
+    let cut = arrivals_of(alloc, octets, 1)?;
+    both(text.as_str(), cut.as_str(), out)
+}
+
+// Writes what comes of octets in one piece, and what comes of them one by one where that is something
+// else.
+fn both(text: &str, cut: &str, out: &mut String) -> Result<(), AllocError> {
+    out.push_str(text)?;
+    other(cut, "octet by octet", text, out)
 }
 
 // What arrives in pieces of that size, as text.
@@ -49,7 +59,10 @@ fn read_requests(
         }
     }
     match reader.end()? {
-        Some(status) => write!(text, "end: refused {status}"),
+        Some(status) => {
+            let number = status.as_u16();
+            write!(text, "end: refused {number}")
+        }
         None => text.push_str("end: closed"),
     }
 }
@@ -68,10 +81,11 @@ fn refused(reader: &mut RequestReader, text: &mut String) -> Result<bool, AllocE
     }
 }
 
-fn refusal(status: u16, text: &mut String) -> Result<bool, AllocError>
+fn refusal(status: StatusCode, text: &mut String) -> Result<bool, AllocError>
     ensures { IfOk result (λ is. is ≡ true) }
 {
-    write!(text, "refused {status}")?;
+    let number = status.as_u16();
+    write!(text, "refused {number}")?;
     Ok(true)
 }
 
@@ -97,10 +111,12 @@ fn show_request(
 }
 
 /// Writes how many octets wait behind the first request, before and after they are dropped.
-pub fn waiting(alloc: Global, about: &[Vec<u8>], out: &mut String) -> Result<(), Unanswered> {
-    let octets = joined(alloc, about)?;
-    let mut reader = RequestReader::new(alloc);
-    reader.hear(octets.as_slice())?;
+pub fn waiting(case: &Case<'_>, out: &mut String) -> Result<(), Unanswered> {
+    let octets = joined(case.alloc, case.about)?;
+    let mut reader = RequestReader::new(case.alloc);
+    let heard = reader.hear(&octets);
+    drop(octets);
+    heard?;
     Ok(show_waiting(&mut reader, out)?)
 }
 
@@ -116,16 +132,24 @@ fn show_waiting(reader: &mut RequestReader, out: &mut String) -> Result<(), Allo
 
 /// Writes what a forward's connection gives with the octets and its end, in one piece, and what it
 /// gives octet by octet where that is something else.
-pub fn heard(alloc: Global, about: &[Vec<u8>], out: &mut String) -> Result<(), Unanswered> {
-    let Some((of, pieces)) = about.split_first() else {
+pub fn heard(case: &Case<'_>, out: &mut String) -> Result<(), Unanswered> {
+    let Some((of, pieces)) = case.about.split_first() else {
         return Err(Unanswered::Unknown);
     };
-    let to_head = kind(of.as_slice())? == Kind::Response { to_head: true };
-    let octets = joined(alloc, pieces)?;
-    let text = heard_of(alloc, octets.as_slice(), octets.len().max(1), to_head)?;
-    out.push_str(text.as_str())?;
-    let cut = heard_of(alloc, octets.as_slice(), 1, to_head)?;
-    Ok(other(cut, "octet by octet", text.as_str(), out)?)
+    let to_head = kind(of)? == Kind::Response { to_head: true };
+    let octets = joined(case.alloc, pieces)?;
+    Ok(heard_both_ways(case.alloc, &octets, to_head, out)?)
+}
+
+fn heard_both_ways(
+    alloc: Global,
+    octets: &[u8],
+    to_head: bool,
+    out: &mut String,
+) -> Result<(), AllocError> {
+    let text = heard_of(alloc, octets, octets.len().max(1), to_head)?;
+    let cut = heard_of(alloc, octets, 1, to_head)?;
+    both(text.as_str(), cut.as_str(), out)
 }
 
 // What is heard in pieces of that size, as text.

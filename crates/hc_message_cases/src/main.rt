@@ -9,52 +9,49 @@ mod heads;
 mod links;
 mod messages;
 mod parts;
+mod pieces;
 mod questions;
+mod shared;
 mod targets;
 mod writing;
 
-use hc_cases::{Ask, Unanswered};
+use hc_cases::{Ask, Case, Unanswered};
+use hc_head::{RequestHead, ResponseHead};
+use messages::Asked;
 use questions::Question;
-use std::alloc::Global;
 use std::process::ExitCode;
 
 /// The answers of this program.
 struct MessageCases;
 
 impl Ask for MessageCases {
-    fn answer(
-        &self,
-        alloc: Global,
-        question: &str,
-        about: &[Vec<u8>],
-        out: &mut String,
-    ) -> Result<(), Unanswered> {
-        match Question::of(question)? {
-            Question::Faults => faults::all(about, out),
-            Question::Text => faults::text(about, out),
-            Question::RequestHead => heads::request(alloc, about, out),
-            Question::ResponseHead => heads::response(alloc, about, out),
-            Question::EmptyLine => heads::empty_line(about, out),
-            Question::Target => targets::target(alloc, about, out),
-            Question::Targets => targets::in_order(alloc, about, out),
-            Question::Unsafe => targets::is_unsafe(about, out),
-            Question::Message => messages::message(alloc, about, out),
-            Question::Fronts => messages::fronts(alloc, about, out),
-            Question::Octets => messages::octet_by_octet(alloc, about, out),
-            Question::AfterFault => messages::after_a_fault(alloc, about, out),
-            Question::Arrivals => links::arrivals(alloc, about, out),
-            Question::Waiting => links::waiting(alloc, about, out),
-            Question::Heard => links::heard(alloc, about, out),
-            Question::WriteRequest => writing::request(alloc, about, out),
-            Question::WriteResponse => writing::response(alloc, about, out),
-            Question::WriteMessage => writing::message(alloc, about, out),
-            Question::WritableRequest => writing::writable_request(alloc, about, out),
-            Question::WritableResponse => writing::writable_response(alloc, about, out),
+    fn answer(&self, case: &Case<'_>, out: &mut String) -> Result<(), Unanswered> {
+        match Question::of(case.question)? {
+            Question::Faults => faults::all(case, out),
+            Question::Text => faults::text(case, out),
+            Question::RequestHead => heads::read::<RequestHead>(case, out),
+            Question::ResponseHead => heads::read::<ResponseHead>(case, out),
+            Question::EmptyLine => heads::empty_line(case, out),
+            Question::Target => targets::target(case, out),
+            Question::Targets => targets::in_order(case, out),
+            Question::Unsafe => targets::is_unsafe(case, out),
+            Question::Message => messages::answer(Asked::Cuts, case, out),
+            Question::Fronts => messages::answer(Asked::Fronts, case, out),
+            Question::Octets => pieces::octet_by_octet(case, out),
+            Question::AfterFault => pieces::after_a_fault(case, out),
+            Question::Arrivals => links::arrivals(case, out),
+            Question::Waiting => links::waiting(case, out),
+            Question::Heard => links::heard(case, out),
+            Question::WriteRequest => writing::request(case, out),
+            Question::WriteResponse => writing::response(case, out),
+            Question::WriteMessage => messages::answer(Asked::Text, case, out),
+            Question::WritableRequest => writing::writable_request(case, out),
+            Question::WritableResponse => writing::writable_response(case, out),
         }
     }
 }
 
 fn main(rt: HostRuntime) -> ExitCode {
-    let (mut output, mut faults) = (rt.stdout(), rt.stderr());
-    ExitCode::from(hc_cases::status(&rt, &MessageCases, "cases.txt", &mut output, &mut faults))
+    let status = hc_cases::status(&rt, &MessageCases, &mut rt.stdout(), &mut rt.stderr());
+    ExitCode::from(status)
 }

@@ -1,9 +1,11 @@
-//! Messages that are read in pieces.
-ghost use Rattle.std.specs.Prelude.{◌<◌};
+//! Messages that are read in pieces, however they are cut.
+ghost use Rattle.std.specs.Prelude.{◌<◌, OnOk};
+ghost use Rattle.hc_framing.specs.Reader.{CanFeed, HasMessage};
 
-use crate::describing::{ShownHead, frame_fault};
-use crate::parts::kind;
-use hc_cases::Unanswered;
+use crate::describing::{self, ShownHead, frame_fault};
+use crate::parts::{joined, kind};
+use crate::shared::read_and_written;
+use hc_cases::{Case, Unanswered};
 use hc_framing::{FrameFault, Kind, Message, MessageReader, Progress};
 use hc_head::{RequestHead, ResponseHead, Room};
 use std::alloc::{AllocError, Global};
@@ -12,34 +14,45 @@ use std::fmt::Write;
 /// The longest octets that are cut at each place. Longer ones are fed in pieces of so many.
 const LONGEST: usize = 4_096;
 
-/// A message that was read, and how many octets it takes.
-#[derive(Drop)]
-struct Found<H> {
-    message: Message<H>,
-    octets: usize,
+/// What is asked of octets that are read as a message.
+#[derive(Clone, Copy)]
+pub enum Asked {
+    /// The message that they begin with, however they are cut. Where they are more than the message,
+    /// also what they are as a whole.
+    Cuts,
+    /// What their fronts are, which are not the whole of them.
+    Fronts,
+    /// The text of the message that they are, and how much of it is the body's own.
+    Text,
 }
 
-/// Writes the message that octets begin with, however they are cut. Where they are more than the
-/// message, it says what they are as a whole.
-pub fn message(alloc: Global, about: &[Vec<u8>], out: &mut String) -> Result<(), Unanswered> {
-    let Some((of, pieces)) = about.split_first() else {
+/// Answers a question of a KIND of message and octets.
+pub fn answer(asked: Asked, case: &Case<'_>, out: &mut String) -> Result<(), Unanswered> {
+    let Some((of, pieces)) = case.about.split_first() else {
         return Err(Unanswered::Unknown);
     };
-    let octets = joined(alloc, pieces)?;
-    match kind(of.as_slice())? {
-        Kind::Request => every_way::<RequestHead>(alloc, octets.as_slice(), Kind::Request, out)?,
-        kind => every_way::<ResponseHead>(alloc, octets.as_slice(), kind, out)?,
+    let kind = kind(of)?;
+    let octets = joined(case.alloc, pieces)?;
+    match kind {
+        Kind::Request => Ok(told::<RequestHead>(asked, case.alloc, &octets, kind, out)?),
+        Kind::Response { to_head: _ } => {
+            Ok(told::<ResponseHead>(asked, case.alloc, &octets, kind, out)?)
+        }
     }
-    Ok(())
 }
 
-/// The octets one behind another.
-pub fn joined(alloc: Global, pieces: &[Vec<u8>]) -> Result<Vec<u8>, AllocError> {
-    let mut octets = Vec::new(alloc);
-    for piece in pieces {
-        octets.extend_from_slice(piece.as_slice())?;
+fn told<H: ShownHead>(
+    asked: Asked,
+    alloc: Global,
+    octets: &[u8],
+    kind: Kind,
+    out: &mut String,
+) -> Result<(), AllocError> {
+    match asked {
+        Asked::Cuts => every_way::<H>(alloc, octets, kind, out),
+        Asked::Fronts => each_front::<H>(alloc, octets, kind, out),
+        Asked::Text => read_and_written::<H>(alloc, octets, kind, out),
     }
-    Ok(octets)
 }
 
 // Writes what is read of the octets in one piece, and each other way that reads something else.
@@ -50,24 +63,25 @@ fn every_way<H: ShownHead>(
     out: &mut String,
 ) -> Result<(), AllocError> {
     let text = text_in_two::<H>(alloc, octets, octets.len(), kind)?;
-    out.push_str(text.as_str())?;
+    other_ways::<H>(alloc, octets, kind, text.as_str(), out)
+}
+
+// Writes the text, and what each other way reads that isn't the same.
+fn other_ways<H: ShownHead>(
+    alloc: Global,
+    octets: &[u8],
+    kind: Kind,
+    text: &str,
+    out: &mut String,
+) -> Result<(), AllocError> {
+    out.push_str(text)?;
     if octets.len() <= LONGEST {
-        every_cut::<H>(alloc, octets, kind, text.as_str(), out)?;
-        other(
-            text_in_pieces::<H>(alloc, octets, 1, kind)?,
-            "octet by octet",
-            text.as_str(),
-            out,
-        )?;
+        every_cut::<H>(alloc, octets, kind, text, out)?;
+        other_in_pieces::<H>(alloc, octets, kind, 1, text, out)?;
     }
-    let pieces = text_in_pieces::<H>(alloc, octets, LONGEST, kind)?;
-    other(pieces, "in pieces", text.as_str(), out)?;
-    other(
-        text_whole::<H>(alloc, octets, kind)?,
-        "whole",
-        text.as_str(),
-        out,
-    )
+    other_in_pieces::<H>(alloc, octets, kind, LONGEST, text, out)?;
+    let whole = text_whole::<H>(alloc, octets, kind)?;
+    other(whole.as_str(), "whole", text, out)
 }
 
 // Writes each cut in two that reads something else.
@@ -80,17 +94,40 @@ fn every_cut<H: ShownHead>(
 ) -> Result<(), AllocError> {
     for cut in 0..octets.len() {
         let found = text_in_two::<H>(alloc, octets, cut, kind)?;
-        if found.as_str() != text {
-            write!(out, "; cut at {cut}")?;
-            other(found, "", text, out)?;
-        }
+        other_cut(found.as_str(), cut, text, out)?;
     }
     Ok(())
 }
 
+fn other_cut(found: &str, cut: usize, text: &str, out: &mut String) -> Result<(), AllocError> {
+    if found != text {
+        write!(out, "; cut at {cut}")?;
+    }
+    other(found, "", text, out)
+}
+
+fn other_in_pieces<H: ShownHead>(
+    alloc: Global,
+    octets: &[u8],
+    kind: Kind,
+    size: usize,
+    text: &str,
+    out: &mut String,
+) -> Result<(), AllocError>
+    requires { 0 < size }
+{
+    let way = if size == 1 {
+        "octet by octet"
+    } else {
+        "in pieces"
+    };
+    let found = text_in_pieces::<H>(alloc, octets, size, kind)?;
+    other(found.as_str(), way, text, out)
+}
+
 /// Writes a text that is another one.
-pub fn other(found: String, way: &str, text: &str, out: &mut String) -> Result<(), AllocError> {
-    if found.as_str() == text {
+pub fn other(found: &str, way: &str, text: &str, out: &mut String) -> Result<(), AllocError> {
+    if found == text {
         return Ok(());
     }
     write!(out, "; {way}: {found}")
@@ -103,7 +140,9 @@ fn text_in_two<H: ShownHead>(
     cut: usize,
     kind: Kind,
 ) -> Result<String, AllocError> {
-    text_of(alloc, in_two::<H>(alloc, octets, cut, kind))
+    let mut reader = MessageReader::<H>::new(alloc, kind, Room::RECEIVED);
+    let fed = feed_two(&mut reader, octets, cut);
+    text_read(alloc, reader, fed)
 }
 
 // The same of pieces of that size.
@@ -115,7 +154,23 @@ fn text_in_pieces<H: ShownHead>(
 ) -> Result<String, AllocError>
     requires { 0 < size }
 {
-    text_of(alloc, in_pieces::<H>(alloc, octets, size, kind))
+    let mut reader = MessageReader::<H>::new(alloc, kind, Room::RECEIVED);
+    let fed = feed_pieces(&mut reader, octets, size);
+    text_read(alloc, reader, fed)
+}
+
+// What the reader has read once it was fed, as text.
+fn text_read<H: ShownHead>(
+    alloc: Global,
+    reader: MessageReader<H>,
+    fed: Result<usize, FrameFault>,
+) -> Result<String, AllocError>
+    requires { OnOk fed (HasMessage reader) }
+{
+    match fed {
+        Ok(length) => message_text(alloc, &reader.take(), length),
+        Err(fault) => fault_text(alloc, fault),
+    }
 }
 
 // What the octets are as a whole, as text.
@@ -125,98 +180,71 @@ fn text_whole<H: ShownHead>(
     kind: Kind,
 ) -> Result<String, AllocError> {
     match H::whole(alloc, octets, kind) {
-        Ok(message) => {
-            let octets = octets.len();
-            text_of(alloc, Ok(Found { message, octets }))
-        }
-        Err(fault) => text_of::<H>(alloc, Err(fault)),
+        Ok(message) => message_text(alloc, &message, octets.len()),
+        Err(fault) => fault_text(alloc, fault),
     }
 }
 
-fn text_of<H: ShownHead>(
+// A message and how many octets it takes, as text.
+fn message_text<H: ShownHead>(
     alloc: Global,
-    found: Result<Found<H>, FrameFault>,
+    message: &Message<H>,
+    length: usize,
 ) -> Result<String, AllocError> {
     let mut text = String::new(alloc);
-    match found {
-        Ok(found) => {
-            crate::describing::message(&found.message, &mut text)?;
-            let octets = found.octets;
-            write!(text, "; {octets} octets")?;
-        }
-        Err(fault) => frame_fault(fault, &mut text)?,
-    }
+    describing::message(message, &mut text)?;
+    write!(text, "; {length} octets")?;
     Ok(text)
 }
 
-// The message that the octets and their end give, in two pieces.
-fn in_two<H: ShownHead>(
-    alloc: Global,
+fn fault_text(alloc: Global, fault: FrameFault) -> Result<String, AllocError> {
+    let mut text = String::new(alloc);
+    frame_fault(fault, &mut text)?;
+    Ok(text)
+}
+
+// Feeds the octets and their end in two pieces, and answers how many the message takes.
+fn feed_two<H: ShownHead>(
+    reader: &mut MessageReader<H>,
     octets: &[u8],
     cut: usize,
-    kind: Kind,
-) -> Result<Found<H>, FrameFault> {
+) -> Result<usize, FrameFault>
+    requires { CanFeed H.form reader.old }
+    ensures { OnOk result (HasMessage reader.new) }
+{
     let (first, second) = octets.split_at(cut.min(octets.len()));
-    let mut reader = MessageReader::<H>::new(alloc, kind, Room::RECEIVED);
     if let Progress::Whole(used) = reader.feed(first)? {
-        return Ok(Found {
-            message: reader.take(),
-            octets: used,
-        });
+        return Ok(used);
     }
     if let Progress::Whole(used) = reader.feed(second)? {
-        return Ok(Found {
-            message: reader.take(),
-            octets: first.len().saturating_add(used),
-        });
+        return Ok(first.len().saturating_add(used));
     }
     reader.end()?;
-    Ok(Found {
-        message: reader.take(),
-        octets: octets.len(),
-    })
+    Ok(octets.len())
 }
 
 // The same, in pieces of that size.
-fn in_pieces<H: ShownHead>(
-    alloc: Global,
+fn feed_pieces<H: ShownHead>(
+    reader: &mut MessageReader<H>,
     octets: &[u8],
     size: usize,
-    kind: Kind,
-) -> Result<Found<H>, FrameFault>
-    requires { 0 < size }
+) -> Result<usize, FrameFault>
+    requires some { 0 < size }
+    requires can { CanFeed H.form reader.old }
+    ensures { OnOk result (HasMessage reader.new) }
 {
-    let mut reader = MessageReader::<H>::new(alloc, kind, Room::RECEIVED);
     let mut before: usize = 0;
     'pieces: for piece in octets.chunks(size) {
         if let Progress::Whole(used) = reader.feed(piece)? {
-            return Ok(Found {
-                message: reader.take(),
-                octets: before.saturating_add(used),
-            });
+            return Ok(before.saturating_add(used));
         }
         before = before.saturating_add(piece.len());
     }
     reader.end()?;
-    Ok(Found {
-        message: reader.take(),
-        octets: octets.len(),
-    })
+    Ok(octets.len())
 }
 
-/// Writes what the fronts of the octets are, which are not the whole of them.
-pub fn fronts(alloc: Global, about: &[Vec<u8>], out: &mut String) -> Result<(), Unanswered> {
-    let [of, octets] = about else {
-        return Err(Unanswered::Unknown);
-    };
-    match kind(of.as_slice())? {
-        Kind::Request => each_front::<RequestHead>(alloc, octets, Kind::Request, out)?,
-        kind => each_front::<ResponseHead>(alloc, octets, kind, out)?,
-    }
-    Ok(())
-}
-
-// Writes what the empty front is, and each front that is something else, whole and octet by octet.
+// Writes what the empty front is, and each front that is something else.
 fn each_front<H: ShownHead>(
     alloc: Global,
     octets: &[u8],
@@ -227,110 +255,22 @@ fn each_front<H: ShownHead>(
     out.push_str(text.as_str())?;
     for end in 0..octets.len() {
         let (front, _) = octets.split_at(end);
-        other(
-            text_whole::<H>(alloc, front, kind)?,
-            "a front",
-            text.as_str(),
-            out,
-        )?;
-        other(
-            text_in_pieces::<H>(alloc, front, 1, kind)?,
-            "a front",
-            text.as_str(),
-            out,
-        )?;
+        other_front::<H>(alloc, front, kind, text.as_str(), out)?;
     }
     Ok(())
 }
 
-/// Writes after how many octets the end of a request or its fault is known.
-pub fn octet_by_octet(
+// Writes what a front is, whole and octet by octet, where that is something else.
+fn other_front<H: ShownHead>(
     alloc: Global,
-    about: &[Vec<u8>],
+    front: &[u8],
+    kind: Kind,
+    text: &str,
     out: &mut String,
-) -> Result<(), Unanswered> {
-    let octets = joined(alloc, about)?;
-    let (fault, count) = first_answer(alloc, octets.as_slice());
-    match fault {
-        Some(fault) => frame_fault(fault, out)?,
-        None => out.push_str("no fault")?,
-    }
-    Ok(write!(out, " after {count} octets")?)
-}
-
-// What ends the reading of a request octet by octet, and how many octets that took.
-fn first_answer(alloc: Global, octets: &[u8]) -> (Option<FrameFault>, usize) {
-    let mut reader = MessageReader::<RequestHead>::new(alloc, Kind::Request, Room::RECEIVED);
-    'octets: for (index, octet) in octets.iter().enumerate() {
-        match reader.feed(&[*octet]) {
-            Ok(Progress::More) => {}
-            Ok(Progress::Whole(_)) => return (None, index + 1),
-            Err(fault) => return (Some(fault), index + 1),
-        }
-    }
-    (None, octets.len())
-}
-
-/// What a reader of a request answers to octets with a fault, to others behind them and to the end.
-#[derive(Clone, Copy)]
-struct AfterFault {
-    had_head: bool,
-    has_head: bool,
-    first: FrameFault,
-    second: FrameFault,
-    end: Option<FrameFault>,
-}
-
-/// Writes what a reader of a request answers to octets with a fault, to others behind them and to
-/// the end, and whether it has the head before and behind the fault.
-pub fn after_a_fault(alloc: Global, about: &[Vec<u8>], out: &mut String) -> Result<(), Unanswered> {
-    let [first, second] = about else {
-        return Err(Unanswered::Unknown);
-    };
-    let Some(found) = answers_after(alloc, first.as_slice(), second.as_slice()) else {
-        return Err(Unanswered::Unknown);
-    };
-    Ok(shown(found, out)?)
-}
-
-// Nothing where one of them is no fault.
-fn answers_after(alloc: Global, first: &[u8], second: &[u8]) -> Option<AfterFault> {
-    let mut reader = MessageReader::<RequestHead>::new(alloc, Kind::Request, Room::RECEIVED);
-    let had_head = reader.head().is_some();
-    let Err(first) = reader.feed(first) else {
-        return None;
-    };
-    let has_head = reader.head().is_some();
-    let Err(second) = reader.feed(second) else {
-        return None;
-    };
-    let end = reader.end().err();
-    Some(AfterFault {
-        had_head,
-        has_head,
-        first,
-        second,
-        end,
-    })
-}
-
-fn shown(found: AfterFault, out: &mut String) -> Result<(), AllocError> {
-    out.push_str(place(found.had_head))?;
-    frame_fault(found.first, out)?;
-    out.push_str(", ")?;
-    out.push_str(place(found.has_head))?;
-    frame_fault(found.second, out)?;
-    out.push_str(", end: ")?;
-    match found.end {
-        None => out.push_str("no fault"),
-        Some(fault) => frame_fault(fault, out),
-    }
-}
-
-fn place(has_head: bool) -> &'static str {
-    if has_head {
-        "with a head: "
-    } else {
-        "without a head: "
-    }
+) -> Result<(), AllocError> {
+    let whole = text_whole::<H>(alloc, front, kind)?;
+    other(whole.as_str(), "a front", text, out)?;
+    drop(whole);
+    let cut = text_in_pieces::<H>(alloc, front, 1, kind)?;
+    other(cut.as_str(), "a front", text, out)
 }

@@ -4,13 +4,12 @@ use hc_cases::Unanswered;
 use hc_fields::decimal;
 use hc_framing::Kind;
 use hc_head::{Room, Version};
+use std::alloc::{AllocError, Global};
 
 /// A number that a text writes in decimal digits.
-pub fn number(text: &[u8]) -> Result<usize, Unanswered> {
-    match decimal(text) {
-        Some(number) => usize::try_from(number).map_err(|_| Unanswered::Unknown),
-        None => Err(Unanswered::Unknown),
-    }
+fn number(text: &[u8]) -> Result<usize, Unanswered> {
+    let number = decimal(text).ok_or(Unanswered::Unknown)?;
+    usize::try_from(number).map_err(|_| Unanswered::Unknown)
 }
 
 /// `received`, `recorded`, or the most octets and the most fields.
@@ -49,10 +48,7 @@ pub fn length(text: &[u8]) -> Result<Option<u64>, Unanswered> {
     if text == b"none".as_slice() {
         return Ok(None);
     }
-    match decimal(text) {
-        Some(length) => Ok(Some(length)),
-        None => Err(Unanswered::Unknown),
-    }
+    Ok(Some(decimal(text).ok_or(Unanswered::Unknown)?))
 }
 
 /// `HTTP/1.0` or `HTTP/1.1`.
@@ -64,4 +60,13 @@ pub fn version(text: &[u8]) -> Result<Version, Unanswered> {
         return Ok(Version::Http11);
     }
     Err(Unanswered::Unknown)
+}
+
+/// The octets one behind another.
+pub fn joined(alloc: Global, pieces: &[Vec<u8>]) -> Result<Vec<u8>, AllocError> {
+    let mut octets = Vec::new(alloc);
+    for piece in pieces {
+        octets.extend_from_slice(piece.as_slice())?;
+    }
+    Ok(octets)
 }

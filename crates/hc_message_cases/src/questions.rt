@@ -1,6 +1,6 @@
 //! What is asked.
 
-use hc_cases::Unanswered;
+use hc_cases::{Unanswered, question_of};
 
 /// What a case asks.
 #[derive(Clone, Copy)]
@@ -70,11 +70,6 @@ const WORDS: [(&str, Question); 20] = [
 impl Question {
     /// The question that a word asks.
     pub fn of(word: &str) -> Result<Question, Unanswered> {
-        for (asks, question) in &WORDS {
-            if *asks == word {
-                return Ok(*question);
-            }
-        }
-        Err(Unanswered::Unknown)
+        question_of(&WORDS, word)
     }
 }

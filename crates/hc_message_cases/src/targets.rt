@@ -3,8 +3,8 @@ ghost use Rattle.std.specs.Prelude.{◌≡◌, Some, OnOk};
 ghost use Rattle.std.specs.BTreeMap.{get};
 ghost use Rattle.hc_head.specs.declared.head.Target.{Target};
 
-use crate::describing::{head_fault, yes_or_no};
-use hc_cases::{Unanswered, fields_of_lines, show};
+use crate::describing::head_fault;
+use hc_cases::{Case, Unanswered, fields_of_lines, method_of, show, yes_or_no};
 use hc_fields::Octets;
 use hc_head::{HeadFault, RequestHead, Target, Version};
 use std::alloc::{AllocError, AllocFailed, Global};
@@ -17,24 +17,31 @@ pub fn head(
     method: &[u8],
     target: &[u8],
     lines: &[Vec<u8>],
-) -> Result<RequestHead, AllocError> {
+) -> Result<RequestHead, Unanswered> {
+    let fields = fields_of_lines(alloc, lines)?;
+    let target = Octets::from_slice(alloc, target)?;
+    let method = method_of(alloc, method)?;
     Ok(RequestHead {
-        method: Octets::from_slice(alloc, method)?,
-        target: Octets::from_slice(alloc, target)?,
+        method,
+        target,
         version: Version::Http11,
-        fields: fields_of_lines(alloc, lines)?,
+        fields,
     })
 }
 
 /// Writes the host and the path that a request is for.
-pub fn target(alloc: Global, about: &[Vec<u8>], out: &mut String) -> Result<(), Unanswered> {
-    let [method, path, lines @ ..] = about else {
+pub fn target(case: &Case<'_>, out: &mut String) -> Result<(), Unanswered> {
+    let [method, path, lines @ ..] = case.about else {
         return Err(Unanswered::Unknown);
     };
-    let head = head(alloc, method.as_slice(), path.as_slice(), lines)?;
-    match found(alloc, &head) {
-        Ok(target) => Ok(described(&target, out)?),
-        Err(fault) => Ok(head_fault(fault, out)?),
+    let head = head(case.alloc, method, path, lines)?;
+    Ok(told(case.alloc, &head, out)?)
+}
+
+fn told(alloc: Global, head: &RequestHead, out: &mut String) -> Result<(), AllocError> {
+    match found(alloc, head) {
+        Ok(target) => described(&target, out),
+        Err(fault) => head_fault(fault, out),
     }
 }
 
@@ -73,16 +80,17 @@ fn target_of(alloc: Global, text: &[u8]) -> Result<Target, Unanswered> {
 }
 
 /// Writes targets in their order, each with its place in the list.
-pub fn in_order(alloc: Global, about: &[Vec<u8>], out: &mut String) -> Result<(), Unanswered> {
-    let mut numbers = BTreeMap::new(alloc);
-    for (index, text) in about.iter().enumerate() {
-        put(
-            &mut numbers,
-            target_of(alloc, text.as_slice())?,
-            index as u64,
-        )?;
-    }
+pub fn in_order(case: &Case<'_>, out: &mut String) -> Result<(), Unanswered> {
+    let mut numbers = BTreeMap::new(case.alloc);
+    put_all(case, &mut numbers)?;
     Ok(numbered(&numbers, out)?)
+}
+
+fn put_all(case: &Case<'_>, numbers: &mut BTreeMap<Target, u64>) -> Result<(), Unanswered> {
+    for (index, text) in case.about.iter().enumerate() {
+        put(numbers, target_of(case.alloc, text)?, index as u64)?;
+    }
+    Ok(())
 }
 
 fn numbered(numbers: &BTreeMap<Target, u64>, out: &mut String) -> Result<(), AllocError> {
@@ -95,9 +103,12 @@ fn numbered(numbers: &BTreeMap<Target, u64>, out: &mut String) -> Result<(), All
 }
 
 /// Writes whether a method is unsafe.
-pub fn is_unsafe(about: &[Vec<u8>], out: &mut String) -> Result<(), Unanswered> {
-    match about {
-        [method] => Ok(yes_or_no(hc_head::is_unsafe(method.as_slice()), out)?),
-        _ => Err(Unanswered::Unknown),
-    }
+pub fn is_unsafe(case: &Case<'_>, out: &mut String) -> Result<(), Unanswered> {
+    let [method] = case.about else {
+        return Err(Unanswered::Unknown);
+    };
+    let method = method_of(case.alloc, method)?;
+    let is = hc_head::is_unsafe(&method);
+    drop(method);
+    Ok(yes_or_no(is, out)?)
 }

@@ -11,9 +11,9 @@ use Rattle.hc_store.specs.Entries.{Holdings}
 use Rattle.hc_service.specs.declared.cases.Cause.{Cause}
 use Rattle.hc_service.specs.declared.open.OpenForward.{OpenForward}
 use Rattle.hc_service.specs.Choices.{Finds, OnTest, validated_by}
-use Rattle.hc_service.specs.Answers.{FailsByStore, Passes, Replaces, Responds, failed_outcome, has_condition, is_replaceable, is_unasked, is_validation, standing_in, validated_outcome}
+use Rattle.hc_service.specs.Answers.{FailsByStore, Passes, Replaces, Responds, StandsIn, failed_outcome, has_condition, is_replaceable, is_unasked, is_validation, standing_in, validated_outcome}
 use Rattle.hc_service.specs.Answers.Outcome.{Replies}
-use Rattle.hc_service.specs.Replying.{Wanted, bad_gateway, failure_status, made_reply, replacing_reply}
+use Rattle.hc_service.specs.Replying.{Wanted, bad_gateway, failure_status, made_reply}
 use Rattle.hc_update.specs.declared.stored.Stored.{Stored}
 use Rattle.hc_reactions.specs.declared.outcomes.Outcome.{Outcome}
 use Rattle.hc_reactions.specs.Outcomes.{Answered, GivesStandIn, owed_outcome, replacing}
@@ -161,3 +161,23 @@ pub failed_by_none : {E : Type 0} (wanted : Wanted) (forward : OpenForward) (cau
 failed_by_none wanted forward cause chosen standing status (Ok reply) nothing is gives =
     failed_with_status wanted forward cause chosen standing reply nothing (gives ∙ ap (λ (n : ℕ). made_reply wanted n) is)
 failed_by_none wanted forward cause chosen standing status (Err e) nothing is gives = gives
+
+-- where nothing stands in for an error, the error is passed on
+pub nothing_stands_in : {E : Type 0} (wanted : Wanted) (forward : OpenForward) (cause : Cause) (response : Message ResponseHead) (old between new : Holdings)
+    (reply : Option (Message ResponseHead)) (answer : Result (Message ResponseHead) E)
+    → GivesStandIn wanted forward cause response.head.status old reply between
+    → reply ≡ None
+    → IfOk answer (λ given. Passes wanted forward cause wanted.moment response between (Replies given) new)
+    → IfOk answer (λ given. Replaces wanted forward cause wanted.moment response old (Replies given) new)
+nothing_stands_in wanted forward cause response old between new reply (Ok given) stands none passes = record {
+  chosen = stands.chosen;
+  between = between;
+  finds = stands.finds;
+  ends = go (standing_in wanted forward cause stands.chosen) (sym none ∙ stands.reply_is);
+}
+  where
+    go : (standing : Option Stored) → None ≡ replacing wanted cause (Some response.head.status) standing
+        → StandsIn wanted forward cause standing wanted.moment response between (Replies given) new
+    go None is = passes
+    go (Some stored) is = absurd (cc)
+nothing_stands_in wanted forward cause response old between new reply (Err e) stands none passes = tt

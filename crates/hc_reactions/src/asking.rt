@@ -50,5 +50,5 @@ fn has_validator(fields: &Fields) -> bool
 pub(crate) fn is_asked_after(asked: &RequestHead, stored: &Stored) -> bool
     ensures { result ≡ is_asked_after asked.now (Some stored.now) }
 {
-    is_get(asked.method.as_slice()) && has_validator(&stored.fields)
+    is_get(&asked.method) && has_validator(&stored.fields)
 }

@@ -10,8 +10,6 @@ mod asking;
 mod outcomes;
 mod reacting;
 mod sending;
-#[cfg(test)]
-mod tests;
 
 pub use outcomes::{Outcome, fail, renew, respond, store_behind};
 pub use reacting::{OpenBehind, Reaction, forward_anew, react};

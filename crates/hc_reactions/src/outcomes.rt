@@ -1,8 +1,7 @@
 //! What a request that waits for a forward gets once the forward ends, and what the store is told.
 
-ghost use Rattle.std.specs.Prelude.{◌≡◌, ◌<◌, ◌||◌, false, IfOk, OnOk};
+ghost use Rattle.std.specs.Prelude.{◌≡◌, ◌<◌, false, IfOk, OnOk};
 ghost use Rattle.std.specs.Option.{option_copied};
-ghost use Rattle.hc_head.specs.Methods.{is_get, is_head};
 ghost use Rattle.hc_fields.specs.Numbers.{end_of_moments};
 ghost use Rattle.hc_service.specs.declared.cases.Cause.{Cause};
 ghost use Rattle.hc_service.specs.declared.open.OpenForward.{OpenForward};
@@ -15,11 +14,11 @@ ghost use Rattle.hc_service.specs.Choices.{validated_by};
 ghost use Rattle.hc_reactions.specs.Outcomes.{Answered, GivesStandIn, owed_outcome, replacing};
 
 use hc_framing::Message;
-use hc_head::{NOT_MODIFIED, RequestHead, ResponseHead, is_get, is_head};
+use hc_head::{RequestHead, ResponseHead, StatusCode, is_error_status, is_get, is_get_or_head};
 use hc_rules::may_store;
 use hc_service::{
-    BAD_GATEWAY, Cause, OpenForward, WantedReply, failure_status, made_reply, may_replace,
-    passed_reply, replacing_reply,
+    Cause, OpenForward, WantedReply, failure_status, made_reply, may_replace, passed_reply,
+    replacing_reply,
 };
 use hc_store::{Put, Store};
 use hc_update::{Stored, initial, invalidates};
@@ -40,7 +39,7 @@ pub enum Outcome {
 fn may_update(forward: &OpenForward, response: &ResponseHead) -> bool
     ensures { result ≡ may_update forward.now response.now }
 {
-    response.status == NOT_MODIFIED && is_get(forward.request.method.as_slice())
+    response.status == StatusCode::NOT_MODIFIED && is_get(&forward.request.method)
 }
 
 /// Tells the store of a response to the forward, whomever it is for: what is stored of its target goes where
@@ -57,7 +56,7 @@ pub fn renew<S: BuildHasher>(
     requires { moment < end_of_moments }
     ensures { Renews forward.now moment position response.now store.old store.new }
 {
-    if invalidates(forward.request.method.as_slice(), response.status) {
+    if invalidates(&forward.request.method, response.status) {
         store.invalidate(&forward.target);
     }
     if may_update(forward, response) {
@@ -115,7 +114,7 @@ fn store_response<S: BuildHasher>(
 fn is_news(response: &ResponseHead) -> bool
     ensures { result ≡ is_news response.now }
 {
-    !matches!(response.status, 304 | 500 | 502 | 503 | 504)
+    response.status != StatusCode::NOT_MODIFIED && !is_error_status(response.status)
 }
 
 /// Stores the response to a forward for the store alone, which came at that moment, in whole seconds since
@@ -145,21 +144,14 @@ fn has_condition(sent: &RequestHead) -> bool
     sent.fields.contains(b"if-none-match") || sent.fields.contains(b"if-modified-since")
 }
 
-/// Whether a method reads what a target is.
-fn is_get_or_head(method: &[u8]) -> bool
-    ensures { result ≡ (is_get method.now || is_head method.now) }
-{
-    is_get(method) || is_head(method)
-}
-
 /// Whether a response is a 304 that the forward didn't ask for.
 fn is_unasked(forward: &OpenForward, response: &ResponseHead) -> bool
     ensures { (wanted : Wanted) (cause : Cause) → result ≡ is_unasked wanted forward.now cause response.now }
 {
-    if response.status != NOT_MODIFIED {
+    if response.status != StatusCode::NOT_MODIFIED {
         return false;
     }
-    if !is_get_or_head(forward.request.method.as_slice()) {
+    if !is_get_or_head(&forward.request.method) {
         return false;
     }
     !has_condition(&forward.request)
@@ -204,7 +196,7 @@ fn pass<S: BuildHasher>(
 fn is_validation(conditional: bool, response: &ResponseHead) -> bool
     ensures { (wanted : Wanted) (forward : OpenForward) (cause : Cause) → result ≡ is_validation wanted forward cause conditional response.now }
 {
-    conditional && response.status == NOT_MODIFIED
+    conditional && response.status == StatusCode::NOT_MODIFIED
 }
 
 /// What a request gets once what is stored is validated: the stored response that the record at that
@@ -226,7 +218,7 @@ fn validated_outcome<S: BuildHasher>(
             alloc,
             wanted,
             cause,
-            Some(NOT_MODIFIED),
+            Some(StatusCode::NOT_MODIFIED),
             stored,
         )?)),
     }
@@ -238,7 +230,7 @@ fn stand_in(
     alloc: Global,
     wanted: &WantedReply<'_>,
     cause: Cause,
-    origin: Option<u16>,
+    origin: Option<StatusCode>,
     chosen: Option<&Stored>,
 ) -> Result<Option<Message<ResponseHead>>, AllocError>
     ensures { (forward : OpenForward) → IfOk result (λ reply. reply
@@ -257,22 +249,22 @@ fn stand_in(
 fn is_replaceable(cause: Cause, response: &ResponseHead) -> bool
     ensures { (wanted : Wanted) (forward : OpenForward) → result ≡ is_replaceable wanted forward cause response.now }
 {
-    cause.asks_store() && matches!(response.status, 500 | 502 | 503 | 504)
+    cause.asks_store() && is_error_status(response.status)
 }
 
-/// What the store chooses now as the reply, where it may take the place of an error of that status.
+/// What the store chooses now as the reply, where it may take the place of that error.
 fn stand_in_by_store<S: BuildHasher>(
     alloc: Global,
     store: &mut Store<S>,
     wanted: &WantedReply<'_>,
     forward: &OpenForward,
     cause: Cause,
-    status: u16,
+    response: &ResponseHead,
 ) -> Result<Option<Message<ResponseHead>>, AllocError>
-    ensures { IfOk result (λ reply. GivesStandIn wanted.now forward.now cause status store.old reply store.new) }
+    ensures { IfOk result (λ reply. GivesStandIn wanted.now forward.now cause response.now.status store.old reply store.new) }
 {
     let chosen = store.choose(&forward.target, &wanted.asked.fields)?;
-    stand_in(alloc, wanted, cause, Some(status), chosen)
+    stand_in(alloc, wanted, cause, Some(response.status), chosen)
 }
 
 /// The reply in place of an error: what the store chooses, where it may be; else the error.
@@ -287,8 +279,8 @@ fn replace<S: BuildHasher>(
     requires { wanted.now.moment < end_of_moments }
     ensures { IfOk result (λ reply. Replaces wanted.now forward cause wanted.now.moment response store.old (Replies reply) store.new) }
 {
-    let status = response.head.status;
-    if let Some(reply) = stand_in_by_store(alloc, store, wanted, &forward, cause, status)? {
+    let head = &response.head;
+    if let Some(reply) = stand_in_by_store(alloc, store, wanted, &forward, cause, head)? {
         return Ok(reply);
     }
     pass(alloc, store, wanted, forward, cause, response)
@@ -307,7 +299,7 @@ fn answered<S: BuildHasher>(
     ensures { IfOk result (λ reply. Answered wanted.now forward cause response store.old (Replies reply) store.new) }
 {
     if is_unasked(&forward, &response.head) {
-        return made_reply(alloc, wanted, BAD_GATEWAY);
+        return made_reply(alloc, wanted, StatusCode::BAD_GATEWAY);
     }
     if is_replaceable(cause, &response.head) {
         return replace(alloc, store, wanted, forward, cause, response);
@@ -394,7 +386,7 @@ pub fn fail<S: BuildHasher>(
     ensures { IfOk result (λ reply. Fails wanted.now forward.now cause store.old (Replies reply) store.new) }
 {
     if !cause.asks_store() {
-        return made_reply(alloc, wanted, BAD_GATEWAY);
+        return made_reply(alloc, wanted, StatusCode::BAD_GATEWAY);
     }
     fail_by_store(alloc, store, wanted, forward, cause)
 }

@@ -16,11 +16,11 @@ ghost use Rattle.hc_reactions.specs.Reacting.{IsOpenBehind, owed_reaction};
 use crate::asking::{is_asked_after, wants_no_forward};
 use hc_fields::SharedOctets;
 use hc_framing::Message;
-use hc_head::{RequestHead, ResponseHead, Target};
+use hc_head::{RequestHead, ResponseHead, StatusCode, Target};
 use hc_rules::{conditional_request, plain_request, unconditional_request};
 use hc_service::{
-    Case, Cause, GATEWAY_TIMEOUT, WantedReply, case_before_store, case_by_store, hit_reply,
-    is_fresh, made_reply, while_revalidating,
+    Case, Cause, WantedReply, case_before_store, case_by_store, hit_reply, is_fresh, made_reply,
+    while_revalidating,
 };
 use hc_store::Store;
 use hc_update::Stored;
@@ -212,7 +212,7 @@ fn forward_reaction(
 {
     if wants_no_forward(cause, &request.head) {
         return Ok(Reaction::Replies {
-            reply: made_reply(alloc, wanted, GATEWAY_TIMEOUT)?,
+            reply: made_reply(alloc, wanted, StatusCode::GATEWAY_TIMEOUT)?,
             behind: None,
         });
     }
@@ -233,7 +233,7 @@ fn chosen_hit(
 {
     let Some(stored) = chosen else {
         return Ok(Reaction::Replies {
-            reply: made_reply(alloc, wanted, GATEWAY_TIMEOUT)?,
+            reply: made_reply(alloc, wanted, StatusCode::GATEWAY_TIMEOUT)?,
             behind: None,
         });
     };

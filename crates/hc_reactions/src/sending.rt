@@ -9,7 +9,7 @@ ghost use Rattle.hc_service.specs.Numbers.{asked, noted, one_more, sent};
 ghost use Rattle.hc_service.specs.Sending.{ask_actions, close_actions, failure_actions, refusal_actions, reply_actions, response_actions, send_actions};
 
 use hc_framing::{Kind, Message, write_message};
-use hc_head::{RequestHead, ResponseHead};
+use hc_head::{RequestHead, ResponseHead, StatusCode};
 use hc_replies::generated_reply;
 use hc_service::{Action, Numbers};
 use hc_transcript::{Passed, Record};
@@ -182,7 +182,7 @@ pub fn refuse(
     alloc: Global,
     moment: u64,
     connection: u64,
-    status: u16,
+    status: StatusCode,
     actions: &mut Vec<Action>,
 ) -> Result<(), AllocError>
     requires { moment < end_of_moments }

@@ -13,14 +13,14 @@ use Rattle.hc_fields.proofs.ValueLemmas.{name_dropped}
 use Rattle.hc_head.specs.declared.head.ResponseHead.{ResponseHead}
 use Rattle.hc_head.specs.declared.head.TheConstants.Room.{RECORDED}
 use Rattle.hc_head.specs.declared.head.Version.TheVariants.{Http11}
-use Rattle.hc_head.specs.Passing.{AreKeptLines, AreOwnLines}
+use Rattle.hc_rules.specs.Passing.{AreKeptLines, AreOwnLines}
 use Rattle.hc_head.specs.Plain.{is_plain_field, IsPlainResponse}
 use Rattle.hc_head.specs.Statuses.{not_modified}
 use Rattle.hc_head.specs.Weights.{line_weight, fields_weight}
 use Rattle.hc_head.specs.Writable.{has_framing, IsWritableResponse}
 use Rattle.hc_head.proofs.PlainLemmas.{visible_plain, number_plain, age_plain, cache_status_plain, connection_plain, date_plain}
 use Rattle.hc_head.proofs.WeightLemmas.{weight_first}
-use Rattle.hc_head.proofs.PassingLemmas.{no_framing_fewer, no_framing_both, kept_fewer, passed_response}
+use Rattle.hc_rules.proofs.PassingLemmas.{no_framing_fewer, no_framing_both, kept_fewer, passed_response}
 use Rattle.hc_framing.specs.declared.message.Message.{Message}
 use Rattle.hc_fresh.specs.declared.ages.Times.{Times}
 use Rattle.hc_fresh.specs.Ages.{current_age}

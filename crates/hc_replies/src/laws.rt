@@ -4,7 +4,7 @@ ghost use Rattle.std.specs.Prelude.{◌≡◌, ◌<◌, ◌≤◌, ℕ, Bool, tr
 ghost use Rattle.hc_fields.specs.Numbers.{end_of_moments, largest_number, number_of};
 ghost use Rattle.hc_fields.specs.Values.{has_name, only_value, values_of};
 ghost use Rattle.hc_head.specs.declared.head.ResponseHead.{ResponseHead};
-ghost use Rattle.hc_head.specs.Passing.{AreKeptLines};
+ghost use Rattle.hc_rules.specs.Passing.{AreKeptLines};
 ghost use Rattle.hc_head.specs.Plain.{IsPlainResponse};
 ghost use Rattle.hc_head.specs.Writable.{IsWritableResponse, has_framing};
 ghost use Rattle.hc_framing.specs.declared.message.Message.{Message};

@@ -10,12 +10,12 @@ use crate::lines::{
 use hc_fields::{Field, Fields, SharedOctets};
 use hc_framing::Message;
 use hc_fresh::{current_age, date_text, dated};
-use hc_head::{NOT_MODIFIED, ResponseHead, Version};
+use hc_head::{ResponseHead, StatusCode, Version};
 use hc_status::CacheStatus;
 use hc_update::Stored;
 use std::alloc::{AllocError, Global};
 
-fn reply(status: u16, fields: Fields, body: SharedOctets) -> Message<ResponseHead>
+fn reply(status: StatusCode, fields: Fields, body: SharedOctets) -> Message<ResponseHead>
     ensures { result ≡ reply status fields body }
 {
     Message {
@@ -43,11 +43,12 @@ pub fn forwarded_reply(
     ensures { IfOk result
         (λ r. r ≡ forwarded_reply status.now.name status.now.handling closes moment response) }
 {
-    let fields = passed_back(alloc, &response.head.fields)?;
+    let Message { head, body } = response;
+    let fields = passed_back(alloc, &head.fields)?;
     let fields = kept_statuses(alloc, fields)?;
     let mut fields = dated(fields, moment)?;
     push_lines_behind(&mut fields, status, closes)?;
-    Ok(reply(response.head.status, fields, response.body))
+    Ok(reply(head.status, fields, body))
 }
 
 /// The reply that a stored response gives at that moment, with its age; `to_head` tells whether the
@@ -89,14 +90,14 @@ pub fn not_modified_reply(
     let mut fields = repeated(alloc, &state.fields)?;
     push_age(&mut fields, current_age(state.times, moment))?;
     push_lines_behind(&mut fields, status, closes)?;
-    Ok(reply(NOT_MODIFIED, fields, SharedOctets::new()))
+    Ok(reply(StatusCode::NOT_MODIFIED, fields, SharedOctets::new()))
 }
 
 /// A reply of that status that the cache makes itself at that moment, which lies before the year
 /// 10000. It has no body.
 pub fn generated_reply(
     alloc: Global,
-    status: u16,
+    status: StatusCode,
     moment: u64,
     closes: bool,
 ) -> Result<Message<ResponseHead>, AllocError>

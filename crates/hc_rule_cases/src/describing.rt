@@ -1,13 +1,8 @@
 //! Fields and answers as text.
 
-use hc_cases::{show, show_short};
+use hc_cases::{show, show_line};
 use hc_fields::Fields;
 use std::alloc::AllocError;
-
-/// Writes `yes` or `no`.
-pub fn yes_or_no(answer: bool, out: &mut String) -> Result<(), AllocError> {
-    out.push_str(if answer { "yes" } else { "no" })
-}
 
 /// Writes octets in brackets.
 pub fn bracketed(octets: &[u8], out: &mut String) -> Result<(), AllocError> {
@@ -28,9 +23,7 @@ pub fn optional(octets: Option<&[u8]>, out: &mut String) -> Result<(), AllocErro
 pub fn lines(fields: &Fields, out: &mut String) -> Result<(), AllocError> {
     for line in fields.lines() {
         out.push_str("[")?;
-        show_short(line.name.as_slice(), out)?;
-        out.push_str(": ")?;
-        show(line.value.as_slice(), out)?;
+        show_line(line, out)?;
         out.push_str("]")?;
     }
     Ok(())

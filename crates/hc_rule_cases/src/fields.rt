@@ -1,35 +1,42 @@
 //! Fields, by their names.
 
-use crate::describing::{bracketed, lines, optional, yes_or_no};
+use crate::describing::{bracketed, lines, optional};
 use crate::questions::OfFields;
-use hc_cases::{Unanswered, fields_of_block};
-use std::alloc::Global;
+use hc_cases::{Case, Unanswered, fields_of_block, yes_or_no};
+use hc_fields::{Field, Fields};
+use std::alloc::{AllocError, Global};
+use std::mem;
 
 /// Answers a question of fields.
-pub fn answer(
-    alloc: Global,
-    question: OfFields,
-    about: &[Vec<u8>],
-    out: &mut String,
-) -> Result<(), Unanswered> {
-    let [name, block] = about else {
+pub fn answer(question: OfFields, case: &Case<'_>, out: &mut String) -> Result<(), Unanswered> {
+    let [name, block] = case.about else {
         return Err(Unanswered::Unknown);
     };
+    let mut fields = fields_of_block(case.alloc, block)?;
+    asked(question, case.alloc, name, &mut fields, out)
+}
+
+fn asked(
+    question: OfFields,
+    alloc: Global,
+    name: &[u8],
+    fields: &mut Fields,
+    out: &mut String,
+) -> Result<(), Unanswered> {
     match question {
-        OfFields::Values => values(alloc, name, block, out),
-        OfFields::Joined => joined(alloc, name, block, out),
-        OfFields::Only => only(alloc, name, block, out),
-        OfFields::Without => without(alloc, name, block, out),
-        OfFields::LeftOut => left_out(alloc, name, block, out),
-        OfFields::Updated => updated(alloc, name, block, out),
-        OfFields::Copied => copied(alloc, name, block, out),
+        OfFields::Values => Ok(values(name, fields, out)?),
+        OfFields::Joined => Ok(joined(alloc, name, fields, out)?),
+        OfFields::Only => Ok(optional(fields.only(name), out)?),
+        OfFields::Without => Ok(without(name, fields, out)?),
+        OfFields::LeftOut => Ok(left_out(name, fields, out)?),
+        OfFields::Updated => Ok(updated(alloc, name, fields, out)?),
+        OfFields::Copied => copied(alloc, name, fields, out),
     }
 }
 
-fn values(alloc: Global, name: &[u8], block: &[u8], out: &mut String) -> Result<(), Unanswered> {
-    let fields = fields_of_block(alloc, block)?;
+fn values(name: &[u8], fields: &Fields, out: &mut String) -> Result<(), AllocError> {
     if !fields.contains(name) {
-        return Ok(out.push_str("none")?);
+        return out.push_str("none");
     }
     for value in fields.values(name) {
         bracketed(value, out)?;
@@ -37,50 +44,56 @@ fn values(alloc: Global, name: &[u8], block: &[u8], out: &mut String) -> Result<
     Ok(())
 }
 
-fn joined(alloc: Global, name: &[u8], block: &[u8], out: &mut String) -> Result<(), Unanswered> {
-    let fields = fields_of_block(alloc, block)?;
+fn joined(alloc: Global, name: &[u8], fields: &Fields, out: &mut String) -> Result<(), AllocError> {
     match fields.joined(alloc, name)? {
-        Some(value) => Ok(bracketed(value.as_slice(), out)?),
-        None => Ok(out.push_str("none")?),
+        Some(value) => bracketed(value.as_slice(), out),
+        None => out.push_str("none"),
     }
 }
 
-fn only(alloc: Global, name: &[u8], block: &[u8], out: &mut String) -> Result<(), Unanswered> {
-    let fields = fields_of_block(alloc, block)?;
-    Ok(optional(fields.only(name), out)?)
-}
-
-fn without(alloc: Global, name: &[u8], block: &[u8], out: &mut String) -> Result<(), Unanswered> {
-    let mut fields = fields_of_block(alloc, block)?;
+fn without(name: &[u8], fields: &mut Fields, out: &mut String) -> Result<(), AllocError> {
     fields.remove(name);
     if fields.is_empty() {
-        return Ok(out.push_str("none")?);
+        return out.push_str("none");
     }
-    Ok(lines(&fields, out)?)
+    lines(fields, out)
 }
 
-fn left_out(alloc: Global, name: &[u8], block: &[u8], out: &mut String) -> Result<(), Unanswered> {
-    let fields = fields_of_block(alloc, block)?;
+fn left_out(name: &[u8], fields: &Fields, out: &mut String) -> Result<(), AllocError> {
     out.push_str("of a message: ")?;
     yes_or_no(fields.removed(name), out)?;
     out.push_str("; of a store: ")?;
-    Ok(yes_or_no(fields.left_out_of_store(name), out)?)
+    yes_or_no(fields.left_out_of_store(name), out)
 }
 
-fn updated(alloc: Global, older: &[u8], newer: &[u8], out: &mut String) -> Result<(), Unanswered> {
+// Writes the older lines once they are updated by the newer ones.
+fn updated(
+    alloc: Global,
+    older: &[u8],
+    newer: &mut Fields,
+    out: &mut String,
+) -> Result<(), AllocError> {
     let mut fields = fields_of_block(alloc, older)?;
-    fields.update(fields_of_block(alloc, newer)?)?;
-    Ok(lines(&fields, out)?)
+    fields.update(mem::replace(newer, Fields::new(alloc)))?;
+    lines(&fields, out)
 }
 
 // Copies the first line, takes the lines of the name out, and writes the copy.
-fn copied(alloc: Global, name: &[u8], block: &[u8], out: &mut String) -> Result<(), Unanswered> {
-    let mut fields = fields_of_block(alloc, block)?;
+fn copied(
+    alloc: Global,
+    name: &[u8],
+    fields: &mut Fields,
+    out: &mut String,
+) -> Result<(), Unanswered> {
     let copy = match fields.lines().first() {
         Some(line) => line.copy(alloc)?,
         None => return Err(Unanswered::Unknown),
     };
     fields.remove(name);
-    bracketed(copy.name.as_slice(), out)?;
-    Ok(bracketed(copy.value.as_slice(), out)?)
+    Ok(in_brackets(&copy, out)?)
+}
+
+fn in_brackets(line: &Field, out: &mut String) -> Result<(), AllocError> {
+    bracketed(line.name.as_slice(), out)?;
+    bracketed(line.value.as_slice(), out)
 }

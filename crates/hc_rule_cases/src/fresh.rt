@@ -1,9 +1,10 @@
 //! Dates, ages and lifetimes.
 
-use crate::describing::{lines, yes_or_no};
+use crate::describing::lines;
 use crate::parts::{moment, number, seconds};
 use crate::questions::OfFreshness;
-use hc_cases::{Unanswered, fields_of_block, show};
+use hc_cases::{Case, Unanswered, fields_of_block, show, yes_or_no};
+use hc_fields::Fields;
 use hc_fresh::{
     Times, age_value, current_age, date_stated, date_text, dated, explicit, fresh, lifetime,
     read_date, stale_forbidden, staleness,
@@ -12,16 +13,11 @@ use std::alloc::{AllocError, Global};
 use std::fmt::Write;
 
 /// Answers a question of dates, ages or lifetimes.
-pub fn answer(
-    alloc: Global,
-    question: OfFreshness,
-    about: &[Vec<u8>],
-    out: &mut String,
-) -> Result<(), Unanswered> {
-    match (question, about) {
+pub fn answer(question: OfFreshness, case: &Case<'_>, out: &mut String) -> Result<(), Unanswered> {
+    match (question, case.about) {
         (OfFreshness::Date, [text]) => Ok(date(text, out)?),
-        (OfFreshness::Lifetime, [date, block]) => lasting(alloc, date, block, out),
-        (OfFreshness::AgeValue, [block]) => aged(alloc, block, out),
+        (OfFreshness::Lifetime, [date, block]) => lasting(case.alloc, date, block, out),
+        (OfFreshness::AgeValue, [block]) => aged(case.alloc, block, out),
         (OfFreshness::Age, [date, age, request, response, now]) => {
             let times = times(date, age, request, response)?;
             let age = current_age(times, number(now)?);
@@ -30,7 +26,7 @@ pub fn answer(
         (OfFreshness::Fresh, [lifetime, age]) => {
             Ok(compared(seconds(lifetime)?, seconds(age)?, out)?)
         }
-        (OfFreshness::Dated, [now, block]) => with_date(alloc, now, block, out),
+        (OfFreshness::Dated, [now, block]) => with_date(case.alloc, now, block, out),
         _ => Err(Unanswered::Unknown),
     }
 }
@@ -49,12 +45,17 @@ fn date(text: &[u8], out: &mut String) -> Result<(), AllocError> {
 }
 
 fn lasting(alloc: Global, date: &[u8], block: &[u8], out: &mut String) -> Result<(), Unanswered> {
+    let date = number(date)?;
     let fields = fields_of_block(alloc, block)?;
-    let count = lifetime(&fields, number(date)?);
+    Ok(lasts(&fields, date, out)?)
+}
+
+fn lasts(fields: &Fields, date: u64, out: &mut String) -> Result<(), AllocError> {
+    let count = lifetime(fields, date);
     write!(out, "{count}; stated: ")?;
-    yes_or_no(explicit(&fields), out)?;
+    yes_or_no(explicit(fields), out)?;
     out.push_str("; never stale: ")?;
-    Ok(yes_or_no(stale_forbidden(&fields), out)?)
+    yes_or_no(stale_forbidden(fields), out)
 }
 
 fn aged(alloc: Global, block: &[u8], out: &mut String) -> Result<(), Unanswered> {
@@ -82,12 +83,17 @@ fn compared(lifetime: u32, age: u32, out: &mut String) -> Result<(), AllocError>
 fn with_date(alloc: Global, now: &[u8], block: &[u8], out: &mut String) -> Result<(), Unanswered> {
     let now = moment(now)?;
     let fields = fields_of_block(alloc, block)?;
-    stated(date_stated(&fields), out)?;
+    let date = date_stated(&fields);
     let fields = dated(fields, now)?;
+    Ok(both_dates(date, &fields, out)?)
+}
+
+fn both_dates(date: Option<u64>, fields: &Fields, out: &mut String) -> Result<(), AllocError> {
+    stated(date, out)?;
     out.push_str("; ")?;
-    stated(date_stated(&fields), out)?;
+    stated(date_stated(fields), out)?;
     out.push_str("; ")?;
-    Ok(lines(&fields, out)?)
+    lines(fields, out)
 }
 
 fn stated(date: Option<u64>, out: &mut String) -> Result<(), AllocError> {

@@ -1,69 +1,67 @@
 //! Lists, numbers, tokens and the directives of Cache-Control.
 
-use crate::describing::{bracketed, yes_or_no};
+use crate::describing::bracketed;
 use crate::questions::OfLists;
-use hc_cases::{Unanswered, fields_of_block};
+use hc_cases::{Case, Unanswered, fields_of_block, yes_or_no};
 use hc_directives::{Directives, Seconds};
-use hc_fields::{SharedOctets, decimal, is_among, is_token, list_members, number};
+use hc_fields::{Fields, SharedOctets, decimal, is_among, is_token, list_members, number};
 use std::alloc::{AllocError, Global};
 use std::fmt::Write;
 
 /// Answers a question of lists, numbers, tokens or directives.
-pub fn answer(
-    alloc: Global,
-    question: OfLists,
-    about: &[Vec<u8>],
-    out: &mut String,
-) -> Result<(), Unanswered> {
-    let Some((text, others)) = about.split_first() else {
-        return Err(Unanswered::Unknown);
-    };
-    match question {
-        OfLists::List => list(text, out),
-        OfLists::Number => numeral(number(text).map(|seconds| u64::from(seconds)), out),
-        OfLists::Decimal => numeral(decimal(text), out),
-        OfLists::Token => Ok(yes_or_no(is_token(text), out)?),
-        OfLists::Among => among(alloc, text, others, out),
-        OfLists::Members => members(alloc, text, others, out),
-        OfLists::Directive => directive(alloc, text, others, out),
-        OfLists::Shared => shared(alloc, text, out),
+pub fn answer(question: OfLists, case: &Case<'_>, out: &mut String) -> Result<(), Unanswered> {
+    match (question, case.about) {
+        (OfLists::List, [text]) => Ok(list(text, out)?),
+        (OfLists::Number, [text]) => Ok(numeral(seconds_in(text), out)?),
+        (OfLists::Decimal, [text]) => Ok(numeral(decimal(text), out)?),
+        (OfLists::Token, [text]) => Ok(yes_or_no(is_token(text), out)?),
+        (OfLists::Among, [text, names @ ..]) => Ok(among(case.alloc, text, names, out)?),
+        (OfLists::Members, [name, block]) => Ok(members(case.alloc, name, block, out)?),
+        (OfLists::Directive, [name, block]) => Ok(directive(case.alloc, name, block, out)?),
+        (OfLists::Shared, [text]) => Ok(shared(case.alloc, text, out)?),
+        _ => Err(Unanswered::Unknown),
     }
 }
 
-fn shared(alloc: Global, text: &[u8], out: &mut String) -> Result<(), Unanswered> {
-    let one = SharedOctets::from_vec(Vec::from_slice(alloc, text)?)?;
-    let other = one.share()?;
+// Writes the octets of which another owner is gone.
+fn shared(alloc: Global, text: &[u8], out: &mut String) -> Result<(), AllocError> {
+    let one = SharedOctets::from_vec(alloc, Vec::from_slice(alloc, text)?)?;
+    let other = one.share();
     drop(one);
-    let count = other.len();
-    write!(out, "{count} octets ")?;
-    bracketed(other.as_slice(), out)?;
-    Ok(out.push_str(if other.is_empty() { ", none" } else { "" })?)
+    counted(other?.as_slice(), out)
 }
 
-fn numeral(number: Option<u64>, out: &mut String) -> Result<(), Unanswered> {
+fn counted(octets: &[u8], out: &mut String) -> Result<(), AllocError> {
+    let count = octets.len();
+    write!(out, "{count} octets ")?;
+    bracketed(octets, out)?;
+    out.push_str(if octets.is_empty() { ", none" } else { "" })
+}
+
+fn seconds_in(text: &[u8]) -> Option<u64> {
+    Some(u64::from(number(text)?))
+}
+
+fn numeral(number: Option<u64>, out: &mut String) -> Result<(), AllocError> {
     match number {
-        Some(number) => Ok(write!(out, "{number}")?),
-        None => Ok(out.push_str("none")?),
+        Some(number) => write!(out, "{number}"),
+        None => out.push_str("none"),
     }
 }
 
-fn list(value: &[u8], out: &mut String) -> Result<(), Unanswered> {
+fn list(value: &[u8], out: &mut String) -> Result<(), AllocError> {
     for member in list_members(value) {
         bracketed(member, out)?;
     }
     Ok(())
 }
 
-fn members(
-    alloc: Global,
-    name: &[u8],
-    others: &[Vec<u8>],
-    out: &mut String,
-) -> Result<(), Unanswered> {
-    let [block] = others else {
-        return Err(Unanswered::Unknown);
-    };
+fn members(alloc: Global, name: &[u8], block: &[u8], out: &mut String) -> Result<(), AllocError> {
     let fields = fields_of_block(alloc, block)?;
+    members_of(name, &fields, out)
+}
+
+fn members_of(name: &[u8], fields: &Fields, out: &mut String) -> Result<(), AllocError> {
     for member in fields.members(name) {
         bracketed(member, out)?;
     }
@@ -75,25 +73,21 @@ fn among(
     text: &[u8],
     names: &[Vec<u8>],
     out: &mut String,
-) -> Result<(), Unanswered> {
+) -> Result<(), AllocError> {
     let names: Vec<&[u8]> = names.iter().map(|name| name.as_slice()).collect(alloc)?;
-    Ok(yes_or_no(is_among(names.as_slice(), text), out)?)
+    yes_or_no(is_among(names.as_slice(), text), out)
 }
 
-fn directive(
-    alloc: Global,
-    name: &[u8],
-    others: &[Vec<u8>],
-    out: &mut String,
-) -> Result<(), Unanswered> {
-    let [block] = others else {
-        return Err(Unanswered::Unknown);
-    };
+fn directive(alloc: Global, name: &[u8], block: &[u8], out: &mut String) -> Result<(), AllocError> {
     let fields = fields_of_block(alloc, block)?;
-    let directives = Directives::read(&fields);
+    directive_of(name, &fields, out)
+}
+
+fn directive_of(name: &[u8], fields: &Fields, out: &mut String) -> Result<(), AllocError> {
+    let directives = Directives::read(fields);
     seconds(directives.has(name), directives.seconds(name), out)?;
     let count = directives.unreadable();
-    Ok(write!(out, "; {count} unreadable")?)
+    write!(out, "; {count} unreadable")
 }
 
 // Writes what a directive says. One that is there is never absent.

@@ -15,35 +15,28 @@ mod rules;
 mod states;
 mod updates;
 
-use hc_cases::{Ask, Unanswered};
+use hc_cases::{Ask, Case, Unanswered};
 use questions::Question;
-use std::alloc::Global;
 use std::process::ExitCode;
 
 /// The answers of this program.
 struct RuleCases;
 
 impl Ask for RuleCases {
-    fn answer(
-        &self,
-        alloc: Global,
-        question: &str,
-        about: &[Vec<u8>],
-        out: &mut String,
-    ) -> Result<(), Unanswered> {
-        match Question::of(question)? {
-            Question::Fields(question) => fields::answer(alloc, question, about, out),
-            Question::Lists(question) => lists::answer(alloc, question, about, out),
-            Question::Marks(question) => marks::answer(alloc, question, about, out),
-            Question::Fresh(question) => fresh::answer(alloc, question, about, out),
-            Question::Rules(question) => rules::answer(alloc, question, about, out),
-            Question::Updates(question) => updates::answer(alloc, question, about, out),
-            Question::Messages(question) => messages::answer(alloc, question, about, out),
+    fn answer(&self, case: &Case<'_>, out: &mut String) -> Result<(), Unanswered> {
+        match Question::of(case.question)? {
+            Question::Fields(question) => fields::answer(question, case, out),
+            Question::Lists(question) => lists::answer(question, case, out),
+            Question::Marks(question) => marks::answer(question, case, out),
+            Question::Fresh(question) => fresh::answer(question, case, out),
+            Question::Rules(question) => rules::answer(question, case, out),
+            Question::Updates(question) => updates::answer(question, case, out),
+            Question::Messages(question) => messages::answer(question, case, out),
         }
     }
 }
 
 fn main(rt: HostRuntime) -> ExitCode {
-    let (mut output, mut faults) = (rt.stdout(), rt.stderr());
-    ExitCode::from(hc_cases::status(&rt, &RuleCases, "cases.txt", &mut output, &mut faults))
+    let status = hc_cases::status(&rt, &RuleCases, &mut rt.stdout(), &mut rt.stderr());
+    ExitCode::from(status)
 }

@@ -1,8 +1,8 @@
 //! Cache-Status, as a list of structured items and as a mark.
 
-use crate::describing::optional;
+use crate::describing::bracketed;
 use crate::questions::OfMarks;
-use hc_cases::{Unanswered, show_short};
+use hc_cases::{Case, Unanswered, show_short};
 use hc_fields::{Field, Fields, Octets, decimal};
 use hc_status::{
     Bare, CacheStatus, Handling, Mark, MarkFault, Member, Parameters, SfFault, mark, read_list,
@@ -12,38 +12,36 @@ use std::alloc::{AllocError, Global};
 use std::fmt::Write;
 
 /// Answers a question of Cache-Status.
-pub fn answer(
-    alloc: Global,
-    question: OfMarks,
-    about: &[Vec<u8>],
-    out: &mut String,
-) -> Result<(), Unanswered> {
+pub fn answer(question: OfMarks, case: &Case<'_>, out: &mut String) -> Result<(), Unanswered> {
     match question {
         OfMarks::Faults => Ok(faults(out)?),
-        OfMarks::Structured => structured(alloc, about, out),
-        OfMarks::Parameter => parameter(alloc, about, out),
-        OfMarks::Mark => marked(alloc, &among_others(alloc, about)?, out),
-        OfMarks::Hit => hit(alloc, about, out),
-        OfMarks::Forward => forward(alloc, about, out),
+        OfMarks::Structured => {
+            let fields = among_others(case.alloc, case.about)?;
+            Ok(structured(case.alloc, &fields, out)?)
+        }
+        OfMarks::Parameter => parameter(case, out),
+        OfMarks::Mark => {
+            let fields = among_others(case.alloc, case.about)?;
+            Ok(marked(case.alloc, &fields, out)?)
+        }
+        OfMarks::Hit => hit(case, out),
+        OfMarks::Forward => forward(case, out),
     }
 }
 
 // Lines of Cache-Status, with another field before them and one behind them.
 fn among_others(alloc: Global, values: &[Vec<u8>]) -> Result<Fields, AllocError> {
     let mut fields = Fields::new(alloc);
-    fields.push(field(alloc, b"age", b"0")?)?;
-    for value in values {
-        fields.push(field(alloc, b"cache-status", value)?)?;
-    }
-    fields.push(field(alloc, b"vary", b"(")?)?;
+    push_lines(alloc, values, &mut fields)?;
     Ok(fields)
 }
 
-fn field(alloc: Global, name: &[u8], value: &[u8]) -> Result<Field, AllocError> {
-    Ok(Field {
-        name: Octets::from_slice(alloc, name)?,
-        value: Octets::from_slice(alloc, value)?,
-    })
+fn push_lines(alloc: Global, values: &[Vec<u8>], fields: &mut Fields) -> Result<(), AllocError> {
+    fields.push(Field::new(alloc, b"age", b"0")?)?;
+    for value in values {
+        fields.push(Field::new(alloc, b"cache-status", value)?)?;
+    }
+    fields.push(Field::new(alloc, b"vary", b"(")?)
 }
 
 // Writes all faults by their numbers and names.
@@ -69,11 +67,10 @@ fn list_fault(fault: SfFault, out: &mut String) -> Result<(), AllocError> {
 }
 
 // Writes the members that the lines are, each with a stroke behind it.
-fn structured(alloc: Global, about: &[Vec<u8>], out: &mut String) -> Result<(), Unanswered> {
-    let fields = among_others(alloc, about)?;
-    match read_list(alloc, &fields) {
-        Ok(members) => Ok(shown(members.as_slice(), out)?),
-        Err(fault) => Ok(list_fault(fault, out)?),
+fn structured(alloc: Global, fields: &Fields, out: &mut String) -> Result<(), AllocError> {
+    match read_list(alloc, fields) {
+        Ok(members) => shown(members.as_slice(), out),
+        Err(fault) => list_fault(fault, out),
     }
 }
 
@@ -112,14 +109,19 @@ fn shown_item(item: &Bare, out: &mut String) -> Result<(), AllocError> {
 }
 
 // Writes the parameter of a key, and how many the first member has.
-fn parameter(alloc: Global, about: &[Vec<u8>], out: &mut String) -> Result<(), Unanswered> {
-    let Some((key, values)) = about.split_first() else {
+fn parameter(case: &Case<'_>, out: &mut String) -> Result<(), Unanswered> {
+    let Some((key, values)) = case.about.split_first() else {
         return Err(Unanswered::Unknown);
     };
-    let Ok(members) = read_list(alloc, &among_others(alloc, values)?) else {
-        return Err(Unanswered::Unknown);
-    };
-    let Some(member) = members.as_slice().first() else {
+    let fields = among_others(case.alloc, values)?;
+    match read_list(case.alloc, &fields) {
+        Ok(members) => parameter_of(key, members.as_slice(), out),
+        Err(_) => Err(Unanswered::Unknown),
+    }
+}
+
+fn parameter_of(key: &[u8], members: &[Member], out: &mut String) -> Result<(), Unanswered> {
+    let Some(member) = members.first() else {
         return Err(Unanswered::Unknown);
     };
     match member.params.get(key) {
@@ -131,25 +133,25 @@ fn parameter(alloc: Global, about: &[Vec<u8>], out: &mut String) -> Result<(), U
 }
 
 // Writes the mark of fields.
-fn marked(alloc: Global, fields: &Fields, out: &mut String) -> Result<(), Unanswered> {
+fn marked(alloc: Global, fields: &Fields, out: &mut String) -> Result<(), AllocError> {
     match mark(alloc, fields) {
-        Ok(Mark::Hit { ttl: Some(ttl) }) => Ok(write!(out, "hit with ttl {ttl}")?),
-        Ok(Mark::Hit { ttl: None }) => Ok(out.push_str("hit")?),
-        Ok(Mark::Forwarded) => Ok(out.push_str("forwarded")?),
-        Ok(Mark::Both) => Ok(out.push_str("both")?),
-        Ok(Mark::Unmarked) => Ok(out.push_str("unmarked")?),
-        Err(_) => Err(Unanswered::Memory),
+        Ok(Mark::Hit { ttl: Some(ttl) }) => write!(out, "hit with ttl {ttl}"),
+        Ok(Mark::Hit { ttl: None }) => out.push_str("hit"),
+        Ok(Mark::Forwarded) => out.push_str("forwarded"),
+        Ok(Mark::Both) => out.push_str("both"),
+        Ok(Mark::Unmarked) => out.push_str("unmarked"),
+        Err(MarkFault::Memory) => Err(AllocError),
     }
 }
 
 // Writes the member of a hit: NAME, the SIGN of the seconds that are left, and their number.
-fn hit(alloc: Global, about: &[Vec<u8>], out: &mut String) -> Result<(), Unanswered> {
-    let (name, ttl) = match about {
+fn hit(case: &Case<'_>, out: &mut String) -> Result<(), Unanswered> {
+    let (name, ttl) = match case.about {
         [name] => (name, None),
         [name, sign, count] => (name, Some(signed(sign, count)?)),
         _ => return Err(Unanswered::Unknown),
     };
-    member(alloc, name, Handling::Hit { ttl }, out)
+    Ok(member(case.alloc, name, Handling::Hit { ttl }, out)?)
 }
 
 fn signed(sign: &[u8], count: &[u8]) -> Result<i64, Unanswered> {
@@ -168,16 +170,16 @@ fn signed(sign: &[u8], count: &[u8]) -> Result<i64, Unanswered> {
 
 // Writes the member of a reply that was forwarded: NAME, WORD, a STATUS or `none`, and `stored` where
 // the response was.
-fn forward(alloc: Global, about: &[Vec<u8>], out: &mut String) -> Result<(), Unanswered> {
-    let [name, word, status, others @ ..] = about else {
+fn forward(case: &Case<'_>, out: &mut String) -> Result<(), Unanswered> {
+    let [name, word, status, others @ ..] = case.about else {
         return Err(Unanswered::Unknown);
     };
     let handling = Handling::Fwd {
-        word: Octets::from_slice(alloc, word)?,
+        word: Octets::from_slice(case.alloc, word)?,
         fwd_status: decimal(status).and_then(|status| u16::try_from(status).ok()),
         stored: !others.is_empty(),
     };
-    member(alloc, name, handling, out)
+    Ok(member(case.alloc, name, handling, out)?)
 }
 
 // Writes the text of a member, and its mark where its line is the only one.
@@ -186,14 +188,20 @@ fn member(
     name: &[u8],
     handling: Handling,
     out: &mut String,
-) -> Result<(), Unanswered> {
-    let status = CacheStatus {
-        name: Octets::from_slice(alloc, name)?,
-        handling,
-    };
-    let text = write_member(alloc, &status)?;
-    optional(Some(text.as_slice()), out)?;
+) -> Result<(), AllocError> {
+    let text = text_of(alloc, name, handling)?;
+    bracketed(text.as_slice(), out)?;
     out.push_str(" ")?;
-    let value = text.as_slice().to_vec(alloc)?;
-    marked(alloc, &among_others(alloc, &[value])?, out)
+    marked_alone(alloc, text.into_vec(), out)
+}
+
+fn text_of(alloc: Global, name: &[u8], handling: Handling) -> Result<Octets, AllocError> {
+    let name = Octets::from_slice(alloc, name)?;
+    write_member(alloc, &CacheStatus { name, handling })
+}
+
+// Writes the mark of a line that is the only one.
+fn marked_alone(alloc: Global, line: Vec<u8>, out: &mut String) -> Result<(), AllocError> {
+    let fields = among_others(alloc, &[line])?;
+    marked(alloc, &fields, out)
 }

@@ -20,11 +20,6 @@ pub fn seconds(text: &[u8]) -> Result<u32, Unanswered> {
     u32::try_from(number(text)?).map_err(|_| Unanswered::Unknown)
 }
 
-/// The same, of 16 bits.
-pub fn status(text: &[u8]) -> Result<u16, Unanswered> {
-    u16::try_from(number(text)?).map_err(|_| Unanswered::Unknown)
-}
-
 /// The same, of a moment before the year 10000.
 pub fn moment(text: &[u8]) -> Result<u64, Unanswered>
     ensures { IfOk result (λ moment. moment < 253_402_300_800) }

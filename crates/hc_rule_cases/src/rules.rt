@@ -1,11 +1,10 @@
 //! Storing, selecting and validating.
 
-use crate::describing::{optional, yes_or_no};
-use crate::parts::status;
+use crate::describing::optional;
 use crate::questions::OfRules;
-use hc_cases::{Unanswered, fields_of_block};
-use hc_fields::Octets;
-use hc_head::{RequestHead, ResponseHead, Version};
+use hc_cases::{Case, Unanswered, fields_of_block, method_of, status_of, yes_or_no};
+use hc_fields::{Fields, Octets};
+use hc_head::{RequestHead, ResponseHead, StatusCode, Version};
 use hc_rules::{
     Validator, asks_for_storable, client_condition, last_modified, may_store, selects, tag,
     validator,
@@ -13,44 +12,58 @@ use hc_rules::{
 use std::alloc::{AllocError, Global};
 
 /// Answers a question of storing, selecting or validating.
-pub fn answer(
-    alloc: Global,
-    question: OfRules,
-    about: &[Vec<u8>],
-    out: &mut String,
-) -> Result<(), Unanswered> {
-    match (question, about) {
+pub fn answer(question: OfRules, case: &Case<'_>, out: &mut String) -> Result<(), Unanswered> {
+    match (question, case.about) {
         (OfRules::Storable, [method, asked, status, answered]) => {
-            let forward = request(alloc, method, asked)?;
-            let response = response(alloc, status, answered)?;
-            Ok(stored(&forward, &response, out)?)
+            let forward = request(case.alloc, method, asked)?;
+            storable(case.alloc, &forward, status, answered, out)
         }
         (OfRules::Selects, [vary, forwarded, presented]) => {
-            selected(alloc, vary, forwarded, presented, out)
+            let fields = fields_of_block(case.alloc, vary)?;
+            Ok(selected(case.alloc, &fields, forwarded, presented, out)?)
         }
-        (OfRules::Validator, [block]) => validated(alloc, block, out),
+        (OfRules::Validator, [block]) => {
+            let fields = fields_of_block(case.alloc, block)?;
+            Ok(validated(&fields, out)?)
+        }
         (OfRules::Condition, [presented, status, answered]) => {
-            condition(alloc, presented, status, answered, out)
+            let status = status_of(status)?;
+            Ok(condition(case.alloc, presented, status, answered, out)?)
         }
         _ => Err(Unanswered::Unknown),
     }
 }
 
-fn request(alloc: Global, method: &[u8], block: &[u8]) -> Result<RequestHead, AllocError> {
+fn request(alloc: Global, method: &[u8], block: &[u8]) -> Result<RequestHead, Unanswered> {
+    let fields = fields_of_block(alloc, block)?;
+    let target = Octets::from_slice(alloc, b"/a")?;
+    let method = method_of(alloc, method)?;
     Ok(RequestHead {
-        method: Octets::from_slice(alloc, method)?,
-        target: Octets::from_slice(alloc, b"/a")?,
+        method,
+        target,
+        version: Version::Http11,
+        fields,
+    })
+}
+
+fn response(alloc: Global, status: &[u8], block: &[u8]) -> Result<ResponseHead, Unanswered> {
+    let status = status_of(status)?;
+    Ok(ResponseHead {
+        status,
         version: Version::Http11,
         fields: fields_of_block(alloc, block)?,
     })
 }
 
-fn response(alloc: Global, status: &[u8], block: &[u8]) -> Result<ResponseHead, Unanswered> {
-    Ok(ResponseHead {
-        status: self::status(status)?,
-        version: Version::Http11,
-        fields: fields_of_block(alloc, block)?,
-    })
+fn storable(
+    alloc: Global,
+    forward: &RequestHead,
+    status: &[u8],
+    answered: &[u8],
+    out: &mut String,
+) -> Result<(), Unanswered> {
+    let response = response(alloc, status, answered)?;
+    Ok(stored(forward, &response, out)?)
 }
 
 fn stored(
@@ -66,45 +79,54 @@ fn stored(
 
 fn selected(
     alloc: Global,
-    vary: &[u8],
+    fields: &Fields,
     forwarded: &[u8],
     presented: &[u8],
     out: &mut String,
-) -> Result<(), Unanswered> {
-    let fields = fields_of_block(alloc, vary)?;
+) -> Result<(), AllocError> {
     let forwarded = fields_of_block(alloc, forwarded)?;
+    selected_by(alloc, fields, &forwarded, presented, out)
+}
+
+fn selected_by(
+    alloc: Global,
+    fields: &Fields,
+    forwarded: &Fields,
+    presented: &[u8],
+    out: &mut String,
+) -> Result<(), AllocError> {
     let presented = fields_of_block(alloc, presented)?;
-    Ok(yes_or_no(selects(alloc, &fields, &forwarded, &presented)?, out)?)
+    let is = selects(alloc, fields, forwarded, &presented);
+    drop(presented);
+    yes_or_no(is?, out)
 }
 
 // Writes the entity-tag, the date, and which of them validates.
-fn validated(alloc: Global, block: &[u8], out: &mut String) -> Result<(), Unanswered> {
-    let fields = fields_of_block(alloc, block)?;
+fn validated(fields: &Fields, out: &mut String) -> Result<(), AllocError> {
     out.push_str("tag ")?;
-    optional(tag(&fields), out)?;
+    optional(tag(fields), out)?;
     out.push_str("; date ")?;
-    optional(last_modified(&fields), out)?;
-    match validator(&fields) {
+    optional(last_modified(fields), out)?;
+    match validator(fields) {
         Validator::Tag(value) => by("; by the tag ", value, out),
         Validator::Modified(value) => by("; by the date ", value, out),
-        Validator::Neither => Ok(out.push_str("; by neither")?),
+        Validator::Neither => out.push_str("; by neither"),
     }
 }
 
-fn by(what: &str, value: &[u8], out: &mut String) -> Result<(), Unanswered> {
+fn by(what: &str, value: &[u8], out: &mut String) -> Result<(), AllocError> {
     out.push_str(what)?;
-    Ok(optional(Some(value), out)?)
+    optional(Some(value), out)
 }
 
 fn condition(
     alloc: Global,
     presented: &[u8],
-    status: &[u8],
+    status: StatusCode,
     answered: &[u8],
     out: &mut String,
-) -> Result<(), Unanswered> {
-    let status = self::status(status)?;
+) -> Result<(), AllocError> {
     let presented = fields_of_block(alloc, presented)?;
     let answered = fields_of_block(alloc, answered)?;
-    Ok(yes_or_no(client_condition(&presented, status, &answered), out)?)
+    yes_or_no(client_condition(&presented, status, &answered), out)
 }

@@ -4,7 +4,7 @@ ghost use Rattle.std.specs.Prelude.{◌<◌};
 use crate::describing::lines;
 use hc_cases::{Unanswered, show};
 use hc_fields::Octets;
-use hc_framing::{FrameFault, whole_request, whole_response};
+use hc_framing::{FrameFault, Message, whole_request, whole_response};
 use hc_fresh::Times;
 use hc_head::{RequestHead, ResponseHead};
 use hc_update::{Stored, initial};
@@ -32,7 +32,11 @@ pub fn unread(fault: FrameFault) -> Unanswered {
 pub fn request(alloc: Global, method: &[u8], lines: &[u8]) -> Result<RequestHead, Unanswered> {
     let start = b" /a HTTP/1.1\r\nhost: h\r\n".as_slice();
     let octets = joined(alloc, &[method, start, lines, b"\r\n"])?;
-    match whole_request(alloc, octets.as_slice()) {
+    request_of(alloc, octets.as_slice())
+}
+
+fn request_of(alloc: Global, octets: &[u8]) -> Result<RequestHead, Unanswered> {
+    match whole_request(alloc, octets) {
         Ok(message) => Ok(message.head),
         Err(fault) => Err(unread(fault)),
     }
@@ -41,7 +45,11 @@ pub fn request(alloc: Global, method: &[u8], lines: &[u8]) -> Result<RequestHead
 /// The head of a response with that status and those lines.
 pub fn response(alloc: Global, status: &[u8], lines: &[u8]) -> Result<ResponseHead, Unanswered> {
     let octets = joined(alloc, &[b"HTTP/1.1 ", status, b" \r\n", lines, b"\r\n"])?;
-    match whole_response(alloc, octets.as_slice(), false) {
+    response_of(alloc, octets.as_slice())
+}
+
+fn response_of(alloc: Global, octets: &[u8]) -> Result<ResponseHead, Unanswered> {
+    match whole_response(alloc, octets, false) {
         Ok(message) => Ok(message.head),
         Err(fault) => Err(unread(fault)),
     }
@@ -60,8 +68,23 @@ pub fn stored_of(
 {
     let forward = request(alloc, b"GET", asked)?;
     match whole_response(alloc, octets, false) {
-        Ok(response) => Ok(initial(alloc, forward, request_time, response, response_time)?),
+        Ok(response) => stored_as(alloc, forward, request_time, response, response_time),
         Err(fault) => Err(unread(fault)),
+    }
+}
+
+fn stored_as(
+    alloc: Global,
+    forward: RequestHead,
+    request_time: u64,
+    response: Message<ResponseHead>,
+    response_time: u64,
+) -> Result<Stored, Unanswered>
+    requires { response_time < 253_402_300_800 }
+{
+    match initial(alloc, forward, request_time, response, response_time) {
+        Ok(state) => Ok(state),
+        Err(AllocError) => Err(Unanswered::Memory),
     }
 }
 
@@ -74,12 +97,12 @@ pub fn hello(alloc: Global, asked: &[u8], lines: &[u8]) -> Result<Stored, Unansw
 
 /// Writes a stored response.
 pub fn described(state: &Stored, out: &mut String) -> Result<(), AllocError> {
-    show(state.request.method.as_slice(), out)?;
+    show(state.request.method.as_str().as_bytes(), out)?;
     out.push_str(" ")?;
     show(state.request.target.as_slice(), out)?;
     out.push_str(" ")?;
     lines(&state.request.fields, out)?;
-    let status = state.status;
+    let status = state.status.as_u16();
     write!(out, "; {status} ")?;
     lines(&state.fields, out)?;
     out.push_str("; body ")?;

@@ -10,7 +10,7 @@ use Rattle.hc_head.specs.declared.head.RequestHead.{RequestHead}
 use Rattle.hc_head.specs.declared.head.Target.{Target}
 use Rattle.hc_head.specs.declared.head.Version.TheVariants.{Http11}
 use Rattle.hc_head.specs.Targets.{HasTarget}
-use Rattle.hc_head.proofs.PassingLemmas.{no_name_fewer, no_name_both}
+use Rattle.hc_rules.proofs.PassingLemmas.{no_name_fewer, no_name_both}
 use Rattle.hc_head.proofs.ForwardLemmas.{same_method, other_method, path_asterisk}
 use Rattle.hc_rules.specs.Validators.{tag_of, last_modified_of}
 use Rattle.hc_rules.specs.Forwards.{goes_forward, passed_on, without_conditions, via_and_close, condition_by, condition_lines, plain_request, unconditional_request, conditional_request}

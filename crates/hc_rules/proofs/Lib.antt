@@ -1,3 +1,4 @@
+pub mod PassingLemmas
 mod SelectLemmas
 mod ConditionLemmas
 mod ForwardLemmas

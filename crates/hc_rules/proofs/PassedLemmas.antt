@@ -19,13 +19,13 @@ use Rattle.hc_head.specs.declared.head.Target.{Target}
 use Rattle.hc_head.specs.declared.head.TheConstants.Room.{RECORDED}
 use Rattle.hc_head.specs.declared.head.Version.{Version}
 use Rattle.hc_head.specs.declared.head.Version.TheVariants.{Http10, Http11}
-use Rattle.hc_head.specs.Passing.{AreOwnLines, IsReceivedRequest}
+use Rattle.hc_rules.specs.Passing.{AreOwnLines, IsReceivedRequest}
 use Rattle.hc_head.specs.Plain.{is_plain_field, is_plain_value}
 use Rattle.hc_head.specs.Targets.{HasTarget}
 use Rattle.hc_head.specs.Weights.{fields_weight}
 use Rattle.hc_head.specs.Writable.{has_framing, IsWritableRequest}
 use Rattle.hc_head.proofs.PlainLemmas.{visible_plain, spaced_plain, host_plain, via_plain, connection_plain, if_none_match_plain, if_modified_since_plain}
-use Rattle.hc_head.proofs.PassingLemmas.{no_framing_fewer, no_framing_both, received_fewer, passed_request}
+use Rattle.hc_rules.proofs.PassingLemmas.{no_framing_fewer, no_framing_both, received_fewer, passed_request}
 use Rattle.hc_head.proofs.WeightLemmas.{weight_first, weight_both}
 use Rattle.hc_head.proofs.ForwardLemmas.{host_value, path_plain, path_short}
 use Rattle.hc_rules.specs.Validators.{is_entity_tag, has_permitted_length, passing, tag_of, last_modified_of}

@@ -7,7 +7,7 @@ use Rattle.hc_fields.specs.Tokens.{is_token}
 use Rattle.hc_head.specs.declared.head.RequestHead.{RequestHead}
 use Rattle.hc_head.specs.declared.head.ResponseHead.{ResponseHead}
 use Rattle.hc_head.specs.declared.head.Target.{Target}
-use Rattle.hc_head.specs.Passing.{IsReceivedRequest}
+use Rattle.hc_rules.specs.Passing.{IsReceivedRequest}
 use Rattle.hc_head.specs.Targets.{HasTarget}
 use Rattle.hc_head.specs.Writable.{has_framing}
 use Rattle.hc_fresh.specs.Lifetimes.{says}

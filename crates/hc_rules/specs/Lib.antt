@@ -4,3 +4,4 @@ pub mod Selecting
 pub mod Conditions
 pub mod Forwards
 pub mod Laws
+pub mod Passing

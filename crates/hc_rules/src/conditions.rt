@@ -6,6 +6,7 @@ ghost use Rattle.hc_rules.specs.Conditions.{client_condition, has_stored, is_not
 use crate::tags::{tag, without_weak_mark};
 use hc_fields::{Fields, trimmed};
 use hc_fresh::read_date;
+use hc_head::StatusCode;
 
 /// The names of the fields that a 304 has to repeat (RFC 9110 section 15.4.5).
 pub const REPEATED_NAMES: [&[u8]; 6] = [
@@ -16,9 +17,6 @@ pub const REPEATED_NAMES: [&[u8]; 6] = [
     b"expires",
     b"vary",
 ];
-
-/// The status for which the client's condition counts.
-const OK: u16 = 200;
 
 fn is_wildcard(value: Option<&[u8]>) -> bool
     ensures { result ≡ is_wildcard (option_copied value.entry) }
@@ -75,10 +73,10 @@ fn is_not_later(modified: Option<u64>, since: Option<u64>) -> bool
 /// that status and those fields: whether its If-None-Match lists the response's tag or is `*`, or,
 /// without an If-None-Match, whether the response isn't later than its If-Modified-Since. It never
 /// does for another status than 200.
-pub fn client_condition(presented: &Fields, status: u16, fields: &Fields) -> bool
+pub fn client_condition(presented: &Fields, status: StatusCode, fields: &Fields) -> bool
     ensures { result ≡ client_condition presented.now status fields.now }
 {
-    if status != OK {
+    if status != StatusCode::OK {
         return false;
     }
     if presented.contains(b"if-none-match") {

@@ -6,7 +6,7 @@ ghost use Rattle.hc_rules.specs.Forwards.{condition_lines, conditional_request, 
 use crate::tags::validator;
 use crate::validators::Validator;
 use hc_fields::{Field, Fields, Octets};
-use hc_head::{RequestHead, Target, Version};
+use hc_head::{Method, RequestHead, Target, Version};
 use std::alloc::{AllocError, Global};
 
 /// Whether a line of that name goes forward.
@@ -79,14 +79,14 @@ fn push_condition(lines: &mut Fields, stored: &Fields) -> Result<(), AllocError>
 /// A request by that method for the target, with those lines, which are moved.
 fn forward_head(
     alloc: Global,
-    method: &[u8],
+    method: Method,
     target: &Target,
     lines: Fields,
 ) -> Result<RequestHead, AllocError>
-    ensures { IfOk result (λ head. head ≡ forward_head method.now target.now lines) }
+    ensures { IfOk result (λ head. head ≡ forward_head method target.now lines) }
 {
     Ok(RequestHead {
-        method: Octets::from_slice(alloc, method)?,
+        method,
         target: target.path.copy(alloc)?,
         version: Version::Http11,
         fields: lines,
@@ -107,7 +107,7 @@ pub fn plain_request(
 {
     let mut lines = front_lines(alloc, target, &received.fields)?;
     push_via_and_close(&mut lines, received.version, name)?;
-    forward_head(alloc, received.method.as_slice(), target, lines)
+    forward_head(alloc, received.method.clone()?, target, lines)
 }
 
 /// The same without the client's own If-None-Match and If-Modified-Since, so that no 304 answers it.
@@ -122,7 +122,7 @@ pub fn unconditional_request(
     let mut lines = front_lines(alloc, target, &received.fields)?;
     remove_conditions(&mut lines);
     push_via_and_close(&mut lines, received.version, name)?;
-    forward_head(alloc, received.method.as_slice(), target, lines)
+    forward_head(alloc, received.method.clone()?, target, lines)
 }
 
 /// A GET that asks the origin whether a stored response with those fields still holds (RFC 9111
@@ -141,5 +141,5 @@ pub fn conditional_request(
     remove_conditions(&mut lines);
     push_condition(&mut lines, stored)?;
     push_via_and_close(&mut lines, received.version, name)?;
-    forward_head(alloc, b"GET", target, lines)
+    forward_head(alloc, Method::GET, target, lines)
 }

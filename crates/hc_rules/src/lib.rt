@@ -6,6 +6,7 @@ mod conditions;
 mod forward_laws;
 mod forwards;
 mod laws;
+mod passing;
 mod selecting;
 mod storing;
 mod tags;
@@ -19,6 +20,10 @@ pub use laws::{
     listed_tag_still_holds, no_store_is_never_stored, no_store_of_a_request_holds,
     not_modified_is_never_stored, only_get_is_stored, partial_is_never_stored,
     plain_response_is_stored, private_is_never_stored, same_lines_are_selected,
+};
+pub use passing::{
+    kept_lines, no_framing_stays, no_name_stays, passed_request_is_writable,
+    passed_response_is_writable, plain_head_is_writable, received_heads,
 };
 pub use selecting::selects;
 pub use storing::{asks_for_storable, may_store};

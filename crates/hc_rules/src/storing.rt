@@ -7,27 +7,45 @@ ghost use Rattle.hc_rules.specs.Storing.{asks_for_storable, has_authorization, i
 
 use hc_directives::{Directives, KnownDirectives};
 use hc_fresh::explicit;
-use hc_head::{NOT_MODIFIED, PARTIAL_CONTENT, RequestHead, ResponseHead, is_get};
+use hc_head::{RequestHead, ResponseHead, StatusCode, is_get};
 
 /// The statuses that may be stored where nothing says so (RFC 9110 section 15.1), but 206.
-const HEURISTICALLY_CACHEABLE: [u16; 11] = [200, 203, 204, 300, 301, 308, 404, 405, 410, 414, 501];
+const HEURISTICALLY_CACHEABLE: [StatusCode; 11] = [
+    StatusCode::OK,
+    StatusCode::NON_AUTHORITATIVE_INFORMATION,
+    StatusCode::NO_CONTENT,
+    StatusCode::MULTIPLE_CHOICES,
+    StatusCode::MOVED_PERMANENTLY,
+    StatusCode::PERMANENT_REDIRECT,
+    StatusCode::NOT_FOUND,
+    StatusCode::METHOD_NOT_ALLOWED,
+    StatusCode::GONE,
+    StatusCode::URI_TOO_LONG,
+    StatusCode::NOT_IMPLEMENTED,
+];
 
-fn is_storable(status: u16) -> bool
+fn is_storable(status: StatusCode) -> bool
     ensures { result ≡ is_storable status }
 {
-    200 <= status && status <= 599 && status != PARTIAL_CONTENT && status != NOT_MODIFIED
+    let number = status.as_u16();
+    200 <= number
+        && number <= 599
+        && status != StatusCode::PARTIAL_CONTENT
+        && status != StatusCode::NOT_MODIFIED
 }
 
-fn is_heuristically_cacheable(status: u16) -> bool
+fn is_heuristically_cacheable(status: StatusCode) -> bool
     ensures { result ≡ is_heuristically_cacheable status }
 {
     HEURISTICALLY_CACHEABLE.contains(&status)
 }
 
-fn is_understood(status: u16) -> bool
+fn is_understood(status: StatusCode) -> bool
     ensures { result ≡ is_understood status }
 {
-    is_heuristically_cacheable(status) || status == 302 || status == 307
+    is_heuristically_cacheable(status)
+        || status == StatusCode::FOUND
+        || status == StatusCode::TEMPORARY_REDIRECT
 }
 
 /// Whether a request is a GET without `no-store`, so that what answers it may be stored (RFC 9111
@@ -35,7 +53,7 @@ fn is_understood(status: u16) -> bool
 pub fn asks_for_storable(forward: &RequestHead) -> bool
     ensures { result ≡ asks_for_storable forward.now }
 {
-    is_get(forward.method.as_slice()) && !Directives::read(&forward.fields).has(b"no-store")
+    is_get(&forward.method) && !Directives::read(&forward.fields).has(b"no-store")
 }
 
 fn has_authorization(forward: &RequestHead) -> bool
@@ -45,7 +63,7 @@ fn has_authorization(forward: &RequestHead) -> bool
 }
 
 /// Whether `must-understand`, if it is there, is about a status that is understood.
-fn is_understood_if_asked(known: &KnownDirectives, status: u16) -> bool
+fn is_understood_if_asked(known: &KnownDirectives, status: StatusCode) -> bool
     ensures { result ≡ (not known.now.must_understand || is_understood status) }
 {
     !known.must_understand || is_understood(status)

@@ -4,20 +4,19 @@ use crate::fronts::say_fronts;
 use crate::names::{say_run_faults, say_script_faults};
 use crate::played::Played;
 use crate::steps::say_steps;
-use hc_cases::{Ask, Unanswered};
+use hc_cases::{Ask, Case, Unanswered};
 use std::alloc::Global;
 
 /// What is asked of scripts.
 pub struct Scripts;
 
 impl Ask for Scripts {
-    fn answer(
-        &self,
-        alloc: Global,
-        question: &str,
-        about: &[Vec<u8>],
-        out: &mut String,
-    ) -> Result<(), Unanswered> {
+    fn answer(&self, case: &Case<'_>, out: &mut String) -> Result<(), Unanswered> {
+        let Case {
+            alloc,
+            question,
+            about,
+        } = *case;
         match question {
             "run faults" => Ok(say_run_faults(out)?),
             "script faults" => Ok(say_script_faults(out)?),

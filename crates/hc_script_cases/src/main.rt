@@ -10,22 +10,12 @@ mod played;
 mod steps;
 
 use crate::answers::Scripts;
+use crate::folder::Replays;
+use hc_cases::status_with_folder;
 use std::process::ExitCode;
-use std::rt::Env;
-use std::{env, io};
 
 fn main(rt: HostRuntime) -> ExitCode {
-    let mut output = rt.stdout();
-    let mut faults = rt.stderr();
-    let status = match first_argument(&rt) {
-        Ok(Some(folder)) => folder::status(&rt, folder.as_str(), &mut output, &mut faults),
-        Ok(None) => hc_cases::status(&rt, &Scripts, "cases.txt", &mut output, &mut faults),
-        Err(_) => 1,
-    };
+    let (mut output, mut faults) = (rt.stdout(), rt.stderr());
+    let status = status_with_folder(&rt, &Scripts, &Replays, &mut output, &mut faults);
     ExitCode::from(status)
-}
-
-// The program's first argument, if it has one.
-fn first_argument<R: Env + AllocGlobal>(rt: &R) -> io::Result<Option<String>> {
-    Ok(env::args(rt)?.nth(1))
 }

@@ -1,11 +1,10 @@
 //! What each step answers.
 
 use hc_cases::{Unanswered, show};
-use hc_drive::{Script, read_script};
-use hc_fields::Octets;
+use hc_core::{StepResult, run};
 use hc_framing::MessageText;
-use hc_run::{StepResult, run};
-use hc_service::{Action, CoreSettings};
+use hc_scripts::read_script;
+use hc_service::Action;
 use std::alloc::{AllocError, Global};
 use std::fmt::Write;
 
@@ -14,20 +13,12 @@ pub fn say_steps(alloc: Global, script: &[u8], out: &mut String) -> Result<(), U
     let Ok(script) = read_script(alloc, script) else {
         return Err(Unanswered::Unknown);
     };
-    let settings = settings_of(alloc, &script)?;
+    let settings = script.settings(alloc)?;
     let Ok(run) = run(alloc, settings, script.events) else {
         return Err(Unanswered::Unknown);
     };
     say_results(alloc, run.results.as_slice(), out)?;
     Ok(())
-}
-
-fn settings_of(alloc: Global, script: &Script) -> Result<CoreSettings, AllocError> {
-    Ok(CoreSettings {
-        name: Octets::from_slice(alloc, b"hcache")?,
-        keys: script.keys as usize,
-        bytes: script.bytes,
-    })
 }
 
 fn say_results(alloc: Global, results: &[StepResult], out: &mut String) -> Result<(), AllocError> {

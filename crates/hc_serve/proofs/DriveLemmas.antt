@@ -19,7 +19,7 @@ use Rattle.hc_service.specs.Sending.{records_of}
 use Rattle.hc_service.specs.Settings.{AreGood}
 use Rattle.hc_service.specs.State.{State}
 use Rattle.hc_service.proofs.RunLemmas.{steps_append}
-use Rattle.hc_core.specs.Steps.{Cache, GivesStep, StandsFor}
+use Rattle.hc_machine.specs.Steps.{Cache, GivesStep, StandsFor}
 use Rattle.hc_connection.specs.Moves.{Move}
 use Rattle.hc_serve.specs.declared.fault.DriveFault.{DriveFault}
 use Rattle.hc_serve.specs.declared.fault.DriveFault.TheVariants as fault
@@ -47,22 +47,22 @@ AgreementIsReady = (s : State) (h : History) → Agrees s h → IsReady s
 abbrev texts_of : List Record → List ℕ
 texts_of records = flat_map record_text records
 
-given_append : (a b : List StepResult) → records_given (a ++ b) ≡ records_given a ++ records_given b
+pub given_append : (a b : List StepResult) → records_given (a ++ b) ≡ records_given a ++ records_given b
 given_append [] b = refl
 given_append (Ok actions ∷ a) b =
     ap (λ (t : List Record). records_of actions.items ++ t) (given_append a b) ∙ sym (append_assoc (records_of actions.items) (records_given a) (records_given b))
 given_append (Err step ∷ a) b = given_append a b
 
-fewer : (before more : List StepResult) (n : ℕ) → n + length (records_given (before ++ more)) ≤ greatest_number → n + length (records_given before) ≤ greatest_number
+pub fewer : (before more : List StepResult) (n : ℕ) → n + length (records_given (before ++ more)) ≤ greatest_number → n + length (records_given before) ≤ greatest_number
 fewer before more n few = omega (arith, few, ap length (given_append before more), length-append (records_given before) (records_given more))
 
-texts_given_append : (a b : List StepResult) → texts_given (a ++ b) ≡ texts_given a ++ texts_given b
+pub texts_given_append : (a b : List StepResult) → texts_given (a ++ b) ≡ texts_given a ++ texts_given b
 texts_given_append a b = ap texts_of (given_append a b) ∙ flat_map-append record_text (records_given a) (records_given b)
 
-texts_of_one : (actions : Vec Action Global) → texts_given (Ok actions ∷ []) ≡ texts_in actions.items
+pub texts_of_one : (actions : Vec Action Global) → texts_given (Ok actions ∷ []) ≡ texts_in actions.items
 texts_of_one actions = ap texts_of (append-nil (records_of actions.items))
 
-served_append : (a b : List StepResult) → AreServed a → AreServed b → AreServed (a ++ b)
+pub served_append : (a b : List StepResult) → AreServed a → AreServed b → AreServed (a ++ b)
 served_append [] b served more = more
 served_append (Ok actions ∷ a) b served more = served_append a b served more
 served_append (Err step ∷ a) b served more = absurd served

@@ -1,2 +1,3 @@
 pub mod CarryLemmas
+pub mod ClientLemmas
 pub mod DriveLemmas

@@ -11,7 +11,7 @@ use Rattle.hc_service.specs.Agreement.{Agrees, History}
 use Rattle.hc_service.specs.Runs.{Runs, StepResult, records_given}
 use Rattle.hc_service.specs.Settings.{AreGood}
 use Rattle.hc_service.specs.State.{State}
-use Rattle.hc_core.specs.Steps.{Cache, StandsFor}
+use Rattle.hc_machine.specs.Steps.{Cache, StandsFor}
 use Rattle.hc_connection.specs.Links.{HasFailed}
 use Rattle.hc_connection.specs.Moves.{Move}
 use Rattle.hc_connection.specs.Moves.Move.{Heard}

@@ -1,4 +1,5 @@
-pub mod FaultNames
 pub mod Carrying
-pub mod Turns
+pub mod Clients
 pub mod Drives
+pub mod FaultNames
+pub mod Turns

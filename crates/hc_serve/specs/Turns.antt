@@ -10,7 +10,7 @@ use Rattle.hc_service.specs.declared.settings.CoreSettings.{CoreSettings}
 use Rattle.hc_service.specs.Agreement.{IsReady}
 use Rattle.hc_service.specs.Runs.{StepResult}
 use Rattle.hc_service.specs.State.{State}
-use Rattle.hc_core.specs.Steps.{Cache, GivesStep, StandsFor}
+use Rattle.hc_machine.specs.Steps.{Cache, GivesStep, StandsFor}
 use Rattle.hc_connection.specs.Moves.{Move}
 use Rattle.hc_connection.specs.Moves.Move.{Heard}
 use Rattle.hc_serve.specs.declared.fault.DriveFault.{DriveFault}

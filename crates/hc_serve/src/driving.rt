@@ -8,7 +8,7 @@ ghost use Rattle.hc_serve.specs.Drives.{GivesDrive};
 use crate::fault::DriveFault;
 use crate::turning::turn;
 use hc_connection::{Link, Links};
-use hc_core::Core;
+use hc_machine::Core;
 use hc_service::{StepFault, agreement_is_ready, runs_keep_agreement, steps_are_runs};
 use std::alloc::Global;
 use std::hash::BuildHasher;

@@ -1,4 +1,4 @@
-//! What went wrong while a connection was served.
+//! What went wrong while connections were served.
 
 ghost use Rattle.std.specs.Prelude.{◌≡◌};
 ghost use Rattle.hc_service.specs.declared.fault.StepFault.TheVariants.{Memory};
@@ -63,4 +63,18 @@ impl From<StepFault> for DriveFault {
     fn from(fault: StepFault) -> DriveFault {
         DriveFault::Core(fault)
     }
+}
+
+/// Why no further connection is served.
+#[derive(Clone, Copy, Debug, PartialEq, Eq, Error)]
+pub enum ServingFault {
+    /// No further client came. All that came were served.
+    #[error("no further client came")]
+    Clients,
+    /// The recorder failed. Nothing was read or written behind that.
+    #[error("the recorder failed")]
+    Recorder,
+    /// The cache didn't serve an event of a connection, or the driver of that gave up, as `DriveFault::Core` says.
+    #[error("{0}")]
+    Core(StepFault),
 }

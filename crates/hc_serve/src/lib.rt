@@ -3,12 +3,14 @@
 #![tactic(auto)]
 
 mod carrying;
+mod clients;
 mod driving;
 mod fault;
 mod recorder;
 mod serving;
 mod turning;
 
+pub use clients::serve_clients;
 pub use driving::drive;
-pub use fault::DriveFault;
+pub use fault::{DriveFault, ServingFault};
 pub use serving::serve_connection;

@@ -9,7 +9,7 @@ ghost use Rattle.hc_serve.specs.Drives.{CountsServed, GivesDrive, LeavesIdle, Le
 use crate::driving::drive;
 use crate::fault::DriveFault;
 use hc_connection::{Clock, Connection, Link, Origins};
-use hc_core::Core;
+use hc_machine::Core;
 use hc_service::StepFault;
 use std::alloc::Global;
 use std::hash::BuildHasher;

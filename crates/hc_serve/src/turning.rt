@@ -8,7 +8,7 @@ ghost use Rattle.hc_serve.specs.Turns.{GivesTurn};
 use crate::carrying::carry_out;
 use crate::fault::DriveFault;
 use hc_connection::{Link, Links};
-use hc_core::Core;
+use hc_machine::Core;
 use std::alloc::Global;
 use std::hash::BuildHasher;
 

@@ -7,7 +7,7 @@ use crate::scene::{Scene, number_of};
 use crate::service::say_service;
 use crate::staged::Manner;
 use crate::telling::{say_failures, say_octets, say_order, say_read, say_reads};
-use hc_cases::{Ask, Unanswered};
+use hc_cases::{Ask, Case, Unanswered};
 use std::alloc::Global;
 use std::net::Net;
 use std::random::RandomSource;
@@ -20,13 +20,12 @@ pub(crate) struct Connections<'a, R: Net + Files + RandomSource> {
 }
 
 impl<'a, R: Net + Files + RandomSource> Ask for Connections<'a, R> {
-    fn answer(
-        &self,
-        alloc: Global,
-        question: &str,
-        about: &[Vec<u8>],
-        out: &mut String,
-    ) -> Result<(), Unanswered> {
+    fn answer(&self, case: &Case<'_>, out: &mut String) -> Result<(), Unanswered> {
+        let Case {
+            alloc,
+            question,
+            about,
+        } = *case;
         if let Some(manner) = manner_of(question)? {
             return say_service(self.system, alloc, about, manner, out);
         }

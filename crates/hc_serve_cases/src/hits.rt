@@ -5,7 +5,7 @@ use crate::notebook::Notebook;
 use crate::scene::{Scene, Site, Ticking, new_core};
 use hc_cases::Unanswered;
 use hc_connection::Connection;
-use hc_core::Core;
+use hc_machine::Core;
 use hc_serve::serve_connection;
 use std::alloc::Global;
 use std::fmt::Write;

@@ -19,8 +19,6 @@ use std::process::ExitCode;
 
 fn main(rt: HostRuntime) -> ExitCode {
     let asked = Connections { system: &rt };
-    let mut output = rt.stdout();
-    let mut faults = rt.stderr();
-    let status = hc_cases::status(&rt, &asked, "cases.txt", &mut output, &mut faults);
+    let status = hc_cases::status(&rt, &asked, &mut rt.stdout(), &mut rt.stderr());
     ExitCode::from(status)
 }

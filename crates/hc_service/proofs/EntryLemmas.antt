@@ -17,7 +17,7 @@ use Rattle.hc_head.specs.Statuses.{partial_content}
 use Rattle.hc_head.specs.Targets.{same_target}
 use Rattle.hc_head.specs.Writable.{has_framing}
 use Rattle.hc_head.specs.Weights.{fields_weight}
-use Rattle.hc_head.proofs.PassingLemmas.{kept_from_stored, no_framing_fewer, no_framing_both, no_name_fewer, no_name_both, no_name_refused}
+use Rattle.hc_rules.proofs.PassingLemmas.{kept_from_stored, no_framing_fewer, no_framing_both, no_name_fewer, no_name_both, no_name_refused}
 use Rattle.hc_head.proofs.PlainLemmas.{plain_fewer, plain_both, date_plain}
 use Rattle.hc_framing.specs.declared.message.Message.{Message}
 use Rattle.hc_framing.specs.Framing.{ends_with_head}

@@ -2,9 +2,8 @@
 use Rattle.std.proofs.Common.{◌≡◌, ℕ, Bool, true, false, ◌&&◌, ◌||◌, List, refl}
 use Rattle.std.specs.Prelude.{not, codes}
 use Rattle.hc_fields.specs.declared.fields.Field.{Field}
-use Rattle.hc_fresh.specs.Lifetimes.{says, stale_forbidden}
+use Rattle.hc_fresh.specs.Lifetimes.{says, seconds_said, stale_forbidden}
 use Rattle.hc_update.specs.declared.stored.Stored.{Stored}
-use Rattle.hc_history.specs.Usable.{seconds_said}
 use Rattle.hc_service.specs.Asking.{allows_age, asks_for_fresh}
 use Rattle.hc_service.specs.Serving.{age_at, is_fresh, max_stale_permits, staleness_at, while_revalidating, on_error, may_be_used, is_fresh_enough, is_permitted_stale, may_be_served, may_replace}
 

@@ -18,7 +18,7 @@ use Rattle.hc_rules.specs.Forwards.{conditional_request}
 use Rattle.hc_rules.specs.Validators.{has_validator}
 use Rattle.hc_transcript.specs.History.{next_position, exchange_of, forward_of}
 use Rattle.hc_transcript.specs.Written.{IsWritableAsk}
-use Rattle.hc_history.specs.Windows.{is_error_status}
+use Rattle.hc_head.specs.Statuses.{is_error_status}
 use Rattle.hc_history.specs.Right.{IsRight}
 use Rattle.hc_store.specs.Entries.{Holdings, knows}
 use Rattle.hc_store.specs.Choosing.{is_selected}

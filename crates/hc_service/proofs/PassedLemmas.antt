@@ -20,7 +20,7 @@ use Rattle.hc_history.specs.Claims.{Claim, claim_of}
 use Rattle.hc_history.specs.Forwarded.{carries_response}
 use Rattle.hc_history.specs.Marks.{reply_mark, judged_mark}
 use Rattle.hc_history.specs.Right.{IsRight, IsRightTo, IsRightBy}
-use Rattle.hc_history.proofs.TargetLemmas.{same_target_itself}
+use Rattle.hc_head.proofs.SameTargetLemmas.{same_target_itself}
 use Rattle.hc_service.specs.declared.cases.Cause.{Cause}
 use Rattle.hc_service.specs.declared.open.OpenForward.{OpenForward}
 use Rattle.hc_service.specs.Cases.{word_of}

@@ -13,12 +13,12 @@ use Rattle.hc_head.specs.declared.head.ResponseHead.{ResponseHead}
 use Rattle.hc_head.specs.declared.head.Target.{Target}
 use Rattle.hc_head.specs.declared.head.Version.{Version}
 use Rattle.hc_head.specs.declared.head.TheConstants.Room.{RECEIVED, RECORDED}
-use Rattle.hc_head.specs.Passing.{AreKeptLines, IsReceivedRequest}
+use Rattle.hc_rules.specs.Passing.{AreKeptLines, IsReceivedRequest}
 use Rattle.hc_head.specs.Heads.{BeginsResponseHead, response_field_count}
 use Rattle.hc_head.specs.Plain.{is_plain_field}
 use Rattle.hc_head.specs.Reading.{IsWholeHead}
 use Rattle.hc_head.specs.Writable.{has_framing, longest_body}
-use Rattle.hc_head.proofs.PassingLemmas.{received_request, received_response, received_without_framing, light_request_writable, no_framing_taken, kept_fewer}
+use Rattle.hc_rules.proofs.PassingLemmas.{received_request, received_response, received_without_framing, light_request_writable, no_framing_taken, kept_fewer}
 use Rattle.hc_framing.specs.declared.fault.FrameFault.{FrameFault}
 use Rattle.hc_framing.specs.declared.fault.FrameFault.TheVariants.{BothLengths, BadLength, BadCoding, BodyTooLong}
 use Rattle.hc_framing.specs.declared.framing.Framing.{Framing}

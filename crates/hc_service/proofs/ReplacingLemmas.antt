@@ -13,8 +13,9 @@ use Rattle.hc_update.specs.declared.stored.Stored.{Stored}
 use Rattle.hc_transcript.specs.Items.{Item, OriginResponse, OriginFailure, ClientReply, Exchange, Forward}
 use Rattle.hc_transcript.specs.History.{next_position, exchange_of, forward_of}
 use Rattle.hc_history.specs.Right.{IsRight}
-use Rattle.hc_history.specs.Windows.{some_since, is_error_status, is_forward_of, is_error, is_failure}
-use Rattle.hc_history.proofs.TargetLemmas.{same_target_itself}
+use Rattle.hc_head.specs.Statuses.{is_error_status}
+use Rattle.hc_history.specs.Windows.{some_since, is_forward_of, is_error, is_failure}
+use Rattle.hc_head.proofs.SameTargetLemmas.{same_target_itself}
 use Rattle.hc_store.specs.Choosing.{is_selected, is_selected_validated}
 use Rattle.hc_service.specs.declared.cases.Cause.{Cause}
 use Rattle.hc_service.specs.declared.open.OpenForward.{OpenForward}

@@ -34,7 +34,7 @@ use Rattle.hc_history.specs.Reused.{Pass, IsReused, anywhere, forwarded_count}
 use Rattle.hc_history.specs.Right.{IsRight, IsRightTo, IsRightBy}
 use Rattle.hc_history.specs.Usable.{lifetime_of, is_usable}
 use Rattle.hc_history.proofs.StateLemmas.{place_of}
-use Rattle.hc_history.proofs.TargetLemmas.{same_target_itself}
+use Rattle.hc_head.proofs.SameTargetLemmas.{same_target_itself}
 use Rattle.hc_store.specs.Choosing.{is_selected}
 use Rattle.hc_service.specs.Agreement.{HasSource, CanReply}
 use Rattle.hc_service.specs.Replying.{Wanted, entry_reply, hit_reply}

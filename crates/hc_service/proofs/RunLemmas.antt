@@ -1,5 +1,5 @@
 -- Steps are a run, and what a run records is judged right.
-use Rattle.std.proofs.Common.{◌≡◌, ℕ, ◌+◌, ◌≤◌, Bool, true, false, List, [], ◌∷◌, ◌++◌, length, drop, Option, Some, None, Ok, Err, refl, sym, ap, ◌∙◌, subst, arith, append_assoc, append-nil, length-append, flat_map}
+use Rattle.std.proofs.Common.{◌≡◌, ℕ, suc, ◌+◌, ◌≤◌, Bool, true, false, List, [], ◌∷◌, ◌++◌, length, drop, Option, Some, None, Ok, Err, refl, sym, ap, ◌∙◌, subst, arith, append_assoc, append-nil, length-append, flat_map}
 use Rattle.hc_head.specs.Methods.{is_head}
 use Rattle.hc_head.specs.declared.head.ResponseHead.{ResponseHead}
 use Rattle.hc_framing.specs.declared.message.Message.{Message}
@@ -7,6 +7,7 @@ use Rattle.hc_transcript.specs.declared.record.Record.{Record}
 use Rattle.hc_transcript.specs.Limits.{greatest_number}
 use Rattle.hc_transcript.specs.Records.{opening, record_text, records_text}
 use Rattle.hc_transcript.specs.Items.{Item}
+use Rattle.hc_transcript.specs.Transcript.{AreReadAs}
 use Rattle.hc_history.specs.Counting.{counts_of}
 use Rattle.hc_history.specs.Right.{AllRight}
 use Rattle.hc_events.specs.declared.Event.{Event}
@@ -31,7 +32,7 @@ use Rattle.hc_service.specs.Turns.{DoesReaction, DoesOutcome, EndsByResponse, En
 use Rattle.hc_service.specs.Serves.{Turn, Takes, Run, Serves, passed_to}
 use Rattle.hc_service.specs.Serves.Turn.{Opening, Hearing, Asking, Refusal, Dropping, Leaving, Closing, Telling, Answering, Failing}
 use Rattle.hc_service.specs.Agreement.{History, Agrees, IsReady}
-use Rattle.hc_service.specs.Runs.{Records, AllRightBehind, behind, strict, nothing_yet, StepResult, Runs, RunsTo, Steps, records_given, GoesOnWith, EndAgrees, IsJudgedRight}
+use Rattle.hc_service.specs.Runs.{Records, AllRightBehind, behind, strict, nothing_yet, StepResult, Runs, RunsOn, RunsTo, Steps, records_given, GoesOnWith, EndAgrees, IsJudgedRight}
 use Rattle.hc_service.specs.LowerLaws.{ForwardLaws}
 use Rattle.hc_service.specs.Laws.{IsCountedOn}
 use Rattle.hc_service.proofs.BeginLemmas.{new_agrees}
@@ -160,13 +161,18 @@ event_counts settings event s actions s' v = run_counts settings v.turns (passed
 
 -- ---- what has happened behind a run
 
-with_more : (actions : List Action) (rest : List Record) (h between later : History) → Records actions h between → GoesOnWith rest between later → GoesOnWith (records_of actions ++ rest) h later
-with_more actions rest h between later one more = record {
-  newer = more.newer ++ one.newer;
-  records_are = more.records_are ∙ ap (behind rest) one.records_are ∙ sym (behind_append (records_of actions) rest h.records);
-  items_are = more.items_are ∙ ap (λ (items : List Item). more.newer ++ items) one.items_are ∙ sym (append_assoc more.newer one.newer h.items);
-  right = right_append more.newer one.newer h.items (subst (AllRightBehind more.newer) one.items_are more.right) one.right;
+-- records behind others
+joined : (records more : List Record) (h between later : History) → GoesOnWith records h between → GoesOnWith more between later → GoesOnWith (records ++ more) h later
+joined records more h between later first second = record {
+  newer = second.newer ++ first.newer;
+  records_are = second.records_are ∙ ap (behind more) first.records_are ∙ sym (behind_append records more h.records);
+  items_are = second.items_are ∙ ap (λ (items : List Item). second.newer ++ items) first.items_are ∙ sym (append_assoc second.newer first.newer h.items);
+  right = right_append second.newer first.newer h.items (subst (AllRightBehind second.newer) first.items_are second.right) first.right;
 }
+
+with_more : (actions : List Action) (rest : List Record) (h between later : History) → Records actions h between → GoesOnWith rest between later → GoesOnWith (records_of actions ++ rest) h later
+with_more actions rest h between later one more =
+    joined (records_of actions) rest h between later (record { newer = one.newer; records_are = one.records_are; items_are = one.items_are; right = one.right }) more
 
 -- nothing goes on
 stays_to : (records : List Record) (s : State) (h : History) (end : Option State) → records ≡ [] → Agrees s h → EndAgrees end h → RunsTo records h end
@@ -208,10 +214,8 @@ all_right : (newer items : List Item) → AllRight strict items → AllRightBehi
 all_right [] items right more = right
 all_right (item ∷ newer) items right more = (all_right newer items right more.0, more.1)
 
-pub runs_judged : (settings : CoreSettings) (events : List Event) (results : List StepResult) (records : List Record) (end : Option State)
-    → Runs settings (new_state settings) nothing_yet events results records end → IsJudgedRight records
-runs_judged settings events results records end runs =
-    let to = runs_to settings events results (new_state settings) nothing_yet records end runs in
+pub right_judged : (records : List Record) (end : Option State) → RunsTo records nothing_yet end → IsJudgedRight records
+right_judged records end to =
     let more = to.goes_on in
     record {
       counts = counts_of to.later.items;
@@ -226,6 +230,124 @@ runs_judged settings events results records end runs =
         counts_are = refl;
       };
     }
+
+pub runs_judged : (settings : CoreSettings) (events : List Event) (results : List StepResult) (records : List Record) (end : Option State)
+    → Runs settings (new_state settings) nothing_yet events results records end → IsJudgedRight records
+runs_judged settings events results records end runs = right_judged records end (runs_to settings events results (new_state settings) nothing_yet records end runs)
+
+-- ---- runs join
+
+pub right_begins : (settings : CoreSettings) → RunsTo [] nothing_yet (Some (new_state settings))
+right_begins settings = let agrees = new_agrees settings in stays_to [] (new_state settings) nothing_yet (Some (new_state settings)) refl agrees agrees
+
+pub right_joins : (h : History) (records more : List Record) (mid end : Option State) → (to : RunsTo records h mid) → RunsTo more to.later end → RunsTo (records ++ more) h end
+right_joins h records more mid end to onward = record {
+  later = onward.later;
+  goes_on = joined records more h to.later onward.later to.goes_on onward.goes_on;
+  are_read = onward.are_read;
+  agrees = onward.agrees;
+}
+
+-- a run from where a run has led to is, with it, one run
+pub runs_on : (settings : CoreSettings) (events : List Event) (results : List StepResult) (s mid : State) (h : History) (records : List Record)
+    → Runs settings s h events results records (Some mid) → RunsOn settings s h events results records mid
+runs_on settings [] [] s mid h records runs =
+    let same = some_one mid s runs.2 in
+    record {
+      later = h;
+      agrees = subst (λ (s : State). Agrees s h) (sym same) runs.0;
+      goes_on = λ others answers more end onward.
+          subst (λ (rs : List Record). Runs settings s h others answers (rs ++ more) end) (sym runs.1) (subst (λ (s : State). Runs settings s h others answers more end) same onward);
+    }
+  where
+    some_one : (a b : State) → Some a ≡ Some b → a ≡ b
+    some_one a b e = cc
+runs_on settings [] (result ∷ results) s mid h records runs = absurd runs
+runs_on settings (event ∷ events) [] s mid h records runs = absurd runs
+runs_on settings (event ∷ events) (Ok actions ∷ results) s mid h records runs =
+    let next = runs_on settings events results runs.1 mid runs.2 runs.3 runs.7 in
+    record {
+      later = next.later;
+      agrees = next.agrees;
+      goes_on = λ others answers more end onward. (
+        runs.0,
+        runs.1,
+        runs.2,
+        runs.3 ++ more,
+        runs.4,
+        runs.5,
+        ap (λ (rs : List Record). rs ++ more) runs.6 ∙ append_assoc (records_of actions.items) runs.3 more,
+        next.goes_on others answers more end onward,
+      );
+    }
+runs_on settings (event ∷ events) (Err Memory ∷ results) s mid h records runs = absurd (not_none mid runs.4)
+  where
+    not_none : (a : State) → Some a ≡ None → ⊥
+    not_none a e = cc
+runs_on settings (event ∷ events) (Err MomentTooLarge ∷ results) s mid h records runs =
+    let next = runs_on settings events results s mid h records runs.2 in
+    record {
+      later = next.later;
+      agrees = next.agrees;
+      goes_on = λ others answers more end onward. (runs.0, runs.1, next.goes_on others answers more end onward);
+    }
+runs_on settings (event ∷ events) (Err UnknownNumber ∷ results) s mid h records runs =
+    let next = runs_on settings events results s mid h records runs.2 in
+    record {
+      later = next.later;
+      agrees = next.agrees;
+      goes_on = λ others answers more end onward. (runs.0, runs.1, next.goes_on others answers more end onward);
+    }
+runs_on settings (event ∷ events) (Err TooManyConnections ∷ results) s mid h records runs =
+    let next = runs_on settings events results s mid h records runs.2 in
+    record {
+      later = next.later;
+      agrees = next.agrees;
+      goes_on = λ others answers more end onward. (runs.0, runs.1, next.goes_on others answers more end onward);
+    }
+runs_on settings (event ∷ events) (Err Failed ∷ results) s mid h records runs = absurd runs
+
+as_many_items : (records : List Record) (items : List Item) → AreReadAs records items → length records ≡ length items
+as_many_items [] [] read = refl
+as_many_items [] (item ∷ items) read = absurd read
+as_many_items (r ∷ records) [] read = absurd read
+as_many_items (r ∷ records) (item ∷ items) read = ap suc (as_many_items records items read.0)
+
+as_many_behind : (records before : List Record) → length (behind records before) ≡ length records + length before
+as_many_behind [] before = omega arith
+as_many_behind (r ∷ records) before = let more = as_many_behind records (r ∷ before) in omega (arith, more)
+
+counted_behind : (records : List Record) (h : History) (s : State) → AreReadAs h.records h.items → RunsTo records h (Some s) → s.numbers.records ≡ length h.items + length records
+counted_behind records h s read_before to =
+    let counted = to.agrees.stands.counted.records in
+    let read = as_many_items to.later.records to.later.items to.are_read in
+    let before = as_many_items h.records h.items read_before in
+    let stands_behind = ap (λ (rs : List Record). length rs) to.goes_on.records_are in
+    let all = as_many_behind records h.records in
+    omega (arith, counted, read, before, stands_behind, all)
+
+pub right_counted : (records : List Record) (s : State) → RunsTo records nothing_yet (Some s) → s.numbers.records ≡ length records
+right_counted records s to = let counted : s.numbers.records ≡ 0 + length records = counted_behind records nothing_yet s tt to in omega (arith, counted)
+
+-- a run begins with agreement
+runs_agree : (settings : CoreSettings) (events : List Event) (results : List StepResult) (s : State) (h : History) (records : List Record) (end : Option State)
+    → Runs settings s h events results records end → Agrees s h
+runs_agree settings [] [] s h records end runs = runs.0
+runs_agree settings [] (result ∷ results) s h records end runs = absurd runs
+runs_agree settings (event ∷ events) [] s h records end runs = absurd runs
+runs_agree settings (event ∷ events) (Ok actions ∷ results) s h records end runs = runs.0
+runs_agree settings (event ∷ events) (Err Memory ∷ results) s h records end runs = runs.0
+runs_agree settings (event ∷ events) (Err MomentTooLarge ∷ results) s h records end runs = runs.0
+runs_agree settings (event ∷ events) (Err UnknownNumber ∷ results) s h records end runs = runs.0
+runs_agree settings (event ∷ events) (Err TooManyConnections ∷ results) s h records end runs = runs.0
+runs_agree settings (event ∷ events) (Err Failed ∷ results) s h records end runs = absurd runs
+
+pub runs_counted : (settings : CoreSettings) (events : List Event) (results : List StepResult) (s mid : State) (h : History) (records : List Record)
+    → Runs settings s h events results records (Some mid) → mid.numbers.records ≡ s.numbers.records + length records
+runs_counted settings events results s mid h records runs =
+    let agrees = runs_agree settings events results s h records (Some mid) runs in
+    let counted = agrees.stands.counted in
+    counted_behind records h mid counted.are_read (runs_to settings events results s h records (Some mid) runs) ∙ ap (λ (n : ℕ). n + length records) (sym counted.records)
 
 -- ---- steps are a run
 

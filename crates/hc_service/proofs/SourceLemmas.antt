@@ -23,7 +23,7 @@ use Rattle.hc_transcript.specs.History.{next_position, forward_of}
 use Rattle.hc_history.specs.declared.kept.Kept.{Kept}
 use Rattle.hc_history.specs.States.{state_after}
 use Rattle.hc_history.proofs.StateLemmas.{place_of, earlier_at}
-use Rattle.hc_history.proofs.TargetLemmas.{same_target_itself}
+use Rattle.hc_head.proofs.SameTargetLemmas.{same_target_itself}
 use Rattle.hc_store.specs.declared.putting.Put.{Put}
 use Rattle.hc_store.specs.declared.putting.Put.TheVariants as put
 use Rattle.hc_store.specs.Entries.{Holdings, Entries, variants_of}

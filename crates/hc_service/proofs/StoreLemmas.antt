@@ -8,7 +8,7 @@ use Rattle.hc_fields.specs.declared.fields.Field.{Field}
 use Rattle.hc_head.specs.declared.head.Target.{Target}
 use Rattle.hc_head.specs.Targets.{same_target}
 use Rattle.hc_update.specs.declared.stored.Stored.{Stored}
-use Rattle.hc_history.proofs.TargetLemmas.{same_target_one}
+use Rattle.hc_head.proofs.SameTargetLemmas.{same_target_one}
 use Rattle.hc_store.specs.Entries.{Entries, variants_of, variants_weight}
 use Rattle.hc_store.specs.Choosing.{is_selected, is_selected_validated, goes_before, first_choice, chosen, chosen_validated}
 use Rattle.hc_store.specs.Changes.{keyed, without, with_variants, after_choose, after_put, first_keys, last_variants, trimmed, added, Validation, Leaves, after_validation, is_validated, renewed, may_stay, may_go, after_freshen}

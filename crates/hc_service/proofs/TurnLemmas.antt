@@ -8,7 +8,7 @@ use Rattle.hc_head.specs.declared.head.ResponseHead.{ResponseHead}
 use Rattle.hc_head.specs.declared.head.Target.{Target}
 use Rattle.hc_head.specs.declared.head.TheConstants.Room.{RECORDED}
 use Rattle.hc_head.specs.Methods.{is_head}
-use Rattle.hc_head.proofs.PassingLemmas.{light_response_writable}
+use Rattle.hc_rules.proofs.PassingLemmas.{light_response_writable}
 use Rattle.hc_framing.specs.declared.message.Message.{Message}
 use Rattle.hc_transcript.specs.declared.record.Record.{Record}
 use Rattle.hc_transcript.specs.Limits.{greatest_number}

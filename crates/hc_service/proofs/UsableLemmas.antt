@@ -5,13 +5,13 @@ use Rattle.std.specs.Option.{option_eq}
 use Rattle.std.proofs.lemmas.Bool.{and_from, and_parts, or_left, or_right, le-leb, leb-true, lt-ltb, ltb-true, eqb-true}
 use Rattle.hc_directives.specs.declared.cache_control.Seconds.{Seconds}
 use Rattle.hc_directives.specs.declared.cache_control.Seconds.TheVariants.{Absent, Bare, Value, Unreadable}
-use Rattle.hc_fresh.specs.Lifetimes.{says, stale_forbidden}
+use Rattle.hc_fresh.specs.Lifetimes.{says, seconds_said, stale_forbidden}
 use Rattle.hc_head.specs.declared.head.ResponseHead.{ResponseHead}
 use Rattle.hc_framing.specs.declared.message.Message.{Message}
 use Rattle.hc_update.specs.declared.stored.Stored.{Stored}
 use Rattle.hc_transcript.specs.Items.{Item, Exchange}
 use Rattle.hc_history.specs.Claims.{Claim, claim_of}
-use Rattle.hc_history.specs.Usable.{lifetime_of, seconds_said, validated_since, is_usable, permits_stale}
+use Rattle.hc_history.specs.Usable.{lifetime_of, validated_since, is_usable, permits_stale}
 use Rattle.hc_history.specs.Usable as audit
 use Rattle.hc_service.specs.Asking.{allows_age, asks_for_fresh}
 use Rattle.hc_service.specs.Runs.{strict}

@@ -8,7 +8,7 @@ use Rattle.hc_fields.specs.declared.fields.Field.{Field}
 use Rattle.hc_fields.specs.Values.{has_name}
 use Rattle.hc_head.specs.declared.head.RequestHead.{RequestHead}
 use Rattle.hc_head.specs.declared.head.Target.{Target}
-use Rattle.hc_head.specs.Passing.{AreKeptLines}
+use Rattle.hc_rules.specs.Passing.{AreKeptLines}
 use Rattle.hc_head.specs.Statuses.{partial_content}
 use Rattle.hc_head.specs.Targets.{same_target}
 use Rattle.hc_head.specs.Writable.{has_framing, longest_body}

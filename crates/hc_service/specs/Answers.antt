@@ -7,7 +7,7 @@ use Rattle.hc_head.specs.Methods.{is_get, is_head}
 use Rattle.hc_head.specs.Statuses.{not_modified}
 use Rattle.hc_framing.specs.declared.message.Message.{Message}
 use Rattle.hc_update.specs.declared.stored.Stored.{Stored}
-use Rattle.hc_history.specs.Windows.{is_error_status}
+use Rattle.hc_head.specs.Statuses.{is_error_status}
 use Rattle.hc_store.specs.Entries.{Holdings}
 use Rattle.hc_service.specs.declared.cases.Cause.{Cause}
 use Rattle.hc_service.specs.declared.open.OpenForward.{OpenForward}

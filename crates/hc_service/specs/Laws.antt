@@ -6,7 +6,7 @@ use Rattle.hc_head.specs.declared.head.RequestHead.{RequestHead}
 use Rattle.hc_head.specs.declared.head.ResponseHead.{ResponseHead}
 use Rattle.hc_head.specs.declared.head.Target.{Target}
 use Rattle.hc_head.specs.declared.head.TheConstants.Room.{RECORDED}
-use Rattle.hc_head.specs.Passing.{AreKeptLines}
+use Rattle.hc_rules.specs.Passing.{AreKeptLines}
 use Rattle.hc_head.specs.Plain.{IsPlainResponse}
 use Rattle.hc_head.specs.Targets.{same_target}
 use Rattle.hc_head.specs.Writable.{has_framing, longest_body}

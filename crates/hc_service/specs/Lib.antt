@@ -1,4 +1,5 @@
 pub mod Settings
+pub mod SettingsNames
 pub mod Names
 pub mod Numbers
 pub mod Asking

@@ -162,6 +162,13 @@ pub record RunsTo (records : List Record) (h : History) (end : Option State) : T
   pub are_read : AreReadAs later.records later.items
   pub agrees : EndAgrees end later
 
+-- behind a run that has led to a cache, what has happened is such that the cache agrees with it, and that a run which goes on from there is, with the first, one run
+pub record RunsOn (settings : CoreSettings) (s : State) (h : History) (events : List Event) (results : List StepResult) (records : List Record) (mid : State) : Type 0 where
+  pub later : History
+  pub agrees : Agrees mid later
+  pub goes_on : (others : List Event) (answers : List StepResult) (more : List Record) (end : Option State) → Runs settings mid later others answers more end
+      → Runs settings s h (events ++ others) (results ++ answers) (records ++ more) end
+
 -- ---- the transcript of a run
 
 -- records, the oldest first, as they are written

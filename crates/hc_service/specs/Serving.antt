@@ -4,10 +4,10 @@ use Rattle.hc_fields.specs.declared.fields.Field.{Field}
 use Rattle.hc_directives.specs.declared.cache_control.Seconds.{Seconds}
 use Rattle.hc_directives.specs.declared.cache_control.Seconds.TheVariants.{Bare, Value}
 use Rattle.hc_fresh.specs.Ages.{current_age, fresh, staleness}
-use Rattle.hc_fresh.specs.Lifetimes.{says, stale_forbidden}
+use Rattle.hc_fresh.specs.Lifetimes.{says, seconds_said, stale_forbidden}
 use Rattle.hc_rules.specs.Conditions.{client_condition}
 use Rattle.hc_update.specs.declared.stored.Stored.{Stored}
-use Rattle.hc_history.specs.Usable.{lifetime_of, seconds_said}
+use Rattle.hc_history.specs.Usable.{lifetime_of}
 use Rattle.hc_service.specs.Asking.{allows_age, allows_left, asks_for_fresh}
 
 -- ---- lifetime and age

@@ -7,7 +7,7 @@ use Rattle.hc_head.specs.declared.head.Target.{Target}
 use Rattle.hc_head.specs.Methods.{is_head}
 use Rattle.hc_framing.specs.declared.message.Message.{Message}
 use Rattle.hc_replies.specs.Replies.{generated_reply}
-use Rattle.hc_links.specs.Requests.{IsRequest, IsRefused, IsGivenUp}
+use Rattle.hc_links.specs.Requests.{IsRequest, IsRefused, IsUnfinished, IsCutOff as IsCutShort}
 use Rattle.hc_links.specs.Responses.{IsResponse, IsResponseAtEnd, HasFailed, HasFailedAtEnd}
 use Rattle.hc_store.specs.Entries.{Holdings}
 use Rattle.hc_service.specs.declared.action.Action.{Action}
@@ -129,12 +129,12 @@ pub record Leaves (c : ℕ) (s : State) (actions : List Action) (s' : State) : T
   pub store : s'.store ≡ s.store
   pub actions_are : actions ≡ []
 
--- the client ends between requests, or inside one: the connection closes
+-- the client ends between requests, or inside one: the connection closes. Where all that came before was read, no whole request waits: what has begun is cut off
 pub record Closes (c : ℕ) (s : State) (actions : List Action) (s' : State) : Type 0 where
   pub connection : Connection
   pub is_open : get s.connections c ≡ Some connection
   pub idle : connection.exchange ≡ None
-  pub given_up : IsGivenUp connection.unread
+  pub cut_off : IsUnfinished connection.unread → IsCutShort connection.unread
   pub numbers : s'.numbers ≡ s.numbers
   pub connections : s'.connections ≡ remove s.connections c
   pub exchanges : s'.exchanges ≡ s.exchanges

@@ -3,22 +3,15 @@
 ghost use Rattle.std.specs.Prelude.{◌≡◌};
 ghost use Rattle.std.specs.List.{list_any};
 ghost use Rattle.hc_fields.specs.Values.{has_name};
-ghost use Rattle.hc_service.specs.Asking.{allows_age, allows_left, asks_for_fresh, bypass_names, ends_connection, is_answered_by_store, is_bypass, is_http10};
+ghost use Rattle.hc_service.specs.Asking.{allows_age, allows_left, asks_for_fresh, bypass_names, ends_connection, is_bypass, is_http10};
 
 use hc_directives::Seconds;
 use hc_fields::Fields;
 use hc_framing::Message;
-use hc_head::{RequestHead, Version, is_get, is_head};
+use hc_head::{RequestHead, Version};
 
 /// The fields that ask for a part, or on a condition that only the origin can judge.
 const BYPASS_NAMES: [&[u8]; 4] = [b"range", b"if-range", b"if-match", b"if-unmodified-since"];
-
-/// Whether the store answers requests by that method.
-pub fn is_answered_by_store(method: &[u8]) -> bool
-    ensures { result ≡ is_answered_by_store method.now }
-{
-    is_get(method) || is_head(method)
-}
 
 /// Whether a line has one of the names.
 fn has_any(fields: &Fields, names: &[&[u8]]) -> bool

@@ -3,11 +3,12 @@
 ghost use Rattle.std.specs.Prelude.{◌≡◌, option_copied};
 ghost use Rattle.hc_service.specs.Cases.{asks_store, case_before_store, case_by_store, cause_of_stored, word_of};
 
-use crate::asking::{is_answered_by_store, is_bypass};
-use crate::serving::{is_fresh, may_be_served, says};
+use crate::asking::is_bypass;
+use crate::serving::{is_fresh, may_be_served};
 use hc_fields::Fields;
 use hc_framing::Message;
-use hc_head::RequestHead;
+use hc_fresh::says;
+use hc_head::{RequestHead, is_get_or_head};
 use hc_update::Stored;
 
 /// Why a request goes to the origin.
@@ -75,7 +76,7 @@ impl Cause {
 pub fn case_before_store(request: &Message<RequestHead>) -> Option<Cause>
     ensures { result ≡ case_before_store request.now }
 {
-    if !is_answered_by_store(request.head.method.as_slice()) {
+    if !is_get_or_head(&request.head.method) {
         return Some(Cause::Method);
     }
     if is_bypass(request) {

@@ -9,15 +9,14 @@ ghost use Rattle.hc_head.specs.declared.head.Target.{Target};
 ghost use Rattle.hc_head.specs.Methods.{is_head};
 ghost use Rattle.hc_head.specs.Statuses.{not_modified};
 ghost use Rattle.hc_framing.specs.declared.message.Message.{Message};
-ghost use Rattle.hc_fresh.specs.Lifetimes.{says, stale_forbidden};
+ghost use Rattle.hc_fresh.specs.Lifetimes.{says, seconds_said, stale_forbidden};
 ghost use Rattle.hc_update.specs.declared.stored.Stored.{Stored};
 ghost use Rattle.hc_transcript.specs.Items.{ClientReply, ClientRequest, Exchange, Forward, Item, OriginFailure, OriginRequest, OriginResponse};
 ghost use Rattle.hc_transcript.specs.History.{exchange_of, forward_of, next_position};
 ghost use Rattle.hc_transcript.specs.Limits.{greatest_number};
 ghost use Rattle.hc_transcript.specs.Written.{IsWritableAnswer, IsWritableAsk};
 ghost use Rattle.hc_history.specs.Right.{IsRight};
-ghost use Rattle.hc_history.specs.Usable.{seconds_said};
-ghost use Rattle.hc_history.specs.Windows.{is_error_status};
+ghost use Rattle.hc_head.specs.Statuses.{is_error_status};
 ghost use Rattle.hc_store.specs.Calls.{Freshens};
 ghost use Rattle.hc_service.specs.declared.numbers.Numbers.{Numbers};
 ghost use Rattle.hc_service.specs.Numbers.{asked, is_later, noted, one_more, sent};
@@ -40,7 +39,7 @@ ghost use Rattle.hc_rules.specs.Laws.{IsForwardable};
 ghost use Rattle.hc_service.specs.declared.open.OpenExchange.{OpenExchange};
 ghost use Rattle.hc_service.specs.State.{Awaited, Connection, State, Table, new_connection, new_state};
 ghost use Rattle.hc_service.specs.Agreement.{AllHeld, CanReply, AreAsked, AreCounted, AreHeard, AreLinked, Agrees, History, IsReadOf, IsReady, IsSound, Stands, exchange_for};
-ghost use Rattle.hc_service.specs.Runs.{Runs, RunsTo, nothing_yet, records_given, IsJudgedRight, StepResult, Steps, strict, with_octets};
+ghost use Rattle.hc_service.specs.Runs.{Runs, RunsOn, RunsTo, nothing_yet, records_given, IsJudgedRight, StepResult, Steps, strict, with_octets};
 ghost use Rattle.hc_service.specs.Asking.{allows_age, asks_for_fresh, is_answered_by_store};
 ghost use Rattle.hc_service.specs.Replying.{Wanted, hit_reply, made_reply, passed_reply, replacing_reply};
 ghost use Rattle.hc_service.specs.Serving.{age_at, is_fresh, may_be_served, may_replace};
@@ -346,6 +345,29 @@ pub fn runs_are_judged_right()
     ensures { (settings : CoreSettings) (events : List Event) (results : List StepResult) (records : List Record)
         (end : Option State) → Runs settings (new_state settings) nothing_yet events results records end
         → IsJudgedRight records }
+{}
+
+/// What has happened behind a run, and a run that goes on from there, are right together: from nothing on, run after
+/// run, the records so far go on by those of the next, and each reply among them is right. So the strictest
+/// audit says yes to what a cache records, over however many runs, and its count is that of all its records.
+pub fn right_runs_join()
+    ensures begins { (settings : CoreSettings) → RunsTo [] nothing_yet (Some (new_state settings)) }
+    ensures joins { (h : History) (records more : List Record) (mid end : Option State)
+        → (to : RunsTo records h mid) → RunsTo more to.later end → RunsTo (records ++ more) h end }
+    ensures counted { (records : List Record) (s : State) → RunsTo records nothing_yet (Some s)
+        → s.numbers.records ≡ length records }
+    ensures judged { (records : List Record) (end : Option State) → RunsTo records nothing_yet end
+        → IsJudgedRight records }
+{}
+
+/// A run goes on where another has led, and both are one run; the count of records is then that of all of them.
+pub fn runs_go_on()
+    ensures on { (settings : CoreSettings) (events : List Event) (results : List StepResult) (s mid : State)
+        (h : History) (records : List Record) → Runs settings s h events results records (Some mid)
+        → RunsOn settings s h events results records mid }
+    ensures counted { (settings : CoreSettings) (events : List Event) (results : List StepResult) (s mid : State)
+        (h : History) (records : List Record) → Runs settings s h events results records (Some mid)
+        → mid.numbers.records ≡ s.numbers.records + length records }
 {}
 
 /// Steps go on where others have led, unless a refused growth has ended them.

@@ -12,16 +12,17 @@ mod open;
 mod replying;
 mod serving;
 mod settings;
+mod settings_fault;
 
 pub use action::Action;
-pub use asking::{ends_connection, is_answered_by_store, is_bypass};
+pub use asking::{ends_connection, is_bypass};
 pub use cases::{Case, Cause, case_before_store, case_by_store};
 pub use fault::StepFault;
 pub use laws::{
     agreement_is_ready, events_keep_agreement, hits_are_right, new_cache_agrees,
     other_replies_are_right, received_messages_can_be_recorded, records_given_out_are_counted,
-    records_keep_to_the_format, runs_are_judged_right, runs_begin_with_agreement,
-    runs_keep_agreement, runs_of_turns_keep_agreement, steps_are_runs, steps_end_ready,
+    records_keep_to_the_format, right_runs_join, runs_are_judged_right, runs_begin_with_agreement,
+    runs_go_on, runs_keep_agreement, runs_of_turns_keep_agreement, steps_are_runs, steps_end_ready,
     steps_go_on, stored_responses_are_those_of_the_records, turns_keep_agreement,
     unread_octets_are_those_that_came, waiting_requests_are_those_of_the_connections,
     what_forbids_serving_is_obeyed, what_is_open_is_that_of_the_records,
@@ -30,11 +31,10 @@ pub use laws::{
 pub use numbers::Numbers;
 pub use open::{OpenExchange, OpenForward, Purpose};
 pub use replying::{
-    BAD_GATEWAY, GATEWAY_TIMEOUT, WantedReply, failure_status, hit_reply, made_reply, passed_reply,
-    replacing_reply,
+    WantedReply, failure_status, hit_reply, made_reply, passed_reply, replacing_reply,
 };
 pub use serving::{
-    age_at, has_still, is_fresh, lifetime_of, may_be_served, may_replace, ttl_at,
-    while_revalidating,
+    age_at, has_still, is_fresh, may_be_served, may_replace, ttl_at, while_revalidating,
 };
 pub use settings::{CoreSettings, is_name, is_size};
+pub use settings_fault::CoreFault;

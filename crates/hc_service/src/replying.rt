@@ -9,18 +9,12 @@ use crate::serving::{has_still, ttl_at};
 use hc_fields::Octets;
 use hc_framing::Message;
 use hc_fresh::stale_forbidden;
-use hc_head::{NOT_MODIFIED, RequestHead, ResponseHead, is_head};
+use hc_head::{RequestHead, ResponseHead, StatusCode, is_head};
 use hc_replies::{forwarded_reply, generated_reply, not_modified_reply, stored_reply};
 use hc_status::{CacheStatus, Handling};
 use hc_update::Stored;
 use std::alloc::{AllocError, Global};
 use std::marker::Model;
-
-/// The origin's answer can't be used, or there is none.
-pub const BAD_GATEWAY: u16 = 502;
-
-/// There is no answer in time, or none without a forward.
-pub const GATEWAY_TIMEOUT: u16 = 504;
 
 /// A reply that is wanted. Contracts see it as a `Wanted` of the definitions.
 #[derive(Debug, Drop)]
@@ -47,7 +41,7 @@ impl<'a> Model for WantedReply<'a> {
 pub fn made_reply(
     alloc: Global,
     wanted: &WantedReply<'_>,
-    status: u16,
+    status: StatusCode,
 ) -> Result<Message<ResponseHead>, AllocError>
     requires { wanted.now.moment < end_of_moments }
     ensures { IfOk result (λ reply. reply ≡ made_reply wanted.now status) }
@@ -72,7 +66,7 @@ fn entry_reply(
     if has_still(&wanted.asked.fields, stored) {
         return not_modified_reply(alloc, &status, wanted.closes, wanted.moment, stored);
     }
-    let to_head = is_head(wanted.asked.method.as_slice());
+    let to_head = is_head(&wanted.asked.method);
     stored_reply(
         alloc,
         &status,
@@ -84,17 +78,17 @@ fn entry_reply(
 }
 
 /// The status of that reply.
-fn entry_status(wanted: &WantedReply<'_>, stored: &Stored) -> u16
+fn entry_status(wanted: &WantedReply<'_>, stored: &Stored) -> StatusCode
     ensures { result ≡ entry_status wanted.now stored.now }
 {
     if has_still(&wanted.asked.fields, stored) {
-        return NOT_MODIFIED;
+        return StatusCode::NOT_MODIFIED;
     }
     stored.status
 }
 
 /// The origin's status, where the reply has another one (RFC 9211 section 2.3).
-fn status_told(origin: Option<u16>, status: u16) -> Option<u16>
+fn status_told(origin: Option<StatusCode>, status: StatusCode) -> Option<u16>
     ensures { result ≡ status_told origin status }
 {
     match origin {
@@ -103,7 +97,7 @@ fn status_told(origin: Option<u16>, status: u16) -> Option<u16>
             if told == status {
                 return None;
             }
-            Some(told)
+            Some(told.as_u16())
         }
     }
 }
@@ -126,7 +120,7 @@ pub fn replacing_reply(
     alloc: Global,
     wanted: &WantedReply<'_>,
     cause: Cause,
-    origin: Option<u16>,
+    origin: Option<StatusCode>,
     stored: &Stored,
 ) -> Result<Message<ResponseHead>, AllocError>
     ensures { IfOk result (λ reply. reply ≡ replacing_reply wanted.now cause origin stored.now) }
@@ -162,16 +156,16 @@ pub fn passed_reply(
 }
 
 /// The status of the reply where the origin gave no answer, by the stored response that is chosen then.
-pub fn failure_status(chosen: Option<&Stored>) -> u16
+pub fn failure_status(chosen: Option<&Stored>) -> StatusCode
     ensures { result ≡ failure_status (option_copied chosen.entry) }
 {
     match chosen {
-        None => BAD_GATEWAY,
+        None => StatusCode::BAD_GATEWAY,
         Some(stored) => {
             if stale_forbidden(&stored.fields) {
-                return GATEWAY_TIMEOUT;
+                return StatusCode::GATEWAY_TIMEOUT;
             }
-            BAD_GATEWAY
+            StatusCode::BAD_GATEWAY
         }
     }
 }

@@ -1,37 +1,17 @@
 //! Whether a stored response may be served to a request at a moment (RFC 9111 section 4).
 
 ghost use Rattle.std.specs.Prelude.{◌≡◌, ◌||◌, codes};
-ghost use Rattle.hc_fresh.specs.Lifetimes.{says};
-ghost use Rattle.hc_history.specs.Usable.{lifetime_of, seconds_said};
+ghost use Rattle.hc_fresh.specs.Lifetimes.{says, seconds_said};
+ghost use Rattle.hc_history.specs.Usable.{lifetime_of};
 ghost use Rattle.hc_service.specs.Serving.{age_at, has_still, is_fresh, is_fresh_enough, is_permitted_stale, max_stale_permits, may_be_served, may_be_used, may_replace, on_error, permits, staleness_at, ttl_at, while_revalidating};
 
 use crate::asking::{allows_age, allows_left, asks_for_fresh};
-use hc_directives::{Directives, Seconds};
+use hc_directives::Seconds;
 use hc_fields::Fields;
-use hc_fresh::{current_age, fresh, lifetime, stale_forbidden, staleness};
+use hc_fresh::{current_age, fresh, says, seconds_said, stale_forbidden, staleness};
+use hc_history::lifetime_of;
 use hc_rules::client_condition;
 use hc_update::Stored;
-
-/// Whether a Cache-Control has that directive, whatever its argument.
-pub(crate) fn says(name: &[u8], fields: &Fields) -> bool
-    ensures { result ≡ says name.now fields.now }
-{
-    Directives::read(fields).has(name)
-}
-
-/// The seconds that the first directive of that name says.
-fn seconds_said(name: &[u8], fields: &Fields) -> Seconds
-    ensures { result ≡ seconds_said name.now fields.now }
-{
-    Directives::read(fields).seconds(name)
-}
-
-/// The freshness lifetime of a stored response, in seconds (RFC 9111 section 4.2.1).
-pub fn lifetime_of(stored: &Stored) -> u32
-    ensures { result ≡ lifetime_of stored.now }
-{
-    lifetime(&stored.fields, stored.times.date)
-}
 
 /// The age of a stored response at a moment, in seconds (RFC 9111 section 4.2.3).
 pub fn age_at(stored: &Stored, moment: u64) -> u32

@@ -5,19 +5,25 @@ ghost use Rattle.hc_sockets.specs.declared.fault.ServeFault.TheVariants.{Memory}
 
 use std::alloc::AllocError;
 use std::io;
+use thiserror::Error;
 
 /// Why serving ended before its time.
-#[derive(Clone, Copy, Debug)]
+#[derive(Clone, Copy, Debug, Error)]
 pub enum ServeFault {
     /// Memory was refused.
+    #[error("out of memory")]
     Memory,
     /// The socket to which clients connect failed, for this reason.
+    #[error("no client could connect: {0}")]
     Listener(io::Error),
     /// The file that is recorded to failed, for this reason.
+    #[error("the file can't be recorded to: {0}")]
     Record(io::Error),
     /// The system gave no random numbers, for this reason.
+    #[error("the system gave no random numbers: {0}")]
     Random(io::Error),
     /// The clock is past the last moment that a transcript can tell.
+    #[error("the clock is past the year 9999")]
     Clock,
 }
 

@@ -3,6 +3,7 @@
 
 mod clock;
 mod fault;
+mod listening;
 mod origin;
 mod serving;
 mod system_link;

@@ -76,7 +76,10 @@ pub(crate) struct SystemLink<T: Device> {
 }
 
 impl<T: Device> SystemLink<T> {
-    pub(crate) fn new(device: T) -> Self {
+    /// One that hasn't failed.
+    pub(crate) fn new(device: T) -> Self
+        ensures { result.failures ≡ 0 }
+    {
         SystemLink {
             device,
             failures: 0,

@@ -3,38 +3,20 @@ use Rattle.std.proofs.Common.{map, ◌||◌, inl, inr, ne_eqb, ◌≡◌, ℕ, z
 use Rattle.std.specs.Prelude.{unwrap_or, slice_get, ◌==◌, not, filter, Result, Ok, Err, OnErr}
 use Rattle.std.specs.Option.{is_some, option_map_or}
 use Rattle.std.specs.List.{list_any, AllByRecursion}
-use Rattle.std.specs.Str.{bytes_eq}
 use Rattle.std.specs.Map.{lookup, lookup_entry, remove_entry, set_value}
 use Rattle.std.proofs.lemmas.List.{take_all}
 use Rattle.std.proofs.lemmas.Map.Entries.{sum_by-set_value}
 use Rattle.std.proofs.lemmas.List.Sums.{sum_by-cons}
-use Rattle.std.proofs.lemmas.Slice.Eq.{bytes_eq-Decides}
 use Rattle.lru.specs.LruCache.{LruCache, lru_cache, promoted}
 use Rattle.hc_head.specs.declared.head.Target.{Target}
 use Rattle.hc_head.specs.Targets.{same_target}
+use Rattle.hc_head.proofs.SameTargetLemmas.{same_target_one, same_target_itself}
 use Rattle.hc_update.specs.declared.stored.Stored.{Stored}
 use Rattle.hc_store.specs.Entries.{Entries, Holdings, knows, variants_of, variants_weight, entries_weight, weight, most_variants, HasFewVariants}
 use Rattle.hc_store.specs.Changes.{without, keyed, trimmed, last_variants, last_ones, added, after_put, with_variants, Validation, Leaves, after_validation, is_validated, renewed}
 use Rattle.hc_store.specs.Choosing.{is_selected}
 use Rattle.hc_store.specs.Trims.{kept_beside, room_beside, dropped_weight, without_empty}
 use Rattle.hc_store.proofs.TrimLemmas.{entries_weight-cons, trimmed_is, last_added_stays}
-
--- ---- targets
-
-both : (a b : Bool) → (a && b) ≡ true → (a ≡ true) × (b ≡ true)
-both true true e = (refl, refl)
-both true false e = absurd (cc)
-both false b e = absurd (cc)
-
-made : List ℕ → List ℕ → Target
-made host path = record { host = host; path = path }
-
-pub same_target_one : (one other : Target) → same_target one other ≡ true → one ≡ other
-unfolding made
-same_target_one one other same =
-    let parts = both (bytes_eq one.host other.host) (bytes_eq one.path other.path) same in
-    ap (λ (h : List ℕ). made h one.path) ((bytes_eq-Decides one.host other.host).0 parts.0)
-    ∙ ap (λ (p : List ℕ). made other.host p) ((bytes_eq-Decides one.path other.path).0 parts.1)
 
 -- ---- a key that is there
 
@@ -276,12 +258,6 @@ emptied target es old (v ∷ vs) is =
     ap (λ (o : Option (List Stored)). cond (option_map_or (λ ws. length ws == 0) o false) (without target (set_value (same_target target) es (v ∷ vs))) (set_value (same_target target) es (v ∷ vs)))
     (is.there (v ∷ vs))
     ∙ ap (λ (b : Bool). cond b (without target (set_value (same_target target) es (v ∷ vs))) (set_value (same_target target) es (v ∷ vs))) (not_none (length vs))
-
-bytes_same : (text : List ℕ) → bytes_eq text text ≡ true
-bytes_same text = (bytes_eq-Decides text text).1 refl
-
-same_target_itself : (target : Target) → same_target target target ≡ true
-same_target_itself target = ap (λ (b : Bool). b && bytes_eq target.path target.path) (bytes_same target.host) ∙ bytes_same target.path
 
 pub first_variants : (target : Target) (vs : List Stored) (others : Entries) → variants_of target ((target, vs) ∷ others) ≡ vs
 first_variants target vs others =

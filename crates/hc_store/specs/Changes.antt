@@ -1,5 +1,5 @@
 -- What each call makes of the entries, where it finds the memory that it needs.
-use Rattle.std.specs.Prelude.{◌≡◌, ℕ, ◌-◌, Bool, true, not, ◌||◌, nat_le, if◌then◌else◌, ◌⊎◌, List, [], ◌∷◌, ◌++◌, length, take, drop, filter, map, codes}
+use Rattle.std.specs.Prelude.{◌≡◌, ℕ, ◌-◌, Bool, true, not, ◌&&◌, ◌||◌, nat_le, if◌then◌else◌, ◌⊎◌, List, [], ◌∷◌, ◌++◌, length, take, drop, filter, map, codes}
 use Rattle.std.specs.List.{list_any}
 use Rattle.std.specs.Map.{remove_entry, set_value}
 use Rattle.hc_fields.specs.Values.{has_name}
@@ -9,7 +9,7 @@ use Rattle.hc_head.specs.declared.head.Target.{Target}
 use Rattle.hc_head.specs.Targets.{same_target}
 use Rattle.hc_update.specs.declared.stored.Stored.{Stored}
 use Rattle.hc_update.specs.States.{freshened}
-use Rattle.hc_update.specs.Identifying.{identifies}
+use Rattle.hc_update.specs.Identifying.{identifies, may_identify}
 use Rattle.hc_update.specs.Sizes.{fits}
 use Rattle.hc_store.specs.Entries.{Entries, variants_of, variants_weight, most_variants}
 use Rattle.hc_store.specs.Choosing.{is_selected}
@@ -103,9 +103,13 @@ after_validation validation variant = if is_validated validation variant then re
 abbrev pub may_stay : Validation → Stored → Bool
 may_stay validation variant = not (is_validated validation variant) || fits (renewed validation variant)
 
--- whether it may go: freshening it takes memory, and so does asking whether it is freshened where it has a Vary line
+-- whether it may be freshened, whatever its Vary line selects
+abbrev pub may_be_validated : Validation → Stored → Bool
+may_be_validated validation variant = may_identify variant validation.forward validation.not_modified
+
+-- whether it may go: freshening it takes memory, and so does asking what its Vary line selects, where it is freshened if that selects the request
 abbrev pub may_go : Validation → Stored → Bool
-may_go validation variant = is_validated validation variant || has_name (codes "vary") variant.fields
+may_go validation variant = is_validated validation variant || (may_be_validated validation variant && has_name (codes "vary") variant.fields)
 
 -- some variants stay, as memory has it
 abbrev pub Leaves : Validation → List Stored → List Stored → Type 0

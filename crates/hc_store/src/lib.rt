@@ -9,8 +9,6 @@ mod keys;
 mod laws;
 mod putting;
 mod store;
-#[cfg(test)]
-mod tests;
 mod trimming;
 mod variants;
 mod weights;

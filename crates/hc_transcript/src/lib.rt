@@ -4,12 +4,11 @@
 mod fault;
 mod first_line;
 mod framed;
-mod held;
 mod item;
 mod laws;
 mod limits;
 mod line;
-mod numeral;
+mod numerals;
 mod open_numbers;
 mod reader;
 mod reading;
@@ -24,6 +23,7 @@ pub use laws::{
 };
 pub use limits::{GREATEST_MOMENT, GREATEST_NUMBER, LONGEST_MESSAGE};
 pub use line::{Kind, Line};
+pub use numerals::numeral;
 pub use reader::RecordReader;
 pub use record::{Passed, Record};
 pub use writing::{OPENING, append_record, record_parts, write_record};

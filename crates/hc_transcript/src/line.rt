@@ -6,7 +6,7 @@ ghost use Rattle.hc_transcript.specs.declared.line.Line.{Line};
 ghost use Rattle.hc_transcript.specs.Records.{letter};
 ghost use Rattle.hc_transcript.specs.Lines.{IsLineText};
 
-use crate::numeral::{numeral, numeral_before_space};
+use crate::numerals::{numeral, numeral_before_space};
 
 /// What a record tells.
 #[derive(Clone, Copy, Debug, PartialEq, Eq)]

@@ -128,10 +128,10 @@ impl Standing {
         let moment = item.moment;
         match &item.of {
             Meaning::ClientRequest { request, .. } => {
-                self.open_exchange(number, moment, is_head(request.head.method.as_slice()))
+                self.open_exchange(number, moment, is_head(&request.head.method))
             }
             Meaning::OriginRequest { request, .. } => {
-                self.open_forward(number, moment, is_head(request.head.method.as_slice()))
+                self.open_forward(number, moment, is_head(&request.head.method))
             }
             Meaning::OriginResponse(_) => Ok(self.close_forward(number, moment)),
             Meaning::OriginFailure => Ok(self.close_forward(number, moment)),

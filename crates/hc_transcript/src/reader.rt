@@ -8,23 +8,39 @@ ghost use Rattle.hc_transcript.specs.Transcript.{IsTranscript};
 
 use crate::fault::RecordFault;
 use crate::framed::record_at;
-use crate::held::Held;
 use crate::item::OwnedItem;
 use crate::open_numbers::Standing;
 use crate::reading::read_item;
 use crate::writing::OPENING;
+use hc_fields::Waiting;
 use std::alloc::Global;
 
 /// Reads the records of a transcript that comes in pieces. It holds the octets that were fed and
-/// not yet read, those of the record that was read last, and what that record means.
-#[derive(Debug, Drop)]
+/// not yet read, and what the record that was read last means.
+#[derive(Debug)]
 pub struct RecordReader {
     alloc: Global,
-    held: Held,
+    held: Waiting,
     is_open: bool,
     standing: Standing,
     current: Option<OwnedItem>,
     fault: Option<RecordFault>,
+}
+
+impl Drop for RecordReader {
+    fn drop(self) {
+        let RecordReader {
+            alloc: _,
+            held,
+            is_open: _,
+            standing,
+            current,
+            fault: _,
+        } = self;
+        drop(held);
+        drop(standing);
+        drop(current);
+    }
 }
 
 impl RecordReader {
@@ -37,7 +53,7 @@ impl RecordReader {
     {
         RecordReader {
             alloc,
-            held: Held::new(alloc),
+            held: Waiting::new(alloc),
             is_open: false,
             standing: Standing::new(alloc),
             current: None,
@@ -88,7 +104,6 @@ impl RecordReader {
         if let Some(earlier) = self.fault {
             return Err(earlier);
         }
-        self.held.let_go();
         drop(self.current.take());
         match self.step() {
             Ok(found) => Ok(found),

@@ -32,7 +32,7 @@ fn read_response(
     ensures { GivesResponseRead to_head result octets.now }
 {
     let response = whole_response(alloc, octets, to_head)?;
-    if response.head.status < LEAST_FINAL {
+    if response.head.status.as_u16() < LEAST_FINAL {
         return Err(RecordFault::Message);
     }
     Ok(response)

@@ -87,3 +87,11 @@ pub never_identified : (state : Stored) (forward : RequestHead) (response : Resp
 never_identified state forward response none =
     all_but (may_freshen response) (asks_for_storable forward) (selects state.fields state.request.fields forward.fields) _
     (never_agree state.fields forward.fields response.fields none)
+
+-- what Vary selects decides where all else speaks for it
+pub asked_last : (may asks selected agree : Bool) → (may && asks && agree) ≡ true → selected ≡ (may && asks && selected && agree)
+asked_last true true true true all = refl
+asked_last true true false true all = refl
+asked_last true true selected false all = absurd (cc)
+asked_last true false selected agree all = absurd (cc)
+asked_last false asks selected agree all = absurd (cc)

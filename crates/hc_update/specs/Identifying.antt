@@ -35,6 +35,11 @@ validators_agree stored forwarded received =
 abbrev pub may_freshen : ResponseHead → Bool
 may_freshen response = response.status == not_modified && not (says (codes "private") response.fields) && not (says (codes "no-store") response.fields)
 
+-- whether such a response may be about the state, whatever Vary selects: a 304 that may freshen, to a GET without no-store, and the validators agree
+abbrev pub may_identify : Stored → RequestHead → ResponseHead → Bool
+may_identify state forward response =
+    may_freshen response && asks_for_storable forward && validators_agree state.fields forward.fields response.fields
+
 -- whether the response to a forward, for the state's own target, freshens the state: a 304 that may, to a GET without no-store which the state
 -- selects, and the validators agree
 abbrev pub identifies : Stored → RequestHead → ResponseHead → Bool

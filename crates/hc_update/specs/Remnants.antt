@@ -13,11 +13,11 @@ is_lost state = state.invalid && not (has_validator state.fields)
 abbrev pub vary_lines : List Field → List Field
 vary_lines fields = lines_of (codes "vary") fields
 
--- of one that is lost, its request and its Vary lines, and that it is invalid
+-- of one that is lost, its request, its status and its Vary lines, and that it is invalid
 abbrev pub remnant : Stored → Stored
 remnant state = record {
   request = state.request;
-  status = 0;
+  status = state.status;
   fields = vary_lines state.fields;
   body = [];
   times = record { date = 0; age_value = 0; request_time = 0; response_time = 0 };

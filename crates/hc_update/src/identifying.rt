@@ -1,14 +1,14 @@
 //! Which stored response a 304 is about (after RFC 9111 section 4.3.4).
 
-ghost use Rattle.std.specs.Prelude.{◌≡◌, false, codes, IfOk, IsOk, option_copied};
+ghost use Rattle.std.specs.Prelude.{◌≡◌, false, codes, IfOk, IsOk, Ok, option_copied};
 ghost use Rattle.hc_fields.specs.Values.{has_name, only};
 ghost use Rattle.hc_fields.specs.Lists.{list_members};
-ghost use Rattle.hc_update.specs.Identifying.{are_same, identifies, may_freshen, only_member_asked, validators_agree};
+ghost use Rattle.hc_update.specs.Identifying.{are_same, identifies, may_freshen, may_identify, only_member_asked, validators_agree};
 
 use crate::stored::Stored;
 use hc_directives::Directives;
 use hc_fields::{Fields, list_members};
-use hc_head::{NOT_MODIFIED, RequestHead, ResponseHead};
+use hc_head::{RequestHead, ResponseHead, StatusCode};
 use hc_rules::{asks_for_storable, last_modified, selects, tag};
 use std::alloc::{AllocError, Global};
 
@@ -62,12 +62,23 @@ fn may_freshen(response: &ResponseHead) -> bool
     ensures { result ≡ may_freshen response.now }
 {
     let directives = Directives::read(&response.fields);
-    response.status == NOT_MODIFIED && !directives.has(b"private") && !directives.has(b"no-store")
+    response.status == StatusCode::NOT_MODIFIED
+        && !directives.has(b"private")
+        && !directives.has(b"no-store")
+}
+
+/// Whether it may be about the stored response, whatever Vary selects. No memory is taken.
+fn may_identify(state: &Stored, forward: &RequestHead, response: &ResponseHead) -> bool
+    ensures { result ≡ may_identify state.now forward.now response.now }
+{
+    may_freshen(response)
+        && asks_for_storable(forward)
+        && validators_agree(&state.fields, &forward.fields, &response.fields)
 }
 
 /// Whether the response to that request, which was sent to the origin for the stored response's own
-/// target, is a 304 that is about the stored response, so that it freshens it. Without a Vary line no
-/// memory is taken.
+/// target, is a 304 that is about the stored response, so that it freshens it. Memory is taken only
+/// where the stored response has a Vary line and all but what that selects speaks for it.
 pub fn identifies(
     alloc: Global,
     state: &Stored,
@@ -76,12 +87,10 @@ pub fn identifies(
 ) -> Result<bool, AllocError>
     ensures answer { IfOk result (λ is. is ≡ identifies state.now forward.now response.now) }
     ensures no_vary { has_name (codes "vary") state.now.fields ≡ false → IsOk result }
+    ensures other { may_identify state.now forward.now response.now ≡ false → result ≡ Ok false }
 {
-    if !may_freshen(response) || !asks_for_storable(forward) {
+    if !may_identify(state, forward, response) {
         return Ok(false);
     }
-    if !selects(alloc, &state.fields, &state.request.fields, &forward.fields)? {
-        return Ok(false);
-    }
-    Ok(validators_agree(&state.fields, &forward.fields, &response.fields))
+    selects(alloc, &state.fields, &state.request.fields, &forward.fields)
 }

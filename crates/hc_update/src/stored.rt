@@ -8,16 +8,16 @@ use crate::keeping::kept;
 use hc_fields::{Fields, SharedOctets};
 use hc_framing::Message;
 use hc_fresh::Times;
-use hc_head::{RequestHead, ResponseHead, is_unsafe};
+use hc_head::{Method, RequestHead, ResponseHead, StatusCode, is_unsafe};
 use std::alloc::{AllocError, Global};
 
 /// A stored response, as the responses behind it have left it.
-#[derive(Debug, Drop)]
+#[derive(Debug)]
 pub struct Stored {
     /// The request that it answers, as it was sent to the origin.
     pub request: RequestHead,
     /// Its status.
-    pub status: u16,
+    pub status: StatusCode,
     /// Its fields, with exactly one Date, and without Age and what is for a connection or a proxy.
     pub fields: Fields,
     /// Its body.
@@ -28,6 +28,23 @@ pub struct Stored {
     pub invalid: bool,
     /// The position of the record that validated it last, if one did.
     pub validated_at: Option<u64>,
+}
+
+impl Drop for Stored {
+    fn drop(self) {
+        let Stored {
+            request,
+            status: _,
+            fields,
+            body,
+            times: _,
+            invalid: _,
+            validated_at: _,
+        } = self;
+        drop(request);
+        drop(fields);
+        drop(body);
+    }
 }
 
 /// What a cache stores of a response that came at that moment, to a request that was sent to the
@@ -42,12 +59,13 @@ pub fn initial(
     requires { response_time < end_of_moments }
     ensures { IfOk result (λ state. state ≡ initial_state forward request_time response response_time) }
 {
-    let (fields, times) = kept(alloc, &response.head.fields, request_time, response_time)?;
+    let Message { head, body } = response;
+    let (fields, times) = kept(alloc, &head.fields, request_time, response_time)?;
     Ok(Stored {
         request: forward,
-        status: response.head.status,
+        status: head.status,
         fields,
-        body: response.body,
+        body,
         times,
         invalid: false,
         validated_at: None,
@@ -93,12 +111,11 @@ impl Stored {
         self.invalid = true;
     }
 
-    /// Forgets all of the response but its request, its Vary lines and that it is invalid: what can
-    /// still be asked of one that nothing freshens any more. The body is freed with its last owner.
+    /// Forgets all of the response but its request, its status, its Vary lines and that it is invalid:
+    /// what can still be asked of one that nothing freshens any more. The body is freed with its last owner.
     pub fn forget(&mut self)
         ensures { self.new ≡ remnant self.old }
     {
-        self.status = 0;
         self.fields.keep(b"vary");
         self.body = SharedOctets::new();
         self.times = Times {
@@ -115,8 +132,8 @@ impl Stored {
 /// Whether a response of that status to a request by that method invalidates what is stored of its
 /// target (RFC 9111 section 4.4): one from 200 to 399 to any method but GET, HEAD, OPTIONS and
 /// TRACE.
-pub fn invalidates(method: &[u8], status: u16) -> bool
+pub fn invalidates(method: &Method, status: StatusCode) -> bool
     ensures { result ≡ invalidates method.now status }
 {
-    is_unsafe(method) && 200 <= status && status <= 399
+    is_unsafe(method) && (status.is_success() || status.is_redirection())
 }

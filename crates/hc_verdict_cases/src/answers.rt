@@ -6,20 +6,19 @@ use crate::names::{say_audit_faults, say_faults, say_reasons};
 use crate::tellers::Teller;
 use crate::words::{plain_words, say_ignored, words_of};
 use crate::writing::say_written;
-use hc_cases::{Ask, Unanswered};
+use hc_cases::{Ask, Case, Unanswered};
 use std::alloc::Global;
 
 /// What is asked of transcripts.
 pub struct Transcripts;
 
 impl Ask for Transcripts {
-    fn answer(
-        &self,
-        alloc: Global,
-        question: &str,
-        about: &[Vec<u8>],
-        out: &mut String,
-    ) -> Result<(), Unanswered> {
+    fn answer(&self, case: &Case<'_>, out: &mut String) -> Result<(), Unanswered> {
+        let Case {
+            alloc,
+            question,
+            about,
+        } = *case;
         match question {
             "reasons" => Ok(say_reasons(out)?),
             "faults" => Ok(say_faults(out)?),

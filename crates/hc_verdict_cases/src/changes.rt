@@ -65,7 +65,7 @@ fn say_fronts_from(
         let Some(front) = octets.get(..length) else {
             return Err(Unanswered::Unknown);
         };
-        runs.add(length, told(alloc, teller, &[front])?)?;
+        runs.tell(alloc, teller, length, &[front])?;
     }
     Ok(())
 }
@@ -103,7 +103,7 @@ fn say_piece_changed(
     let mut runs = Runs::new(out);
     for place in at..end {
         let changed = with_octet(alloc, octets, place, other)?;
-        runs.add(place, told(alloc, teller, &[changed.as_slice()])?)?;
+        runs.tell(alloc, teller, place, &[changed.as_slice()])?;
     }
     Ok(())
 }
@@ -168,17 +168,10 @@ pub fn say_cuts(
     let mut runs = Runs::new(out);
     for cut in 0..octets.len() {
         let (front, back) = octets.split_at(cut);
-        runs.add(cut, told(alloc, teller, &[front, back])?)?;
+        runs.tell(alloc, teller, cut, &[front, back])?;
     }
     let pieces: Vec<&[u8]> = octets.chunks(1).collect(alloc)?;
-    runs.add(octets.len(), told(alloc, teller, pieces.as_slice())?)?;
-    Ok(())
-}
-
-fn told(alloc: Global, teller: &Teller<'_>, pieces: &[&[u8]]) -> Result<String, Unanswered> {
-    let mut answer = String::new(alloc);
-    teller.tell(alloc, pieces, &mut answer)?;
-    Ok(answer)
+    runs.tell(alloc, teller, octets.len(), pieces.as_slice())
 }
 
 // The number that a part is.

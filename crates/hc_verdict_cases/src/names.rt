@@ -1,6 +1,7 @@
 //! The numbers and names of reasons and faults.
 
 use hc_audit::AuditFault;
+use hc_cases::show_named;
 use hc_history::Reason;
 use hc_transcript::RecordFault;
 use std::alloc::AllocError;
@@ -22,7 +23,7 @@ pub fn say_reasons(out: &mut String) -> Result<(), AllocError> {
         Reason::Unmarked,
         Reason::BothMarks,
     ] {
-        say(reason.number(), reason.name(), out)?;
+        show_named(reason.number(), reason.name(), out)?;
     }
     Ok(())
 }
@@ -40,7 +41,7 @@ pub fn say_faults(out: &mut String) -> Result<(), AllocError> {
         RecordFault::TooLong,
         RecordFault::Memory,
     ] {
-        say(fault.number(), fault.name(), out)?;
+        show_named(fault.number(), fault.name(), out)?;
     }
     Ok(())
 }
@@ -48,16 +49,8 @@ pub fn say_faults(out: &mut String) -> Result<(), AllocError> {
 /// Writes why the auditor gives no verdict.
 pub fn say_audit_faults(out: &mut String) -> Result<(), AllocError> {
     for fault in [AuditFault::Memory, AuditFault::Failed] {
-        say(fault.number(), fault.name(), out)?;
+        show_named(fault.number(), fault.name(), out)?;
         write!(out, ": {fault}")?;
     }
     Ok(())
-}
-
-// Writes a number and a name behind those that stand there.
-fn say(number: u32, name: &str, out: &mut String) -> Result<(), AllocError> {
-    if !out.is_empty() {
-        out.push_str(", ")?;
-    }
-    write!(out, "{number} {name}")
 }

@@ -11,12 +11,19 @@ use std::alloc::{AllocError, Global};
 use std::fmt::Write;
 
 /// The lines of the verdicts of others.
-#[derive(Drop)]
 pub struct Others {
     /// Judge's.
     judged: String,
     /// That of an auditor whose index keeps lists.
     listed: String,
+}
+
+impl Drop for Others {
+    fn drop(self) {
+        let Others { judged, listed } = self;
+        drop(judged);
+        drop(listed);
+    }
 }
 
 impl Others {
@@ -76,8 +83,13 @@ fn verdict_on<I: Index + Drop>(
     mut auditor: Auditor<I>,
     pieces: &[&[u8]],
 ) -> Result<Verdict, AuditFault> {
+    feed_all(&mut auditor, pieces)?;
+    auditor.finish()
+}
+
+fn feed_all<I: Index + Drop>(auditor: &mut Auditor<I>, pieces: &[&[u8]]) -> Result<(), AuditFault> {
     for piece in pieces {
         auditor.feed(piece)?;
     }
-    auditor.finish()
+    Ok(())
 }

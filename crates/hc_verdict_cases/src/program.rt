@@ -6,11 +6,11 @@ use crate::pieces::Pieces;
 use hc_arguments::{Order, parsed};
 use hc_cases::Unanswered;
 use hc_command::{audit, shown};
+use hc_history::Settings;
 use std::alloc::{AllocError, Global};
 use std::fmt::Write;
 
 /// What is said of a transcript.
-#[derive(Drop)]
 pub struct Audited {
     /// What the program writes, or that it refuses the words.
     text: String,
@@ -20,40 +20,53 @@ pub struct Audited {
     others: Option<Others>,
 }
 
+impl Drop for Audited {
+    fn drop(self) {
+        let Audited {
+            text,
+            status: _,
+            others,
+        } = self;
+        drop(text);
+        drop(others);
+    }
+}
+
 impl Audited {
     /// What is said of the transcript that the pieces make, as the words ask. The program reads a piece at
     /// a time.
     pub fn by(alloc: Global, words: &[&str], pieces: &[&[u8]]) -> Result<Self, Unanswered> {
-        let mut output = Vec::new(alloc);
-        let mut faults = Vec::new(alloc);
-        let order = match parsed(alloc, words) {
-            Ok(order) => order,
+        match parsed(alloc, words) {
+            Ok(order) => Self::ordered(alloc, words, order, pieces),
             Err(error) => {
+                let mut output = Vec::new(alloc);
+                let mut faults = Vec::new(alloc);
                 let status = shown(&error, &mut output, &mut faults);
-                return Ok(Self::refused(alloc, status)?);
+                Self::refused(alloc, status)
             }
-        };
+        }
+    }
+
+    // The same where the words aren't refused.
+    fn ordered(
+        alloc: Global,
+        words: &[&str],
+        order: Order<'_>,
+        pieces: &[&[u8]],
+    ) -> Result<Self, Unanswered> {
         let Order::Audit { file, settings } = order else {
             return Err(Unanswered::Unknown);
         };
+        let (text, status) = said(alloc, settings, file, pieces)?;
         let others = Others::by(alloc, words, pieces)?;
-        let status = audit(
-            alloc,
-            settings,
-            file,
-            &mut Pieces::new(pieces),
-            &mut output,
-            &mut faults,
-        );
-        output.extend_from_slice(faults.as_slice())?;
         Ok(Audited {
-            text: text_of(alloc, output.as_slice())?,
+            text,
             status,
             others: Some(others),
         })
     }
 
-    fn refused(alloc: Global, status: u8) -> Result<Self, AllocError> {
+    fn refused(alloc: Global, status: u8) -> Result<Self, Unanswered> {
         Ok(Audited {
             text: String::from_str(alloc, "refused")?,
             status,
@@ -83,6 +96,34 @@ impl Audited {
             None => Ok(()),
         }
     }
+}
+
+// What the program writes of the transcript that the pieces make, and its exit status.
+fn said(
+    alloc: Global,
+    settings: Settings,
+    file: &str,
+    pieces: &[&[u8]],
+) -> Result<(String, u8), Unanswered> {
+    let mut written = Vec::new(alloc);
+    let status = append_said(alloc, settings, file, pieces, &mut written)?;
+    let text = text_of(alloc, written.as_slice())?;
+    Ok((text, status))
+}
+
+// Appends what the program writes, faults behind, and answers its exit status.
+fn append_said(
+    alloc: Global,
+    settings: Settings,
+    file: &str,
+    pieces: &[&[u8]],
+    written: &mut Vec<u8>,
+) -> Result<u8, AllocError> {
+    let mut faults = Vec::new(alloc);
+    let mut input = Pieces::new(pieces);
+    let status = audit(alloc, settings, file, &mut input, written, &mut faults);
+    written.extend_from_slice(faults.as_slice())?;
+    Ok(status)
 }
 
 // What the program wrote, without the line feed at the end.

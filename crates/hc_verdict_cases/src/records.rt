@@ -12,11 +12,20 @@ use std::fmt::Write;
 /// Writes what the records mean that the pieces make, and how they end.
 pub fn say_records(alloc: Global, pieces: &[&[u8]], out: &mut String) -> Result<(), Unanswered> {
     let mut reader = RecordReader::new(alloc);
+    say_read(alloc, &mut reader, pieces, out)
+}
+
+fn say_read(
+    alloc: Global,
+    reader: &mut RecordReader,
+    pieces: &[&[u8]],
+    out: &mut String,
+) -> Result<(), Unanswered> {
     for piece in pieces {
-        say_piece(&mut reader, piece, out)?;
+        say_piece(reader, piece, out)?;
     }
     let ended = reader.finish();
-    say_end(alloc, &reader, ended, out)
+    say_end(alloc, reader, ended, out)
 }
 
 // Writes the records that end in the next piece; no more do than it has octets. A fault is met again
@@ -94,7 +103,7 @@ fn say_response(
     response: &Message<ResponseHead>,
     out: &mut String,
 ) -> Result<(), AllocError> {
-    let status = response.head.status;
+    let status = response.head.status.as_u16();
     write!(out, "{letter} {number} {moment} {status} \"")?;
     show_short(response.body.as_slice(), out)?;
     out.push('"')

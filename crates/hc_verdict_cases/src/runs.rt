@@ -1,6 +1,8 @@
 //! Answers in a row.
 
-use std::alloc::AllocError;
+use crate::tellers::Teller;
+use hc_cases::Unanswered;
+use std::alloc::{AllocError, Global};
 use std::fmt::Write;
 
 /// Writes answers in a row: the first, and each other that isn't the one before it, with its place.
@@ -16,8 +18,21 @@ impl<'a> Runs<'a> {
         Runs { last: None, out }
     }
 
-    /// Adds the answer at a place.
-    pub fn add(&mut self, at: usize, answer: String) -> Result<(), AllocError> {
+    /// Adds what is told, at a place, of the octets that the pieces make.
+    pub fn tell(
+        &mut self,
+        alloc: Global,
+        teller: &Teller<'_>,
+        at: usize,
+        pieces: &[&[u8]],
+    ) -> Result<(), Unanswered> {
+        let mut answer = String::new(alloc);
+        teller.tell(alloc, pieces, &mut answer)?;
+        Ok(self.add(at, answer)?)
+    }
+
+    // Adds the answer at a place.
+    fn add(&mut self, at: usize, answer: String) -> Result<(), AllocError> {
         match &self.last {
             None => self.out.push_str(answer.as_str())?,
             Some(last) => say_change(last.as_str(), at, answer.as_str(), self.out)?,

@@ -15,10 +15,10 @@ pub returns-in-Err-TooManyHeaders-clause-gives : goal.returns-in-Err-TooManyHead
 returns-in-Err-TooManyHeaders-clause-gives c =
     many_fields c.args.bytes.now c.front_of-front.result.now c.args.room _ c.front_of-front.ensures c.requires c.in-Err-TooManyHeaders.ensures.no_room
 
-pub returns-then-found-lt-LEAST_STATUS-clause-gives : goal.returns-then-found-lt-LEAST_STATUS-clause-gives
-returns-then-found-lt-LEAST_STATUS-clause-gives c =
+pub returns-in_default-clause-gives : goal.returns-in_default-clause-gives
+returns-in_default-clause-gives c =
     no_status c.args.bytes.now c.front_of-front.result.now c.args.room c.parse_response.new.headers c.in-Ok-Complete.found
-    c.front_of-front.ensures (rw c.in-Ok-Complete.field-0-is at c.in-Ok-Complete.ensures.complete) c.if-found-lt-LEAST_STATUS.true
+    c.front_of-front.ensures (rw c.in-Ok-Complete.field-0-is at c.in-Ok-Complete.ensures.complete) c.in_default.ensures
 
 pub returns-then-has_low_status-clause-gives : goal.returns-then-has_low_status-clause-gives
 returns-then-has_low_status-clause-gives c =

@@ -1,4 +1,4 @@
-use Rattle.std.proofs.Common.{ℕ, length}
+use Rattle.std.proofs.Common.{length}
 use Rattle.hc_links.specs.RequestReading.{CanRead, waiting}
 use Rattle.hc_message_cases.proofs.links.refused.Given as goal
 

@@ -1,9 +1,10 @@
-use Rattle.std.proofs.Common.{ℕ, ◌+◌, ◌++◌, length, take, refl, arith, sym, subst}
+use Rattle.std.proofs.Common.{ℕ, ◌+◌, ◌++◌, length, take, refl, arith, ap, sym, subst, ◌∙◌}
 use Rattle.hc_framing.specs.declared.fault.FrameFault.{FrameFault}
 use Rattle.hc_framing.specs.declared.framing.Framing.{Framing}
+use Rattle.hc_framing.specs.Names.{of_chunk}
 use Rattle.hc_framing.specs.declared.body.Stage.{Stage}
 use Rattle.hc_framing.specs.declared.body.Stage.TheVariants as at
-use Rattle.hc_framing.specs.ChunkLines.{BeginsChunkLine}
+use Rattle.hc_chunks.specs.ChunkLines.{BeginsChunkLine}
 use Rattle.hc_framing.specs.Bodies.{SaysTooLong}
 use Rattle.hc_framing.specs.BodyReading.{AgreesAt, AgreesBody, FaultsBody}
 use Rattle.hc_framing.proofs.BodyLemmas.{at_stage, line_breaks, says_too_long, line_goes_on, line_takes_some, data_begins, trailer_begins, whole_piece}
@@ -13,7 +14,7 @@ pub returns-in-Err : goal.returns-in-Err
 returns-in-Err c = λ framing octets agrees.
     let a = at_stage framing c.args.self.now octets at.Line c.requires.stage agrees in
     let gives = c.in-Err.ensures.gives a.1.last a.1.line in
-    subst (λ (f : FrameFault). FaultsBody f framing (octets ++ c.args.piece.now)) (sym gives.0) (a.0, line_breaks a.1.chunks octets a.1.last c.args.piece.now a.1.are gives.1)
+    subst (λ (f : FrameFault). FaultsBody f framing (octets ++ c.args.piece.now)) (sym (c.from.ensures ∙ ap of_chunk gives.0)) (a.0, line_breaks a.1.chunks octets a.1.last c.args.piece.now a.1.are gives.1)
 
 pub returns-in-Ok-None : goal.returns-in-Ok-None
 returns-in-Ok-None c = λ framing octets agrees.

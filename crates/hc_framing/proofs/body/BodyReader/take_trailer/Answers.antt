@@ -3,14 +3,15 @@ use Rattle.hc_framing.specs.declared.body.Stage.{Stage}
 use Rattle.hc_framing.specs.declared.body.Stage.TheVariants as at
 use Rattle.hc_framing.specs.declared.framing.Framing.{Framing}
 use Rattle.hc_framing.specs.Messages.{BeginsBody}
-use Rattle.hc_framing.specs.BodyReading.{AgreesAt, AgreesBody}
+use Rattle.hc_framing.specs.declared.fault.FrameFault.{FrameFault}
+use Rattle.hc_framing.specs.BodyReading.{AgreesAt, AgreesBody, FaultsBody}
 use Rattle.hc_framing.proofs.BodyLemmas.{at_stage, trailer_faults, trailer_goes_on, trailer_ends, whole_piece}
 use Rattle.hc_framing.proofs.body.BodyReader.take_trailer.Goals as goal
 
 pub returns-in-Err : goal.returns-in-Err
 returns-in-Err c = λ framing octets agrees.
     let a = at_stage framing c.args.self.now octets at.Trailer c.requires.stage agrees in
-    trailer_faults c.args.self.now c.feed.new.self octets c.args.piece.now framing c.in-Err.fault a.0 a.1 (c.in-Err.ensures (drop a.1.len a.1.last) a.1.trailer)
+    subst (λ (f : FrameFault). FaultsBody f framing (octets ++ c.args.piece.now)) (sym c.from.ensures) (trailer_faults c.args.self.now c.feed.new.self octets c.args.piece.now framing c.in-Err.fault a.0 a.1 (c.in-Err.ensures (drop a.1.len a.1.last) a.1.trailer))
 
 pub returns-in-Ok-None : goal.returns-in-Ok-None
 returns-in-Ok-None c = λ framing octets agrees.

@@ -11,7 +11,7 @@ use Rattle.hc_index.proofs.at_target.AtTarget.answer.Goals as goal
 pub returns : goal.returns
 returns c =
     let forward = forward_seen c.args.forward in
-    let response : Message ResponseHead = record { head = c.args.response.head; body = c.in_ok-shared_body.field-0 } in
+    let response : Message ResponseHead = record { head = c.args.response.head; body = c.in_ok-body.body } in
     let new : AtTarget = record {
       lives = c.begin_live.new.lives;
       error = c.error_after-self.result;
@@ -19,7 +19,7 @@ returns c =
       pool = c.add.new.self;
     } in
     subst (λ (r : Message ResponseHead). OnOk c.begin_live.result (AnswersAt forward c.args.position c.args.moment r (Some c.args.self.now) (Some new)))
-    (ap (λ body. let r : Message ResponseHead = record { head = c.args.response.head; body = body } in r) c.in_ok-shared_body.ensures)
+    (ap (λ body. let r : Message ResponseHead = record { head = c.args.response.head; body = body } in r) c.in_ok-body.ensures)
     (on_ok_weaker c.begin_live.result
     (λ begun. record {
       live = lives_answered_here forward c.args.position c.args.moment response c.args.self.now.lives.items c.answer_lives.new.lives.items c.begin_live.new.lives.items

@@ -1,16 +1,19 @@
-use Rattle.std.proofs.Common.{◌+◌, rules, refl, arith}
+use Rattle.std.proofs.Common.{◌+◌, ◌∙◌, rules, refl, sym, arith}
+use Rattle.std.proofs.lemmas.Bool.{eqb-true, eq-eqb, false≢true}
 use Rattle.hc_links.proofs.ResponseLemmas.{is_response, switches, too_many, is_dropped}
 use Rattle.hc_links.proofs.responses.ResponseReader.sort.Goals as goal
-use Rattle.hc_links.proofs.responses.ResponseReader.sort.Goals.{then-status-eq-SWITCHING_PROTOCOLS-via-then-status-eq-SWITCHING_PROTOCOLS, then-status-eq-SWITCHING_PROTOCOLS-via-else-status-eq-SWITCHING_PROTOCOLS+then-self-ge-MOST_INTERIM}
+use Rattle.hc_links.proofs.responses.ResponseReader.sort.Goals.{then-eq-via-then-eq, then-eq-via-else-eq+then-self-ge-MOST_INTERIM}
 
 pub returns-then-not-is_interim-clause-gives : goal.returns-then-not-is_interim-clause-gives
 returns-then-not-is_interim-clause-gives c = λ to_head octets piece e.
     is_response to_head c.args.self.now octets piece c.args.used c.take_message-message.result e c.take_message-message.ensures.taken (search rules)
 
-pub returns-then-status-eq-SWITCHING_PROTOCOLS-clause-gives : goal.returns-then-status-eq-SWITCHING_PROTOCOLS-clause-gives
-returns-then-status-eq-SWITCHING_PROTOCOLS-clause-gives c = λ to_head octets piece e. elim c.then-status-eq-SWITCHING_PROTOCOLS.branch [
-  | then-status-eq-SWITCHING_PROTOCOLS-via-then-status-eq-SWITCHING_PROTOCOLS w ↦ switches to_head c.args.self.now octets piece c.args.used c.take_message-message.result e c.take_message-message.ensures.taken w.if-status-eq-SWITCHING_PROTOCOLS.true
-  | then-status-eq-SWITCHING_PROTOCOLS-via-else-status-eq-SWITCHING_PROTOCOLS+then-self-ge-MOST_INTERIM w ↦ too_many to_head c.args.self.now octets piece c.args.used c.take_message-message.result e c.take_message-message.ensures.taken (search rules) w.if-status-eq-SWITCHING_PROTOCOLS.false
+pub returns-then-eq-clause-gives : goal.returns-then-eq-clause-gives
+returns-then-eq-clause-gives c = λ to_head octets piece e. elim c.then-eq.branch [
+  | then-eq-via-then-eq w ↦ switches to_head c.args.self.now octets piece c.args.used c.take_message-message.result e c.take_message-message.ensures.taken
+      (sym c.status_of-status.ensures ∙ eqb-true _ _ (sym w.if-eq.ensures))
+  | then-eq-via-else-eq+then-self-ge-MOST_INTERIM w ↦ too_many to_head c.args.self.now octets piece c.args.used c.take_message-message.result e c.take_message-message.ensures.taken (search rules)
+      (λ same. false≢true (w.if-eq.ensures ∙ eq-eqb _ _ (c.status_of-status.ensures ∙ same)))
       (omega (arith, w.if-self-ge-MOST_INTERIM.true, c.take_message-message.ensures.begins.interim_is))
 ]
 

@@ -1,0 +1,67 @@
+//! Small samples of what is measured, by a clock that always goes alike.
+
+use crate::audits::{Sample, audit_sample};
+use crate::counts::count;
+use crate::measures::{Pair, compare};
+use crate::messages::long_request;
+use crate::stores::store_sized;
+use crate::trouble::Trouble;
+use hc_framing::Kind;
+use hc_head::RequestHead;
+use std::alloc::Global;
+use std::cell::Cell;
+use std::io;
+use std::io::Write;
+use std::rt::Clock;
+use std::time::Duration;
+
+/// A transcript of few records.
+const FEW_RECORDS: Sample = Sample {
+    records: 20,
+    targets: 3,
+    body: 100,
+};
+
+/// A clock that goes on by a microsecond whenever it is read.
+#[derive(Drop)]
+struct Ticks {
+    microseconds: Cell<u64>,
+}
+
+impl Clock for Ticks {
+    fn monotonic(&self) -> io::Result<Duration> {
+        let now = self.microseconds.get();
+        self.microseconds.set(now.saturating_add(1));
+        Ok(Duration::from_micros(now))
+    }
+
+    fn since_1970(&self) -> io::Result<Duration> {
+        self.monotonic()
+    }
+}
+
+/// Counts calls, then measures short messages, a short transcript and a small store, each in a
+/// microsecond, so that what is said is always the same.
+pub fn sample<W: Write>(alloc: Global, output: &mut W) -> Result<(), Trouble> {
+    let clock = Ticks {
+        microseconds: Cell::new(0),
+    };
+    count(alloc, output)?;
+    heads(alloc, &clock, output)?;
+    audit_sample(alloc, &clock, &FEW_RECORDS, output)?;
+    store_sized(alloc, &clock, 3, 2, 20, output)
+}
+
+// Two requests of 73 octets, and one of 146.
+fn heads<W: Write>(alloc: Global, clock: &Ticks, output: &mut W) -> Result<(), Trouble> {
+    let short = long_request(alloc, 1, 1)?;
+    let short = short.as_str().repeat(alloc, 2)?;
+    let long = long_request(alloc, 1, 74)?;
+    let pair = Pair {
+        name: "head",
+        kind: Kind::Request,
+        short: short.as_bytes(),
+        long: long.as_bytes(),
+    };
+    compare::<RequestHead, _, _>(alloc, clock, &pair, 7, output)
+}

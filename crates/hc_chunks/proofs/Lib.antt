@@ -1,0 +1,3 @@
+pub mod ListLemmas
+pub mod ChunkLineLemmas
+pub mod TrailerLemmas

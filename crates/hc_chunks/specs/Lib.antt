@@ -1,0 +1,4 @@
+pub mod ChunkLines
+pub mod ChunkLineReading
+pub mod Trailers
+pub mod TrailerReading

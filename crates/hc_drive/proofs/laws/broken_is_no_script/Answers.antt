@@ -1,5 +1,0 @@
-use Rattle.hc_drive.proofs.ScriptOnceLemmas.{broken}
-use Rattle.hc_drive.proofs.laws.broken_is_no_script.Goals as goal
-
-pub returns : goal.returns
-returns c = broken

@@ -1,5 +1,0 @@
-use Rattle.hc_drive.proofs.ScriptOnceLemmas.{no_memory, no_settings}
-use Rattle.hc_drive.proofs.laws.octets_alone_break.Goals as goal
-
-pub returns : goal.returns
-returns c = record { memory = no_memory; settings = no_settings }

@@ -1,0 +1,23 @@
+use Rattle.std.proofs.Common.{rules, refl, sym}
+use Rattle.std.proofs.lemmas.Result.{on_ok_weaker}
+use Rattle.hc_index.specs.declared.map_index.MapIndex.{MapIndex}
+use Rattle.hc_index.proofs.MapLemmas.{notes_response}
+use Rattle.hc_index.proofs.map_index.MapIndexNoting.answer_forward.Goals as goal
+
+pub returns : goal.returns
+returns c =
+    let new : MapIndex = record {
+      alloc = c.args.self.now.alloc;
+      targets = c.answer_at.new.targets;
+      exchanges = c.args.self.now.exchanges;
+      forwards = c.remove.new.self;
+    } in
+    on_ok_weaker c.answer_at.result
+    (λ changes. notes_response c.args.self.now c.in-Some.forward c.args.number c.args.position c.args.moment c.args.response new
+    (record {
+      was_open = sym c.in-Some.ensures.value;
+      forwards = λ f. search rules;
+      targets = changes;
+      exchanges = refl;
+    }))
+    c.answer_at.ensures

@@ -1,0 +1,23 @@
+use Rattle.std.proofs.Common.{rules, refl, sym}
+use Rattle.std.proofs.lemmas.Result.{on_ok_weaker}
+use Rattle.hc_index.specs.declared.map_index.MapIndex.{MapIndex}
+use Rattle.hc_index.proofs.MapLemmas.{notes_failure}
+use Rattle.hc_index.proofs.map_index.MapIndexNoting.fail_forward.Goals as goal
+
+pub returns : goal.returns
+returns c =
+    let new : MapIndex = record {
+      alloc = c.args.self.now.alloc;
+      targets = c.fail_at.new.targets;
+      exchanges = c.args.self.now.exchanges;
+      forwards = c.remove.new.self;
+    } in
+    λ moment. on_ok_weaker c.fail_at.result
+    (λ changes. notes_failure c.args.self.now c.in-Some.forward c.args.number c.args.position moment new
+    (record {
+      was_open = sym c.in-Some.ensures.value;
+      forwards = λ f. search rules;
+      targets = changes;
+      exchanges = refl;
+    }))
+    c.fail_at.ensures

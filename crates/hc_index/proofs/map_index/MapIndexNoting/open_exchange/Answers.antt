@@ -1,0 +1,25 @@
+use Rattle.std.proofs.Common.{rules, refl}
+use Rattle.hc_index.specs.declared.kept.PooledExchange.{PooledExchange}
+use Rattle.hc_index.specs.declared.map_index.MapIndex.{MapIndex}
+use Rattle.hc_index.proofs.MapLemmas.{notes_request}
+use Rattle.hc_index.proofs.map_index.MapIndexNoting.open_exchange.Goals as goal
+
+pub returns : goal.returns
+returns c =
+    let pooled : PooledExchange = record {
+      exchange = record { number = c.args.number; position = c.args.position; request = c.args.request.head; target = c.args.target };
+      behind = c.in_ok-behind.behind;
+    } in
+    let new : MapIndex = record {
+      alloc = c.args.self.now.alloc;
+      targets = c.open_at.new.targets;
+      exchanges = c.insert.new.self;
+      forwards = c.args.self.now.forwards;
+    } in
+    λ moment. notes_request c.args.self.now c.args.number c.args.position moment c.args.request pooled new
+    (record {
+      exchanges = λ e. search rules;
+      targets = c.in_ok-behind.ensures;
+      forwards = refl;
+    })
+    refl

@@ -1,0 +1,90 @@
+//! What each kind of record makes of an index.
+
+ghost use Rattle.std.specs.Prelude.{◌<◌, ℕ, OnOk};
+ghost use Rattle.hc_head.specs.declared.head.ResponseHead.{ResponseHead};
+ghost use Rattle.hc_framing.specs.declared.message.Message.{Message};
+ghost use Rattle.hc_fields.specs.Numbers.{end_of_moments};
+ghost use Rattle.hc_transcript.specs.Items.{ClientRequest, OriginRequest, OriginResponse, OriginFailure, ClientReply, item_of};
+ghost use Rattle.hc_history.specs.Noting.{Notes};
+ghost use Rattle.hc_history.specs.Seen.{Seen};
+
+use hc_framing::Message;
+use hc_head::{RequestHead, ResponseHead, Target};
+use hc_transcript::{Meaning, OwnedItem};
+use std::alloc::AllocError;
+
+/// What notes each kind of record for itself.
+pub(crate) trait Noting {
+    /// What is known, however that is kept.
+    ghost knows: { Self → Seen };
+
+    /// Notes a request of a client.
+    fn open_exchange(
+        &mut self,
+        number: u64,
+        position: u64,
+        request: Message<RequestHead>,
+        target: Target,
+    ) -> Result<(), AllocError>
+        ensures { (moment : ℕ) → OnOk result
+            (Notes (knows self.old) position (ClientRequest number moment request target) (knows self.new)) };
+
+    /// Notes a reply to a client.
+    fn close_exchange(&mut self, number: u64)
+        ensures { (position moment : ℕ) (reply : Message ResponseHead)
+            → Notes (knows self.old) position (ClientReply number moment reply) (knows self.new) };
+
+    /// Notes a request to the origin.
+    fn open_forward(
+        &mut self,
+        number: u64,
+        moment: u64,
+        request: Message<RequestHead>,
+        target: Target,
+    ) -> Result<(), AllocError>
+        ensures { (position : ℕ) → OnOk result
+            (Notes (knows self.old) position (OriginRequest number moment request target) (knows self.new)) };
+
+    /// Notes that the origin gave no answer.
+    fn fail_forward(&mut self, number: u64, position: u64) -> Result<(), AllocError>
+        ensures { (moment : ℕ) → OnOk result
+            (Notes (knows self.old) position (OriginFailure number moment) (knows self.new)) };
+
+    /// Notes a response of the origin.
+    fn answer_forward(
+        &mut self,
+        number: u64,
+        position: u64,
+        moment: u64,
+        response: Message<ResponseHead>,
+    ) -> Result<(), AllocError>
+        requires { moment < end_of_moments }
+        ensures { OnOk result
+            (Notes (knows self.old) position (OriginResponse number moment response) (knows self.new)) };
+}
+
+/// Notes the next item, which stands at that position.
+pub(crate) fn note_item<N: Noting>(
+    noting: &mut N,
+    position: u64,
+    item: OwnedItem,
+) -> Result<(), AllocError>
+    ensures { OnOk result (Notes (N.knows noting.old) position (item_of item) (N.knows noting.new)) }
+{
+    let number = item.number;
+    let moment = item.moment;
+    let of = item.of;
+    match of {
+        Meaning::ClientRequest { request, target } => {
+            noting.open_exchange(number, position, request, target)
+        }
+        Meaning::OriginRequest { request, target } => {
+            noting.open_forward(number, moment, request, target)
+        }
+        Meaning::OriginResponse(response) => {
+            noting.answer_forward(number, position, moment, response)
+        }
+        Meaning::OriginFailure => noting.fail_forward(number, position),
+        Meaning::ClientReply(_) => Ok(noting.close_exchange(number)),
+    }
+}

@@ -1,0 +1,14 @@
+pub mod ClientLemmas
+pub mod AskLemmas
+pub mod ReadLemmas
+pub mod TakenLemmas
+pub mod SendLemmas
+pub mod EndLemmas
+pub mod OutcomeLemmas
+pub mod HeardLemmas
+pub mod CanLemmas
+pub mod TellLemmas
+pub mod EventLemmas
+pub mod LeaveLemmas
+pub mod ServeLemmas
+pub mod StepLemmas

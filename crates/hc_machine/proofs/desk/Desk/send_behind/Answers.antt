@@ -1,0 +1,14 @@
+use Rattle.std.proofs.Common.{refl}
+use Rattle.hc_machine.proofs.SendLemmas.{of_ok, when_ok}
+use Rattle.hc_machine.proofs.desk.Desk.send_behind.Goals as goal
+
+pub returns-clause-sends : goal.returns-clause-sends
+returns-clause-sends g c = when_ok c.send_forward.result _ (λ ok. record {
+  name = refl;
+  numbers = of_ok c.send_forward.result _ c.send_forward.ensures.numbers ok;
+  clients = refl;
+  exchanges = refl;
+  links = λ forwards are place. of_ok c.send_forward.result _ (c.send_forward.ensures.links forwards are place) ok;
+  store = refl;
+  actions = of_ok c.send_forward.result _ c.send_forward.ensures.actions ok;
+})

@@ -1,0 +1,6 @@
+pub mod Reading
+pub mod Ending
+pub mod Standing
+pub mod Happenings
+pub mod Steps
+pub mod Settings

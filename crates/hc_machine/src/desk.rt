@@ -1,0 +1,56 @@
+//! What a cache keeps.
+
+ghost use Rattle.std.specs.Prelude.{◌≡◌};
+
+use hc_fields::Octets;
+use hc_open::{Client, OpenLinks};
+use hc_service::{Numbers, OpenExchange};
+use hc_store::Store;
+use std::alloc::Global;
+use std::collections::BTreeMap;
+use std::hash::BuildHasher;
+
+/// What a cache keeps: what it counts, what is open by number, and what is stored.
+#[derive(Drop)]
+pub(crate) struct Desk<S: BuildHasher> {
+    pub(crate) alloc: Global,
+    /// The name by which it calls itself.
+    pub(crate) name: Octets,
+    pub(crate) numbers: Numbers,
+    pub(crate) clients: BTreeMap<u64, Client>,
+    pub(crate) exchanges: BTreeMap<u64, OpenExchange>,
+    pub(crate) links: OpenLinks,
+    pub(crate) store: Store<S>,
+}
+
+impl<S: BuildHasher> Desk<S> {
+    ghost use Rattle.std.specs.Prelude.{◌≡◌, ◌&&◌, ◌==◌};
+    ghost use Rattle.std.specs.FinMap.{len};
+    ghost use Rattle.hc_service.specs.declared.settings.CoreSettings.{CoreSettings};
+    ghost use Rattle.hc_service.specs.State.{State, new_state};
+    ghost use Rattle.hc_machine.specs.Standing.{Stands};
+
+    /// That of a cache to which nothing has happened, with an empty store.
+    pub(crate) fn new(alloc: Global, name: Octets, store: Store<S>) -> Self
+        ensures { (settings : CoreSettings) → name ≡ settings.name → store ≡ (new_state settings).store
+            → Stands settings result (new_state settings) }
+    {
+        Desk {
+            alloc,
+            name,
+            numbers: Numbers::new(),
+            clients: BTreeMap::new(alloc),
+            exchanges: BTreeMap::new(alloc),
+            links: OpenLinks::new(alloc),
+            store,
+        }
+    }
+
+    /// Whether no connection or forward is open.
+    pub(crate) fn is_idle(&self) -> bool
+        ensures { (settings : CoreSettings) (s : State) → Stands settings self.now s
+            → result ≡ (len s.connections == 0 && len s.forwards == 0) }
+    {
+        self.clients.len() == 0 && self.links.len() == 0
+    }
+}

@@ -1,0 +1,18 @@
+//! The shared cache as a step function: events in, actions and records out.
+#![tactic(auto)]
+
+mod admission;
+mod answering;
+mod clients;
+mod desk;
+mod ending;
+mod keeping;
+mod leaving;
+mod machine;
+mod moving;
+mod reading;
+mod serving;
+mod telling;
+
+pub use hc_service::CoreFault;
+pub use machine::Core;

@@ -1,0 +1,147 @@
+//! The cache.
+
+ghost use Rattle.std.specs.Prelude.{◌≡◌};
+
+use crate::desk::Desk;
+use crate::keeping::steps_keep_agreement;
+use hc_events::Event;
+use hc_service::{Action, CoreFault, CoreSettings, StepFault, is_name, is_size};
+use hc_store::Store;
+use lru::DefaultHasher;
+use std::alloc::Global;
+use std::hash::{BuildHasher, BuildHasherDefault};
+use std::marker::Model;
+
+/// A shared cache in front of one origin, as a step function over what happens at its links.
+#[derive(Drop)]
+pub struct Core<S: BuildHasher = DefaultHasher> {
+    failed: bool,
+    desk: Desk<S>,
+}
+
+impl<S: BuildHasher> Model for Core<S> {
+    ghost use Rattle.std.specs.Coded.{codes};
+    ghost use Rattle.std_collections.specs.Layout.BTreeMap.{btree_map_code};
+    ghost use Rattle.hc_machine.specs.Steps.{CanStep, Cache, cache_of};
+
+    ghost Value = { Cache };
+
+    ghost coded = { Prim.hlevel (codes, btree_map_code) };
+
+    ghost view = { λ c. cache_of c.failed c.desk };
+
+    ghost invariant = { λ c. CanStep c.failed c.desk };
+}
+
+impl Core<DefaultHasher> {
+    ghost use Rattle.hc_machine.specs.Settings.{GivesCore};
+
+    /// A cache of those settings to which nothing has happened. Targets are hashed with a fixed seed; where an
+    /// attacker picks them, use `with_hasher` with a `RandomState`.
+    pub fn new(alloc: Global, settings: CoreSettings) -> Result<Self, CoreFault>
+        ensures { GivesCore result settings }
+    {
+        Core::with_hasher(alloc, settings, BuildHasherDefault::new())
+    }
+}
+
+impl<S: BuildHasher + Drop> Core<S> {
+    ghost use Rattle.hc_machine.specs.Settings.{GivesCore};
+
+    /// The same, whose store hashes targets with that.
+    pub fn with_hasher(alloc: Global, settings: CoreSettings, hasher: S) -> Result<Self, CoreFault>
+        ensures { GivesCore result settings }
+    {
+        if !is_name(settings.name.as_slice()) {
+            return Err(CoreFault::Name);
+        }
+        if !is_size(settings.keys) {
+            return Err(CoreFault::Size);
+        }
+        let store = Store::with_hasher(alloc, settings.keys, settings.bytes as usize, hasher)?;
+        Ok(Core {
+            failed: false,
+            desk: Desk::new(alloc, settings.name, store),
+        })
+    }
+}
+
+impl<S: BuildHasher> Core<S> {
+    ghost use Rattle.std.specs.Prelude.{◌≢◌, ◌&&◌, ◌==◌, true, false, IsErrOf, OnErr};
+    ghost use Rattle.std.specs.FinMap.{len};
+    ghost use Rattle.hc_service.specs.declared.fault.StepFault.TheVariants.{Failed, Memory};
+    ghost use Rattle.hc_service.specs.declared.fault.StepFault.{StepFault};
+    ghost use Rattle.hc_service.specs.declared.settings.CoreSettings.{CoreSettings};
+    ghost use Rattle.hc_service.specs.Agreement.{Agrees, History, IsReady};
+    ghost use Rattle.hc_service.specs.Settings.{AreGood};
+    ghost use Rattle.hc_service.specs.State.{State};
+    ghost use Rattle.hc_machine.specs.Steps.{GivesAgreement, GivesStep, StandsFor, TellsFirst, records_given};
+
+    /// Something happens. Where memory is refused, no event is served any more; any other fault changes
+    /// nothing, and of several the first is told: that it has failed, then those of `first_fault`.
+    pub fn step(&mut self, event: Event) -> Result<Vec<Action>, StepFault>
+        // Where it agrees with what has happened, the records that it gives out are a transcript behind those
+        // before, each reply among them is right, and it agrees with what has happened then.
+        ensures agrees { (settings : CoreSettings) (s : State) (h : History) → AreGood settings
+            → StandsFor settings self.old s → Agrees s h → GivesAgreement result settings event s h self.new }
+        // Whatever state it stands for, if each forward can end there, it does what it owes for the event.
+        ensures gives { (settings : CoreSettings) (s : State) → StandsFor settings self.old s → IsReady s
+            → GivesStep result settings event s self.new }
+        // Whatever state it stands for, the first test that the event fails is told, and no other fault but want of memory.
+        ensures first { (settings : CoreSettings) (s : State) → StandsFor settings self.old s → TellsFirst result event s }
+        ensures works { IsErrOf result Failed → self.old.failed ≡ true }
+        // What stands after a fault.
+        ensures failed { IsErrOf result Memory → self.new.failed ≡ true }
+        ensures same { (fault : StepFault) → IsErrOf result fault → fault ≢ Memory → self.new ≡ self.old }
+        ensures given { OnErr result (records_given self.new ≡ records_given self.old) }
+        ensures failed_again { self.old.failed ≡ true → IsErrOf result Failed }
+    {
+        steps_keep_agreement();
+        self.serve(event)
+    }
+
+    /// Does what is owed for an event that no test refuses.
+    fn serve(&mut self, event: Event) -> Result<Vec<Action>, StepFault>
+        ensures gives { (settings : CoreSettings) (s : State) → StandsFor settings self.old s → IsReady s
+            → GivesStep result settings event s self.new }
+        ensures first { (settings : CoreSettings) (s : State) → StandsFor settings self.old s → TellsFirst result event s }
+        ensures works { IsErrOf result Failed → self.old.failed ≡ true }
+        ensures failed { IsErrOf result Memory → self.new.failed ≡ true }
+        ensures same { (fault : StepFault) → IsErrOf result fault → fault ≢ Memory → self.new ≡ self.old }
+        ensures given { OnErr result (records_given self.new ≡ records_given self.old) }
+        ensures failed_again { self.old.failed ≡ true → IsErrOf result Failed }
+    {
+        if self.failed {
+            return Err(StepFault::Failed);
+        }
+        if let Some(fault) = self.desk.first_fault(&event) {
+            return Err(fault);
+        }
+        let given = self.desk.numbers.records;
+        match self.desk.serve(event) {
+            Ok(actions) => Ok(actions),
+            Err(_) => {
+                self.failed = true;
+                self.desk.numbers.records = given;
+                Err(StepFault::Memory)
+            }
+        }
+    }
+
+    /// How many records were given out.
+    pub fn records(&self) -> u64
+        ensures given { result ≡ records_given self.now }
+        ensures state { (settings : CoreSettings) (s : State) → StandsFor settings self.now s → result ≡ s.numbers.records }
+    {
+        self.desk.numbers.records
+    }
+
+    /// Whether it hasn't failed, and no connection or forward is open.
+    pub fn idle(&self) -> bool
+        ensures state { (settings : CoreSettings) (s : State) → StandsFor settings self.now s
+            → result ≡ (len s.connections == 0 && len s.forwards == 0) }
+        ensures failed { self.now.failed ≡ true → result ≡ false }
+    {
+        !self.failed && self.desk.is_idle()
+    }
+}

@@ -1,0 +1,286 @@
+//! Reading what came on a client's connection as far as can be.
+
+ghost use Rattle.std.specs.Prelude.{◌≡◌, ◌||◌};
+ghost use Rattle.hc_service.specs.Asking.{ends_connection};
+
+use crate::desk::Desk;
+use crate::moving::{await_reply, reply_on, send_forward};
+use hc_framing::Message;
+use hc_head::{RequestHead, ResponseHead, Target, is_head};
+use hc_links::Arrival;
+use hc_open::Client;
+use hc_reactions::{Addressee, Reaction, react, record_request, refuse};
+use hc_service::{Action, OpenExchange, Purpose, WantedReply, ends_connection};
+use std::alloc::AllocError;
+use std::hash::BuildHasher;
+
+/// Whether a connection closes behind the reply, of which nothing more may be read.
+pub(crate) fn closes_behind(asked: &RequestHead, leaves: bool) -> bool
+    ensures { result ≡ (ends_connection asked.now || leaves) }
+{
+    ends_connection(asked) || leaves
+}
+
+impl<S: BuildHasher> Desk<S> {
+    ghost use Rattle.std.specs.Prelude.{ℕ, List, OnOk, IfOk, Some, None, ◌<◌, ◌≤◌, true, false, length};
+    ghost use Rattle.std.specs.BTreeMap.{get as kept_at};
+    ghost use Rattle.std.specs.Ordering.{nat_cmp};
+    ghost use Rattle.std.specs.FinMap.{get};
+    ghost use Rattle.hc_fields.specs.Numbers.{end_of_moments};
+    ghost use Rattle.hc_service.specs.declared.action.Action.{Action};
+    ghost use Rattle.hc_service.specs.declared.settings.CoreSettings.{CoreSettings};
+    ghost use Rattle.hc_service.specs.State.{Connection, State};
+    ghost use Rattle.hc_service.specs.Serves.Turn.{Asking};
+    ghost use Rattle.hc_links.specs.RequestReading.{CanRead, waiting};
+    ghost use Rattle.hc_open.specs.Links.{IsClient};
+    ghost use Rattle.hc_machine.specs.Reading.{GivesForward, GivesReplies, GivesReplyAtOnce, IsAsked, SendsBehind, waiting_at};
+    ghost use Rattle.hc_machine.specs.Standing.{CanServe, GivesReading, GivesTurn, Stands, without_connection};
+
+    /// Reads a connection until nothing more can be read.
+    pub(crate) fn read_on(&mut self, c: u64, actions: &mut Vec<Action>) -> Result<(), AllocError>
+        requires { CanServe self.old }
+        ensures { (settings : CoreSettings) (s : State) → Stands settings self.old s
+            → OnOk result (GivesReading settings c false s actions.old.items actions.new.items self.new) }
+    {
+        loop {
+            if !self.read_one(c, actions)? {
+                return Ok(());
+            }
+        }
+    }
+
+    /// Reads a request, if one is there, and tells whether more may be read.
+    fn read_one(&mut self, c: u64, actions: &mut Vec<Action>) -> Result<bool, AllocError>
+        requires { CanServe self.old }
+        ensures reading { (settings : CoreSettings) (s : State) → Stands settings self.old s
+            → IfOk result (λ more. GivesReading settings c more s actions.old.items actions.new.items self.new) }
+        ensures fewer { IfOk result (λ more. more ≡ true → waiting_at c self.new.clients < waiting_at c self.old.clients) }
+    {
+        let Some(client) = self.clients.remove(&c) else {
+            return Ok(false);
+        };
+        match client.exchange {
+            Some(_) => {
+                self.wait(c, client)?;
+                Ok(false)
+            }
+            None => {
+                let more = self.read_idle(c, client, actions)?;
+                Ok(more)
+            }
+        }
+    }
+
+    /// A request waits for its reply on a connection, which was taken out: of the octets behind it no
+    /// more wait than may.
+    fn wait(&mut self, c: u64, mut client: Client) -> Result<(), AllocError>
+        ensures { (settings : CoreSettings) (s : State) (k : Connection) (exchange : ℕ) (items : List Action)
+            → Stands settings self.old (without_connection c s)
+            → get s.connections c ≡ Some k → IsClient client k → k.exchange ≡ Some exchange
+            → OnOk result (GivesReading settings c false s items items self.new) }
+    {
+        client.trim();
+        self.clients.insert(c, client)?;
+        Ok(())
+    }
+
+    /// Reads a request of a connection, which was taken out, and on which none waits for its reply.
+    fn read_idle(
+        &mut self,
+        c: u64,
+        mut client: Client,
+        actions: &mut Vec<Action>,
+    ) -> Result<bool, AllocError>
+        requires in_time { self.old.numbers.moment < end_of_moments }
+        requires can { CanRead client.reader }
+        ensures reading { (settings : CoreSettings) (s : State) (k : Connection)
+            → Stands settings self.old (without_connection c s)
+            → get s.connections c ≡ Some k → IsClient client k → k.exchange ≡ None
+            → IfOk result (λ more. GivesReading settings c more s actions.old.items actions.new.items self.new) }
+        ensures fewer { kept_at nat_cmp self.old.clients c ≡ None
+            → IfOk result (λ more. more ≡ true → waiting_at c self.new.clients < length (waiting client.reader)) }
+    {
+        match client.reader.next()? {
+            Arrival::More => {
+                self.clients.insert(c, client)?;
+                Ok(false)
+            }
+            Arrival::Refused(status) => {
+                refuse(self.alloc, self.numbers.moment, c, status, actions)?;
+                Ok(false)
+            }
+            Arrival::Request(request, target) => {
+                self.ask(c, client, request, target, actions)?;
+                Ok(true)
+            }
+        }
+    }
+
+    /// A whole request was read of a connection, which was taken out.
+    fn ask(
+        &mut self,
+        c: u64,
+        client: Client,
+        request: Message<RequestHead>,
+        target: Target,
+        actions: &mut Vec<Action>,
+    ) -> Result<(), AllocError>
+        requires { self.old.numbers.moment < end_of_moments }
+        ensures turn { (settings : CoreSettings) (s : State) (k : Connection) (size : ℕ)
+            → Stands settings self.old (without_connection c s)
+            → get s.connections c ≡ Some k → IsAsked client k request target size
+            → OnOk result (GivesTurn settings (Asking c) s actions.old.items actions.new.items self.new) }
+        ensures waits { kept_at nat_cmp self.old.clients c ≡ None
+            → OnOk result (waiting_at c self.new.clients ≤ length (waiting client.reader)) }
+    {
+        let closes = closes_behind(&request.head, client.leaves);
+        let number = record_request(self.alloc, &mut self.numbers, &request, actions)?;
+        let wanted = WantedReply {
+            name: &self.name,
+            moment: self.numbers.moment,
+            asked: &request.head,
+            closes,
+        };
+        let told = self.links.open_behind(&target);
+        let reaction = react(
+            self.alloc,
+            &mut self.store,
+            &wanted,
+            &target,
+            &request,
+            told,
+        )?;
+        let exchange = OpenExchange {
+            connection: c,
+            request: request.head,
+            target,
+        };
+        match reaction {
+            Reaction::Replies { reply, behind } => {
+                self.reply_and_validate(number, exchange, client, closes, &reply, behind, actions)
+            }
+            Reaction::Sends {
+                request: forward,
+                cause,
+                conditional,
+            } => {
+                let purpose = Purpose::Reply {
+                    exchange: number,
+                    cause,
+                    conditional,
+                };
+                self.go_forward(number, exchange, client, forward, purpose, actions)
+            }
+        }
+    }
+
+    /// A request that was read of a connection, which was taken out, gets its reply, and behind it a request
+    /// may go to the origin for the store alone.
+    fn reply_and_validate(
+        &mut self,
+        number: u64,
+        exchange: OpenExchange,
+        client: Client,
+        closes: bool,
+        reply: &Message<ResponseHead>,
+        behind: Option<Message<RequestHead>>,
+        actions: &mut Vec<Action>,
+    ) -> Result<(), AllocError>
+        ensures replies { OnOk result (GivesReplies number exchange client closes reply.now behind actions.old.items actions.new.items self.old self.new) }
+        ensures waits { kept_at nat_cmp self.old.clients exchange.connection ≡ None
+            → OnOk result (waiting_at exchange.connection self.new.clients ≤ length (waiting client.reader)) }
+    {
+        self.reply_at_once(number, &exchange, client, closes, reply, actions)?;
+        match behind {
+            None => Ok(()),
+            Some(validation) => self.send_behind(exchange.target, validation, actions),
+        }
+    }
+
+    /// A request goes to the origin for the store alone; no such one may be open for the target.
+    fn send_behind(
+        &mut self,
+        target: Target,
+        validation: Message<RequestHead>,
+        actions: &mut Vec<Action>,
+    ) -> Result<(), AllocError>
+        ensures sends { OnOk result (SendsBehind target validation actions.old.items actions.new.items self.old self.new) }
+        ensures clients { self.new.clients ≡ self.old.clients }
+    {
+        send_forward(
+            self.alloc,
+            &mut self.numbers,
+            &mut self.links,
+            validation,
+            target,
+            Purpose::Background,
+            actions,
+        )
+    }
+
+    /// A request that was read of a connection, which was taken out, gets its reply.
+    fn reply_at_once(
+        &mut self,
+        number: u64,
+        exchange: &OpenExchange,
+        client: Client,
+        closes: bool,
+        reply: &Message<ResponseHead>,
+        actions: &mut Vec<Action>,
+    ) -> Result<(), AllocError>
+        ensures replies { OnOk result (GivesReplyAtOnce number exchange.now client closes reply.now actions.old.items actions.new.items self.old self.new) }
+        ensures waits { kept_at nat_cmp self.old.clients exchange.now.connection ≡ None
+            → OnOk result (waiting_at exchange.now.connection self.new.clients ≤ length (waiting client.reader)) }
+    {
+        let to = Addressee {
+            exchange: number,
+            to_head: is_head(&exchange.request.method),
+            connection: exchange.connection,
+            closes,
+        };
+        reply_on(
+            self.alloc,
+            &mut self.numbers,
+            &mut self.clients,
+            to,
+            client,
+            reply,
+            actions,
+        )?;
+        Ok(())
+    }
+
+    /// A request that was read of a connection, which was taken out, goes to the origin, and waits for
+    /// its reply.
+    fn go_forward(
+        &mut self,
+        number: u64,
+        exchange: OpenExchange,
+        client: Client,
+        forward: Message<RequestHead>,
+        purpose: Purpose,
+        actions: &mut Vec<Action>,
+    ) -> Result<(), AllocError>
+        ensures goes { OnOk result (GivesForward number exchange client forward purpose actions.old.items actions.new.items self.old self.new) }
+        ensures waits { OnOk result (waiting_at exchange.connection self.new.clients ≤ length (waiting client.reader)) }
+    {
+        let target = exchange.target.copy(self.alloc)?;
+        send_forward(
+            self.alloc,
+            &mut self.numbers,
+            &mut self.links,
+            forward,
+            target,
+            purpose,
+            actions,
+        )?;
+        await_reply(
+            &mut self.exchanges,
+            &mut self.clients,
+            number,
+            client,
+            exchange,
+        )?;
+        Ok(())
+    }
+}

@@ -1,0 +1,122 @@
+//! What each event owes.
+
+use crate::desk::Desk;
+use hc_events::{Event, Happening};
+use hc_service::Action;
+use std::alloc::AllocError;
+use std::hash::BuildHasher;
+
+impl<S: BuildHasher> Desk<S> {
+    ghost use Rattle.std.specs.Prelude.{◌≡◌, ◌<◌, IfOk, OnOk, None};
+    ghost use Rattle.hc_fields.specs.Numbers.{end_of_moments};
+    ghost use Rattle.hc_events.specs.declared.Happening.TheVariants.{ClientOpened, ClientBytes, ClientEnd, OriginBytes, OriginEnd, OriginFailed};
+    ghost use Rattle.hc_service.specs.declared.settings.CoreSettings.{CoreSettings};
+    ghost use Rattle.hc_service.specs.State.{State};
+    ghost use Rattle.hc_service.specs.Serves.{first_fault};
+    ghost use Rattle.hc_machine.specs.Standing.{CanServe, GivesReadingBehind, GivesService, Stands};
+    ghost use Rattle.hc_machine.specs.Happenings.{CanTake, TakesOn};
+
+    /// Does what an event owes that fails no test.
+    pub(crate) fn serve(&mut self, event: Event) -> Result<Vec<Action>, AllocError>
+        requires can { CanTake event.of self.old }
+        requires in_time { event.moment < end_of_moments }
+        ensures { (settings : CoreSettings) (s : State) → Stands settings self.old s → first_fault event s ≡ None
+            → IfOk result (λ actions. GivesService settings event s actions.items self.new) }
+    {
+        self.numbers.pass_to(event.moment);
+        self.take(event.of)
+    }
+
+    /// Does what is owed for what happens now.
+    fn take(&mut self, of: Happening) -> Result<Vec<Action>, AllocError>
+        requires { CanTake of self.old }
+        ensures { TakesOn of self.old result self.new }
+    {
+        match of {
+            Happening::ClientOpened(c) => self.client_opened(c),
+            Happening::ClientBytes(c, octets) => self.client_heard(c, octets.as_slice()),
+            Happening::ClientEnd(c) => self.client_ended(c),
+            Happening::OriginBytes(f, octets) => self.origin_heard(f, octets.as_slice()),
+            Happening::OriginEnd(f) => self.origin_ended(f),
+            Happening::OriginFailed(f) => self.origin_lost(f),
+        }
+    }
+
+    /// A connection opens.
+    fn client_opened(&mut self, c: u64) -> Result<Vec<Action>, AllocError>
+        ensures { TakesOn (ClientOpened c) self.old result self.new }
+    {
+        self.open(c)?;
+        Ok(Vec::new(self.alloc))
+    }
+
+    /// Octets come from the client of an open connection, which is read as far as can be.
+    fn client_heard(&mut self, c: u64, octets: &[u8]) -> Result<Vec<Action>, AllocError>
+        requires { CanTake (ClientBytes c octets.now) self.old }
+        ensures { TakesOn (ClientBytes c octets.now) self.old result self.new }
+    {
+        self.hear(c, octets)?;
+        let mut actions = Vec::new(self.alloc);
+        self.read_on(c, &mut actions)?;
+        Ok(actions)
+    }
+
+    /// The client of an open connection sends no more.
+    fn client_ended(&mut self, c: u64) -> Result<Vec<Action>, AllocError>
+        requires { CanTake (ClientEnd c) self.old }
+        ensures { TakesOn (ClientEnd c) self.old result self.new }
+    {
+        let mut actions = Vec::new(self.alloc);
+        self.end_client(c, &mut actions)?;
+        Ok(actions)
+    }
+
+    /// Octets come from the origin on an open forward.
+    fn origin_heard(&mut self, f: u64, octets: &[u8]) -> Result<Vec<Action>, AllocError>
+        requires { CanTake (OriginBytes f octets.now) self.old }
+        ensures { TakesOn (OriginBytes f octets.now) self.old result self.new }
+    {
+        let mut actions = Vec::new(self.alloc);
+        let client = self.tell(f, octets, &mut actions)?;
+        self.read_behind(client, &mut actions)?;
+        Ok(actions)
+    }
+
+    /// The origin sends no more on an open forward.
+    fn origin_ended(&mut self, f: u64) -> Result<Vec<Action>, AllocError>
+        requires { CanTake (OriginEnd f) self.old }
+        ensures { TakesOn (OriginEnd f) self.old result self.new }
+    {
+        let mut actions = Vec::new(self.alloc);
+        let client = self.end_origin(f, &mut actions)?;
+        self.read_behind(client, &mut actions)?;
+        Ok(actions)
+    }
+
+    /// An open forward is lost.
+    fn origin_lost(&mut self, f: u64) -> Result<Vec<Action>, AllocError>
+        requires { CanTake (OriginFailed f) self.old }
+        ensures { TakesOn (OriginFailed f) self.old result self.new }
+    {
+        let mut actions = Vec::new(self.alloc);
+        let client = self.lose(f, &mut actions)?;
+        self.read_behind(client, &mut actions)?;
+        Ok(actions)
+    }
+
+    /// Reads a connection on behind a reply.
+    fn read_behind(
+        &mut self,
+        client: Option<u64>,
+        actions: &mut Vec<Action>,
+    ) -> Result<(), AllocError>
+        requires { CanServe self.old }
+        ensures { (settings : CoreSettings) (s : State) → Stands settings self.old s
+            → OnOk result (GivesReadingBehind settings client s actions.old.items actions.new.items self.new) }
+    {
+        match client {
+            None => Ok(()),
+            Some(c) => self.read_on(c, actions),
+        }
+    }
+}

@@ -1,0 +1,100 @@
+//! What comes from the origin on an open forward.
+
+ghost use Rattle.std.specs.Prelude.{◌≡◌, ◌⊎◌};
+
+use crate::desk::Desk;
+use hc_links::Heard;
+use hc_open::Link;
+use hc_service::Action;
+use std::alloc::AllocError;
+use std::hash::BuildHasher;
+
+impl<S: BuildHasher> Desk<S> {
+    ghost use Rattle.std.specs.Prelude.{true, IfOk, Some};
+    ghost use Rattle.std.specs.FinMap.{get};
+    ghost use Rattle.hc_service.specs.declared.settings.CoreSettings.{CoreSettings};
+    ghost use Rattle.hc_service.specs.State.{Awaited, State};
+    ghost use Rattle.hc_service.specs.Serves.Turn.{Answering, Failing};
+    ghost use Rattle.hc_service.specs.Turns.Failure.{IsCutOff, IsLost};
+    ghost use Rattle.hc_machine.specs.Standing.{CanServe, GivesEnding, GivesTelling, Stands};
+
+    /// Octets come from the origin on an open forward. Answers the connection that may be read on, where
+    /// the forward ends.
+    pub(crate) fn tell(
+        &mut self,
+        f: u64,
+        octets: &[u8],
+        actions: &mut Vec<Action>,
+    ) -> Result<Option<u64>, AllocError>
+        requires { CanServe self.old }
+        ensures { (settings : CoreSettings) (s : State) (awaited : Awaited) → Stands settings self.old s
+            → get s.forwards f ≡ Some awaited
+            → IfOk result (λ client. GivesTelling settings f octets.now client s actions.old.items actions.new.items self.new) }
+    {
+        let Some(link) = self.links.by_number.remove(&f) else {
+            return Ok(None);
+        };
+        let Link {
+            forward,
+            mut reader,
+        } = link;
+        let heard = reader.hear(octets)?;
+        match heard {
+            Heard::More => {
+                self.links.by_number.insert(f, Link { forward, reader })?;
+                Ok(None)
+            }
+            Heard::Response(response) => {
+                self.links.forget(&forward);
+                self.answer(f, forward, response, actions)
+            }
+            Heard::Failed => {
+                self.links.forget(&forward);
+                self.break_off(f, forward, true, actions)
+            }
+        }
+    }
+
+    /// The origin sends no more on an open forward. Answers the connection that may be read on.
+    pub(crate) fn end_origin(
+        &mut self,
+        f: u64,
+        actions: &mut Vec<Action>,
+    ) -> Result<Option<u64>, AllocError>
+        requires { CanServe self.old }
+        ensures { (settings : CoreSettings) (s : State) (awaited : Awaited) → Stands settings self.old s
+            → get s.forwards f ≡ Some awaited
+            → IfOk result (λ client. GivesEnding settings (Answering f true) f client s actions.old.items actions.new.items self.new
+            ⊎ GivesEnding settings (Failing f IsCutOff) f client s actions.old.items actions.new.items self.new) }
+    {
+        let Some(link) = self.links.take(f) else {
+            return Ok(None);
+        };
+        let Link {
+            forward,
+            mut reader,
+        } = link;
+        let ended = reader.end()?;
+        match ended {
+            Some(response) => self.answer(f, forward, response, actions),
+            None => self.break_off(f, forward, true, actions),
+        }
+    }
+
+    /// An open forward is lost. Answers the connection that may be read on.
+    pub(crate) fn lose(
+        &mut self,
+        f: u64,
+        actions: &mut Vec<Action>,
+    ) -> Result<Option<u64>, AllocError>
+        requires { CanServe self.old }
+        ensures { (settings : CoreSettings) (s : State) (awaited : Awaited) → Stands settings self.old s
+            → get s.forwards f ≡ Some awaited
+            → IfOk result (λ client. GivesEnding settings (Failing f IsLost) f client s actions.old.items actions.new.items self.new) }
+    {
+        match self.links.take(f) {
+            None => Ok(None),
+            Some(link) => self.break_off(f, link.forward, false, actions),
+        }
+    }
+}

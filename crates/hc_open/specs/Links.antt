@@ -1,0 +1,91 @@
+-- What is open at a cache's links, and what contracts see of it.
+use Rattle.std.specs.Prelude.{◌≡◌, ℕ, Bool, true, false, ◌&&◌, List, Option, Some, None, is_some, if◌then◌else◌}
+use Rattle.std.specs.declared.cmp.Ordering.{Ordering}
+use Rattle.std.specs.BTreeMap.{BTreeMap, btree_map_len, get as kept_at}
+use Rattle.std.specs.FinMap.{get, remove, values}
+use Rattle.std.specs.List.{count_by, list_any}
+use Rattle.hc_head.specs.contracts.head.TargetOrd.TheImpl as target_order
+use Rattle.hc_head.specs.declared.head.Target.{Target}
+use Rattle.hc_head.specs.Methods.{is_head}
+use Rattle.hc_head.specs.Targets.{same_target}
+use Rattle.hc_links.specs.declared.requests.RequestReader.{RequestReader}
+use Rattle.hc_links.specs.RequestReading as requests
+use Rattle.hc_links.specs.ResponseReading as responses
+use Rattle.hc_service.specs.declared.open.OpenExchange.{OpenExchange}
+use Rattle.hc_service.specs.Reactions.{is_background}
+use Rattle.hc_service.specs.State.{Table, Connection, Awaited}
+use Rattle.hc_service.specs.Turns.{after_leaving}
+use Rattle.hc_open.specs.declared.links.Client.{Client}
+use Rattle.hc_open.specs.declared.links.Link.{Link}
+use Rattle.hc_open.specs.declared.open_links.OpenLinks.{OpenLinks}
+use Rattle.hc_open.specs.Tables.{AreAlike, IsSame}
+
+-- while a request waits for its reply, none of what is unread has been looked at
+abbrev pub WaitsWhole : Option ℕ → RequestReader → List ℕ → Type 0
+WaitsWhole (Some exchange) reader unread = requests.waiting reader ≡ unread
+WaitsWhole None reader unread = Unit {0}
+
+-- a client's connection: its reader was given what is unread
+pub record IsClient (client : Client) (k : Connection) : Type 0 where
+  pub reads : requests.Agrees client.reader k.unread
+  pub waits : WaitsWhole k.exchange client.reader k.unread
+  pub exchange : client.exchange ≡ k.exchange
+  pub leaves : client.leaves ≡ k.leaves
+
+-- a forward's connection to the origin: its reader was given what was heard
+pub record IsLink (link : Link) (a : Awaited) : Type 0 where
+  pub reads : responses.Agrees (is_head a.forward.request.method) link.reader a.heard
+  pub forward : link.forward ≡ a.forward
+
+abbrev pub AreClients : BTreeMap ℕ Client → Table Connection → Type 0
+AreClients clients connections = AreAlike IsClient clients connections
+
+abbrev pub AreExchanges : BTreeMap ℕ OpenExchange → Table OpenExchange → Type 0
+AreExchanges kept exchanges = AreAlike IsSame kept exchanges
+
+-- ---- forwards
+
+-- the order of targets
+abbrev pub by_target : Target → Target → Ordering
+by_target = (target_order.ghosts).cmp
+
+-- one that is open for the store alone, and for that target
+abbrev pub is_behind : Target → Awaited → Bool
+is_behind target a = is_background a && same_target a.forward.target target
+
+-- the targets are those for which one is open for the store alone, and for none of them two are
+pub record AreBehind (behind : BTreeMap Target ℕ) (forwards : Table Awaited) : Type 0 where
+  pub at : (target : Target) → count_by (is_behind target) (values forwards) ≡ (if is_some (kept_at by_target behind target) then 1 else 0)
+  pub many : count_by is_background (values forwards) ≡ btree_map_len behind
+
+pub record AreLinks (links : OpenLinks) (forwards : Table Awaited) : Type 0 where
+  pub by_number : AreAlike IsLink links.by_number forwards
+  pub behind : AreBehind links.behind forwards
+
+-- if it is for the store alone, no such one is open for its target
+abbrev pub HasPlace : Awaited → Table Awaited → Type 0
+HasPlace a forwards = is_background a ≡ true → list_any (is_behind a.forward.target) (values forwards) ≡ false
+
+-- a forward's connection is taken out, if it is there
+abbrev pub TakesLink : ℕ → Option Link → Table Awaited → OpenLinks → Type 0
+TakesLink f None forwards links = (get forwards f ≡ None) × AreLinks links forwards
+TakesLink f (Some link) forwards links = (a : Awaited) × (get forwards f ≡ Some a) × IsLink link a × AreLinks links (remove forwards f)
+
+-- ---- clients
+
+-- a client's connection, but for the exchange, of which none is open
+pub record IsIdle (client : Client) (k : Connection) : Type 0 where
+  pub reads : requests.Agrees client.reader k.unread
+  pub exchange : k.exchange ≡ None
+  pub leaves : client.leaves ≡ k.leaves
+
+-- a client's connection, but for the exchange, which opens: nothing behind its request has been looked at
+pub record WillWait (client : Client) (exchange : ℕ) (k : Connection) : Type 0 where
+  pub reads : requests.HasUnread client.reader k.unread
+  pub exchange_is : k.exchange ≡ Some exchange
+  pub leaves : client.leaves ≡ k.leaves
+
+-- it is the connection, of whose octets those that wait were dropped where they were too many
+abbrev pub IsTrimmed : Bool → Client → Connection → Type 0
+IsTrimmed true client k = IsClient client (after_leaving k)
+IsTrimmed false client k = IsClient client k

@@ -1,3 +1,0 @@
-pub mod GivenLemmas
-pub mod CutLemmas
-pub mod RunLemmas

@@ -1,4 +1,0 @@
-pub mod Names
-pub mod Results
-pub mod Runs
-pub mod Recordings
