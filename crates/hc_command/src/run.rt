@@ -16,7 +16,7 @@ use clap::Error;
 use clap::error::ErrorKind;
 use hc_arguments::{Order, not_text, parsed};
 use hc_history::Settings;
-use hc_sockets::{ServeFault, Service, serve};
+use hc_sockets::{Claim, ServeFault, Service, serve};
 use std::convert::AsStr;
 use std::io::Write;
 use std::net::Net;
@@ -32,6 +32,7 @@ const USAGE: &str = "\nUsage: hcache audit [OPTIONS] <FILE>\n       hcache repla
 pub fn status<R, W: Write, E: Write>(rt: &R, output: &mut W, faults: &mut E) -> u8
 where
     R: Env + Files + Input + Net + Clock + RandomSource + AllocGlobal,
+    R::File: Claim,
     ensures { Ends result (W.contents output.old) (W.contents output.new)
         (E.contents faults.old) (E.contents faults.new) }
 {
@@ -65,6 +66,7 @@ pub fn answered<R, S: AsStr, W: Write, E: Write>(
 ) -> u8
 where
     R: Files + Input + Net + Clock + RandomSource + AllocGlobal,
+    R::File: Claim,
     // `audit FILE` is answered by an audit, and by no usage error.
     ensures audit { (name file : Text) → IsWord file
         → map S.text words.now ≡ name ∷ codes "audit" ∷ file ∷ []
@@ -102,6 +104,7 @@ where
 fn done<R, W: Write, E: Write>(rt: &R, order: Order<'_>, output: &mut W, faults: &mut E) -> u8
 where
     R: Files + Input + Net + Clock + RandomSource + AllocGlobal,
+    R::File: Claim,
     ensures { Does (command_of (task_of order.entry)) result (W.contents output.old) (W.contents output.new)
         (E.contents faults.old) (E.contents faults.new) }
 {
@@ -171,6 +174,7 @@ where
 fn served<R, E: Write>(rt: &R, service: Service<'_>, faults: &mut E) -> u8
 where
     R: Files + Net + Clock + RandomSource + AllocGlobal,
+    R::File: Claim,
     ensures { (result ≡ 3) ⊎ ((result ≡ 0) × Keeps (E.contents faults.old) (E.contents faults.new)) }
 {
     match serve(rt, service) {

@@ -8,6 +8,7 @@ use crate::service::say_service;
 use crate::staged::Manner;
 use crate::telling::{say_failures, say_octets, say_order, say_read, say_reads};
 use hc_cases::{Ask, Case, Unanswered};
+use hc_sockets::Claim;
 use std::alloc::Global;
 use std::net::Net;
 use std::random::RandomSource;
@@ -19,7 +20,10 @@ pub(crate) struct Connections<'a, R: Net + Files + RandomSource> {
     pub(crate) system: &'a R,
 }
 
-impl<'a, R: Net + Files + RandomSource> Ask for Connections<'a, R> {
+impl<'a, R: Net + Files + RandomSource> Ask for Connections<'a, R>
+where
+    R::File: Claim,
+{
     fn answer(&self, case: &Case<'_>, out: &mut String) -> Result<(), Unanswered> {
         let Case {
             alloc,
@@ -52,6 +56,7 @@ fn manner_of(question: &str) -> Result<Option<Manner>, Unanswered> {
         "serve behind one who has gone" => Some(Manner::Leaves),
         "serve with an origin that waits" => Some(Manner::Waits),
         "serve to a longer file" => Some(Manner::Overwrites),
+        "serve to a file that another records to" => Some(Manner::Claimed),
         _ => None,
     })
 }

@@ -1,6 +1,7 @@
 //! A file at which a write fails.
 
-use std::fs::{Metadata, OpenFile};
+use hc_sockets::Claim;
+use std::fs::{Metadata, OpenFile, Permissions};
 use std::io;
 use std::io::{ErrorKind, Read, Seek, SeekFrom, Write};
 
@@ -55,5 +56,15 @@ impl<F: Read + Write + Seek + OpenFile> OpenFile for Failing<F> {
 
     fn sync_data(&self) -> io::Result<()> {
         self.file.sync_data()
+    }
+
+    fn set_permissions(&self, permissions: Permissions) -> io::Result<()> {
+        self.file.set_permissions(permissions)
+    }
+}
+
+impl<F: Read + Write + Seek + OpenFile + Claim> Claim for Failing<F> {
+    fn claim(&self) -> io::Result<()> {
+        self.file.claim()
     }
 }

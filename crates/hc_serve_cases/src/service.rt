@@ -6,10 +6,11 @@ use crate::scene::{number_of, text_of};
 use crate::staged::{Manner, Staged};
 use crate::telling::say_verdict;
 use hc_cases::Unanswered;
-use hc_sockets::{ServeFault, Service, serve};
+use hc_sockets::{Claim, ServeFault, Service, serve};
 use hc_transcript::OPENING;
 use std::alloc::Global;
 use std::cell::{Cell, RefCell};
+use std::io::Write;
 use std::net::Net;
 use std::random::RandomSource;
 use std::rt::Files;
@@ -76,13 +77,20 @@ pub(crate) fn say_service<R: Net + Files + RandomSource>(
     about: &[Vec<u8>],
     manner: Manner,
     out: &mut String,
-) -> Result<(), Unanswered> {
+) -> Result<(), Unanswered>
+where
+    R::File: Claim,
+{
     let play = Play::of(about)?;
     let (origin, address) = listener(system)?;
     let address = format!(in alloc; "{address}")?;
     if manner == Manner::Overwrites {
         fs::write(system, play.file, Vec::from_elem(alloc, b'x', BEFORE)?)?;
     }
+    let held = match manner {
+        Manner::Claimed => Some(claimed(system, play.file)?),
+        _ => None,
+    };
     let staged = Staged {
         system,
         alloc,
@@ -96,6 +104,7 @@ pub(crate) fn say_service<R: Net + Files + RandomSource>(
         forwards: RefCell::new(Vec::new(alloc)),
     };
     let answer = serve(&staged, play.service(address.as_str()));
+    drop(held);
     let file = fs::read(&staged, play.file);
     let _ = fs::remove_file(&staged, play.file);
     let (early, connected, forwards) = staged.contents();
@@ -104,6 +113,17 @@ pub(crate) fn say_service<R: Net + Files + RandomSource>(
     say_streams(alloc, "reply", connected, out)?;
     say_streams(alloc, "forward", forwards, out)?;
     say_file(alloc, file, out)
+}
+
+/// A file to which another program records: it has the opening of a transcript, and is claimed as long as it is open.
+fn claimed<R: Files>(system: &R, name: &str) -> io::Result<R::File>
+where
+    R::File: Claim,
+{
+    let mut file = fs::create(system, name)?;
+    file.write_all(OPENING)?;
+    file.claim()?;
+    Ok(file)
 }
 
 /// A word for what `serve` answered.

@@ -30,6 +30,8 @@ pub(crate) enum Manner {
     Waits,
     /// The file is longer before.
     Overwrites,
+    /// Another program records to the file, and has written the opening.
+    Claimed,
     /// That write to the file fails, the how-manieth.
     Fails(u64),
     /// It is that moment.

@@ -2,6 +2,7 @@
 
 ghost use Rattle.hc_sockets.specs.Outcomes.{MeansFor};
 
+use crate::claim::Claim;
 use crate::clock::SystemClock;
 use crate::fault::ServeFault;
 use crate::listening::Listening;
@@ -13,12 +14,14 @@ use hc_serve::{ServingFault, serve_clients};
 use hc_service::{CoreSettings, StepFault};
 use hc_transcript::OPENING;
 use std::collections::hash_map::RandomState;
+use std::fs::{OpenFile, OpenOptions, Permissions};
+use std::io;
 use std::io::{ErrorKind, Write};
 use std::net::{Net, TcpListener};
+use std::os::unix::fs::PermissionsExt;
 use std::random::RandomSource;
 use std::rt::Files;
 use std::time::Clock;
-use std::{fs, io};
 
 /// The name of the cache.
 const NAME: &[u8] = b"hcache";
@@ -28,6 +31,9 @@ const KEYS: usize = 1_024;
 
 /// The most octets that it keeps.
 const BYTES: u64 = 67_108_864;
+
+/// Who may read and write a new file: its owner.
+const OWNER_ALONE: u32 = 0o600;
 
 /// What is served.
 #[derive(Clone, Copy, Debug)]
@@ -42,9 +48,11 @@ pub struct Service<'a> {
     pub file: &'a str,
 }
 
-/// Serves so many connections of clients, one after another, with numbers from 1. The file is created, or emptied,
-/// and gets the opening of a transcript before clients can connect. A client whose link fails is served no further,
-/// and the next one is.
+/// Serves so many connections of clients, one after another, with numbers from 1. The file is created, or claimed and
+/// then emptied, and gets the opening of a transcript before clients can connect. A new one can be read and written by its
+/// owner alone, since it tells what clients send, credentials too. One that another program has claimed stays as it is;
+/// a pipe or a device is neither claimed nor emptied. A client whose link fails is served no further, and the next one
+/// is.
 ///
 /// A connection that was served without a fault is closed in stages (RFC 9112 section 9.6). First, where the cache closes
 /// it, what is written to the client ends. Behind all that was open, what the client still sends is read and dropped,
@@ -59,6 +67,7 @@ pub struct Service<'a> {
 pub fn serve<R>(rt: &R, service: Service<'_>) -> Result<(), ServeFault>
 where
     R: Net + Files + Clock + RandomSource + AllocGlobal,
+    R::File: Claim,
 {
     let alloc = rt.alloc();
     let mut core = new_core(rt)?;
@@ -112,11 +121,37 @@ fn new_core<R: RandomSource + AllocGlobal>(rt: &R) -> Result<Core<RandomState>, 
     }
 }
 
-/// A new file, with the opening of a transcript.
-fn begun<R: Files>(rt: &R, name: &str) -> io::Result<R::File> {
-    let mut file = fs::create(rt, name)?;
+/// The file, claimed and emptied, and then with the opening of a transcript.
+fn begun<R: Files>(rt: &R, name: &str) -> io::Result<R::File>
+where
+    R::File: Claim,
+{
+    let mut file = opened(rt, name)?;
+    // A pipe or a device has nothing that could be lost.
+    if file.metadata()?.is_file() {
+        file.claim()?;
+        file.set_len(0)?;
+    }
     file.write_all(OPENING)?;
     Ok(file)
+}
+
+/// The file of that name, opened as it is, or a new one, which can be read and written by its owner alone.
+fn opened<R: Files>(rt: &R, name: &str) -> io::Result<R::File> {
+    match OpenOptions::new()
+        .write(true)
+        .create_new(true)
+        .open(rt, name)
+    {
+        Ok(file) => {
+            file.set_permissions(Permissions::from_mode(OWNER_ALONE))?;
+            Ok(file)
+        }
+        Err(error) if error.kind() == ErrorKind::AlreadyExists => {
+            OpenOptions::new().write(true).open(rt, name)
+        }
+        Err(error) => Err(error),
+    }
 }
 
 /// Why serving ended. The reasons are those for which no client came, and for which the recorder failed last.

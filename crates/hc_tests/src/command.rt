@@ -1,6 +1,7 @@
 //! What no clause of hc_command says: the text that is printed, readers and writers that fail, and how far a reader is read.
 use hc_command::{answered, audit, replay};
 use hc_history::{FieldNames, Settings, UnmarkedReplies};
+use hc_sockets::Claim;
 use std::io;
 use std::io::{ErrorKind, Read, Write};
 use std::net::Net;
@@ -232,13 +233,11 @@ fn a_failed_write_is_a_fault(rt: HostRuntime) {
 }
 
 // Answers the words, and wants this status and these texts.
-fn answers(
-    rt: &(impl Abort + AllocGlobal + Files + Input + Net + Clock + RandomSource),
-    words: &[&str],
-    status: u8,
-    output: &str,
-    faults: &str,
-) {
+fn answers<R>(rt: &R, words: &[&str], status: u8, output: &str, faults: &str)
+where
+    R: Abort + AllocGlobal + Files + Input + Net + Clock + RandomSource,
+    R::File: Claim,
+{
     let mut said = Vec::new(rt.alloc());
     let mut wrong = Vec::new(rt.alloc());
     assert_eq!(rt;

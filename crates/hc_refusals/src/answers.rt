@@ -1,0 +1,46 @@
+//! What was seen of calls.
+
+/// What was seen of calls, one after another.
+#[derive(Clone, Copy, Debug, PartialEq, Eq)]
+pub enum Seen {
+    /// Each was answered as it is with ample memory.
+    Answered,
+    /// Memory was refused, and all that came behind is as it has to be.
+    Refused,
+    /// Something else.
+    Other,
+}
+
+impl Seen {
+    /// The words that say so.
+    pub fn words(self) -> &'static str {
+        match self {
+            Seen::Answered => "as with ample memory",
+            Seen::Refused => "memory is refused, and what stands behind it is as it has to be",
+            Seen::Other => "another answer than wanted",
+        }
+    }
+
+    /// What is seen behind the next call, which was answered, or refused memory, or answered that it was refused before.
+    pub fn then(self, next: Next) -> Self {
+        match (self, next) {
+            (Seen::Answered, Next::Answered) => Seen::Answered,
+            (Seen::Answered, Next::Memory) => Seen::Refused,
+            (Seen::Refused, Next::Failed) => Seen::Refused,
+            _ => Seen::Other,
+        }
+    }
+}
+
+/// What the next call of what fails for ever answers.
+#[derive(Clone, Copy, Debug, PartialEq, Eq)]
+pub enum Next {
+    /// It does what it is asked for.
+    Answered,
+    /// It is refused memory.
+    Memory,
+    /// It says that memory was refused before.
+    Failed,
+    /// It answers something else.
+    Other,
+}
