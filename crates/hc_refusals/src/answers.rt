@@ -3,7 +3,7 @@
 /// What was seen of calls, one after another.
 #[derive(Clone, Copy, Debug, PartialEq, Eq)]
 pub enum Seen {
-    /// Each was answered as it is with ample memory.
+    /// Each was answered. A cache whose store finds no memory answers too, in another way.
     Answered,
     /// Memory was refused, and all that came behind is as it has to be.
     Refused,
@@ -15,7 +15,7 @@ impl Seen {
     /// The words that say so.
     pub fn words(self) -> &'static str {
         match self {
-            Seen::Answered => "as with ample memory",
+            Seen::Answered => "each call is answered",
             Seen::Refused => "memory is refused, and what stands behind it is as it has to be",
             Seen::Other => "another answer than wanted",
         }

@@ -20,14 +20,9 @@ pub fn seen_of_put(alloc: Global) -> Result<Seen, Trouble> {
     let mut store = filled(alloc)?;
     let third = target(alloc, b"/c")?;
     let stored = stored(alloc)?;
-    let answer = store.put(third, stored);
-    let kept: &[&[u8]] = match answer {
-        Put::Stored => &[b"/c", b"/b"],
-        _ => &[b"/b", b"/a"],
-    };
-    match answer {
-        Put::Stored if holds(&store, kept) => Ok(Seen::Answered),
-        Put::NoMemory if holds(&store, kept) => Ok(Seen::Refused),
+    match store.put(third, stored) {
+        Put::Stored if holds(&store, &[b"/c", b"/b"]) => Ok(Seen::Answered),
+        Put::NoMemory if holds(&store, &[b"/b", b"/a"]) => Ok(Seen::Refused),
         _ => Ok(Seen::Other),
     }
 }
