@@ -1,10 +1,12 @@
 -- What a parse of the program's words comes to.
 use Rattle.std.proofs.Common.{◌≡◌, ◌∙◌, ℕ, List, [], ◌∷◌, Option, None, Some, ap, inl, inr, refl, rules, sym, subst, true, false, codes, Bool, is_none, nat_eq, option_and_then, option_map}
+use Rattle.std.specs.Prelude.{Result, Ok, Err, IfOk, IfErr, MatchResult}
 use Rattle.std.specs.Str.{bytes_eq}
 use Rattle.std.specs.Box.{box_value}
+use Rattle.std.specs.declared.alloc.AllocError.{AllocError}
 use Rattle.clap.specs.Lexer.{long_of, short_of}
-use Rattle.clap.specs.Words.{App, HasKind, HasMatchesOf, Kinds, Row, Text, app_of, fault_of, first_of, first_value, is_simple, is_simple_and_free, kind_of}
-use Rattle.clap.specs.Words.{found_of, rows_of, subcommand_name_of, subcommand_of, subcommand_rows_of}
+use Rattle.clap.specs.Words.{App, FailsBy, HasKind, HasMatchesOf, Kinds, Row, Rule, Text, app_of, fault_of, first_of, first_value, is_simple, is_simple_and_free, kind_of}
+use Rattle.clap.specs.Words.{found_of, rows_of, subcommand_name_of, subcommand_of, subcommand_rows_of, with_rule}
 use Rattle.clap.specs.declared.parser.matches.ArgMatches.{ArgMatches}
 use Rattle.clap.specs.declared.parser.matches.ArgMatches.TheViews.{out-ArgMatches, out-SubCommand}
 use Rattle.clap.specs.declared.parser.matches.Found.{Found}
@@ -14,13 +16,21 @@ use Rattle.clap.specs.declared.error.ErrorKind.TheVariants.{OutOfMemory}
 use Rattle.clap.proofs.OnLiterals.{clap_on_literals}
 use Rattle.clap.proofs.WalkLemmas.{first_value-rows}
 use Rattle.hc_history.specs.declared.settings.Settings.{Settings}
+use Rattle.hc_arguments.specs.declared.order.Order.{Order}
 use Rattle.hc_arguments.specs.declared.refusal.Refusal.{Refusal}
 use Rattle.hc_arguments.specs.declared.refusal.Refusal.TheVariants.{Memory, Missing, Slack, Ignore, Connections}
-use Rattle.hc_arguments.specs.Command.{Asks, AsksAudit, AsksBy, AsksIn, AsksService, Command, IsRefused, IsWord, RefusesBy, RefusesIn, Task}
-use Rattle.hc_arguments.specs.Command.{command_in, command_named, command_of, hcache, lacks, refused_kind, service_words, value_in}
+use Rattle.hc_arguments.specs.Command.{Asks, AsksAudit, AsksBy, AsksService, Command, IsMade, IsRefused, IsWord, RefusesBy, Task}
+use Rattle.hc_arguments.specs.Command.{command_in, command_named, command_of, hcache, lacks, refused_kind, service_words, task_of, value_in}
 use Rattle.hc_arguments.specs.Command.Command.{Audits, Replays, Serves}
 use Rattle.hc_arguments.specs.Command.Task.{ToAudit, ToReplay, ToServe}
 use Rattle.hc_arguments.specs.Values.{connections_of, plain}
+
+-- ---- the command
+
+-- an argument is one of its rule
+pub ruled : (app : App) (made : Result Builder AllocError) (rule other : Rule) → rule ≡ other → IsMade (with_rule app rule) made
+    → IsMade (with_rule app other) made
+ruled app made rule other is = subst (λ (r : Rule). IsMade (with_rule app r) made) is
 
 -- ---- any words
 
@@ -29,17 +39,25 @@ pub hcache_is_simple : is_simple_and_free hcache ≡ true
 unfolding clap_on_literals
 hcache_is_simple = refl
 
--- an error of the parse is a refusal
-pub refused_from : (c : Builder) (words : List Text) (e : Error) → app_of c ≡ hcache
-    → (is_simple_and_free (app_of c) ≡ true → HasKind (fault_of (app_of c) words) e) → IsRefused words e
-refused_from c words e is fails =
-    inl (subst (λ (a : App). HasKind (fault_of a words) e) is (fails (ap is_simple_and_free is ∙ hcache_is_simple)))
+-- a parse fails by a fault of the words alone
+module _ (c : Builder) (words : List Text) (result : Result ArgMatches Error) (is : app_of c ≡ hcache)
+    (fails : is_simple_and_free (app_of c) ≡ true → FailsBy (fault_of (app_of c) words) result) where
+  fails_by : FailsBy (fault_of hcache words) result
+  fails_by = subst (λ (a : App). FailsBy (fault_of a words) result) is (fails (ap is_simple_and_free is ∙ hcache_is_simple))
 
--- and where it has matches there is no fault
-pub taken_from : (c : Builder) (words : List Text) → app_of c ≡ hcache
-    → (is_simple_and_free (app_of c) ≡ true → fault_of (app_of c) words ≡ []) → fault_of hcache words ≡ []
-taken_from c words is taken =
-    ap (λ (a : App). fault_of a words) (sym is) ∙ taken (ap is_simple_and_free is ∙ hcache_is_simple)
+  pub taken_from : IfOk result (λ _. fault_of hcache words ≡ [])
+  taken_from = at_ok result fails_by
+    where
+      at_ok : (r : Result ArgMatches Error) → FailsBy (fault_of hcache words) r → IfOk r (λ _. fault_of hcache words ≡ [])
+      at_ok (Ok m) none = none
+      at_ok (Err e) has = tt
+
+  pub refused_from : IfErr result (HasKind (fault_of hcache words))
+  refused_from = at_err result fails_by
+    where
+      at_err : (r : Result ArgMatches Error) → FailsBy (fault_of hcache words) r → IfErr r (HasKind (fault_of hcache words))
+      at_err (Ok m) none = tt
+      at_err (Err e) has = has
 
 -- the values behind the subcommand are those of the words
 hcache_is_plain : is_simple hcache ≡ true
@@ -49,14 +67,6 @@ hcache_is_plain = refl
 pub given_from : (c : Builder) (words : List Text) (m : ArgMatches) → app_of c ≡ hcache → HasMatchesOf (app_of c) words m
     → subcommand_rows_of m ≡ subcommand_of hcache words
 given_from c words m is has = (has (ap is_simple is ∙ hcache_is_plain)).1 ∙ ap (λ (a : App). subcommand_of a words) is
-
-pub asks_from : (given : Option (Text × List Row)) (words : List Text) (task : Task) → given ≡ subcommand_of hcache words → AsksIn given task → Asks words task
-asks_from given words task is = subst (λ g. AsksIn g task) is
-
-pub outside_from : (given : Option (Text × List Row)) (words : List Text) (refusal : Refusal) (e : Error) → given ≡ subcommand_of hcache words
-    → RefusesIn given refusal → refused_kind refusal ≡ Some (kind_of e) → IsRefused words e
-outside_from given words refusal e is refuses kind =
-    inr (record { refusal = refusal; refuses = subst (λ g. RefusesIn g refusal) is refuses; kind_is = kind })
 
 -- ---- what is asked
 
@@ -198,13 +208,19 @@ pub record AreWordsFor (words : List Text) (task : Task) : Type 0 where
   pub asks : Asks words task
   pub no_fault : fault_of hcache words ≡ []
 
-pub words_at_ok : (words plain_words : List Text) (task got : Task) → AreWordsFor plain_words task → words ≡ plain_words → Asks words got → got ≡ task
+words_at_ok : (words plain_words : List Text) (task got : Task) → AreWordsFor plain_words task → words ≡ plain_words → Asks words got → got ≡ task
 words_at_ok words plain_words task got are same asked = one_task _ _ got task (subst (λ w. Asks w got) same asked) are.asks
 
-pub words_at_err : (words plain_words : List Text) (task : Task) (e : Error) → AreWordsFor plain_words task → words ≡ plain_words → IsRefused words e
+words_at_err : (words plain_words : List Text) (task : Task) (e : Error) → AreWordsFor plain_words task → words ≡ plain_words → IsRefused words e
     → kind_of e ≡ OutOfMemory
 words_at_err words plain_words task e are same refused =
     asked_from plain_words task e are.no_fault are.asks (subst (λ w. IsRefused w e) same refused)
+
+pub words_give : (words plain_words : List Text) (task : Task) (result : Result Order Error) → AreWordsFor plain_words task → words ≡ plain_words
+    → IfOk result (λ order. Asks words (task_of order)) → IfErr result (IsRefused words)
+    → MatchResult result (λ order. task_of order ≡ task) (λ e. kind_of e ≡ OutOfMemory)
+words_give words plain_words task (Ok order) are same asked refused = words_at_ok words plain_words task (task_of order) are same asked
+words_give words plain_words task (Err e) are same asked refused = words_at_err words plain_words task e are same refused
 
 -- ---- `audit FILE`
 

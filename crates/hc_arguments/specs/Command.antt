@@ -1,10 +1,13 @@
 -- The command line of `hcache`, as a parse sees it.
-use Rattle.std.specs.Prelude.{◌≡◌, ◌≢◌, ◌⊎◌, ⊤, ℕ, List, [], ◌∷◌, ◌++◌, Option, None, Some, true, codes}
+use Rattle.std.specs.Prelude.{◌≡◌, ◌≢◌, ◌⊎◌, ⊤, ℕ, List, [], ◌∷◌, ◌++◌, Option, None, Some, Result, IfOk, true, false, codes}
 use Rattle.std.specs.Prelude.{Bool, ◌||◌, if◌then◌else◌, is_none, option_and_then, slice_get}
 use Rattle.std.specs.Str.{bytes_eq}
-use Rattle.clap.specs.Words.{App, HasKind, Row, Rule, Text, fault_of, first_of, kind_of, new_app, new_rule}
+use Rattle.std.specs.declared.alloc.AllocError.{AllocError}
+use Rattle.clap.specs.Words.{App, HasKind, Row, Rule, Text, app_of, fault_of, first_of, kind_of, new_app, new_rule}
 use Rattle.clap.specs.Words.{subcommand_of, with_rule, with_subcommand}
 use Rattle.clap.specs.Simple.{on_top}
+use Rattle.clap.specs.declared.Command.{Command as Builder}
+use Rattle.clap.specs.declared.builder.command.Command.TheViews.{out-Command}
 use Rattle.clap.specs.declared.builder.action.ArgAction.TheVariants.{SetTrue}
 use Rattle.clap.specs.declared.error.Error.{Error}
 use Rattle.clap.specs.declared.error.ErrorKind.{ErrorKind}
@@ -45,9 +48,12 @@ abbrev pub serve : App
 serve = with_rule (with_rule (with_rule (with_rule (new_app (codes "serve")) (required_rule (codes "listen"))) (required_rule (codes "origin")))
     (required_rule (codes "connections"))) (required_rule (codes "record"))
 
+-- the command above its subcommands, without them
+abbrev pub program : App
+program = on_top (λ s. record s { has_version = true; subcommand_required = true }) (new_app (codes "hcache"))
+
 abbrev pub hcache : App
-hcache = with_subcommand (with_subcommand (with_subcommand (on_top (λ s. record s { has_version = true; subcommand_required = true })
-    (new_app (codes "hcache"))) audit.top) replay.top) serve.top
+hcache = with_subcommand (with_subcommand (with_subcommand program audit.top) replay.top) serve.top
 
 -- ---- what the words say
 
@@ -177,3 +183,14 @@ IsErrorStatus kind.OutOfMemory status = status ≡ 3
 IsErrorStatus kind.DisplayHelp status = (status ≡ 0) ⊎ (status ≡ 3)
 IsErrorStatus kind.DisplayVersion status = (status ≡ 0) ⊎ (status ≡ 3)
 IsErrorStatus _ status = status ≡ 64
+
+-- ---- what private functions return
+
+-- a command that takes that, where memory sufficed, of which no argument is global
+abbrev pub IsMade : App → Result Builder AllocError → Type 0
+IsMade app made = IfOk made (λ command. (app_of command ≡ app) × ((out-Command command).has_globals ≡ false))
+
+-- memory ran out, or the subcommand and the values behind it are refused by what they ask
+abbrev pub IsRefusedIn : Option (Text × List Row) → Error → Type 0
+IsRefusedIn given e = (kind_of e ≡ kind.OutOfMemory)
+    ⊎ ((refusal : Refusal) × RefusesIn given refusal × (refused_kind refusal ≡ Some (kind_of e)))

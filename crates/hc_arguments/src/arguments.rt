@@ -1,8 +1,8 @@
 //! What the words of a command line ask.
 
 ghost use Rattle.std.specs.Prelude.{◌≡◌, ◌∷◌, [], IfErr, IfOk, MatchResult, ℕ, Some, None, codes, map};
-ghost use Rattle.clap.specs.Words.{Text, fault_of, first_value, found_of, kind_of, subcommand_rows_of};
-ghost use Rattle.hc_arguments.specs.Command.{Asks, AsksBy, AsksIn, IsRefused, IsWord, RefusesBy, RefusesIn, hcache, service_words, task_of};
+ghost use Rattle.clap.specs.Words.{HasKind, Text, fault_of, first_value, found_of, kind_of, subcommand_of, subcommand_rows_of};
+ghost use Rattle.hc_arguments.specs.Command.{Asks, AsksBy, AsksIn, IsRefused, IsRefusedIn, IsWord, RefusesBy, RefusesIn, hcache, service_words, task_of};
 ghost use Rattle.hc_arguments.specs.Command.Command.{Audits, Replays, Serves};
 ghost use Rattle.hc_arguments.specs.Command.Task.{ToAudit, ToReplay, ToServe};
 ghost use Rattle.hc_arguments.specs.Values.{connections_of, plain};
@@ -10,7 +10,7 @@ ghost use Rattle.hc_arguments.specs.declared.refusal.Refusal.TheVariants.{Missin
 
 use crate::command::command;
 use crate::order::Order;
-use crate::refusal::Refusal;
+use crate::refusal::{Refusal, usage_error};
 use crate::values::{connections_of, ignored_by, slack_by, unmarked_by};
 use clap::error::ErrorKind;
 use clap::{ArgMatches, Error};
@@ -45,9 +45,34 @@ pub fn parsed<'a, S: AsStr>(alloc: Global, words: &'a [S]) -> Result<Order<'a>, 
     ensures taken { IfOk result (λ _. fault_of hcache (map S.text words.entry.now) ≡ []) }
     ensures refused { IfErr result (IsRefused (map S.text words.entry.now)) }
 {
-    let mut command = command(alloc)?;
-    let matches = command.try_get_matches_from_mut(words)?;
-    match order_in(alloc, &matches) {
+    asked(alloc, words)
+}
+
+// The same of any words, of which `parsed` tells more where they are plain.
+fn asked<'a, S: AsStr>(alloc: Global, words: &'a [S]) -> Result<Order<'a>, Error>
+    ensures asked { IfOk result (λ order. Asks (map S.text words.entry.now) (task_of order)) }
+    ensures taken { IfOk result (λ _. fault_of hcache (map S.text words.entry.now) ≡ []) }
+    ensures refused { IfErr result (IsRefused (map S.text words.entry.now)) }
+{
+    let matches = matches_of(alloc, words)?;
+    asked_in(alloc, &matches)
+}
+
+// What a parse finds in the words.
+fn matches_of<'a, S: AsStr>(alloc: Global, words: &'a [S]) -> Result<ArgMatches<'a>, Error>
+    ensures found { IfOk result (λ matches. subcommand_rows_of matches ≡ subcommand_of hcache (map S.text words.entry.now)) }
+    ensures taken { IfOk result (λ _. fault_of hcache (map S.text words.entry.now) ≡ []) }
+    ensures refused { IfErr result (HasKind (fault_of hcache (map S.text words.entry.now))) }
+{
+    command(alloc)?.try_get_matches_from(words)
+}
+
+// What the subcommand asks, or the error that says why it asks nothing.
+fn asked_in<'a>(alloc: Global, matches: &ArgMatches<'a>) -> Result<Order<'a>, Error>
+    ensures ok { IfOk result (λ order. AsksIn (subcommand_rows_of matches.now) (task_of order)) }
+    ensures err { IfErr result (IsRefusedIn (subcommand_rows_of matches.now)) }
+{
+    match order_in(alloc, matches) {
         Ok(order) => Ok(order),
         Err(refusal) => Err(refusal.error(alloc)?),
     }
@@ -134,8 +159,8 @@ fn required<'a>(found: &ArgMatches<'a>, name: &str) -> Result<&'a str, Refusal>
 pub fn not_text(alloc: Global) -> Result<Error, AllocError>
     ensures { IfOk result (λ error. kind_of error ≡ ErrorKind.ValueValidation) }
 {
-    let mut command = command(alloc)?;
-    command.error(
+    usage_error(
+        command(alloc)?,
         ErrorKind::ValueValidation,
         "invalid UTF-8 was detected in one or more arguments",
     )

@@ -1,9 +1,8 @@
 //! The command `hcache`, and its subcommands.
 
-ghost use Rattle.std.specs.Prelude.{◌≡◌, IfOk, false};
-ghost use Rattle.clap.specs.Words.{app_of, rule_of};
-ghost use Rattle.clap.specs.declared.builder.command.Command.TheViews.{out-Command};
-ghost use Rattle.hc_arguments.specs.Command.{audit, file_rule, flag_rule, hcache, option_rule, replay, required_rule, serve};
+ghost use Rattle.std.specs.Prelude.{◌≡◌, false};
+ghost use Rattle.clap.specs.Words.{App, rule_of, with_rule, with_subcommand};
+ghost use Rattle.hc_arguments.specs.Command.{IsMade, audit, file_rule, flag_rule, hcache, option_rule, program, replay, required_rule, serve};
 
 use clap::{Arg, ArgAction, Command};
 use std::alloc::{AllocError, Global};
@@ -66,58 +65,89 @@ Exit status:
 
 /// The whole command.
 pub(crate) fn command<'a>(alloc: Global) -> Result<Command<'a>, AllocError>
-    ensures { IfOk result (λ command. app_of command ≡ hcache) }
+    ensures { IsMade hcache result }
 {
-    let audit = audit_command(alloc)?;
-    let replay = replay_command(alloc)?;
-    let serve = serve_command(alloc)?;
+    let audited = with_subcommand(program(alloc), audit_command(alloc));
+    let replayed = with_subcommand(audited, replay_command(alloc));
+    with_subcommand(replayed, serve_command(alloc))
+}
+
+// The command above its subcommands, without them.
+fn program<'a>(alloc: Global) -> Result<Command<'a>, AllocError>
+    ensures { IsMade program result }
+{
     Command::new(alloc, "hcache")
-        .bin_name("hcache")?
         .version("0.1.0")
         .about(ABOUT)
         .subcommand_required(true)
-        .subcommand(audit)?
-        .subcommand(replay)?
-        .subcommand(serve)
+        .bin_name("hcache")
 }
 
 /// The command `audit`, without the one above it.
 pub(crate) fn audit_command<'a>(alloc: Global) -> Result<Command<'a>, AllocError>
-    ensures app { IfOk result (λ command. app_of command ≡ audit) }
-    ensures local { IfOk result (λ command. (out-Command command).has_globals ≡ false) }
+    ensures { IsMade audit result }
 {
-    Command::new(alloc, "audit")
+    let begun = Command::new(alloc, "audit")
         .about(AUDIT_ABOUT)
         .after_help(STATUSES)
-        .arg(file_argument(alloc, AUDITED_HELP))?
-        .arg(option(alloc, "slack", "N", SLACK_HELP))?
-        .arg(option(alloc, "ignore", "NAME,..", IGNORE_HELP))?
-        .arg(flag(alloc, "errors-only", ERRORS_ONLY_HELP))
+        .bin_name("hcache audit");
+    let with_file = with_argument(begun, file_argument(alloc, AUDITED_HELP));
+    let with_slack = with_argument(with_file, option(alloc, "slack", "N", SLACK_HELP));
+    let with_names = with_argument(with_slack, option(alloc, "ignore", "NAME,..", IGNORE_HELP));
+    with_argument(with_names, flag(alloc, "errors-only", ERRORS_ONLY_HELP))
 }
 
 // The command `replay`, without the one above it.
 fn replay_command<'a>(alloc: Global) -> Result<Command<'a>, AllocError>
-    ensures app { IfOk result (λ command. app_of command ≡ replay) }
-    ensures local { IfOk result (λ command. (out-Command command).has_globals ≡ false) }
+    ensures { IsMade replay result }
 {
-    Command::new(alloc, "replay")
+    let begun = Command::new(alloc, "replay")
         .about(REPLAY_ABOUT)
         .after_help(REPLAY_STATUSES)
-        .arg(file_argument(alloc, REPLAYED_HELP))
+        .bin_name("hcache replay");
+    with_argument(begun, file_argument(alloc, REPLAYED_HELP))
 }
 
 /// The command `serve`, without the one above it.
 pub(crate) fn serve_command<'a>(alloc: Global) -> Result<Command<'a>, AllocError>
-    ensures app { IfOk result (λ command. app_of command ≡ serve) }
-    ensures local { IfOk result (λ command. (out-Command command).has_globals ≡ false) }
+    ensures { IsMade serve result }
 {
-    Command::new(alloc, "serve")
+    let begun = Command::new(alloc, "serve")
         .about(SERVE_ABOUT)
         .after_help(SERVE_STATUSES)
-        .arg(required(alloc, "listen", "HOST:PORT", LISTEN_HELP))?
-        .arg(required(alloc, "origin", "HOST:PORT", ORIGIN_HELP))?
-        .arg(required(alloc, "connections", "N", CONNECTIONS_HELP))?
-        .arg(required(alloc, "record", "FILE", RECORD_HELP))
+        .bin_name("hcache serve");
+    let listening = with_argument(begun, required(alloc, "listen", "HOST:PORT", LISTEN_HELP));
+    let forwarding = with_argument(
+        listening,
+        required(alloc, "origin", "HOST:PORT", ORIGIN_HELP),
+    );
+    let counting = with_argument(
+        forwarding,
+        required(alloc, "connections", "N", CONNECTIONS_HELP),
+    );
+    with_argument(counting, required(alloc, "record", "FILE", RECORD_HELP))
+}
+
+// The command with one more argument, which isn't global.
+fn with_argument<'a>(
+    command: Result<Command<'a>, AllocError>,
+    argument: Arg<'a>,
+) -> Result<Command<'a>, AllocError>
+    ensures { (app : App) → argument.entry.global ≡ false → IsMade app command.entry
+        → IsMade (with_rule app (rule_of argument.entry)) result }
+{
+    command?.arg(argument)
+}
+
+// The command with one more subcommand.
+fn with_subcommand<'a>(
+    command: Result<Command<'a>, AllocError>,
+    subcommand: Result<Command<'a>, AllocError>,
+) -> Result<Command<'a>, AllocError>
+    ensures { (app below : App) → IsMade app command.entry → IsMade below subcommand.entry
+        → IsMade (with_subcommand app below.top) result }
+{
+    command?.subcommand(subcommand?)
 }
 
 fn file_argument<'a>(alloc: Global, help: &'a str) -> Arg<'a>

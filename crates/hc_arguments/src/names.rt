@@ -14,7 +14,7 @@ use std::marker::Model;
 
 /// An iterator over the texts between the commas of a list, which contracts see as the list of those that
 /// are left.
-#[derive(Debug, Drop)]
+#[derive(Drop)]
 struct BetweenCommas<'a> {
     rest: Option<&'a [u8]>,
 }

@@ -10,7 +10,7 @@ use clap::{Command, Error};
 use std::alloc::{AllocError, Global};
 
 /// Why no order is made of the words.
-#[derive(Clone, Copy, Debug)]
+#[derive(Clone, Copy)]
 pub(crate) enum Refusal {
     /// Memory was refused.
     Memory,
@@ -39,17 +39,17 @@ impl Refusal {
                 "a value is missing",
             ),
             Refusal::Slack => usage_error(
-                audit_command(alloc)?.bin_name("hcache audit")?,
+                audit_command(alloc)?,
                 ErrorKind::ValueValidation,
                 "invalid value for '--slack <N>': not a decimal from 0 to 2147483648",
             ),
             Refusal::Ignore => usage_error(
-                audit_command(alloc)?.bin_name("hcache audit")?,
+                audit_command(alloc)?,
                 ErrorKind::ValueValidation,
                 "invalid value for '--ignore <NAME,..>': not names of fields with commas between them",
             ),
             Refusal::Connections => usage_error(
-                serve_command(alloc)?.bin_name("hcache serve")?,
+                serve_command(alloc)?,
                 ErrorKind::ValueValidation,
                 "invalid value for '--connections <N>': not a decimal from 1 to 999999999999",
             ),
@@ -57,7 +57,8 @@ impl Refusal {
     }
 }
 
-fn usage_error(
+/// The error of this kind, with the usage of the command.
+pub(crate) fn usage_error(
     mut command: Command<'_>,
     kind: ErrorKind,
     message: &str,

@@ -1,13 +1,26 @@
-use Rattle.std.proofs.Common.{◌∙◌, ap, ap₂}
+use Rattle.std.proofs.Common.{◌∙◌, ap, codes}
 use Rattle.std.proofs.lemmas.Result.{IfOk-weaker}
-use Rattle.clap.specs.Words.{with_rule}
+use Rattle.clap.specs.Words.{new_app, with_rule}
 use Rattle.clap.specs.Simple.{app_of_fields}
+use Rattle.hc_arguments.specs.Command.{IsMade, required_rule}
+use Rattle.hc_arguments.proofs.ArgumentLemmas.{ruled}
 use Rattle.hc_arguments.proofs.command.serve_command.Goals as goal
 
-pub returns-clause-app : goal.returns-clause-app
-returns-clause-app c =
-    let begun = ap app_of_fields c.after_help.ensures ∙ ap app_of_fields c.about.ensures ∙ c.new.ensures.app in
-    let with_listen = c.in_ok-arg.ensures.shape c.required.ensures.local ∙ ap₂ with_rule begun c.required.ensures.rule in
-    let with_origin = c.in_ok-arg-2.ensures.shape c.required-2.ensures.local ∙ ap₂ with_rule with_listen c.required-2.ensures.rule in
-    let with_number = c.in_ok-arg-3.ensures.shape c.required-3.ensures.local ∙ ap₂ with_rule with_origin c.required-3.ensures.rule in
-    IfOk-weaker c.arg-4.result _ _ (λ r adds. adds.shape c.required-4.ensures.local ∙ ap₂ with_rule with_number c.required-4.ensures.rule) c.arg-4.ensures
+pub returns : goal.returns
+returns c =
+    let bare = new_app (codes "serve") in
+    let begun : IsMade bare c.bin_name-begun.result = IfOk-weaker c.bin_name-begun.result _ _ (λ _ named. (
+      ap app_of_fields named.0 ∙ ap app_of_fields c.after_help.ensures ∙ ap app_of_fields c.about.ensures ∙ c.new.ensures.app,
+      rw (named.0, c.after_help.ensures, c.about.ensures) c.new.ensures.local,
+    )) c.bin_name-begun.ensures in
+    let listened = with_rule bare (required_rule (codes "listen")) in
+    let forwarded = with_rule listened (required_rule (codes "origin")) in
+    let counted = with_rule forwarded (required_rule (codes "connections")) in
+    let listening = ruled bare c.with_argument-listening.result _ (required_rule (codes "listen")) c.required.ensures.rule
+    (c.with_argument-listening.ensures bare c.required.ensures.local begun) in
+    let forwarding = ruled listened c.with_argument-forwarding.result _ (required_rule (codes "origin")) c.required-2.ensures.rule
+    (c.with_argument-forwarding.ensures listened c.required-2.ensures.local listening) in
+    let counting = ruled forwarded c.with_argument-counting.result _ (required_rule (codes "connections")) c.required-3.ensures.rule
+    (c.with_argument-counting.ensures forwarded c.required-3.ensures.local forwarding) in
+    ruled counted c.with_argument.result _ (required_rule (codes "record")) c.required-4.ensures.rule
+    (c.with_argument.ensures counted c.required-4.ensures.local counting)
