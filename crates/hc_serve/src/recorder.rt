@@ -1,6 +1,6 @@
 //! Records are written to the recorder.
 
-ghost use Rattle.std.specs.Prelude.{◌≡◌, ℕ, List, IfErr};
+ghost use Rattle.std.specs.Prelude.{◌≡◌, ◌++◌, ◌∷◌, [], ℕ, List, IfErr};
 ghost use Rattle.hc_transcript.specs.Records.{record_text};
 ghost use Rattle.hc_serve.specs.Carrying.{CountsRecorder, IsOfCarrying, WritesRecord};
 
@@ -22,6 +22,29 @@ fn write<R: Link>(recorder: &mut R, octets: &[u8]) -> Result<(), DriveFault>
     }
 }
 
+/// Writes what stands at the front of a text and what stands behind that, each as it lies, and a line feed.
+fn write_parts<R: Link>(recorder: &mut R, front: &[u8], rest: &[u8]) -> Result<(), DriveFault>
+    ensures got { WritesRecord (R.has_got recorder.old) (R.has_got recorder.new) result ((front.now ++ rest.now) ++ 10 ∷ []) }
+    ensures unread { (times : ℕ) → R.was_read recorder.old times → R.was_read recorder.new times }
+    ensures count { CountsRecorder result (R.count recorder.old) (R.count recorder.new) }
+    ensures why { IfErr result IsOfCarrying }
+{
+    write(recorder, front)?;
+    write(recorder, rest)?;
+    write(recorder, b"\n")
+}
+
+/// Writes what stands at the front of a text, and a line feed, at once. Where memory is refused, nothing is written.
+fn write_line<R: Link>(recorder: &mut R, front: &mut Vec<u8>) -> Result<(), DriveFault>
+    ensures got { WritesRecord (R.has_got recorder.old) (R.has_got recorder.new) result (front.old.items ++ 10 ∷ []) }
+    ensures unread { (times : ℕ) → R.was_read recorder.old times → R.was_read recorder.new times }
+    ensures count { CountsRecorder result (R.count recorder.old) (R.count recorder.new) }
+    ensures why { IfErr result IsOfCarrying }
+{
+    front.extend_from_slice(b"\n")?;
+    write(recorder, front.as_slice())
+}
+
 /// Writes the text of a record. Where the recorder fails, a beginning of it is written. Where memory is refused,
 /// nothing is. A large body isn't copied.
 pub(crate) fn record<R: Link>(
@@ -36,10 +59,8 @@ pub(crate) fn record<R: Link>(
 {
     let (mut front, rest) = record_parts(alloc, record)?;
     if rest.is_empty() {
-        front.extend_from_slice(b"\n")?;
-        return write(recorder, front.as_slice());
+        write_line(recorder, &mut front)
+    } else {
+        write_parts(recorder, front.as_slice(), rest)
     }
-    write(recorder, front.as_slice())?;
-    write(recorder, rest)?;
-    write(recorder, b"\n")
 }
