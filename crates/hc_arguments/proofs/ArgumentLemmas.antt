@@ -1,9 +1,11 @@
 -- What a parse of the program's words comes to.
-use Rattle.std.proofs.Common.{◌≡◌, ◌∙◌, ℕ, List, [], ◌∷◌, Option, None, Some, ap, inl, inr, refl, rules, sym, subst, true, false, codes, Bool, is_none, nat_eq, option_and_then, option_map}
+use Rattle.std.proofs.Common.{◌≡◌, ◌∙◌, ◌&&◌, ℕ, List, [], ◌∷◌, Option, None, Some, ap, cond, inl, inr, refl, rules, sym, subst, true, false, codes, Bool, is_none, nat_eq, option_and_then, option_map}
 use Rattle.std.specs.Prelude.{Result, Ok, Err, IfOk, IfErr, MatchResult}
 use Rattle.std.specs.Str.{bytes_eq}
+use Rattle.std.specs.Str.Parse.{digits_value}
 use Rattle.std.specs.Box.{box_value}
 use Rattle.std.specs.declared.alloc.AllocError.{AllocError}
+use Rattle.hc_fields.specs.Numbers.{is_number}
 use Rattle.clap.specs.Lexer.{long_of, short_of}
 use Rattle.clap.specs.Words.{App, FailsBy, HasKind, HasMatchesOf, Kinds, Row, Rule, Text, app_of, fault_of, first_of, first_value, is_simple, is_simple_and_free, kind_of}
 use Rattle.clap.specs.Words.{found_of, rows_of, subcommand_name_of, subcommand_of, subcommand_rows_of, with_rule}
@@ -16,14 +18,16 @@ use Rattle.clap.specs.declared.error.ErrorKind.TheVariants.{OutOfMemory}
 use Rattle.clap.proofs.OnLiterals.{clap_on_literals}
 use Rattle.clap.proofs.WalkLemmas.{first_value-rows}
 use Rattle.hc_history.specs.declared.settings.Settings.{Settings}
+use Rattle.hc_service.specs.declared.settings.CoreSettings.{CoreSettings}
+use Rattle.hc_service.specs.Settings.{is_name, is_size}
 use Rattle.hc_arguments.specs.declared.order.Order.{Order}
 use Rattle.hc_arguments.specs.declared.refusal.Refusal.{Refusal}
-use Rattle.hc_arguments.specs.declared.refusal.Refusal.TheVariants.{Memory, Missing, Slack, Ignore, Connections}
-use Rattle.hc_arguments.specs.Command.{Asks, AsksAudit, AsksBy, AsksService, Command, IsMade, IsRefused, IsWord, RefusesBy, Task}
+use Rattle.hc_arguments.specs.declared.refusal.Refusal.TheVariants.{Memory, Missing, Slack, Ignore, Connections, Keys, Bytes, Name}
+use Rattle.hc_arguments.specs.Command.{Asks, AsksAudit, AsksBy, AsksService, AsksSettings, CanBeDone, Command, IsMade, IsRefused, IsWord, RefusesBy, Task}
 use Rattle.hc_arguments.specs.Command.{command_in, command_named, command_of, hcache, lacks, refused_kind, service_words, task_of, value_in}
 use Rattle.hc_arguments.specs.Command.Command.{Audits, Replays, Serves}
 use Rattle.hc_arguments.specs.Command.Task.{ToAudit, ToReplay, ToServe}
-use Rattle.hc_arguments.specs.Values.{connections_of, plain}
+use Rattle.hc_arguments.specs.Values.{connections_of, keys_by, name_by, plain, plain_cache}
 
 -- ---- the command
 
@@ -89,15 +93,23 @@ one_audit value file other settings others a b =
     let unmarked = sym a.unmarked_is ∙ b.unmarked_is in
     λ i. ToAudit (name i) (record { slack = slack i; ignored = ignored i; unmarked = unmarked i })
 
-one_service : (value : Text → Option Text) (listen origin file listen2 origin2 file2 : Text) (connections connections2 : ℕ)
-    → AsksService value listen origin connections file → AsksService value listen2 origin2 connections2 file2
-    → ToServe listen origin connections file ≡ ToServe listen2 origin2 connections2 file2
-one_service value listen origin file listen2 origin2 file2 connections connections2 a b =
+one_cache : (value : Text → Option Text) (settings others : CoreSettings) → AsksSettings value settings → AsksSettings value others → settings ≡ others
+one_cache value settings others a b =
+    let name = one_some _ _ _ a.name_is b.name_is in
+    let keys = one_some _ _ _ a.keys_is b.keys_is in
+    let bytes = one_some _ _ _ a.bytes_is b.bytes_is in
+    λ i. record { name = name i; keys = keys i; bytes = bytes i }
+
+one_service : (value : Text → Option Text) (listen origin file listen2 origin2 file2 : Text) (connections connections2 : ℕ) (settings settings2 : CoreSettings)
+    → AsksService value listen origin connections file settings → AsksService value listen2 origin2 connections2 file2 settings2
+    → ToServe listen origin connections file settings ≡ ToServe listen2 origin2 connections2 file2 settings2
+one_service value listen origin file listen2 origin2 file2 connections connections2 settings settings2 a b =
     let at_listen = one_some _ _ _ a.listen_is b.listen_is in
     let at_origin = one_some _ _ _ a.origin_is b.origin_is in
     let number = one_some _ _ _ a.connections_is b.connections_is in
     let name = one_some _ _ _ a.file_is b.file_is in
-    λ i. ToServe (at_listen i) (at_origin i) (number i) (name i)
+    let cache = one_cache _ _ _ a.settings_are b.settings_are in
+    λ i. ToServe (at_listen i) (at_origin i) (number i) (name i) (cache i)
 
 pub one_command : (command : Option Command) (value : Text → Option Text) (task other : Task) → AsksBy command value task → AsksBy command value other
     → command_of task ≡ command_of other
@@ -106,13 +118,13 @@ one_command command value task other a b = one_some command _ _ a.0 b.0
 one_task : (command : Option Command) (value : Text → Option Text) (task other : Task) → AsksBy command value task → AsksBy command value other → task ≡ other
 one_task command value (ToAudit f s) (ToAudit g t) a b = one_audit value f g s t a.1 b.1
 one_task command value (ToReplay f) (ToReplay g) a b = ap ToReplay (one_some _ _ _ a.1 b.1)
-one_task command value (ToServe l o n f) (ToServe k p m g) a b = one_service value l o f k p g n m a.1 b.1
+one_task command value (ToServe l o n f s) (ToServe k p m g t) a b = one_service value l o f k p g n m s t a.1 b.1
 one_task command value (ToAudit f s) (ToReplay g) a b = absurd (let e : Audits ≡ Replays = one_some command _ _ a.0 b.0 in cc)
-one_task command value (ToAudit f s) (ToServe k p m g) a b = absurd (let e : Audits ≡ Serves = one_some command _ _ a.0 b.0 in cc)
+one_task command value (ToAudit f s) (ToServe k p m g t) a b = absurd (let e : Audits ≡ Serves = one_some command _ _ a.0 b.0 in cc)
 one_task command value (ToReplay f) (ToAudit g t) a b = absurd (let e : Replays ≡ Audits = one_some command _ _ a.0 b.0 in cc)
-one_task command value (ToReplay f) (ToServe k p m g) a b = absurd (let e : Replays ≡ Serves = one_some command _ _ a.0 b.0 in cc)
-one_task command value (ToServe l o n f) (ToAudit g t) a b = absurd (let e : Serves ≡ Audits = one_some command _ _ a.0 b.0 in cc)
-one_task command value (ToServe l o n f) (ToReplay g) a b = absurd (let e : Serves ≡ Replays = one_some command _ _ a.0 b.0 in cc)
+one_task command value (ToReplay f) (ToServe k p m g t) a b = absurd (let e : Replays ≡ Serves = one_some command _ _ a.0 b.0 in cc)
+one_task command value (ToServe l o n f s) (ToAudit g t) a b = absurd (let e : Serves ≡ Audits = one_some command _ _ a.0 b.0 in cc)
+one_task command value (ToServe l o n f s) (ToReplay g) a b = absurd (let e : Serves ≡ Replays = one_some command _ _ a.0 b.0 in cc)
 
 -- what is asked lacks nothing
 number_is_there : (o : Option Text) (n : ℕ) → option_and_then connections_of o ≡ Some n → is_none o ≡ false
@@ -122,7 +134,7 @@ number_is_there (Some text) n is = refl
 lacks_nothing : (command : Option Command) (value : Text → Option Text) (task : Task) → AsksBy command value task → lacks command value ≡ false
 lacks_nothing command value (ToAudit file settings) asks = rw (asks.0, asks.1.file_is) refl
 lacks_nothing command value (ToReplay file) asks = rw (asks.0, asks.1) refl
-lacks_nothing command value (ToServe listen origin n file) asks =
+lacks_nothing command value (ToServe listen origin n file settings) asks =
     rw (asks.0, asks.1.listen_is, asks.1.origin_is, number_is_there (value (codes "connections")) n asks.1.connections_is, asks.1.file_is) refl
 
 -- and isn't refused
@@ -132,13 +144,48 @@ none_outside command value task e asks Memory refuses kind = cc
 none_outside command value task e asks Missing refuses kind = true_is_not_false _ refuses (lacks_nothing command value task asks)
 none_outside command value (ToAudit file settings) e asks Slack refuses kind = none_is_some _ _ refuses.1 asks.1.slack_is
 none_outside command value (ToReplay file) e asks Slack refuses kind = let e : Audits ≡ Replays = one_some command _ _ refuses.0 asks.0 in cc
-none_outside command value (ToServe l o n f) e asks Slack refuses kind = let e : Audits ≡ Serves = one_some command _ _ refuses.0 asks.0 in cc
+none_outside command value (ToServe l o n f s) e asks Slack refuses kind = let e : Audits ≡ Serves = one_some command _ _ refuses.0 asks.0 in cc
 none_outside command value (ToAudit file settings) e asks Ignore refuses kind = none_is_some _ _ refuses.1 asks.1.ignored_is
 none_outside command value (ToReplay file) e asks Ignore refuses kind = let e : Audits ≡ Replays = one_some command _ _ refuses.0 asks.0 in cc
-none_outside command value (ToServe l o n f) e asks Ignore refuses kind = let e : Audits ≡ Serves = one_some command _ _ refuses.0 asks.0 in cc
+none_outside command value (ToServe l o n f s) e asks Ignore refuses kind = let e : Audits ≡ Serves = one_some command _ _ refuses.0 asks.0 in cc
 none_outside command value (ToAudit file settings) e asks Connections refuses kind = let e : Serves ≡ Audits = one_some command _ _ refuses.0 asks.0 in cc
 none_outside command value (ToReplay file) e asks Connections refuses kind = let e : Serves ≡ Replays = one_some command _ _ refuses.0 asks.0 in cc
-none_outside command value (ToServe l o n f) e asks Connections refuses kind = none_is_some _ _ refuses.1 asks.1.connections_is
+none_outside command value (ToServe l o n f s) e asks Connections refuses kind = none_is_some _ _ refuses.1 asks.1.connections_is
+none_outside command value (ToAudit file settings) e asks Keys refuses kind = let e : Serves ≡ Audits = one_some command _ _ refuses.0 asks.0 in cc
+none_outside command value (ToReplay file) e asks Keys refuses kind = let e : Serves ≡ Replays = one_some command _ _ refuses.0 asks.0 in cc
+none_outside command value (ToServe l o n f s) e asks Keys refuses kind = none_is_some _ _ refuses.1 asks.1.settings_are.keys_is
+none_outside command value (ToAudit file settings) e asks Bytes refuses kind = let e : Serves ≡ Audits = one_some command _ _ refuses.0 asks.0 in cc
+none_outside command value (ToReplay file) e asks Bytes refuses kind = let e : Serves ≡ Replays = one_some command _ _ refuses.0 asks.0 in cc
+none_outside command value (ToServe l o n f s) e asks Bytes refuses kind = none_is_some _ _ refuses.1 asks.1.settings_are.bytes_is
+none_outside command value (ToAudit file settings) e asks Name refuses kind = let e : Serves ≡ Audits = one_some command _ _ refuses.0 asks.0 in cc
+none_outside command value (ToReplay file) e asks Name refuses kind = let e : Serves ≡ Replays = one_some command _ _ refuses.0 asks.0 in cc
+none_outside command value (ToServe l o n f s) e asks Name refuses kind = none_is_some _ _ refuses.1 asks.1.settings_are.name_is
+
+-- of the settings that are asked for there are caches
+taken_name : (b : Bool) (text name : Text) → is_name text ≡ b → cond b (Some text) None ≡ Some name → is_name name ≡ true
+taken_name true text name is same = let e : text ≡ name = search rules in subst (λ n. is_name n ≡ true) e is
+taken_name false text name is same = absurd cc
+
+good_name : (o : Option Text) (name : Text) → name_by o ≡ Some name → is_name name ≡ true
+good_name None name is = let e : codes "hcache" ≡ name = search rules in subst (λ n. is_name n ≡ true) e refl
+good_name (Some text) name is = taken_name (is_name text) text name refl is
+
+taken_size : (digits b : Bool) (value keys : ℕ) → is_size value ≡ b → cond (digits && b) (Some value) None ≡ Some keys → is_size keys ≡ true
+taken_size true true value keys is same = let e : value ≡ keys = search rules in subst (λ n. is_size n ≡ true) e is
+taken_size true false value keys is same = absurd cc
+taken_size false b value keys is same = absurd cc
+
+good_size : (o : Option Text) (keys : ℕ) → keys_by o ≡ Some keys → is_size keys ≡ true
+good_size None keys is = let e : 1024 ≡ keys = search rules in subst (λ n. is_size n ≡ true) e refl
+good_size (Some text) keys is = taken_size (is_number text) (is_size (digits_value 10 text)) (digits_value 10 text) keys refl is
+
+pub possible_from : (command : Option Command) (value : Text → Option Text) (task : Task) → AsksBy command value task → CanBeDone task
+possible_from command value (ToAudit file settings) asks = tt
+possible_from command value (ToReplay file) asks = tt
+possible_from command value (ToServe listen origin connections file settings) asks = record {
+  name = good_name (value (codes "name")) settings.name asks.1.settings_are.name_is;
+  size = good_size (value (codes "keys")) settings.keys asks.1.settings_are.keys_is;
+}
 
 -- words that ask something are refused for want of memory alone
 pub asked_from : (words : List Text) (task : Task) (e : Error) → fault_of hcache words ≡ [] → Asks words task → IsRefused words e → kind_of e ≡ OutOfMemory
@@ -302,6 +349,18 @@ module _ (name listen origin number file : Text) where
   unfolding clap_on_literals
   record_given = refl
 
+  no_keys : value_in (subcommand_of hcache (name ∷ service_words listen origin number file)) (codes "keys") ≡ None
+  unfolding clap_on_literals
+  no_keys = refl
+
+  no_bytes : value_in (subcommand_of hcache (name ∷ service_words listen origin number file)) (codes "bytes") ≡ None
+  unfolding clap_on_literals
+  no_bytes = refl
+
+  no_name : value_in (subcommand_of hcache (name ∷ service_words listen origin number file)) (codes "name") ≡ None
+  unfolding clap_on_literals
+  no_name = refl
+
   is_serve : command_in (subcommand_of hcache (name ∷ service_words listen origin number file)) ≡ Some Serves
   unfolding clap_on_literals
   is_serve = refl
@@ -311,7 +370,7 @@ module _ (name listen origin number file : Text) where
   no_serve_fault = refl
 
 pub serve_words : (name listen origin number file : Text) (connections : ℕ) → connections_of number ≡ Some connections
-    → AreWordsFor (name ∷ service_words listen origin number file) (ToServe listen origin connections file)
+    → AreWordsFor (name ∷ service_words listen origin number file) (ToServe listen origin connections file plain_cache)
 serve_words name listen origin number file connections counts = record {
   asks = (
     is_serve name listen origin number file,
@@ -320,6 +379,11 @@ serve_words name listen origin number file connections counts = record {
       origin_is = origin_given name listen origin number file;
       connections_is = ap (option_and_then connections_of) (number_given name listen origin number file) ∙ counts;
       file_is = record_given name listen origin number file;
+      settings_are = record {
+        keys_is = rw (no_keys name listen origin number file) refl;
+        bytes_is = rw (no_bytes name listen origin number file) refl;
+        name_is = rw (no_name name listen origin number file) refl;
+      };
     },
   );
   no_fault = no_serve_fault name listen origin number file;

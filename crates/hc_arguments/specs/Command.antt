@@ -13,11 +13,13 @@ use Rattle.clap.specs.declared.error.Error.{Error}
 use Rattle.clap.specs.declared.error.ErrorKind.{ErrorKind}
 use Rattle.clap.specs.declared.error.ErrorKind.TheVariants as kind
 use Rattle.hc_history.specs.declared.settings.Settings.{Settings}
+use Rattle.hc_service.specs.declared.settings.CoreSettings.{CoreSettings}
+use Rattle.hc_service.specs.Settings.{AreGood}
 use Rattle.hc_arguments.specs.declared.order.Order.{Order}
 use Rattle.hc_arguments.specs.declared.order.Order.TheVariants.{Audit, Replay, Serve}
 use Rattle.hc_arguments.specs.declared.refusal.Refusal.{Refusal}
-use Rattle.hc_arguments.specs.declared.refusal.Refusal.TheVariants.{Memory, Missing, Slack, Ignore, Connections}
-use Rattle.hc_arguments.specs.Values.{connections_of, ignored_by, slack_by, unmarked_by}
+use Rattle.hc_arguments.specs.declared.refusal.Refusal.TheVariants.{Memory, Missing, Slack, Ignore, Connections, Keys, Bytes, Name}
+use Rattle.hc_arguments.specs.Values.{bytes_by, connections_of, ignored_by, keys_by, name_by, slack_by, unmarked_by}
 
 -- ---- what the command takes
 
@@ -45,8 +47,9 @@ abbrev pub replay : App
 replay = with_rule (new_app (codes "replay")) file_rule
 
 abbrev pub serve : App
-serve = with_rule (with_rule (with_rule (with_rule (new_app (codes "serve")) (required_rule (codes "listen"))) (required_rule (codes "origin")))
-    (required_rule (codes "connections"))) (required_rule (codes "record"))
+serve = with_rule (with_rule (with_rule (with_rule (with_rule (with_rule (with_rule (new_app (codes "serve")) (required_rule (codes "listen")))
+    (required_rule (codes "origin"))) (required_rule (codes "connections"))) (required_rule (codes "record"))) (option_rule (codes "keys")))
+    (option_rule (codes "bytes"))) (option_rule (codes "name"))
 
 -- the command above its subcommands, without them
 abbrev pub program : App
@@ -73,18 +76,18 @@ pub data Task : Type 0 where
   ToAudit : (file : Text) (settings : Settings) → Task
   -- to replay it
   ToReplay : (file : Text) → Task
-  -- to serve so many connections there, before that origin, and to record them to that file
-  ToServe : (listen origin : Text) (connections : ℕ) (file : Text) → Task
+  -- to serve so many connections there, before that origin, to record them to that file, from a cache of those settings
+  ToServe : (listen origin : Text) (connections : ℕ) (file : Text) (settings : CoreSettings) → Task
 
 abbrev pub command_of : Task → Command
 command_of (ToAudit file settings) = Audits
 command_of (ToReplay file) = Replays
-command_of (ToServe listen origin connections file) = Serves
+command_of (ToServe listen origin connections file settings) = Serves
 
 abbrev pub task_of : Order → Task
 task_of (Audit file settings) = ToAudit file.now settings
 task_of (Replay file) = ToReplay file.now
-task_of (Serve listen origin connections file) = ToServe listen.now origin.now connections file.now
+task_of (Serve listen origin connections file settings) = ToServe listen.now origin.now connections file.now settings
 
 -- the values, by their names, ask that of `audit`
 pub record AsksAudit (value : Text → Option Text) (file : Text) (settings : Settings) : Type 0 where
@@ -93,17 +96,24 @@ pub record AsksAudit (value : Text → Option Text) (file : Text) (settings : Se
   pub ignored_is : ignored_by (value (codes "ignore")) ≡ Some settings.ignored
   pub unmarked_is : unmarked_by (value (codes "errors-only")) ≡ settings.unmarked
 
+-- and that of the cache that `serve` has
+pub record AsksSettings (value : Text → Option Text) (settings : CoreSettings) : Type 0 where
+  pub keys_is : keys_by (value (codes "keys")) ≡ Some settings.keys
+  pub bytes_is : bytes_by (value (codes "bytes")) ≡ Some settings.bytes
+  pub name_is : name_by (value (codes "name")) ≡ Some settings.name
+
 -- and that of `serve`
-pub record AsksService (value : Text → Option Text) (listen origin : Text) (connections : ℕ) (file : Text) : Type 0 where
+pub record AsksService (value : Text → Option Text) (listen origin : Text) (connections : ℕ) (file : Text) (settings : CoreSettings) : Type 0 where
   pub listen_is : value (codes "listen") ≡ Some listen
   pub origin_is : value (codes "origin") ≡ Some origin
   pub connections_is : option_and_then connections_of (value (codes "connections")) ≡ Some connections
   pub file_is : value (codes "record") ≡ Some file
+  pub settings_are : AsksSettings value settings
 
 abbrev pub ValuesAsk : (Text → Option Text) → Task → Type 0
 ValuesAsk value (ToAudit file settings) = AsksAudit value file settings
 ValuesAsk value (ToReplay file) = value (codes "FILE") ≡ Some file
-ValuesAsk value (ToServe listen origin connections file) = AsksService value listen origin connections file
+ValuesAsk value (ToServe listen origin connections file settings) = AsksService value listen origin connections file settings
 
 -- the command and its values ask that
 abbrev pub AsksBy : Option Command → (Text → Option Text) → Task → Type 0
@@ -123,6 +133,11 @@ AsksIn given = AsksBy (command_in given) (value_in given)
 -- the words, of which the first is the program's name, ask that
 abbrev pub Asks : List Text → Task → Type 0
 Asks words = AsksIn (subcommand_of hcache words)
+
+-- what a task can be asked with: of those settings there are caches
+abbrev pub CanBeDone : Task → Type 0
+CanBeDone (ToServe listen origin connections file settings) = AreGood settings
+CanBeDone task = ⊤
 
 -- ---- plain words
 
@@ -152,6 +167,9 @@ RefusesBy command value Missing = lacks command value ≡ true
 RefusesBy command value Slack = (command ≡ Some Audits) × (slack_by (value (codes "slack")) ≡ None)
 RefusesBy command value Ignore = (command ≡ Some Audits) × (ignored_by (value (codes "ignore")) ≡ None)
 RefusesBy command value Connections = (command ≡ Some Serves) × (option_and_then connections_of (value (codes "connections")) ≡ None)
+RefusesBy command value Keys = (command ≡ Some Serves) × (keys_by (value (codes "keys")) ≡ None)
+RefusesBy command value Bytes = (command ≡ Some Serves) × (bytes_by (value (codes "bytes")) ≡ None)
+RefusesBy command value Name = (command ≡ Some Serves) × (name_by (value (codes "name")) ≡ None)
 
 abbrev pub RefusesIn : Option (Text × List Row) → Refusal → Type 0
 RefusesIn given = RefusesBy (command_in given) (value_in given)
@@ -163,6 +181,9 @@ refused_kind Missing = Some kind.MissingRequiredArgument
 refused_kind Slack = Some kind.ValueValidation
 refused_kind Ignore = Some kind.ValueValidation
 refused_kind Connections = Some kind.ValueValidation
+refused_kind Keys = Some kind.ValueValidation
+refused_kind Bytes = Some kind.ValueValidation
+refused_kind Name = Some kind.ValueValidation
 
 -- a value is missing, or out of its range, and the error is of the kind for that
 pub record IsOutside (words : List Text) (e : Error) : Type 0 where

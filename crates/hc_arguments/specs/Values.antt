@@ -10,6 +10,8 @@ use Rattle.hc_transcript.specs.Limits.{greatest_number}
 use Rattle.hc_history.specs.declared.settings.Settings.{Settings}
 use Rattle.hc_history.specs.declared.settings.UnmarkedReplies.{UnmarkedReplies}
 use Rattle.hc_history.specs.declared.settings.UnmarkedReplies.TheVariants.{Allow, ErrorsOnly}
+use Rattle.hc_service.specs.declared.settings.CoreSettings.{CoreSettings}
+use Rattle.hc_service.specs.Settings.{is_name, is_size}
 
 -- ---- seconds
 
@@ -56,7 +58,41 @@ abbrev pub connections_of : Text → Option ℕ
 connections_of text =
     if is_number text && (nat_lt 0 (digits_value 10 text) && nat_le (digits_value 10 text) greatest_number) then Some (digits_value 10 text) else None
 
+-- ---- the cache
+
+-- the number that one or more digits write, where a cache may keep responses of so many targets
+abbrev pub keys_of : Text → Option ℕ
+keys_of text = if is_number text && is_size (digits_value 10 text) then Some (digits_value 10 text) else None
+
+-- `--keys`: 1024 where it isn't given
+abbrev pub keys_by : Option Text → Option ℕ
+keys_by None = Some 1024
+keys_by (Some text) = keys_of text
+
+-- the number that one or more digits write, from 0 to 999999999999
+abbrev pub bytes_of : Text → Option ℕ
+bytes_of text =
+    if is_number text && nat_le (digits_value 10 text) greatest_number then Some (digits_value 10 text) else None
+
+-- `--bytes`: 67108864 where it isn't given
+abbrev pub bytes_by : Option Text → Option ℕ
+bytes_by None = Some 67108864
+bytes_by (Some text) = bytes_of text
+
+-- the name, where a cache may have it
+abbrev pub name_of : Text → Option Text
+name_of name = if is_name name then Some name else None
+
+-- `--name`: hcache where it isn't given
+abbrev pub name_by : Option Text → Option Text
+name_by None = Some (codes "hcache")
+name_by (Some name) = name_of name
+
 -- ---- without options
+
+-- the cache that serves
+abbrev pub plain_cache : CoreSettings
+plain_cache = record { name = codes "hcache"; keys = 1024; bytes = 67108864 }
 
 -- no slack, nothing ignored, and every reply may be unmarked
 abbrev pub plain : Settings

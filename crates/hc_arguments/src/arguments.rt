@@ -2,19 +2,22 @@
 
 ghost use Rattle.std.specs.Prelude.{◌≡◌, ◌∷◌, [], IfErr, IfOk, MatchResult, ℕ, Some, None, codes, map};
 ghost use Rattle.clap.specs.Words.{HasKind, Text, fault_of, first_value, found_of, kind_of, subcommand_of, subcommand_rows_of};
-ghost use Rattle.hc_arguments.specs.Command.{Asks, AsksBy, AsksIn, IsRefused, IsRefusedIn, IsWord, RefusesBy, RefusesIn, hcache, service_words, task_of};
+ghost use Rattle.hc_arguments.specs.Command.{Asks, AsksBy, AsksIn, AsksSettings, CanBeDone, IsRefused, IsRefusedIn, IsWord, RefusesBy, RefusesIn, hcache, service_words, task_of};
 ghost use Rattle.hc_arguments.specs.Command.Command.{Audits, Replays, Serves};
 ghost use Rattle.hc_arguments.specs.Command.Task.{ToAudit, ToReplay, ToServe};
-ghost use Rattle.hc_arguments.specs.Values.{connections_of, plain};
+ghost use Rattle.hc_arguments.specs.Values.{connections_of, plain, plain_cache};
 ghost use Rattle.hc_arguments.specs.declared.refusal.Refusal.TheVariants.{Missing};
 
 use crate::command::command;
 use crate::order::Order;
 use crate::refusal::{Refusal, usage_error};
-use crate::values::{connections_of, ignored_by, slack_by, unmarked_by};
+use crate::values::{
+    bytes_by, connections_of, ignored_by, keys_by, name_by, slack_by, unmarked_by,
+};
 use clap::error::ErrorKind;
 use clap::{ArgMatches, Error};
 use hc_history::Settings;
+use hc_service::CoreSettings;
 use std::alloc::{AllocError, Global};
 use std::convert::AsStr;
 
@@ -33,17 +36,20 @@ pub fn parsed<'a, S: AsStr>(alloc: Global, words: &'a [S]) -> Result<Order<'a>, 
         → map S.text words.entry.now ≡ name ∷ codes "replay" ∷ file ∷ []
         → MatchResult result (λ order. task_of order ≡ ToReplay file)
         (λ error. kind_of error ≡ ErrorKind.OutOfMemory) }
-    // And `serve` gives the values of its four options, each behind its `=`.
+    // And `serve` gives the values of the four options that it needs, each behind its `=`, and the plain cache.
     ensures serve { (name listen origin number file : Text) (connections : ℕ)
         → connections_of number ≡ Some connections
         → map S.text words.entry.now ≡ name ∷ service_words listen origin number file
-        → MatchResult result (λ order. task_of order ≡ ToServe listen origin connections file)
+        → MatchResult result (λ order. task_of order ≡ ToServe listen origin connections file plain_cache)
         (λ error. kind_of error ≡ ErrorKind.OutOfMemory) }
 
     // Other words give what they say, where the command line has no fault and the values are in their ranges.
     ensures asked { IfOk result (λ order. Asks (map S.text words.entry.now) (task_of order)) }
     ensures taken { IfOk result (λ _. fault_of hcache (map S.text words.entry.now) ≡ []) }
     ensures refused { IfErr result (IsRefused (map S.text words.entry.now)) }
+
+    // What is asked can be done: there are caches of those settings.
+    ensures possible { IfOk result (λ order. CanBeDone (task_of order)) }
 {
     asked(alloc, words)
 }
@@ -89,7 +95,7 @@ fn order_in<'a>(alloc: Global, matches: &ArgMatches<'a>) -> Result<Order<'a>, Re
     match name {
         "audit" => audit_in(alloc, found),
         "replay" => replay_in(found),
-        "serve" => serve_in(found),
+        "serve" => serve_in(alloc, found),
         _ => Err(Refusal::Missing),
     }
 }
@@ -125,7 +131,7 @@ fn replay_in<'a>(found: &ArgMatches<'a>) -> Result<Order<'a>, Refusal>
 }
 
 // What `serve` asks.
-fn serve_in<'a>(found: &ArgMatches<'a>) -> Result<Order<'a>, Refusal>
+fn serve_in<'a>(alloc: Global, found: &ArgMatches<'a>) -> Result<Order<'a>, Refusal>
     ensures ok { IfOk result (λ order. AsksBy (Some Serves) (first_value (found_of found.now)) (task_of order)) }
     ensures err { IfErr result (RefusesBy (Some Serves) (first_value (found_of found.now))) }
 {
@@ -136,12 +142,31 @@ fn serve_in<'a>(found: &ArgMatches<'a>) -> Result<Order<'a>, Refusal>
     let Some(connections) = connections_of(number.as_bytes()) else {
         return Err(Refusal::Connections);
     };
+    let settings = settings_in(alloc, found)?;
     Ok(Order::Serve {
         listen,
         origin,
         connections,
         file,
+        settings,
     })
+}
+
+// What the cache is that `serve` asks for.
+fn settings_in(alloc: Global, found: &ArgMatches<'_>) -> Result<CoreSettings, Refusal>
+    ensures ok { IfOk result (AsksSettings (first_value (found_of found.now))) }
+    ensures err { IfErr result (RefusesBy (Some Serves) (first_value (found_of found.now))) }
+{
+    let Some(keys) = keys_by(found.get_str("keys")) else {
+        return Err(Refusal::Keys);
+    };
+    let Some(bytes) = bytes_by(found.get_str("bytes")) else {
+        return Err(Refusal::Bytes);
+    };
+    let Some(name) = name_by(alloc, found.get_str("name"))? else {
+        return Err(Refusal::Name);
+    };
+    Ok(CoreSettings { name, keys, bytes })
 }
 
 // The value of that name, which has to be there.

@@ -33,6 +33,17 @@ const CONNECTIONS_HELP: &str =
 
 const RECORD_HELP: &str = "The transcript, a file that is created or emptied";
 
+const KEYS_HELP: &str =
+    "The most targets of which responses are kept: a decimal from 1 to 65536, and 1024 without the option";
+
+const BYTES_HELP: &str =
+    "The most octets that are kept, bodies and fields together: a decimal from 0 to 999999999999, \
+    and 67108864 without the option";
+
+const NAME_HELP: &str =
+    "The name by which the cache calls itself in Via and in Cache-Status: a letter and then at most \
+    31 letters, digits, '-', '_' and '.', and hcache without the option";
+
 const SLACK_HELP: &str =
     "The seconds by which an Age, a ttl, a lifetime and what permits staleness may be off: \
     a decimal from 0 to 2147483648, and 0 without the option";
@@ -125,7 +136,10 @@ pub(crate) fn serve_command<'a>(alloc: Global) -> Result<Command<'a>, AllocError
         forwarding,
         required(alloc, "connections", "N", CONNECTIONS_HELP),
     );
-    with_argument(counting, required(alloc, "record", "FILE", RECORD_HELP))
+    let recording = with_argument(counting, required(alloc, "record", "FILE", RECORD_HELP));
+    let with_keys = with_argument(recording, option(alloc, "keys", "N", KEYS_HELP));
+    let with_bytes = with_argument(with_keys, option(alloc, "bytes", "N", BYTES_HELP));
+    with_argument(with_bytes, option(alloc, "name", "NAME", NAME_HELP))
 }
 
 // The command with one more argument, which isn't global.

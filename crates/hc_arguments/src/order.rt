@@ -1,6 +1,7 @@
 //! What the words ask.
 
 use hc_history::Settings;
+use hc_service::CoreSettings;
 
 /// What the words ask.
 #[derive(Debug, Drop)]
@@ -27,5 +28,7 @@ pub enum Order<'a> {
         connections: u64,
         /// The name of the file that is recorded to.
         file: &'a str,
+        /// What the cache is: one can be.
+        settings: CoreSettings,
     },
 }

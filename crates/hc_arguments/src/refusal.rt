@@ -22,6 +22,12 @@ pub(crate) enum Refusal {
     Ignore,
     /// The value of `--connections` is no number of connections, or too great.
     Connections,
+    /// The value of `--keys` is no number of targets of which a cache may keep responses.
+    Keys,
+    /// The value of `--bytes` is no number of octets, or too great.
+    Bytes,
+    /// The value of `--name` is no name that a cache may have.
+    Name,
 }
 
 impl Refusal {
@@ -36,23 +42,39 @@ impl Refusal {
             Refusal::Missing => usage_error(
                 command(alloc)?,
                 ErrorKind::MissingRequiredArgument,
-                "a value is missing",
+                self.message(),
             ),
-            Refusal::Slack => usage_error(
+            Refusal::Slack | Refusal::Ignore => usage_error(
                 audit_command(alloc)?,
                 ErrorKind::ValueValidation,
-                "invalid value for '--slack <N>': not a decimal from 0 to 2147483648",
+                self.message(),
             ),
-            Refusal::Ignore => usage_error(
-                audit_command(alloc)?,
-                ErrorKind::ValueValidation,
-                "invalid value for '--ignore <NAME,..>': not names of fields with commas between them",
-            ),
-            Refusal::Connections => usage_error(
+            _ => usage_error(
                 serve_command(alloc)?,
                 ErrorKind::ValueValidation,
-                "invalid value for '--connections <N>': not a decimal from 1 to 999999999999",
+                self.message(),
             ),
+        }
+    }
+
+    // What is wrong.
+    fn message(self) -> &'static str {
+        match self {
+            Refusal::Memory => "memory was refused",
+            Refusal::Missing => "a value is missing",
+            Refusal::Slack => "invalid value for '--slack <N>': not a decimal from 0 to 2147483648",
+            Refusal::Ignore => {
+                "invalid value for '--ignore <NAME,..>': not names of fields with commas between them"
+            }
+            Refusal::Connections => {
+                "invalid value for '--connections <N>': not a decimal from 1 to 999999999999"
+            }
+            Refusal::Keys => "invalid value for '--keys <N>': not a decimal from 1 to 65536",
+            Refusal::Bytes =>
+                "invalid value for '--bytes <N>': not a decimal from 0 to 999999999999",
+            Refusal::Name => {
+                "invalid value for '--name <NAME>': not a letter and then at most 31 letters, digits, '-', '_' and '.'"
+            }
         }
     }
 }

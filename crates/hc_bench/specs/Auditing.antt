@@ -7,7 +7,7 @@ use Rattle.hc_history.specs.declared.verdicts.Verdict.TheVariants.{Yes}
 use Rattle.hc_history.specs.Verdicts.{IsVerdict}
 use Rattle.hc_bench.specs.declared.rate.Rate.{Rate}
 use Rattle.hc_bench.specs.declared.trouble.Trouble.{Trouble}
-use Rattle.hc_bench.specs.declared.trouble.Trouble.TheVariants.{Memory, Device, Fault, Unended, NotRight, NotStored}
+use Rattle.hc_bench.specs.declared.trouble.Trouble.TheVariants.{Memory, Device, Fault, Unended, NotRight, NotStored, NotServed}
 
 -- the settings of an audit that lets nothing pass but replies without a mark
 abbrev pub plain : Settings
@@ -28,6 +28,7 @@ AuditsTo (Err (Fault fault)) octets records = ⊥
 AuditsTo (Err Unended) octets records = ⊥
 AuditsTo (Err NotRight) octets records = ¬ (AreRight octets records)
 AuditsTo (Err NotStored) octets records = ⊥
+AuditsTo (Err NotServed) octets records = ⊥
 
 -- the rate counts all of the octets, and the records that these are, in which every reply is right
 pub record IsAuditRateOf (octets : List ℕ) (rate : Rate) : Type 0 where

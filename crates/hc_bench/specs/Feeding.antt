@@ -11,7 +11,7 @@ use Rattle.hc_framing.specs.Reader.{BeginsIn, HasNoMessage}
 use Rattle.hc_bench.specs.declared.feeding.Fed.{Fed}
 use Rattle.hc_bench.specs.declared.rate.Rate.{Rate}
 use Rattle.hc_bench.specs.declared.trouble.Trouble.{Trouble}
-use Rattle.hc_bench.specs.declared.trouble.Trouble.TheVariants.{Memory, Device, Fault, Unended, NotRight, NotStored}
+use Rattle.hc_bench.specs.declared.trouble.Trouble.TheVariants.{Memory, Device, Fault, Unended, NotRight, NotStored, NotServed}
 
 -- a fault of a message as a trouble
 abbrev pub trouble_of : FrameFault → Trouble
@@ -41,6 +41,7 @@ module _ {H : Type 0} (form : Form H) where
   FeedsTo (Err Unended) kind room octets size = HasNoMessage form kind octets
   FeedsTo (Err NotRight) kind room octets size = ⊥
   FeedsTo (Err NotStored) kind room octets size = ⊥
+  FeedsTo (Err NotServed) kind room octets size = ⊥
 
   -- the octets are these messages, one behind another, and then rest
   abbrev pub AreReadThen : Kind → Room → List (Message H) → List ℕ → List ℕ → Type 0

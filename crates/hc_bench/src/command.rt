@@ -19,10 +19,12 @@ pub enum Task {
     Transcript,
     /// To measure what calls of a store cost.
     Store,
+    /// To measure how many hits a cache serves.
+    Hits,
 }
 
 /// How the program is called.
-pub const USAGE: &str = "usage: hc_bench [measure|audit|audit-long|transcript|store]\n";
+pub const USAGE: &str = "usage: hc_bench [measure|audit|audit-long|transcript|store|hits]\n";
 
 /// What the word asks for, if it is a known one.
 fn task_of(word: &str) -> Option<Task>
@@ -38,6 +40,8 @@ fn task_of(word: &str) -> Option<Task>
         Some(Task::Transcript)
     } else if word == "store" {
         Some(Task::Store)
+    } else if word == "hits" {
+        Some(Task::Hits)
     } else {
         None
     }

@@ -1,18 +1,23 @@
-//! `hc_bench`: what it costs to read messages in pieces, to audit transcripts, and to call a store.
+//! `hc_bench`: what it costs to read messages in pieces, to audit transcripts, to call a store, and to serve hits.
 //!
-//! Without an argument it reads two short messages in pieces and says how many calls that took, and
-//! measures small samples by a clock that always goes alike. With `measure` it reads long messages
+//! Without an argument it reads two short messages in pieces and says how many calls that took,
+//! measures small samples by a clock that always goes alike, and counts the hits and the validations
+//! of a few exchanges. With `measure` it reads long messages
 //! against the clock. With `audit` it audits transcripts against it, and with `audit-long` also one of a
 //! million records. With `transcript` it writes one of those that it audits, so that other programs can
 //! be timed over the same octets. With `store` it asks stores of few keys and of many for responses, and
-//! puts others in their place.
+//! puts others in their place. With `hits` it lets caches serve hits, and replies that are validated first.
 #![tactic(auto)]
 
 mod auditing;
 mod audits;
+mod caches;
 mod command;
 mod counts;
+mod exchanged;
+mod exchanges;
 mod feeding;
+mod hits;
 mod lines;
 mod measures;
 mod messages;
@@ -25,6 +30,7 @@ mod stores;
 mod storing;
 mod transcripts;
 mod trouble;
+mod way;
 
 use std::process::ExitCode;
 

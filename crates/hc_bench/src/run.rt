@@ -5,6 +5,7 @@ ghost use Rattle.hc_bench.specs.Command.{asked};
 
 use crate::audits::{LONG_BODIES, audit, write_sample};
 use crate::command::{Task, USAGE, asked};
+use crate::hits::hits;
 use crate::measures::measure;
 use crate::print::printed;
 use crate::samples::sample;
@@ -53,6 +54,7 @@ where
         Some(Task::AuditLong) => audit(rt.alloc(), rt, true, output),
         Some(Task::Transcript) => write_sample(rt.alloc(), &LONG_BODIES, output),
         Some(Task::Store) => store(rt.alloc(), rt, output),
+        Some(Task::Hits) => hits(rt.alloc(), rt, output),
         None => return refused(faults),
     };
     match done {

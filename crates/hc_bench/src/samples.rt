@@ -2,6 +2,7 @@
 
 use crate::audits::{Sample, audit_sample};
 use crate::counts::count;
+use crate::hits::count_hits;
 use crate::measures::{Pair, compare};
 use crate::messages::long_request;
 use crate::stores::store_sized;
@@ -41,7 +42,7 @@ impl Clock for Ticks {
 }
 
 /// Counts calls, then measures short messages, a short transcript and a small store, each in a
-/// microsecond, so that what is said is always the same.
+/// microsecond, so that what is said is always the same, and counts hits.
 pub fn sample<W: Write>(alloc: Global, output: &mut W) -> Result<(), Trouble> {
     let clock = Ticks {
         microseconds: Cell::new(0),
@@ -49,7 +50,8 @@ pub fn sample<W: Write>(alloc: Global, output: &mut W) -> Result<(), Trouble> {
     count(alloc, output)?;
     heads(alloc, &clock, output)?;
     audit_sample(alloc, &clock, &FEW_RECORDS, output)?;
-    store_sized(alloc, &clock, 3, 2, 20, output)
+    store_sized(alloc, &clock, 3, 2, 20, output)?;
+    count_hits(alloc, output)
 }
 
 // Two requests of 73 octets, and one of 146.

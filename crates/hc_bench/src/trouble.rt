@@ -5,6 +5,8 @@ ghost use Rattle.hc_bench.specs.declared.trouble.Trouble.TheVariants.{Memory};
 use crate::print::printed;
 use hc_audit::AuditFault;
 use hc_framing::FrameFault;
+use hc_machine::CoreFault;
+use hc_service::StepFault;
 use std::alloc::{AllocError, AllocFailed};
 use std::io;
 use std::io::Write;
@@ -31,6 +33,9 @@ pub enum Trouble {
     /// A store has no response for a target, or doesn't take one.
     #[error("a response isn't stored")]
     NotStored,
+    /// A cache didn't serve an event, or not as it has to.
+    #[error("an event isn't served")]
+    NotServed,
 }
 
 impl Trouble {
@@ -82,6 +87,24 @@ impl From<FrameFault> for Trouble {
         match fault {
             FrameFault::Memory => Trouble::Memory,
             other => Trouble::Fault(other),
+        }
+    }
+}
+
+impl From<StepFault> for Trouble {
+    fn from(fault: StepFault) -> Trouble {
+        match fault {
+            StepFault::Memory => Trouble::Memory,
+            _ => Trouble::NotServed,
+        }
+    }
+}
+
+impl From<CoreFault> for Trouble {
+    fn from(fault: CoreFault) -> Trouble {
+        match fault {
+            CoreFault::Memory => Trouble::Memory,
+            _ => Trouble::NotServed,
         }
     }
 }

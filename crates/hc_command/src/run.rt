@@ -2,11 +2,12 @@
 ghost use Rattle.std.specs.Prelude.{◌≡◌, ◌⊎◌, ◌∷◌, [], ℕ, Some, codes, map};
 ghost use Rattle.std.specs.Io.KnownBytes.{Keeps};
 ghost use Rattle.clap.specs.Words.{Text, fault_of, kind_of};
-ghost use Rattle.hc_arguments.specs.Command.{Asks, IsErrorStatus, IsWord, Task, command_of, hcache, service_words, task_of};
+ghost use Rattle.hc_arguments.specs.Command.{Asks, CanBeDone, IsErrorStatus, IsWord, Task, command_of, hcache, service_words, task_of};
 ghost use Rattle.hc_arguments.specs.Values.{connections_of};
 ghost use Rattle.hc_command.specs.Audit.{Answers};
 ghost use Rattle.hc_command.specs.Ends.{Does, Ends, Served};
 ghost use Rattle.hc_command.specs.Replay.{Played};
+ghost use Rattle.hc_service.specs.Settings.{AreGood};
 
 use crate::auditing::audit;
 use crate::print::printed;
@@ -16,6 +17,7 @@ use clap::Error;
 use clap::error::ErrorKind;
 use hc_arguments::{Order, not_text, parsed};
 use hc_history::Settings;
+use hc_service::CoreSettings;
 use hc_sockets::{Claim, ServeFault, Service, serve};
 use std::convert::AsStr;
 use std::io::Write;
@@ -26,7 +28,7 @@ use std::time::Clock;
 use std::{env, fs, io};
 
 const USAGE: &str = "\nUsage: hcache audit [OPTIONS] <FILE>\n       hcache replay <FILE>\n       \
-    hcache serve --listen <HOST:PORT> --origin <HOST:PORT> --connections <N> --record <FILE>\n";
+    hcache serve [OPTIONS] --listen <HOST:PORT> --origin <HOST:PORT> --connections <N> --record <FILE>\n";
 
 /// Does what the program's own arguments ask, and answers its exit status.
 pub fn status<R, W: Write, E: Write>(rt: &R, output: &mut W, faults: &mut E) -> u8
@@ -79,7 +81,7 @@ where
         → Played result (W.contents output.old) (W.contents output.new)
         (E.contents faults.old) (E.contents faults.new) }
 
-    // And `serve` with its four options, each value behind its `=`, by serving.
+    // And `serve` with the four options that it needs, each value behind its `=`, by serving.
     ensures serve { (name listen origin number file : Text) (connections : ℕ)
         → connections_of number ≡ Some connections
         → map S.text words.now ≡ name ∷ service_words listen origin number file
@@ -105,6 +107,7 @@ fn done<R, W: Write, E: Write>(rt: &R, order: Order<'_>, output: &mut W, faults:
 where
     R: Files + Input + Net + Clock + RandomSource + AllocGlobal,
     R::File: Claim,
+    requires { CanBeDone (task_of order) }
     ensures { Does (command_of (task_of order.entry)) result (W.contents output.old) (W.contents output.new)
         (E.contents faults.old) (E.contents faults.new) }
 {
@@ -116,6 +119,7 @@ where
             origin,
             connections,
             file,
+            settings,
         } => {
             let service = Service {
                 listen,
@@ -123,7 +127,7 @@ where
                 connections,
                 file,
             };
-            served(rt, service, faults)
+            served(rt, service, settings, faults)
         }
     }
 }
@@ -171,13 +175,14 @@ where
 }
 
 // Serves clients.
-fn served<R, E: Write>(rt: &R, service: Service<'_>, faults: &mut E) -> u8
+fn served<R, E: Write>(rt: &R, service: Service<'_>, settings: CoreSettings, faults: &mut E) -> u8
 where
     R: Files + Net + Clock + RandomSource + AllocGlobal,
     R::File: Claim,
+    requires { AreGood settings }
     ensures { (result ≡ 3) ⊎ ((result ≡ 0) × Keeps (E.contents faults.old) (E.contents faults.new)) }
 {
-    match serve(rt, service) {
+    match serve(rt, service, settings) {
         Ok(()) => 0,
         Err(ServeFault::Memory) => Trouble::Memory.told("", faults),
         Err(ServeFault::Listener(reason)) => Trouble::Device(reason).told(service.listen, faults),

@@ -66,6 +66,12 @@ happening_with kind.OriginFailed number octets = OriginFailed number
 abbrev pub event_with : EventLine → List ℕ → Event
 event_with l octets = record { moment = l.moment; of = happening_with l.kind l.number octets }
 
+-- the text begins with octets that the event of the line brings, and the rest stands behind their line feed
+pub record BringsOctets (line : EventLine) (text : List ℕ) (e : Event) (rest : List ℕ) : Type 0 where
+  pub octets : List ℕ
+  pub has : HasOctets line.size text octets rest
+  pub event_is : e ≡ event_with line octets
+
 -- the text begins with the event, and the rest stands behind it
 pub record BeginsEvent (text : List ℕ) (e : Event) (rest : List ℕ) : Type 0 where
   pub text_is : text ≡ event_text e ++ rest

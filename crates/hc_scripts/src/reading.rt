@@ -3,7 +3,7 @@
 ghost use Rattle.std.specs.Prelude.{◌≡◌, ◌≢◌, IfOk, IfErr};
 ghost use Rattle.hc_scripts.specs.declared.fault.ScriptFault.TheVariants as fault;
 ghost use Rattle.hc_scripts.specs.ScriptFaults.{OctetsBreak, EventBreaks};
-ghost use Rattle.hc_scripts.specs.ScriptParts.{event_with, HasOctets, BeginsEvent, AreEvents, EventsBreak};
+ghost use Rattle.hc_scripts.specs.ScriptParts.{event_with, HasOctets, BringsOctets, BeginsEvent, AreEvents, EventsBreak};
 
 use crate::event_line::{EventLine, read_event_line};
 use crate::fault::ScriptFault;
@@ -57,9 +57,21 @@ fn read_event(alloc: Global, text: &[u8]) -> Result<(Event, &[u8]), ScriptFault>
     if !has_octets(line.kind) {
         return Ok((event_with(&line, Octets::new(alloc)), behind));
     }
-    let (octets, behind) = read_octets(behind, line.size)?;
+    read_bringing(alloc, &line, behind)
+}
+
+/// The event of that line, of a kind that brings octets, by those that begin the text, and what stands behind them.
+fn read_bringing<'a>(
+    alloc: Global,
+    line: &EventLine,
+    text: &'a [u8],
+) -> Result<(Event, &'a [u8]), ScriptFault>
+    ensures ok { IfOk result (λ parts. BringsOctets line.now text.now parts.0 parts.1.now) }
+    ensures err { IfErr result (λ f. f ≢ fault.Memory → OctetsBreak f line.now.size text.now) }
+{
+    let (octets, behind) = read_octets(text, line.size)?;
     let octets = Octets::from_slice(alloc, octets)?;
-    Ok((event_with(&line, octets), behind))
+    Ok((event_with(line, octets), behind))
 }
 
 /// The events that the text is, all of it.

@@ -1,7 +1,6 @@
 //! The questions of the cases.
 
 use crate::hits::say_hits;
-use crate::loopback::say_loopback;
 use crate::notebook::{Device, Fault};
 use crate::scene::{Scene, number_of};
 use crate::service::say_service;
@@ -33,10 +32,7 @@ where
         if let Some(manner) = manner_of(question)? {
             return say_service(self.system, alloc, about, manner, out);
         }
-        match question {
-            "loopback" => say_loopback(self.system, alloc, &Scene::of(about)?, out),
-            _ => answer_in_memory(alloc, question, &Scene::of(about)?, out),
-        }
+        answer_in_memory(alloc, question, &Scene::of(about)?, out)
     }
 }
 
@@ -55,6 +51,7 @@ fn manner_of(question: &str) -> Result<Option<Manner>, Unanswered> {
         "serve those who stay" => Some(Manner::Stays),
         "serve behind one who has gone" => Some(Manner::Leaves),
         "serve with an origin that waits" => Some(Manner::Waits),
+        "serve from a small cache" => Some(Manner::Small),
         "serve to a longer file" => Some(Manner::Overwrites),
         "serve to a file that another records to" => Some(Manner::Claimed),
         _ => None,

@@ -6,7 +6,6 @@ mod failing;
 mod hearing;
 mod hits;
 mod links;
-mod loopback;
 mod notebook;
 mod runs;
 mod scene;

@@ -1,17 +1,20 @@
 //! Whole runs of `serve`, in one thread.
 
+ghost use Rattle.std.specs.Prelude.{IfOk};
+ghost use Rattle.hc_service.specs.Settings.{AreGood};
+
 use crate::hearing::say_streams;
-use crate::loopback::listener;
 use crate::scene::{number_of, text_of};
 use crate::staged::{Manner, Staged};
 use crate::telling::say_verdict;
 use hc_cases::Unanswered;
+use hc_fields::Octets;
+use hc_service::CoreSettings;
 use hc_sockets::{Claim, ServeFault, Service, serve};
 use hc_transcript::OPENING;
-use std::alloc::Global;
-use std::cell::{Cell, RefCell};
+use std::alloc::{AllocError, Global};
 use std::io::Write;
-use std::net::Net;
+use std::net::{Net, OpenListener, SocketAddr, TcpListener};
 use std::random::RandomSource;
 use std::rt::Files;
 use std::{fs, io};
@@ -84,35 +87,74 @@ where
     let play = Play::of(about)?;
     let (origin, address) = listener(system)?;
     let address = format!(in alloc; "{address}")?;
-    if manner == Manner::Overwrites {
-        fs::write(system, play.file, Vec::from_elem(alloc, b'x', BEFORE)?)?;
-    }
-    let held = match manner {
-        Manner::Claimed => Some(claimed(system, play.file)?),
-        _ => None,
-    };
-    let staged = Staged {
-        system,
-        alloc,
-        clients: play.clients,
-        manner,
-        answers: play.answers,
-        origin,
-        tried: Cell::new(0),
-        connected: RefCell::new(Vec::new(alloc)),
-        early: RefCell::new(String::new(alloc)),
-        forwards: RefCell::new(Vec::new(alloc)),
-    };
-    let answer = serve(&staged, play.service(address.as_str()));
+    let held = before(system, alloc, play.file, manner)?;
+    let staged = Staged::new(system, alloc, manner, origin, play.clients, play.answers);
+    let settings = settings_by(alloc, manner)?;
+    let answer = serve(&staged, play.service(address.as_str()), settings);
     drop(held);
-    let file = fs::read(&staged, play.file);
-    let _ = fs::remove_file(&staged, play.file);
-    let (early, connected, forwards) = staged.contents();
     out.push_str(word_of(answer))?;
+    say_left(staged, play.file, out)
+}
+
+/// A listener at a port that the system picks, and its address.
+fn listener<R: Net>(net: &R) -> io::Result<(R::Listener, SocketAddr)> {
+    let listener = TcpListener::bind(net, "127.0.0.1:0")?;
+    let address = listener.local_addr()?;
+    Ok((listener, address))
+}
+
+/// Makes the file that stands there before, if one does, and answers it where another program holds it.
+fn before<R: Files>(
+    system: &R,
+    alloc: Global,
+    file: &str,
+    manner: Manner,
+) -> Result<Option<R::File>, Unanswered>
+where
+    R::File: Claim,
+{
+    match manner {
+        Manner::Overwrites => {
+            fs::write(system, file, Vec::from_elem(alloc, b'x', BEFORE)?)?;
+            Ok(None)
+        }
+        Manner::Claimed => Ok(Some(claimed(system, file)?)),
+        _ => Ok(None),
+    }
+}
+
+/// Writes what clients are replied, what the origin is sent, and the verdict on the file, which is removed.
+fn say_left<R: Net + Files>(
+    staged: Staged<'_, R>,
+    file: &str,
+    out: &mut String,
+) -> Result<(), Unanswered> {
+    let alloc = staged.alloc;
+    let recorded = fs::read(&staged, file);
+    let _ = fs::remove_file(&staged, file);
+    let (early, connected, forwards) = staged.contents();
     out.push_str(early.as_str())?;
     say_streams(alloc, "reply", connected, out)?;
     say_streams(alloc, "forward", forwards, out)?;
-    say_file(alloc, file, out)
+    say_file(alloc, recorded, out)
+}
+
+/// What the cache is.
+fn settings_by(alloc: Global, manner: Manner) -> Result<CoreSettings, AllocError>
+    ensures { IfOk result AreGood }
+{
+    if manner == Manner::Small {
+        return Ok(CoreSettings {
+            name: Octets::from_slice(alloc, b"small")?,
+            keys: 1,
+            bytes: 0,
+        });
+    }
+    Ok(CoreSettings {
+        name: Octets::from_slice(alloc, b"hcache")?,
+        keys: 1_024,
+        bytes: 67_108_864,
+    })
 }
 
 /// A file to which another program records: it has the opening of a transcript, and is claimed as long as it is open.

@@ -26,6 +26,8 @@ pub(crate) enum Manner {
     Stays,
     /// The first client is gone before it is served.
     Leaves,
+    /// The cache is named small, and has room for nothing.
+    Small,
     /// The origin gives its last answer once clients have read what they are replied.
     Waits,
     /// The file is longer before.
@@ -41,25 +43,48 @@ pub(crate) enum Manner {
 /// What a case sets up.
 #[derive(Drop)]
 pub(crate) struct Staged<'a, R: Net> {
-    pub(crate) system: &'a R,
+    system: &'a R,
     pub(crate) alloc: Global,
     /// What clients send, one behind another.
-    pub(crate) clients: &'a [Vec<u8>],
-    pub(crate) manner: Manner,
+    clients: &'a [Vec<u8>],
+    manner: Manner,
     /// The answers of the origin, forward by forward.
-    pub(crate) answers: &'a [Vec<u8>],
-    pub(crate) origin: R::Listener,
+    answers: &'a [Vec<u8>],
+    origin: R::Listener,
     /// How many forwards were tried.
-    pub(crate) tried: Cell<usize>,
+    tried: Cell<usize>,
     /// The clients' sides of their connections.
-    pub(crate) connected: RefCell<Vec<R::Stream>>,
+    connected: RefCell<Vec<R::Stream>>,
     /// What clients read before the last answer, where the origin waits for that.
-    pub(crate) early: RefCell<String>,
+    early: RefCell<String>,
     /// The origin's sides of forwards.
-    pub(crate) forwards: RefCell<Vec<R::Stream>>,
+    forwards: RefCell<Vec<R::Stream>>,
 }
 
 impl<'a, R: Net> Staged<'a, R> {
+    /// What is set up before anything has passed.
+    pub(crate) fn new(
+        system: &'a R,
+        alloc: Global,
+        manner: Manner,
+        origin: R::Listener,
+        clients: &'a [Vec<u8>],
+        answers: &'a [Vec<u8>],
+    ) -> Self {
+        Staged {
+            system,
+            alloc,
+            clients,
+            manner,
+            answers,
+            origin,
+            tried: Cell::new(0),
+            connected: RefCell::new(Vec::new(alloc)),
+            early: RefCell::new(String::new(alloc)),
+            forwards: RefCell::new(Vec::new(alloc)),
+        }
+    }
+
     /// What clients read before the last answer, the clients' sides of their connections, and the origin's sides of
     /// forwards.
     pub(crate) fn contents(self) -> (String, Vec<R::Stream>, Vec<R::Stream>) {

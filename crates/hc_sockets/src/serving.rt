@@ -1,5 +1,6 @@
 //! Connections of clients, one after another.
 
+ghost use Rattle.hc_service.specs.Settings.{AreGood};
 ghost use Rattle.hc_sockets.specs.Outcomes.{MeansFor};
 
 use crate::claim::Claim;
@@ -8,7 +9,6 @@ use crate::fault::ServeFault;
 use crate::listening::Listening;
 use crate::origin::Origin;
 use crate::system_link::{Recording, SystemLink};
-use hc_fields::Octets;
 use hc_machine::{Core, CoreFault};
 use hc_serve::{ServingFault, serve_clients};
 use hc_service::{CoreSettings, StepFault};
@@ -22,15 +22,6 @@ use std::os::unix::fs::PermissionsExt;
 use std::random::RandomSource;
 use std::rt::Files;
 use std::time::Clock;
-
-/// The name of the cache.
-const NAME: &[u8] = b"hcache";
-
-/// The most targets of which it keeps responses.
-const KEYS: usize = 1_024;
-
-/// The most octets that it keeps.
-const BYTES: u64 = 67_108_864;
 
 /// Who may read and write a new file: its owner.
 const OWNER_ALONE: u32 = 0o600;
@@ -48,7 +39,8 @@ pub struct Service<'a> {
     pub file: &'a str,
 }
 
-/// Serves so many connections of clients, one after another, with numbers from 1. The file is created, or claimed and
+/// Serves so many connections of clients from a new cache of those settings, one after another, with numbers from 1. The
+/// settings have to be such as a cache can have (`is_name` and `is_size` of hc_service). The file is created, or claimed and
 /// then emptied, and gets the opening of a transcript before clients can connect. A new one can be read and written by its
 /// owner alone, since it tells what clients send, credentials too. One that another program has claimed stays as it is;
 /// a pipe or a device is neither claimed nor emptied. A client whose link fails is served no further, and the next one
@@ -64,13 +56,14 @@ pub struct Service<'a> {
 /// No clause says so, since none can say what the system's sockets and files hold. What is recorded of the octets that
 /// links give and get is what `serve_clients` of hc_serve promises, and what it asks of the cache and of the file holds
 /// here: the cache is new, and the file has the opening.
-pub fn serve<R>(rt: &R, service: Service<'_>) -> Result<(), ServeFault>
+pub fn serve<R>(rt: &R, service: Service<'_>, settings: CoreSettings) -> Result<(), ServeFault>
 where
     R: Net + Files + Clock + RandomSource + AllocGlobal,
     R::File: Claim,
+    requires { AreGood settings }
 {
     let alloc = rt.alloc();
-    let mut core = new_core(rt)?;
+    let mut core = new_core(rt, settings)?;
     let mut recorder = match begun(rt, service.file) {
         Ok(file) => SystemLink::new(Recording { file }),
         Err(reason) => return Err(ServeFault::Record(reason)),
@@ -100,18 +93,17 @@ where
 }
 
 /// A new cache, whose store hashes targets with keys that no client knows.
-fn new_core<R: RandomSource + AllocGlobal>(rt: &R) -> Result<Core<RandomState>, ServeFault> {
-    let alloc = rt.alloc();
+fn new_core<R: RandomSource + AllocGlobal>(
+    rt: &R,
+    settings: CoreSettings,
+) -> Result<Core<RandomState>, ServeFault>
+    requires { AreGood settings }
+{
     let keys = match RandomState::new(rt) {
         Ok(keys) => keys,
         Err(reason) => return Err(ServeFault::Random(reason)),
     };
-    let settings = CoreSettings {
-        name: Octets::from_slice(alloc, NAME)?,
-        keys: KEYS,
-        bytes: BYTES,
-    };
-    match Core::with_hasher(alloc, settings, keys) {
+    match Core::with_hasher(rt.alloc(), settings, keys) {
         Ok(core) => Ok(core),
         Err(CoreFault::Memory) => Err(ServeFault::Memory),
         // A cache may have this name.

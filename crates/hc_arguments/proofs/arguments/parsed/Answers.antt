@@ -1,4 +1,6 @@
-use Rattle.hc_arguments.proofs.ArgumentLemmas.{audit_words, replay_words, serve_words, words_give}
+use Rattle.std.proofs.lemmas.Result.{IfOk-weaker}
+use Rattle.hc_arguments.specs.Command.{task_of}
+use Rattle.hc_arguments.proofs.ArgumentLemmas.{audit_words, possible_from, replay_words, serve_words, words_give}
 use Rattle.hc_arguments.proofs.arguments.parsed.Goals as goal
 
 pub returns-clause-audit : goal.returns-clause-audit
@@ -12,3 +14,6 @@ returns-clause-replay g c = λ name file word same.
 pub returns-clause-serve : goal.returns-clause-serve
 returns-clause-serve g c = λ name listen origin number file connections counts same.
     words_give _ _ _ c.asked.result (serve_words name listen origin number file connections counts) same c.asked.ensures.asked c.asked.ensures.refused
+
+pub returns-clause-possible : goal.returns-clause-possible
+returns-clause-possible g c = IfOk-weaker c.asked.result _ _ (λ order asks. possible_from _ _ (task_of order) asks) c.asked.ensures.asked

@@ -2,7 +2,7 @@ use Rattle.std.proofs.Common.{◌∙◌, ap, codes}
 use Rattle.std.proofs.lemmas.Result.{IfOk-weaker}
 use Rattle.clap.specs.Words.{new_app, with_rule}
 use Rattle.clap.specs.Simple.{app_of_fields}
-use Rattle.hc_arguments.specs.Command.{IsMade, required_rule}
+use Rattle.hc_arguments.specs.Command.{IsMade, option_rule, required_rule}
 use Rattle.hc_arguments.proofs.ArgumentLemmas.{ruled}
 use Rattle.hc_arguments.proofs.command.serve_command.Goals as goal
 
@@ -22,5 +22,14 @@ returns c =
     (c.with_argument-forwarding.ensures listened c.required-2.ensures.local listening) in
     let counting = ruled forwarded c.with_argument-counting.result _ (required_rule (codes "connections")) c.required-3.ensures.rule
     (c.with_argument-counting.ensures forwarded c.required-3.ensures.local forwarding) in
-    ruled counted c.with_argument.result _ (required_rule (codes "record")) c.required-4.ensures.rule
-    (c.with_argument.ensures counted c.required-4.ensures.local counting)
+    let recorded = with_rule counted (required_rule (codes "record")) in
+    let keyed = with_rule recorded (option_rule (codes "keys")) in
+    let sized = with_rule keyed (option_rule (codes "bytes")) in
+    let recording = ruled counted c.with_argument-recording.result _ (required_rule (codes "record")) c.required-4.ensures.rule
+    (c.with_argument-recording.ensures counted c.required-4.ensures.local counting) in
+    let with_keys = ruled recorded c.with_argument-with_keys.result _ (option_rule (codes "keys")) c.option.ensures.rule
+    (c.with_argument-with_keys.ensures recorded c.option.ensures.local recording) in
+    let with_bytes = ruled keyed c.with_argument-with_bytes.result _ (option_rule (codes "bytes")) c.option-2.ensures.rule
+    (c.with_argument-with_bytes.ensures keyed c.option-2.ensures.local with_keys) in
+    ruled sized c.with_argument.result _ (option_rule (codes "name")) c.option-3.ensures.rule
+    (c.with_argument.ensures sized c.option-3.ensures.local with_bytes)

@@ -1,32 +1,13 @@
-//! The questions of the cases.
+//! The questions about scripts.
 
 use crate::fronts::say_fronts;
-use crate::names::{say_run_faults, say_script_faults};
 use crate::played::Played;
 use crate::steps::say_steps;
-use hc_cases::{Ask, Case, Unanswered};
+use hc_cases::Unanswered;
 use std::alloc::Global;
 
-/// What is asked of scripts.
-pub struct Scripts;
-
-impl Ask for Scripts {
-    fn answer(&self, case: &Case<'_>, out: &mut String) -> Result<(), Unanswered> {
-        let Case {
-            alloc,
-            question,
-            about,
-        } = *case;
-        match question {
-            "run faults" => Ok(say_run_faults(out)?),
-            "script faults" => Ok(say_script_faults(out)?),
-            _ => answer_of(alloc, question, about, out),
-        }
-    }
-}
-
-// Answers a question of a script, the first part of the case.
-fn answer_of(
+/// Answers a question of a script, the first part of the case.
+pub(crate) fn answer_of_script(
     alloc: Global,
     question: &str,
     about: &[Vec<u8>],

@@ -1,4 +1,4 @@
-//! What clients ask, what the origin answers, and what validated replies begin with.
+//! What clients ask a cache, what the origin answers, and what validated replies begin with.
 
 use hc_fields::Octets;
 use std::alloc::{AllocError, Global};

@@ -1,9 +1,9 @@
-//! How many hits a second there are, and how many validations.
+//! How many hits a second a cache serves, and how many validations.
 
-use crate::cache::{Size, filled};
+use crate::caches::{Size, filled};
 use crate::exchanges::{Exchange, Validated, exchanges, serve_all, validated_reply};
-use crate::kind::Kind;
 use crate::trouble::Trouble;
+use crate::way::Way;
 use hc_machine::Core;
 use std::alloc::Global;
 use std::io::Write;
@@ -29,52 +29,53 @@ const SIZES: [(usize, u64, u64); 8] = [
 ];
 
 /// Says how many hits a few exchanges are, and how many validations a few others.
-pub fn count<W: Write>(alloc: Global, output: &mut W) -> Result<(), Trouble> {
-    count_kind(alloc, Kind::Hits, output)?;
-    count_kind(alloc, Kind::Validations, output)
+pub fn count_hits<W: Write>(alloc: Global, output: &mut W) -> Result<(), Trouble> {
+    count_way(alloc, Way::Hits, output)?;
+    count_way(alloc, Way::Validations, output)
 }
 
-// Says how many of a few exchanges are of that kind.
-fn count_kind<W: Write>(alloc: Global, kind: Kind, output: &mut W) -> Result<(), Trouble> {
+// Says how many of a few exchanges are of that way.
+fn count_way<W: Write>(alloc: Global, way: Way, output: &mut W) -> Result<(), Trouble> {
     let size = Size {
         body: 1_024,
         keys: 3,
         connections: 2,
     };
-    let mut core = filled(alloc, size, kind)?;
-    let reply = validated_reply(alloc, size)?;
-    let made = exchanges(alloc, size, kind, 6)?;
-    let served = serve_all(&mut core, made, &reply)?;
-    let word = kind.word();
+    let served = few_served(alloc, size, way)?;
+    let word = way.word();
     writeln!(output, "{word}={served} of=6")?;
     Ok(output.flush()?)
 }
 
-/// Says how many hits a second are served, for each size, and then how many validations.
-pub fn measure<C: Clock, W: Write>(
-    alloc: Global,
-    clock: &C,
-    output: &mut W,
-) -> Result<(), Trouble> {
-    measure_kind(alloc, clock, Kind::Hits, output)?;
-    measure_kind(alloc, clock, Kind::Validations, output)
+// How many of a few exchanges are served as they have to be.
+fn few_served(alloc: Global, size: Size, way: Way) -> Result<u64, Trouble> {
+    let reply = validated_reply(alloc, size)?;
+    let made = exchanges(alloc, size, way, 6)?;
+    let mut core = filled(alloc, size, way)?;
+    serve_all(&mut core, made, &reply)
 }
 
-// Says how many exchanges of that kind are served a second, for each size.
-fn measure_kind<C: Clock, W: Write>(
+/// Says how many hits a second are served, for each size, and then how many validations.
+pub fn hits<C: Clock, W: Write>(alloc: Global, clock: &C, output: &mut W) -> Result<(), Trouble> {
+    measure_way(alloc, clock, Way::Hits, output)?;
+    measure_way(alloc, clock, Way::Validations, output)
+}
+
+// Says how many exchanges of that way are served a second, for each size.
+fn measure_way<C: Clock, W: Write>(
     alloc: Global,
     clock: &C,
-    kind: Kind,
+    way: Way,
     output: &mut W,
 ) -> Result<(), Trouble> {
-    let word = kind.word();
+    let word = way.word();
     for (body, keys, connections) in SIZES {
         let size = Size {
             body,
             keys,
             connections,
         };
-        let nanoseconds = fastest(alloc, clock, size, kind)?;
+        let nanoseconds = fastest(alloc, clock, size, way)?;
         let rate = u128::from(EXCHANGES) * 1_000_000_000 / nanoseconds.max(1);
         writeln!(
             output,
@@ -86,13 +87,24 @@ fn measure_kind<C: Clock, W: Write>(
 }
 
 // The nanoseconds that the exchanges take at best.
-fn fastest<C: Clock>(alloc: Global, clock: &C, size: Size, kind: Kind) -> Result<u128, Trouble> {
-    let mut core = filled(alloc, size, kind)?;
+fn fastest<C: Clock>(alloc: Global, clock: &C, size: Size, way: Way) -> Result<u128, Trouble> {
+    let mut core = filled(alloc, size, way)?;
+    fastest_round(alloc, clock, &mut core, size, way)
+}
+
+// The same, of a cache that has what is asked for.
+fn fastest_round<C: Clock>(
+    alloc: Global,
+    clock: &C,
+    core: &mut Core,
+    size: Size,
+    way: Way,
+) -> Result<u128, Trouble> {
     let reply = validated_reply(alloc, size)?;
     let mut best = u128::MAX;
     for _ in 0..ROUNDS {
-        let made = exchanges(alloc, size, kind, EXCHANGES)?;
-        best = best.min(timed(clock, &mut core, made, &reply)?);
+        let made = exchanges(alloc, size, way, EXCHANGES)?;
+        best = best.min(timed(clock, core, made, &reply)?);
     }
     Ok(best)
 }
@@ -109,7 +121,7 @@ fn timed<C: Clock>(
     let served = serve_all(core, exchanges, reply)?;
     let time = start.elapsed(clock)?;
     if served != count {
-        return Err(Trouble::Unserved);
+        return Err(Trouble::NotServed);
     }
     Ok(time.as_nanos())
 }

@@ -1,20 +1,20 @@
-//! What is measured.
+//! What exchanges are measured.
 
-/// What is measured.
+/// What exchanges are measured.
 #[derive(Clone, Copy)]
-pub enum Kind {
+pub enum Way {
     /// Hits.
     Hits,
     /// Replies by stored responses that are stale, each once a 304 has validated it.
     Validations,
 }
 
-impl Kind {
+impl Way {
     /// How the output calls them.
     pub fn word(self) -> &'static str {
         match self {
-            Kind::Hits => "hits",
-            Kind::Validations => "validations",
+            Way::Hits => "hits",
+            Way::Validations => "validations",
         }
     }
 }

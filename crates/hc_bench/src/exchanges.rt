@@ -1,9 +1,9 @@
 //! What clients ask and get.
 
-use crate::cache::{Size, happen};
-use crate::kind::Kind;
-use crate::messages::{not_modified, request, validated_head};
+use crate::caches::{Size, happen};
+use crate::exchanged::{not_modified, request, validated_head};
 use crate::trouble::Trouble;
+use crate::way::Way;
 use hc_events::Happening;
 use hc_fields::Octets;
 use hc_framing::MessageText;
@@ -35,7 +35,7 @@ pub struct Validated {
 pub fn exchanges(
     alloc: Global,
     size: Size,
-    kind: Kind,
+    way: Way,
     count: u64,
 ) -> Result<Vec<Exchange>, Trouble> {
     let mut made = Vec::new(alloc);
@@ -43,17 +43,17 @@ pub fn exchanges(
         made.push(Exchange {
             connection: number % size.connections.max(1),
             request: request(alloc, number % size.keys.max(1))?,
-            answer: answer(alloc, kind)?,
+            answer: answer(alloc, way)?,
         })?;
     }
     Ok(made)
 }
 
 // What the origin answers, where the cache has to ask it.
-fn answer(alloc: Global, kind: Kind) -> Result<Option<Octets>, AllocError> {
-    match kind {
-        Kind::Hits => Ok(None),
-        Kind::Validations => Ok(Some(not_modified(alloc)?)),
+fn answer(alloc: Global, way: Way) -> Result<Option<Octets>, AllocError> {
+    match way {
+        Way::Hits => Ok(None),
+        Way::Validations => Ok(Some(not_modified(alloc)?)),
     }
 }
 

@@ -1,8 +1,8 @@
 //! A cache that has what it is asked for.
 
-use crate::kind::Kind;
-use crate::messages::{fresh_response, request, stale_response};
+use crate::exchanged::{fresh_response, request, stale_response};
 use crate::trouble::Trouble;
+use crate::way::Way;
 use hc_events::{Event, Happening};
 use hc_fields::Octets;
 use hc_machine::Core;
@@ -25,35 +25,42 @@ pub struct Size {
 
 /// A cache that has stored a response for each of so many targets, with so many connections open. The responses are
 /// fresh where hits are measured, and stale where validations are.
-pub fn filled(alloc: Global, size: Size, kind: Kind) -> Result<Core, Trouble> {
+pub fn filled(alloc: Global, size: Size, way: Way) -> Result<Core, Trouble> {
     let settings = CoreSettings {
         name: Octets::from_slice(alloc, b"hcache")?,
         keys: 1_024,
         bytes: 1 << 30,
     };
     let mut core = Core::new(alloc, settings)?;
-    for connection in 0..size.connections {
-        happen(&mut core, Happening::ClientOpened(connection))?;
-    }
-    for number in 0..size.keys {
-        happen(
-            &mut core,
-            Happening::ClientBytes(0, request(alloc, number)?),
-        )?;
-        let forward = number.saturating_add(1);
-        happen(
-            &mut core,
-            Happening::OriginBytes(forward, response(alloc, size, kind)?),
-        )?;
-    }
+    open_all(&mut core, size.connections)?;
+    store_all(alloc, &mut core, size, way)?;
     Ok(core)
 }
 
+// Opens so many connections.
+fn open_all(core: &mut Core, connections: u64) -> Result<(), Trouble> {
+    for connection in 0..connections {
+        happen(core, Happening::ClientOpened(connection))?;
+    }
+    Ok(())
+}
+
+// Asks for each target, and answers each forward.
+fn store_all(alloc: Global, core: &mut Core, size: Size, way: Way) -> Result<(), Trouble> {
+    for number in 0..size.keys {
+        happen(core, Happening::ClientBytes(0, request(alloc, number)?))?;
+        let forward = number.saturating_add(1);
+        let answer = Happening::OriginBytes(forward, response(alloc, size, way)?);
+        happen(core, answer)?;
+    }
+    Ok(())
+}
+
 // The octets of a response that the cache stores.
-fn response(alloc: Global, size: Size, kind: Kind) -> Result<Octets, AllocError> {
-    match kind {
-        Kind::Hits => fresh_response(alloc, size.body),
-        Kind::Validations => stale_response(alloc, size.body),
+fn response(alloc: Global, size: Size, way: Way) -> Result<Octets, AllocError> {
+    match way {
+        Way::Hits => fresh_response(alloc, size.body),
+        Way::Validations => stale_response(alloc, size.body),
     }
 }
 

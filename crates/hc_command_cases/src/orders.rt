@@ -1,0 +1,64 @@
+//! What words ask for.
+
+use crate::words::words_of;
+use hc_arguments::{Order, parsed};
+use hc_cases::{Unanswered, show_short};
+use hc_history::{Settings, UnmarkedReplies};
+use hc_service::CoreSettings;
+use std::alloc::{AllocError, Global};
+use std::fmt::Write;
+
+/// Writes what the words ask for.
+pub(crate) fn say_order(
+    alloc: Global,
+    parts: &[Vec<u8>],
+    out: &mut String,
+) -> Result<(), Unanswered> {
+    let words = words_of(alloc, parts)?;
+    match parsed(alloc, words.as_slice()) {
+        Ok(order) => write_order(&order, out)?,
+        Err(_) => out.push_str("nothing")?,
+    }
+    Ok(())
+}
+
+fn write_order(order: &Order<'_>, out: &mut String) -> Result<(), AllocError> {
+    match order {
+        Order::Audit { file, settings } => write_audit(file, settings, out),
+        Order::Replay { file } => write!(out, "to replay {file}"),
+        Order::Serve {
+            listen,
+            origin,
+            connections,
+            file,
+            settings,
+        } => {
+            write!(
+                out,
+                "to serve {connections} connections at {listen} before {origin}, and to record to {file}"
+            )?;
+            write_cache(settings, out)
+        }
+    }
+}
+
+fn write_cache(settings: &CoreSettings, out: &mut String) -> Result<(), AllocError> {
+    let keys = settings.keys;
+    let bytes = settings.bytes;
+    out.push_str(", from a cache named ")?;
+    show_short(settings.name.as_slice(), out)?;
+    write!(out, " of {keys} keys and {bytes} bytes")
+}
+
+// Which names are ignored other cases ask.
+fn write_audit(file: &str, settings: &Settings, out: &mut String) -> Result<(), AllocError> {
+    let slack = settings.slack;
+    let unmarked = match settings.unmarked {
+        UnmarkedReplies::Allow => "any",
+        UnmarkedReplies::ErrorsOnly => "errors",
+    };
+    write!(
+        out,
+        "to audit {file} with a slack of {slack}, and {unmarked} may be unmarked"
+    )
+}
