@@ -27,30 +27,54 @@ pub(crate) fn say_hits(
         notebook: &notebook,
     };
     let mut core = new_core(alloc)?;
-    let (first, _) = scene.client.split_at(ONE_REQUEST.min(scene.client.len()));
-    say_served(alloc, &mut core, 1, first, &site, out)?;
-    out.push_str("; ")?;
-    say_served(alloc, &mut core, 2, scene.client, &site, out)
+    say_both(alloc, &mut core, &site, out)
 }
 
-/// Serves one connection of a client who sends those octets, and writes how many it gets.
-fn say_served(
+/// Serves both clients by that cache.
+fn say_both(
     alloc: Global,
     core: &mut Core,
-    number: u64,
-    client: &[u8],
     site: &Site<'_>,
     out: &mut String,
 ) -> Result<(), Unanswered> {
+    let client = site.scene.client;
+    let (first, _) = client.split_at(ONE_REQUEST.min(client.len()));
+    say_served(served(alloc, core, 1, first, site), out)?;
+    out.push_str("; ")?;
+    say_served(served(alloc, core, 2, client, site), out)
+}
+
+/// What came of a connection.
+#[derive(Clone, Copy)]
+struct Served {
+    /// Whether it was served.
+    well: bool,
+    /// How many octets the client got.
+    got: u64,
+    /// How many octets were recorded.
+    recorded: u64,
+}
+
+/// Serves one connection of a client who sends those octets.
+fn served(alloc: Global, core: &mut Core, number: u64, client: &[u8], site: &Site<'_>) -> Served {
     let mut recorder = Tally::new(b"", usize::MAX, site.notebook);
     let link = Tally::new(client, usize::MAX, site.notebook);
     let clock = Ticking::new(site.scene.step);
     let mut connection = Connection::new(alloc, number, link, site, &clock);
-    if serve_connection(alloc, core, &mut connection, &mut recorder).is_err() {
+    let well = serve_connection(alloc, core, &mut connection, &mut recorder).is_ok();
+    Served {
+        well,
+        got: connection.client().got(),
+        recorded: recorder.got(),
+    }
+}
+
+/// Writes how many octets the client got, and how many were recorded.
+fn say_served(served: Served, out: &mut String) -> Result<(), Unanswered> {
+    if !served.well {
         out.push_str("not served: ")?;
     }
-    let got = connection.client().got();
-    let recorded = recorder.got();
+    let Served { got, recorded, .. } = served;
     write!(out, "client {got} octets, recorder {recorded} octets")?;
     Ok(())
 }

@@ -1,11 +1,13 @@
 //! A connection is served over links in memory.
 
+use crate::links::Memory;
 use crate::notebook::{Device, Fault, Notebook};
 use crate::scene::{Scene, Site, Ticking, Trickle, new_core};
 use hc_audit::{AuditFault, Auditor, FieldNames, Index, Settings, UnmarkedReplies, Verdict};
 use hc_cases::Unanswered;
 use hc_connection::{Connection, Origins};
 use hc_index::MapIndex;
+use hc_machine::Core;
 use hc_serve::{DriveFault, serve_connection};
 use hc_transcript::OPENING;
 use std::alloc::Global;
@@ -90,17 +92,41 @@ fn serve<O: Origins>(
     origins: &O,
 ) -> Result<Served, Unanswered> {
     let mut core = new_core(alloc)?;
+    serve_by(alloc, &mut core, scene, notebook, origins)
+}
+
+// The same, by that cache.
+fn serve_by<O: Origins>(
+    alloc: Global,
+    core: &mut Core,
+    scene: &Scene<'_>,
+    notebook: &Notebook,
+    origins: &O,
+) -> Result<Served, Unanswered> {
     let client = scene.link(alloc, Device::Client, scene.client, notebook);
     let mut recorder = scene.link(alloc, Device::Recorder, b"", notebook);
     let clock = Ticking::new(scene.step);
     let mut connection = Connection::new(alloc, 1, client, origins, &clock);
-    let result = serve_connection(alloc, &mut core, &mut connection, &mut recorder);
+    let result = serve_connection(alloc, core, &mut connection, &mut recorder);
+    served(alloc, result, core.idle(), connection.client(), &recorder)
+}
+
+// What came of it, by what the links were given.
+fn served(
+    alloc: Global,
+    result: Result<(), DriveFault>,
+    idle: bool,
+    client: &Memory<'_>,
+    recorder: &Memory<'_>,
+) -> Result<Served, Unanswered> {
+    let reply = Vec::from_slice(alloc, client.got())?;
+    let recording = Vec::from_slice(alloc, recorder.got())?;
     Ok(Served {
         result,
-        idle: core.idle(),
-        read: connection.client().given(),
-        reply: Vec::from_slice(alloc, connection.client().got())?,
-        recording: Vec::from_slice(alloc, recorder.got())?,
+        idle,
+        read: client.given(),
+        reply,
+        recording,
     })
 }
 
