@@ -15,33 +15,29 @@ use std::fmt::Write;
 /// Answers a question of dates, ages or lifetimes.
 pub fn answer(question: OfFreshness, case: &Case<'_>, out: &mut String) -> Result<(), Unanswered> {
     match (question, case.about) {
-        (OfFreshness::Date, [text]) => Ok(date(text, out)?),
+        (OfFreshness::Date, [text]) => date(text, out),
         (OfFreshness::Lifetime, [date, block]) => lasting(case.alloc, date, block, out),
         (OfFreshness::AgeValue, [block]) => aged(case.alloc, block, out),
         (OfFreshness::Age, [date, age, request, response, now]) => {
-            let times = times(date, age, request, response)?;
-            let age = current_age(times, number(now)?);
-            Ok(write!(out, "{age}")?)
+            age_at(times(date, age, request, response), now, out)
         }
-        (OfFreshness::Fresh, [lifetime, age]) => {
-            Ok(compared(seconds(lifetime)?, seconds(age)?, out)?)
-        }
+        (OfFreshness::Fresh, [lifetime, age]) => compared(lifetime, age, out),
         (OfFreshness::Dated, [now, block]) => with_date(case.alloc, now, block, out),
         _ => Err(Unanswered::Unknown),
     }
 }
 
 // Writes the moment that a text is, and the date of that moment.
-fn date(text: &[u8], out: &mut String) -> Result<(), AllocError> {
+fn date(text: &[u8], out: &mut String) -> Result<(), Unanswered> {
     let Some(found) = read_date(text) else {
-        return out.push_str("none");
+        return Ok(out.push_str("none")?);
     };
     write!(out, "{found}")?;
     if found >= 253_402_300_800 {
         return Ok(());
     }
     out.push_str(", ")?;
-    show(&date_text(found), out)
+    Ok(show(&date_text(found), out)?)
 }
 
 fn lasting(alloc: Global, date: &[u8], block: &[u8], out: &mut String) -> Result<(), Unanswered> {
@@ -73,10 +69,20 @@ fn times(date: &[u8], age: &[u8], request: &[u8], response: &[u8]) -> Result<Tim
     })
 }
 
-fn compared(lifetime: u32, age: u32, out: &mut String) -> Result<(), AllocError> {
+fn age_at(
+    times: Result<Times, Unanswered>,
+    now: &[u8],
+    out: &mut String,
+) -> Result<(), Unanswered> {
+    let age = current_age(times?, number(now)?);
+    Ok(write!(out, "{age}")?)
+}
+
+fn compared(lifetime: &[u8], age: &[u8], out: &mut String) -> Result<(), Unanswered> {
+    let (lifetime, age) = (seconds(lifetime)?, seconds(age)?);
     yes_or_no(fresh(lifetime, age), out)?;
     let count = staleness(lifetime, age);
-    write!(out, ", stale by {count}")
+    Ok(write!(out, ", stale by {count}")?)
 }
 
 // Writes the date that the fields state, and the fields with exactly one date.

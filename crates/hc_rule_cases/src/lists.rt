@@ -10,17 +10,18 @@ use std::fmt::Write;
 
 /// Answers a question of lists, numbers, tokens or directives.
 pub fn answer(question: OfLists, case: &Case<'_>, out: &mut String) -> Result<(), Unanswered> {
-    match (question, case.about) {
-        (OfLists::List, [text]) => Ok(list(text, out)?),
-        (OfLists::Number, [text]) => Ok(numeral(seconds_in(text), out)?),
-        (OfLists::Decimal, [text]) => Ok(numeral(decimal(text), out)?),
-        (OfLists::Token, [text]) => Ok(yes_or_no(is_token(text), out)?),
-        (OfLists::Among, [text, names @ ..]) => Ok(among(case.alloc, text, names, out)?),
-        (OfLists::Members, [name, block]) => Ok(members(case.alloc, name, block, out)?),
-        (OfLists::Directive, [name, block]) => Ok(directive(case.alloc, name, block, out)?),
-        (OfLists::Shared, [text]) => Ok(shared(case.alloc, text, out)?),
-        _ => Err(Unanswered::Unknown),
-    }
+    let written = match (question, case.about) {
+        (OfLists::List, [text]) => list(text, out),
+        (OfLists::Number, [text]) => numeral(seconds_in(text), out),
+        (OfLists::Decimal, [text]) => numeral(decimal(text), out),
+        (OfLists::Token, [text]) => yes_or_no(is_token(text), out),
+        (OfLists::Among, [text, names @ ..]) => among(case.alloc, text, names, out),
+        (OfLists::Members, [name, block]) => members(case.alloc, name, block, out),
+        (OfLists::Directive, [name, block]) => directive(case.alloc, name, block, out),
+        (OfLists::Shared, [text]) => shared(case.alloc, text, out),
+        _ => return Err(Unanswered::Unknown),
+    };
+    Ok(written?)
 }
 
 // Writes the octets of which another owner is gone.

@@ -15,20 +15,15 @@ use std::alloc::{AllocError, Global};
 pub fn answer(question: OfRules, case: &Case<'_>, out: &mut String) -> Result<(), Unanswered> {
     match (question, case.about) {
         (OfRules::Storable, [method, asked, status, answered]) => {
-            let forward = request(case.alloc, method, asked)?;
-            storable(case.alloc, &forward, status, answered, out)
+            let forward = request(case.alloc, method, asked);
+            storable(case.alloc, forward, status, answered, out)
         }
         (OfRules::Selects, [vary, forwarded, presented]) => {
-            let fields = fields_of_block(case.alloc, vary)?;
-            Ok(selected(case.alloc, &fields, forwarded, presented, out)?)
+            selected(case.alloc, vary, forwarded, presented, out)
         }
-        (OfRules::Validator, [block]) => {
-            let fields = fields_of_block(case.alloc, block)?;
-            Ok(validated(&fields, out)?)
-        }
+        (OfRules::Validator, [block]) => validated(case.alloc, block, out),
         (OfRules::Condition, [presented, status, answered]) => {
-            let status = status_of(status)?;
-            Ok(condition(case.alloc, presented, status, answered, out)?)
+            condition(case.alloc, presented, status, answered, out)
         }
         _ => Err(Unanswered::Unknown),
     }
@@ -57,13 +52,14 @@ fn response(alloc: Global, status: &[u8], block: &[u8]) -> Result<ResponseHead, 
 
 fn storable(
     alloc: Global,
-    forward: &RequestHead,
+    forward: Result<RequestHead, Unanswered>,
     status: &[u8],
     answered: &[u8],
     out: &mut String,
 ) -> Result<(), Unanswered> {
+    let forward = forward?;
     let response = response(alloc, status, answered)?;
-    Ok(stored(forward, &response, out)?)
+    Ok(stored(&forward, &response, out)?)
 }
 
 fn stored(
@@ -78,6 +74,17 @@ fn stored(
 }
 
 fn selected(
+    alloc: Global,
+    vary: &[u8],
+    forwarded: &[u8],
+    presented: &[u8],
+    out: &mut String,
+) -> Result<(), Unanswered> {
+    let vary = fields_of_block(alloc, vary)?;
+    Ok(selected_from(alloc, &vary, forwarded, presented, out)?)
+}
+
+fn selected_from(
     alloc: Global,
     fields: &Fields,
     forwarded: &[u8],
@@ -101,8 +108,13 @@ fn selected_by(
     yes_or_no(is?, out)
 }
 
+fn validated(alloc: Global, block: &[u8], out: &mut String) -> Result<(), Unanswered> {
+    let fields = fields_of_block(alloc, block)?;
+    Ok(validated_by(&fields, out)?)
+}
+
 // Writes the entity-tag, the date, and which of them validates.
-fn validated(fields: &Fields, out: &mut String) -> Result<(), AllocError> {
+fn validated_by(fields: &Fields, out: &mut String) -> Result<(), AllocError> {
     out.push_str("tag ")?;
     optional(tag(fields), out)?;
     out.push_str("; date ")?;
@@ -120,6 +132,17 @@ fn by(what: &str, value: &[u8], out: &mut String) -> Result<(), AllocError> {
 }
 
 fn condition(
+    alloc: Global,
+    presented: &[u8],
+    status: &[u8],
+    answered: &[u8],
+    out: &mut String,
+) -> Result<(), Unanswered> {
+    let status = status_of(status)?;
+    Ok(condition_of(alloc, presented, status, answered, out)?)
+}
+
+fn condition_of(
     alloc: Global,
     presented: &[u8],
     status: StatusCode,

@@ -97,23 +97,27 @@ pub fn hello(alloc: Global, asked: &[u8], lines: &[u8]) -> Result<Stored, Unansw
 
 /// Writes a stored response.
 pub fn described(state: &Stored, out: &mut String) -> Result<(), AllocError> {
-    show(state.request.method.as_str().as_bytes(), out)?;
-    out.push_str(" ")?;
-    show(state.request.target.as_slice(), out)?;
-    out.push_str(" ")?;
-    lines(&state.request.fields, out)?;
+    asked(&state.request, out)?;
     let status = state.status.as_u16();
     write!(out, "; {status} ")?;
     lines(&state.fields, out)?;
     out.push_str("; body ")?;
     show(state.body.as_slice(), out)?;
     times(&state.times, out)?;
-    out.push_str(if state.invalid {
-        "; invalid"
-    } else {
-        "; valid"
-    })?;
-    match state.validated_at {
+    validity(state.invalid, state.validated_at, out)
+}
+
+fn asked(request: &RequestHead, out: &mut String) -> Result<(), AllocError> {
+    show(request.method.as_str().as_bytes(), out)?;
+    out.push_str(" ")?;
+    show(request.target.as_slice(), out)?;
+    out.push_str(" ")?;
+    lines(&request.fields, out)
+}
+
+fn validity(invalid: bool, validated_at: Option<u64>, out: &mut String) -> Result<(), AllocError> {
+    out.push_str(if invalid { "; invalid" } else { "; valid" })?;
+    match validated_at {
         Some(position) => write!(out, "; validated at {position}"),
         None => Ok(()),
     }
