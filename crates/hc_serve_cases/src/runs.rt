@@ -107,14 +107,14 @@ fn serve_by<O: Origins>(
     let mut recorder = scene.link(alloc, Device::Recorder, b"", notebook);
     let clock = Ticking::new(scene.step);
     let mut connection = Connection::new(alloc, 1, client, origins, &clock);
-    let result = serve_connection(alloc, core, &mut connection, &mut recorder);
-    served(alloc, result, core.idle(), connection.client(), &recorder)
+    let answer = serve_connection(alloc, core, &mut connection, &mut recorder);
+    served(alloc, answer, core.idle(), connection.client(), &recorder)
 }
 
 // What came of it, by what the links were given.
 fn served(
     alloc: Global,
-    result: Result<(), DriveFault>,
+    answer: Result<(), DriveFault>,
     idle: bool,
     client: &Memory<'_>,
     recorder: &Memory<'_>,
@@ -122,7 +122,7 @@ fn served(
     let reply = Vec::from_slice(alloc, client.got())?;
     let recording = Vec::from_slice(alloc, recorder.got())?;
     Ok(Served {
-        result,
+        result: answer,
         idle,
         read: client.given(),
         reply,
