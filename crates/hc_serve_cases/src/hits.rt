@@ -39,9 +39,9 @@ fn say_both(
 ) -> Result<(), Unanswered> {
     let client = site.scene.client;
     let (first, _) = client.split_at(ONE_REQUEST.min(client.len()));
-    say_served(served(alloc, core, 1, first, site), out)?;
+    say_served(serve_one(alloc, core, 1, first, site), out)?;
     out.push_str("; ")?;
-    say_served(served(alloc, core, 2, client, site), out)
+    say_served(serve_one(alloc, core, 2, client, site), out)
 }
 
 /// What came of a connection.
@@ -56,7 +56,13 @@ struct Served {
 }
 
 /// Serves one connection of a client who sends those octets.
-fn served(alloc: Global, core: &mut Core, number: u64, client: &[u8], site: &Site<'_>) -> Served {
+fn serve_one(
+    alloc: Global,
+    core: &mut Core,
+    number: u64,
+    client: &[u8],
+    site: &Site<'_>,
+) -> Served {
     let mut recorder = Tally::new(b"", usize::MAX, site.notebook);
     let link = Tally::new(client, usize::MAX, site.notebook);
     let clock = Ticking::new(site.scene.step);

@@ -108,11 +108,11 @@ fn serve_by<O: Origins>(
     let clock = Ticking::new(scene.step);
     let mut connection = Connection::new(alloc, 1, client, origins, &clock);
     let answer = serve_connection(alloc, core, &mut connection, &mut recorder);
-    served(alloc, answer, core.idle(), connection.client(), &recorder)
+    seen_at_links(alloc, answer, core.idle(), connection.client(), &recorder)
 }
 
 // What came of it, by what the links were given.
-fn served(
+fn seen_at_links(
     alloc: Global,
     answer: Result<(), DriveFault>,
     idle: bool,
