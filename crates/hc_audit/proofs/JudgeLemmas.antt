@@ -1,8 +1,10 @@
 -- What one record more makes of a judgement, and what its end.
-use Rattle.std.proofs.Common.{◌≡◌, ◌≢◌, ℕ, ◌+◌, Bool, true, false, cond, List, [], ◌∷◌, ◌++◌, Option, Some, None, IfOk, Result, Ok, refl, sym, ap, subst, ◌∙◌, ◌⊎◌, inl, inr}
+use Rattle.std.proofs.Common.{◌≡◌, ◌≢◌, ℕ, ◌+◌, List, [], ◌∷◌, ◌++◌, Option, Some, None, IfOk, Result, Ok, refl, sym, ap, subst, ◌∙◌, ◌⊎◌, inl, inr}
 use Rattle.std.specs.declared.alloc.AllocError.{AllocError}
 use Rattle.hc_transcript.specs.declared.fault.RecordFault.{RecordFault}
 use Rattle.hc_transcript.specs.declared.fault.RecordFault.TheVariants as fault
+use Rattle.hc_transcript.specs.declared.format.Format.{Format}
+use Rattle.hc_transcript.specs.declared.format.Format.TheVariants.{First, Second}
 use Rattle.hc_transcript.specs.declared.reader.RecordReader.{RecordReader}
 use Rattle.hc_transcript.specs.declared.record.Record.{Record}
 use Rattle.hc_transcript.specs.Records.{opening}
@@ -11,7 +13,7 @@ use Rattle.hc_transcript.specs.History.{next_position, last_moment, last_exchang
 use Rattle.hc_transcript.specs.Checks.{line_fault}
 use Rattle.hc_transcript.specs.Transcript.{Splits, IsTranscript}
 use Rattle.hc_transcript.specs.Malformed.{IsUnfinishedOpening, IsUnfinished, BreaksAfter}
-use Rattle.hc_transcript.specs.Reader.{Agrees, ReadsTo, WaitsBy, Waits, MeetsFault, HasUnread, HasUnreadBy, reader_position}
+use Rattle.hc_transcript.specs.Reader.{Agrees, ReadsTo, WaitsBy, Waits, MeetsFault, HasUnread, HasUnreadBy, position_by, reader_position}
 use Rattle.hc_transcript.proofs.CheckLemmas.{no_torn_check}
 use Rattle.hc_transcript.proofs.OnceLemmas.{broken_more, no_opening_more}
 use Rattle.hc_history.specs.declared.reasons.Reason.{Reason}
@@ -34,36 +36,42 @@ use Rattle.hc_audit.specs.Judging.{IsJudging, IsWaiting, stopped}
 
 -- ---- nothing read yet
 
-no_opening_yet : (rest : List ℕ) → [] ≡ opening ++ rest → ⊥
-no_opening_yet rest e = cc
+no_opening_yet : (format : Format) (rest : List ℕ) → [] ≡ opening format ++ rest → ⊥
+no_opening_yet First rest e = cc
+no_opening_yet Second rest e = cc
 
-some_opening : opening ≢ []
+some_opening : opening First ≢ []
 some_opening e = cc
 
 pub fresh_waits : (r : RecordReader) → Agrees r [] [] [] → Waits r []
-fresh_waits r agrees = go r.is_open agrees.reads
+fresh_waits r agrees = go r.format agrees.reads
   where
-    go : (b : Bool) → ReadsTo b [] [] [] r.held → WaitsBy b [] r.held
-    go false reads = subst (λ (held : List ℕ). IsUnfinishedOpening held) reads.1.1 (opening, refl, some_opening)
-    go true reads = absurd (no_opening_yet _ reads.octets_are)
+    go : (o : Option Format) → ReadsTo o [] [] [] r.held → WaitsBy o [] r.held
+    go None reads = subst (λ (held : List ℕ). IsUnfinishedOpening held) reads.1.1 (First, opening First, refl, some_opening)
+    go (Some format) reads = absurd (no_opening_yet format _ reads.octets_are)
 
 -- ---- a fault of the transcript
 
 malformed : (r : RecordReader) (octets : List ℕ) (settings : Settings) (h : List Item) (f : RecordFault) → AllRight settings h → MeetsFault r octets h f
     → IsVerdict octets settings (Malformed (reader_position r) f)
-malformed r octets settings h f right (inl begins) = inl (begins.1.1, inl (begins.0, begins.1.0))
-malformed r octets settings h f right (inr behind) = inr (record { history = h; all_right = right; breaks = inl behind.0; position_is = behind.1 })
+malformed r octets settings h f right (inl begins) = inl (begins.1.1.1, inl (begins.0, begins.1.0))
+malformed r octets settings h f right (inr behind) = inr (record { history = h; all_right = right; breaks = inl behind.breaks; position_is = behind.position_is })
 
 met_more : (r : RecordReader) (octets more : List ℕ) (h : List Item) (f : RecordFault) → MeetsFault r octets h f → MeetsFault r (octets ++ more) h f
 met_more r octets more h f (inl begins) = inl (no_opening_more octets more begins.0, begins.1)
-met_more r octets more h f (inr behind) = inr (broken_more octets more h f behind.0, behind.1)
+met_more r octets more h f (inr behind) =
+    inr (record {
+      breaks = broken_more octets more h f behind.breaks;
+      format_is = behind.format_is;
+      position_is = behind.position_is;
+    })
 
 torn_breaks_nothing : (octets : List ℕ) (h : List Item) → ¬ (BreaksAfter octets h fault.Torn)
-torn_breaks_nothing octets h b = no_torn_check b.breaks.line (last_moment h) (last_exchange h) (last_forward h) _ _ b.breaks.fails
+torn_breaks_nothing octets h b = no_torn_check b.breaks.line (last_moment h) (last_exchange h) (last_forward h) _ _ _ b.breaks.fails
 
 not_torn : (r : RecordReader) (octets : List ℕ) (h : List Item) (f : RecordFault) → MeetsFault r octets h f → f ≢ fault.Torn
 not_torn r octets h f (inl begins) torn = let other : fault.Opening ≡ fault.Torn = sym begins.1.0 ∙ torn in cc
-not_torn r octets h f (inr behind) torn = torn_breaks_nothing octets h (subst (λ (g : RecordFault). BreaksAfter octets h g) torn behind.0)
+not_torn r octets h f (inr behind) torn = torn_breaks_nothing octets h (subst (λ (g : RecordFault). BreaksAfter octets h g) torn behind.breaks)
 
 met_stands : (r : RecordReader) (octets : List ℕ) (settings : Settings) (h : List Item) (f : RecordFault) → AllRight settings h → MeetsFault r octets h f
     → Stands (Malformed (reader_position r) f) settings octets
@@ -84,6 +92,7 @@ stopped_stands r octets settings h fault.Number right meets = met_stands r octet
 stopped_stands r octets settings h fault.NothingOpen right meets = met_stands r octets settings h fault.NothingOpen right (meets (λ e. cc))
 stopped_stands r octets settings h fault.Message right meets = met_stands r octets settings h fault.Message right (meets (λ e. cc))
 stopped_stands r octets settings h fault.TooLong right meets = met_stands r octets settings h fault.TooLong right (meets (λ e. cc))
+stopped_stands r octets settings h fault.Cause right meets = met_stands r octets settings h fault.Cause right (meets (λ e. cc))
 
 pub told : (r : Result Verdict AllocError) (verdict : Verdict) (octets : List ℕ) (settings : Settings) → r ≡ Ok verdict → IfOk r (λ v. Stands v settings octets) → Stands verdict settings octets
 told r verdict octets settings is stands = subst (λ (s : Result Verdict AllocError). IfOk s (λ v. Stands v settings octets)) is stands
@@ -99,16 +108,17 @@ found_here given settings held item h finding found settings-are item-is found-i
 not_empty : (one : Record) (records : List Record) → one ∷ records ≡ [] → ⊥
 not_empty one records e = cc
 
--- a reader that has read a record has read the opening
-splits_of : (r : RecordReader) (octets : List ℕ) (one : Record) (records : List Record) (h : List Item) → Agrees r octets (one ∷ records) h → Splits octets (one ∷ records) h r.held
-splits_of r octets one records h agrees = go r.is_open agrees.reads
+-- a reader that has read a record has read an opening
+splits_of : (r : RecordReader) (octets : List ℕ) (one : Record) (records : List Record) (h : List Item) → Agrees r octets (one ∷ records) h
+    → (format : Format) × Splits format octets (one ∷ records) h r.held
+splits_of r octets one records h agrees = go r.format agrees.reads
   where
-    go : (b : Bool) → ReadsTo b octets (one ∷ records) h r.held → Splits octets (one ∷ records) h r.held
-    go true reads = reads
-    go false reads = absurd (not_empty one records reads.0)
+    go : (o : Option Format) → ReadsTo o octets (one ∷ records) h r.held → (format : Format) × Splits format octets (one ∷ records) h r.held
+    go (Some format) reads = (format, reads)
+    go None reads = absurd (not_empty one records reads.0)
 
 answers_open : (r : RecordReader) (octets : List ℕ) (one : Record) (records : List Record) (item : Item) (h : List Item) → Agrees r octets (one ∷ records) (item ∷ h) → AnswersOpen h item
-answers_open r octets one records item h agrees = follows_open h one item (splits_of r octets one records (item ∷ h) agrees).are_read.1
+answers_open r octets one records item h agrees = let read = splits_of r octets one records (item ∷ h) agrees in follows_open read.0 h one item read.1.are_read.1
 
 -- the reader has read one record more, of which this is found
 pub wrong_stands : (r : RecordReader) (octets : List ℕ) (settings : Settings) (one : Record) (records : List Record) (item : Item) (h : List Item) (why : Reason) (position : ℕ)
@@ -116,11 +126,12 @@ pub wrong_stands : (r : RecordReader) (octets : List ℕ) (settings : Settings) 
 wrong_stands r octets settings one records item h why position agrees right found position-is = record {
   is_final = tt;
   holds = λ more. no_stays octets more settings position why (record {
+    format = (splits_of r octets one records (item ∷ h) agrees).0;
     records = one ∷ records;
     history = h;
     item = item;
     rest = r.held;
-    splits = splits_of r octets one records (item ∷ h) agrees;
+    splits = (splits_of r octets one records (item ∷ h) agrees).1;
     all_right = right;
     is_wrong = found_wrong settings h item why (answers_open r octets one records item h agrees) found;
     position_is = position-is;
@@ -142,22 +153,22 @@ right_goes_on seen j octets settings one records item h agrees right found index
 
 -- ---- the end
 
-pub yes_of : (octets : List ℕ) (settings : Settings) (records : List Record) (h : List Item) (counts : Counts) → IsTranscript octets records h → AllRight settings h → counts ≡ counts_of h
-    → IsVerdict octets settings (Yes counts)
-yes_of octets settings records h counts is right counts-are = record { records = records; history = h; is_transcript = is; all_right = right; counts_are = counts-are }
+pub yes_of : (format : Format) (octets : List ℕ) (settings : Settings) (records : List Record) (h : List Item) (counts : Counts) → IsTranscript format octets records h → AllRight settings h
+    → counts ≡ counts_of h → IsVerdict octets settings (Yes counts)
+yes_of format octets settings records h counts is right counts-are = record { format = format; records = records; history = h; is_transcript = is; all_right = right; counts_are = counts-are }
 
 -- octets that are left are torn
 pub torn_of : (r : RecordReader) (octets : List ℕ) (settings : Settings) (records : List Record) (h : List Item) → Agrees r octets records h → AllRight settings h → Waits r h → HasUnread r
     → IsVerdict octets settings (Malformed (reader_position r) fault.Torn)
-torn_of r octets settings records h agrees right waits unread = go r.is_open agrees.reads waits unread
+torn_of r octets settings records h agrees right waits unread = go r.format agrees.reads waits unread
   where
-    go : (b : Bool) → ReadsTo b octets records h r.held → WaitsBy b h r.held → HasUnreadBy b r.held → IsVerdict octets settings (Malformed (cond b (r.standing.records + 1) 0) fault.Torn)
-    go false reads waits unread = inl (refl, inr (subst (λ (o : List ℕ). IsUnfinishedOpening o) (sym reads.1.1) waits, refl))
-    go true reads waits unread =
+    go : (o : Option Format) → ReadsTo o octets records h r.held → WaitsBy o h r.held → HasUnreadBy o r.held → IsVerdict octets settings (Malformed (position_by o r.standing.records) fault.Torn)
+    go None reads waits unread = inl (refl, inr (subst (λ (o : List ℕ). IsUnfinishedOpening o) (sym reads.1.1) waits, refl))
+    go (Some format) reads waits unread =
         inr (record {
           history = h;
           all_right = right;
-          breaks = inr (refl, record { records = records; rest = r.held; splits = reads; some = unread; torn = waits });
+          breaks = inr (refl, record { format = format; records = records; rest = r.held; splits = reads; some = unread; torn = waits });
           position_is = ap (λ (n : ℕ). n + 1) agrees.stands.records;
         })
 
@@ -182,35 +193,35 @@ record MayGoOn (octets : List ℕ) (settings : Settings) : Type 0 where
 cell : (b : ℕ) (held : List ℕ) → b ∷ held ≢ []
 cell b held e = cc
 
-ends_behind : (octets : List ℕ) (settings : Settings) (records : List Record) (h : List Item) (held : List ℕ) → Splits octets records h held → AllRight settings h
-    → IsUnfinished (line_fault h) held → MayGoOn octets settings
-ends_behind octets settings records h [] splits right waits = record {
+ends_behind : (format : Format) (octets : List ℕ) (settings : Settings) (records : List Record) (h : List Item) (held : List ℕ) → Splits format octets records h held → AllRight settings h
+    → IsUnfinished format (line_fault h) held → MayGoOn octets settings
+ends_behind format octets settings records h [] splits right waits = record {
   verdict = Yes (counts_of h);
   may = tt;
-  is = yes_of octets settings records h (counts_of h) splits right refl;
+  is = yes_of format octets settings records h (counts_of h) splits right refl;
 }
-ends_behind octets settings records h (b ∷ held) splits right waits = record {
+ends_behind format octets settings records h (b ∷ held) splits right waits = record {
   verdict = Malformed (next_position h) fault.Torn;
   may = refl;
   is = inr (record {
     history = h;
     all_right = right;
-    breaks = inr (refl, record { records = records; rest = b ∷ held; splits = splits; some = cell b held; torn = waits });
+    breaks = inr (refl, record { format = format; records = records; rest = b ∷ held; splits = splits; some = cell b held; torn = waits });
     position_is = refl;
   });
 }
 
 may_go_on : (r : RecordReader) (octets : List ℕ) (settings : Settings) (records : List Record) (h : List Item) → Agrees r octets records h → AllRight settings h → Waits r h
     → MayGoOn octets settings
-may_go_on r octets settings records h agrees right waits = go r.is_open agrees.reads waits
+may_go_on r octets settings records h agrees right waits = go r.format agrees.reads waits
   where
-    go : (b : Bool) → ReadsTo b octets records h r.held → WaitsBy b h r.held → MayGoOn octets settings
-    go false reads waits = record {
+    go : (o : Option Format) → ReadsTo o octets records h r.held → WaitsBy o h r.held → MayGoOn octets settings
+    go None reads waits = record {
       verdict = Malformed 0 fault.Torn;
       may = refl;
       is = inl (refl, inr (subst (λ (o : List ℕ). IsUnfinishedOpening o) (sym reads.1.1) waits, refl));
     }
-    go true reads waits = ends_behind octets settings records h r.held reads right waits
+    go (Some format) reads waits = ends_behind format octets settings records h r.held reads right waits
 
 pub may_change : {I : Type 0} (seen : I → Seen) (j : Judge I) (octets : List ℕ) (settings : Settings) (verdict : Verdict) → IsWaiting seen j settings octets → IsVerdict octets settings verdict
     → MayChange verdict

@@ -1,5 +1,6 @@
 -- The transcripts that are audited.
-use Rattle.std.specs.Prelude.{ℕ, zero, suc, ◌+◌, ◌%◌, List, [], ◌++◌, length, nat_lt, if◌then◌else◌, codes, decimal}
+use Rattle.std.specs.Prelude.{ℕ, zero, suc, ◌+◌, ◌%◌, List, [], ◌++◌, length, None, nat_lt, if◌then◌else◌, codes, decimal}
+use Rattle.hc_transcript.specs.declared.format.Format.TheVariants.{First}
 use Rattle.hc_transcript.specs.declared.record.Passed.{Passed}
 use Rattle.hc_transcript.specs.declared.record.Passed.TheVariants.{ClientRequest, OriginRequest, OriginResponse, ClientReply}
 use Rattle.hc_transcript.specs.Records.{opening, record_text}
@@ -23,12 +24,12 @@ hit_lines = codes "age: 0" ++ line_end ++ codes "cache-status: hcache;hit" ++ li
 
 -- the text of what passed under that number; all passes at the moment of the date
 unfoldable pub passed_text : ℕ → Passed → List ℕ
-passed_text number passed = record_text (record { number = number; moment = 1000; of = passed })
+passed_text number passed = record_text First (record { number = number; moment = 1000; of = passed })
 
 -- an exchange that is forwarded, under its own number
 abbrev pub forwarded : List ℕ → ℕ → ℕ → List ℕ
 forwarded body number target =
-    passed_text number (ClientRequest (get_request target)) ++ (passed_text number (OriginRequest (get_request target))
+    passed_text number (ClientRequest (get_request target)) ++ (passed_text number (OriginRequest (get_request target) None)
     ++ (passed_text number (OriginResponse (fresh_response [] body)) ++ passed_text number (ClientReply (fresh_response [] body))))
 
 -- an exchange that is answered with what is stored
@@ -48,4 +49,4 @@ exchanges body targets (suc before) = exchanges body targets before ++ exchange 
 
 -- a transcript of so many exchanges for so many targets, whose responses have that body
 abbrev pub transcript : List ℕ → ℕ → ℕ → List ℕ
-transcript body targets count = opening ++ exchanges body targets count
+transcript body targets count = opening First ++ exchanges body targets count

@@ -5,7 +5,7 @@ ghost use Rattle.hc_bench.specs.Transcripts.{exchange, forwarded, fresh_response
 
 use hc_fields::Octets;
 use hc_framing::MessageText;
-use hc_transcript::{OPENING, Passed, Record, write_record};
+use hc_transcript::{Format, Passed, Record, write_record};
 use std::alloc::{AllocError, Global};
 
 /// The moment of each record, in seconds since 1970, which the dates tell too.
@@ -40,7 +40,7 @@ fn exchanges_of(
     requires { 0 < targets }
     ensures { IfOk result (λ text. text ≡ transcript body.now targets exchanges) }
 {
-    let mut text = Octets::from_slice(alloc, OPENING)?;
+    let mut text = Octets::from_slice(alloc, Format::First.opening())?;
     'exchanges: for before in 0..exchanges {
         push_exchange(alloc, &mut text, targets, before, body)?;
     }
@@ -87,7 +87,10 @@ fn push_forwarded(
         alloc,
         text,
         number,
-        Passed::OriginRequest(get_request(alloc, target)?),
+        Passed::OriginRequest {
+            message: get_request(alloc, target)?,
+            cause: None,
+        },
     )?;
     push(
         alloc,
@@ -139,7 +142,7 @@ fn push(alloc: Global, text: &mut Octets, number: u64, passed: Passed) -> Result
         moment: MOMENT,
         of: passed,
     };
-    let written = write_record(alloc, &record)?;
+    let written = write_record(alloc, &record, Format::First)?;
     text.extend_from_slice(written.as_slice())
 }
 

@@ -1,6 +1,7 @@
 -- What a verdict on what was read says of all octets of an input.
-use Rattle.std.proofs.Common.{◌≡◌, ◌∙◌, ℕ, List, [], ◌++◌, Option, None, Some, IfSome, ap, append-nil, subst, sym}
+use Rattle.std.proofs.Common.{◌≡◌, ◌∙◌, ℕ, List, [], ◌++◌, Option, None, Some, IfSome, ap, append-nil, append_assoc, subst, sym}
 use Rattle.std.specs.Io.KnownBytes.{Consumes, IsAtEnd}
+use Rattle.std.proofs.KnownBytes.{Consumes-trans}
 use Rattle.hc_history.specs.declared.settings.Settings.{Settings}
 use Rattle.hc_history.specs.declared.verdicts.Verdict.{Verdict}
 use Rattle.hc_history.specs.Seen.{Seen}
@@ -8,7 +9,22 @@ use Rattle.hc_history.specs.Verdicts.{IsVerdict}
 use Rattle.hc_audit.specs.declared.auditor.Auditor.{Auditor}
 use Rattle.hc_audit.specs.Agreement.{Agrees}
 use Rattle.hc_audit.specs.Standing.{Stands}
-use Rattle.hc_command.specs.Audit.{Feeds}
+use Rattle.hc_command.specs.Audit.{Feeds, FeedsPiece}
+
+-- ---- what was fed
+
+-- the auditor was fed a piece more
+pub fed_on : {I : Type 0} (seen : I → Seen) (settings : Settings) (octets : List ℕ) (before after : Auditor I) (old mid new : Option (List ℕ)) (piece : List ℕ) (settled : Option Verdict)
+    (f : Feeds seen before settings octets old mid None) → Consumes mid new piece → FeedsPiece seen after settings ((octets ++ f.bytes) ++ piece) settled
+    → Feeds seen after settings octets old new settled
+fed_on seen settings octets before after old mid new piece settled f consumed fed =
+    let all : (octets ++ f.bytes) ++ piece ≡ octets ++ (f.bytes ++ piece) = append_assoc octets f.bytes piece in
+    record {
+      bytes = f.bytes ++ piece;
+      agrees = subst (Agrees seen after settings) all fed.agrees;
+      consumed = Consumes-trans old mid new f.bytes piece f.consumed consumed;
+      stands = subst (λ (o : List ℕ). IfSome settled (λ verdict. Stands verdict settings o)) all fed.stands;
+    }
 
 -- ---- the verdict
 

@@ -4,12 +4,13 @@ use Rattle.std.proofs.lemmas.Grind.{flat_map-append}
 use Rattle.hc_transcript.specs.declared.record.Record.{Record}
 use Rattle.hc_transcript.specs.Records.{opening, record_text}
 use Rattle.hc_service.specs.Runs.{StepResult, records_given, transcript_of}
+use Rattle.hc_service.specs.Sending.{recorded_format}
 use Rattle.hc_core.specs.Results.{records_in, texts_of}
 
 -- ---- texts
 
 texts_append : (a b : List Record) → texts_of (a ++ b) ≡ texts_of a ++ texts_of b
-texts_append a b = flat_map-append record_text a b
+texts_append a b = flat_map-append (record_text recorded_format) a b
 
 -- ---- answers
 
@@ -34,6 +35,6 @@ pub longer_transcript : (before : List StepResult) (answer : StepResult) (text l
     → longer ≡ text ++ texts_of (records_in answer) → longer ≡ transcript_of (records_given (before ++ answer ∷ []))
 longer_transcript before answer text longer was is =
     is ∙ ap (λ (t : List ℕ). t ++ texts_of (records_in answer)) was
-    ∙ append_assoc opening (texts_of (records_given before)) (texts_of (records_in answer))
-    ∙ ap (λ (t : List ℕ). opening ++ t)
+    ∙ append_assoc (opening recorded_format) (texts_of (records_given before)) (texts_of (records_in answer))
+    ∙ ap (λ (t : List ℕ). opening recorded_format ++ t)
     (sym (texts_append (records_given before) (records_in answer)) ∙ ap texts_of (sym (given_more before answer)))

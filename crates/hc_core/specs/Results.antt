@@ -6,11 +6,11 @@ use Rattle.hc_transcript.specs.Records.{record_text}
 use Rattle.hc_service.specs.declared.fault.StepFault.{StepFault}
 use Rattle.hc_service.specs.declared.fault.StepFault.TheVariants.{Memory, MomentTooLarge, UnknownNumber, TooManyConnections, Failed}
 use Rattle.hc_service.specs.Runs.{StepResult}
-use Rattle.hc_service.specs.Sending.{records_of}
+use Rattle.hc_service.specs.Sending.{recorded_format, records_of}
 
 -- the texts of records, the oldest first
 abbrev pub texts_of : List Record → List ℕ
-texts_of records = flat_map record_text records
+texts_of records = flat_map (record_text recorded_format) records
 
 -- the records that an answer gives out, in order
 abbrev pub records_in : StepResult → List Record

@@ -2,7 +2,7 @@
 
 ghost use Rattle.std.specs.Prelude.{◌≡◌, ◌∷◌, ◌++◌, [], IfOk, OnOk};
 ghost use Rattle.hc_transcript.specs.Records.{opening};
-ghost use Rattle.hc_service.specs.Sending.{records_of};
+ghost use Rattle.hc_service.specs.Sending.{recorded_format, records_of};
 ghost use Rattle.hc_core.specs.Results.{records_in, texts_of};
 ghost use Rattle.hc_core.specs.Recordings.{TakesStep};
 
@@ -10,7 +10,7 @@ use crate::outcome::{StepResult, is_refusal};
 use hc_events::Event;
 use hc_machine::Core;
 use hc_service::Action;
-use hc_transcript::{OPENING, Record, append_record};
+use hc_transcript::{Format, Record, append_record};
 use std::alloc::{AllocError, Global};
 use std::hash::BuildHasher;
 
@@ -26,7 +26,7 @@ fn append_action(text: &mut Vec<u8>, action: &Action) -> Result<(), AllocError>
     ensures { OnOk result (text.new.items ≡ text.old.items ++ texts_of (records_of (action.now ∷ []))) }
 {
     match action {
-        Action::Record(record) => append_record(text, record),
+        Action::Record(record) => append_record(text, record, Format::First),
         _ => Ok(()),
     }
 }
@@ -54,11 +54,11 @@ fn append_result(text: &mut Vec<u8>, answer: &StepResult) -> Result<(), AllocErr
 /// Where nothing has happened yet.
 pub(crate) fn new_recording(alloc: Global) -> Result<Recording, AllocError>
     ensures results { IfOk result (λ recording. recording.results.items ≡ []) }
-    ensures text { IfOk result (λ recording. recording.text.items ≡ opening) }
+    ensures text { IfOk result (λ recording. recording.text.items ≡ opening recorded_format) }
 {
     Ok(Recording {
         results: Vec::new(alloc),
-        text: Vec::from_slice(alloc, OPENING)?,
+        text: Vec::from_slice(alloc, Format::First.opening())?,
     })
 }
 

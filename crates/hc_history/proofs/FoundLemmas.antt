@@ -5,16 +5,18 @@ use Rattle.hc_head.specs.declared.head.RequestHead.{RequestHead}
 use Rattle.hc_head.specs.declared.head.ResponseHead.{ResponseHead}
 use Rattle.hc_head.specs.declared.head.Target.{Target}
 use Rattle.hc_framing.specs.declared.message.Message.{Message}
+use Rattle.hc_transcript.specs.declared.format.Format.{Format}
 use Rattle.hc_transcript.specs.declared.line.Kind.{Kind}
 use Rattle.hc_transcript.specs.declared.line.Kind.TheVariants as kind
 use Rattle.hc_transcript.specs.declared.line.Line.{Line}
+use Rattle.hc_transcript.specs.declared.line.ToldCause.{ToldCause}
 use Rattle.hc_transcript.specs.declared.record.Record.{Record}
-use Rattle.hc_transcript.specs.Records.{line_of, message_of}
+use Rattle.hc_transcript.specs.Records.{exchange_told, line_of, message_of}
 use Rattle.hc_transcript.specs.Items.{Item, ClientRequest, OriginRequest, OriginResponse, OriginFailure, ClientReply, Exchange}
-use Rattle.hc_transcript.specs.History.{exchange_of, forward_of, last_moment, last_exchange, last_forward}
+use Rattle.hc_transcript.specs.History.{exchange_of, forward_of}
 use Rattle.hc_transcript.specs.Checks.{answers_open, line_fault}
 use Rattle.hc_transcript.specs.Transcript.{IsItemOf, is_to_head, Follows}
-use Rattle.hc_transcript.proofs.CheckLemmas.{in_order}
+use Rattle.hc_transcript.proofs.CheckLemmas.{order_after}
 use Rattle.hc_history.specs.declared.reasons.Reason.{Reason}
 use Rattle.hc_history.specs.declared.settings.Settings.{Settings}
 use Rattle.hc_history.specs.declared.verdicts.Finding.TheVariants.{Right, Wrong}
@@ -50,8 +52,8 @@ is_there None e = cc
 no_client_request : (n m a b : ℕ) (reply : Message ResponseHead) (request : Message RequestHead) (target : Target) → ClientReply n m reply ≡ ClientRequest a b request target → ⊥
 no_client_request n m a b reply request target e = cc
 
-no_origin_request : (n m a b : ℕ) (reply : Message ResponseHead) (request : Message RequestHead) (target : Target) → ClientReply n m reply ≡ OriginRequest a b request target → ⊥
-no_origin_request n m a b reply request target e = cc
+no_origin_request : (n m a b : ℕ) (reply : Message ResponseHead) (request : Message RequestHead) (target : Target) (cause : Option ℕ) → ClientReply n m reply ≡ OriginRequest a b request target cause → ⊥
+no_origin_request n m a b reply request target cause e = cc
 
 no_response : (n m a b : ℕ) (reply response : Message ResponseHead) → ClientReply n m reply ≡ OriginResponse a b response → ⊥
 no_response n m a b reply response e = cc
@@ -63,24 +65,24 @@ same_number : (n m a b : ℕ) (reply other : Message ResponseHead) → ClientRep
 same_number n m a b reply other e = cc
 
 -- what is read as a reply is a record of one, with its number
-reply_read : (k : Kind) (a b : ℕ) (to_head : Bool) (octets : List ℕ) (n m : ℕ) (reply : Message ResponseHead) → IsItemOf k a b to_head octets (ClientReply n m reply)
+reply_read : (k : Kind) (cause : ToldCause) (a b : ℕ) (to_head : Bool) (octets : List ℕ) (n m : ℕ) (reply : Message ResponseHead) → IsItemOf k cause a b to_head octets (ClientReply n m reply)
     → (k ≡ kind.ClientReply) × (n ≡ a)
-reply_read kind.ClientRequest a b to_head octets n m reply is = absurd (no_client_request n m a b reply is.0 is.1 is.3)
-reply_read kind.OriginRequest a b to_head octets n m reply is = absurd (no_origin_request n m a b reply is.0 is.1 is.3)
-reply_read kind.OriginResponse a b to_head octets n m reply is = absurd (no_response n m a b reply is.0 is.2)
-reply_read kind.OriginFailure a b to_head octets n m reply is = absurd (no_failure n m a b reply is)
-reply_read kind.ClientReply a b to_head octets n m reply is = (refl, same_number n m a b reply is.0 is.2)
+reply_read kind.ClientRequest cause a b to_head octets n m reply is = absurd (no_client_request n m a b reply is.0 is.1 is.3)
+reply_read kind.OriginRequest cause a b to_head octets n m reply is = absurd (no_origin_request n m a b reply is.0 is.1 (exchange_told cause) is.3)
+reply_read kind.OriginResponse cause a b to_head octets n m reply is = absurd (no_response n m a b reply is.0 is.2)
+reply_read kind.OriginFailure cause a b to_head octets n m reply is = absurd (no_failure n m a b reply is)
+reply_read kind.ClientReply cause a b to_head octets n m reply is = (refl, same_number n m a b reply is.0 is.2)
 
 -- a reply of a transcript answers what is open
 reply_open : (h : List Item) (l : Line) (octets : List ℕ) (n m : ℕ) (reply : Message ResponseHead) → line_fault h l ≡ None
-    → IsItemOf l.kind l.number l.moment (is_to_head l.kind l.number h) octets (ClientReply n m reply) → IsSome (exchange_of n h)
+    → IsItemOf l.kind l.cause l.number l.moment (is_to_head l.kind l.number h) octets (ClientReply n m reply) → IsSome (exchange_of n h)
 reply_open h l octets n m reply keeps reads =
-    let is = reply_read l.kind l.number l.moment (is_to_head l.kind l.number h) octets n m reply reads in
-    let order = in_order l (last_moment h) (last_exchange h) (last_forward h) (is_some (exchange_of l.number h)) (is_some (forward_of l.number h)) keeps in
+    let is = reply_read l.kind l.cause l.number l.moment (is_to_head l.kind l.number h) octets n m reply reads in
+    let order = order_after h l keeps in
     subst (λ (k : ℕ). IsSome (exchange_of k h)) (sym is.1)
     (is_there (exchange_of l.number h)
     (subst (λ (k : Kind). answers_open k (is_some (exchange_of l.number h)) (is_some (forward_of l.number h)) ≡ true) is.0 order.is_open))
 
-pub follows_open : (h : List Item) (r : Record) (item : Item) → Follows h r item → AnswersOpen h item
-follows_open h r (ClientReply number moment reply) follows = reply_open h (line_of r) (message_of r) number moment reply follows.keeps follows.reads
-follows_open h r item follows = tt
+pub follows_open : (format : Format) (h : List Item) (r : Record) (item : Item) → Follows format h r item → AnswersOpen h item
+follows_open format h r (ClientReply number moment reply) follows = reply_open h (line_of format r) (message_of r) number moment reply follows.keeps follows.reads
+follows_open format h r item follows = tt

@@ -1,18 +1,18 @@
 -- Octets have one verdict, and one that stands stays.
-use Rattle.std.proofs.Common.{◌≡◌, ◌≢◌, ℕ, List, [], ◌∷◌, ◌++◌, Option, Some, None, sym, ap, ◌∙◌, subst, arith, ◌⊎◌, inl, inr, append_assoc}
+use Rattle.std.proofs.Common.{◌≡◌, ◌≢◌, ℕ, List, [], ◌∷◌, ◌++◌, Option, Some, None, sym, ap, ◌∙◌, subst, arith, ◌⊎◌, inl, inr}
 use Rattle.hc_head.specs.declared.head.ResponseHead.{ResponseHead}
 use Rattle.hc_framing.specs.declared.message.Message.{Message}
 use Rattle.hc_transcript.specs.declared.fault.RecordFault.{RecordFault}
 use Rattle.hc_transcript.specs.declared.fault.RecordFault.TheVariants as fault
+use Rattle.hc_transcript.specs.declared.format.Format.{Format}
 use Rattle.hc_transcript.specs.declared.record.Record.{Record}
-use Rattle.hc_transcript.specs.Records.{opening, records_text}
 use Rattle.hc_transcript.specs.Items.{Item, ClientReply, Exchange}
 use Rattle.hc_transcript.specs.History.{next_position, exchange_of, last_moment, last_exchange, last_forward}
 use Rattle.hc_transcript.specs.Checks.{line_fault}
 use Rattle.hc_transcript.specs.Malformed.{IsUnfinished, BreaksOpening, IsMalformedAfter}
 use Rattle.hc_transcript.specs.Transcript.{Splits, IsTranscript}
 use Rattle.hc_transcript.proofs.CheckLemmas.{no_memory_check}
-use Rattle.hc_transcript.proofs.OnceLemmas.{front, one as one_reading, one_break, break_last, broken_is_no_transcript, one_unfinished, unfinished_last, unfinished_is_no_transcript, unfinished_is_unbroken, no_opening_no_records, no_opening_is_hopeless, unfinished_opening_no_records, broken_more, no_opening_more}
+use Rattle.hc_transcript.proofs.OnceLemmas.{splits_more, one_opening, same_format, front, one as one_reading, one_break, break_last, broken_is_no_transcript, one_unfinished, unfinished_last, unfinished_is_no_transcript, unfinished_is_unbroken, no_opening_no_records, no_opening_is_hopeless, unfinished_opening_no_records, broken_more, no_opening_more}
 use Rattle.hc_history.specs.declared.reasons.Reason.{Reason}
 use Rattle.hc_history.specs.declared.settings.Settings.{Settings}
 use Rattle.hc_history.specs.declared.verdicts.Counts.{Counts}
@@ -59,27 +59,28 @@ never_within settings h items g item why all is wrong =
 
 -- ---- where the octets stop
 
-nothing_unfinished : (h : List Item) → IsUnfinished (line_fault h) []
-nothing_unfinished h = inl (record { short = omega arith; none = λ text begins. no_line text begins.after begins.octets_are })
+nothing_unfinished : (format : Format) (h : List Item) → IsUnfinished format (line_fault h) []
+nothing_unfinished format h = inl (record { short = omega arith; none = λ text begins. no_line text begins.after begins.octets_are })
   where
     no_line : (text after : List ℕ) → [] ≡ text ++ 10 ∷ after → ⊥
     no_line [] after is = cc
     no_line (c ∷ text) after is = cc
 
 -- what the octets break behind is the last history that is read of them
-last_read : (octets : List ℕ) (h : List Item) (f : RecordFault) (records : List Record) (g : List Item) (rest : List ℕ)
-    → IsMalformedAfter octets h f → Splits octets records g rest → (items : List Item) × (h ≡ items ++ g)
-last_read octets h f records g rest (inl broken) splits = break_last octets h f records g rest broken splits
-last_read octets h f records g rest (inr torn) splits =
-    unfinished_last octets torn.1.records records h g torn.1.rest rest torn.1.splits torn.1.torn splits
+last_read : (octets : List ℕ) (h : List Item) (f : RecordFault) (format : Format) (records : List Record) (g : List Item) (rest : List ℕ)
+    → IsMalformedAfter octets h f → Splits format octets records g rest → (items : List Item) × (h ≡ items ++ g)
+last_read octets h f format records g rest (inl broken) splits = break_last octets h f format records g rest broken splits
+last_read octets h f format records g rest (inr torn) splits =
+    unfinished_last torn.1.format octets torn.1.records records h g torn.1.rest rest torn.1.splits torn.1.torn
+    (same_format octets torn.1.format format torn.1.records records h g torn.1.rest rest torn.1.splits splits)
 
-break_read : (octets : List ℕ) (h : List Item) (f : RecordFault) → IsMalformedAfter octets h f → (records : List Record) × (rest : List ℕ) × Splits octets records h rest
-break_read octets h f (inl broken) = (broken.records, broken.rest, broken.splits)
-break_read octets h f (inr torn) = (torn.1.records, torn.1.rest, torn.1.splits)
+break_read : (octets : List ℕ) (h : List Item) (f : RecordFault) → IsMalformedAfter octets h f → (format : Format) × (records : List Record) × (rest : List ℕ) × Splits format octets records h rest
+break_read octets h f (inl broken) = (broken.format, broken.records, broken.rest, broken.splits)
+break_read octets h f (inr torn) = (torn.1.format, torn.1.records, torn.1.rest, torn.1.splits)
 
-opening_unread : (octets : List ℕ) (f : RecordFault) (records : List Record) (h : List Item) (rest : List ℕ) → BreaksOpening octets f → ¬ (Splits octets records h rest)
-opening_unread octets f records h rest (inl none) splits = no_opening_no_records octets records h rest none.0 splits
-opening_unread octets f records h rest (inr short) splits = unfinished_opening_no_records octets records h rest short.0 splits
+opening_unread : (octets : List ℕ) (f : RecordFault) (format : Format) (records : List Record) (h : List Item) (rest : List ℕ) → BreaksOpening octets f → ¬ (Splits format octets records h rest)
+opening_unread octets f format records h rest (inl none) splits = no_opening_no_records octets format records h rest none.0 splits
+opening_unread octets f format records h rest (inr short) splits = unfinished_opening_no_records format octets records h rest short.0 splits
 
 one_opening_fault : (octets : List ℕ) (f e : RecordFault) → BreaksOpening octets f → BreaksOpening octets e → f ≡ e
 one_opening_fault octets f e (inl none) (inl other) = none.1 ∙ sym other.1
@@ -90,33 +91,40 @@ one_opening_fault octets f e (inr short) (inr other) = short.1 ∙ sym other.1
 one_break_behind : (octets : List ℕ) (h g : List Item) (f e : RecordFault) → IsMalformedAfter octets h f → IsMalformedAfter octets g e → (h ≡ g) × (f ≡ e)
 one_break_behind octets h g f e (inl one) (inl other) = one_break octets h g f e one other
 one_break_behind octets h g f e (inl one) (inr torn) =
-    absurd (unfinished_is_unbroken octets torn.1.records g h torn.1.rest f torn.1.splits torn.1.torn one)
+    absurd (unfinished_is_unbroken torn.1.format octets torn.1.records g h torn.1.rest f torn.1.splits torn.1.torn one)
 one_break_behind octets h g f e (inr torn) (inl other) =
-    absurd (unfinished_is_unbroken octets torn.1.records h g torn.1.rest e torn.1.splits torn.1.torn other)
+    absurd (unfinished_is_unbroken torn.1.format octets torn.1.records h g torn.1.rest e torn.1.splits torn.1.torn other)
 one_break_behind octets h g f e (inr torn) (inr other) =
-    let same = one_unfinished octets torn.1.records other.1.records h g torn.1.rest other.1.rest torn.1.splits torn.1.torn other.1.splits other.1.torn in
+    let splits = same_format octets torn.1.format other.1.format torn.1.records other.1.records h g torn.1.rest other.1.rest torn.1.splits other.1.splits in
+    let same-format = one_opening octets other.1.format torn.1.format other.1.records torn.1.records g h other.1.rest torn.1.rest other.1.splits torn.1.splits in
+    let unfinished : IsUnfinished torn.1.format (line_fault g) other.1.rest = subst (λ (k : Format). IsUnfinished k (line_fault g) other.1.rest) same-format other.1.torn in
+    let same = one_unfinished torn.1.format octets torn.1.records other.1.records h g torn.1.rest other.1.rest torn.1.splits torn.1.torn splits unfinished in
     (same.1, torn.0 ∙ sym other.0)
 
-behind_is_no_transcript : (octets : List ℕ) (h : List Item) (f : RecordFault) (records : List Record) (g : List Item) → IsMalformedAfter octets h f → ¬ (IsTranscript octets records g)
-behind_is_no_transcript octets h f records g (inl broken) whole = broken_is_no_transcript octets h f records g broken whole
-behind_is_no_transcript octets h f records g (inr torn) whole =
-    unfinished_is_no_transcript octets torn.1.records records h g torn.1.rest torn.1.splits torn.1.some torn.1.torn whole
+behind_is_no_transcript : (octets : List ℕ) (h : List Item) (f : RecordFault) (format : Format) (records : List Record) (g : List Item) → IsMalformedAfter octets h f
+    → ¬ (IsTranscript format octets records g)
+behind_is_no_transcript octets h f format records g (inl broken) whole = broken_is_no_transcript octets h f format records g broken whole
+behind_is_no_transcript octets h f format records g (inr torn) whole =
+    unfinished_is_no_transcript torn.1.format octets torn.1.records records h g torn.1.rest torn.1.splits torn.1.some torn.1.torn
+    (same_format octets torn.1.format format torn.1.records records h g torn.1.rest [] torn.1.splits whole)
 
 -- ---- one verdict
 
 same_counts : (octets : List ℕ) (settings : Settings) (one other : Counts) → IsAllRight octets settings one → IsAllRight octets settings other → Yes one ≡ Yes other
 same_counts octets settings one other y z =
-    let same = one_reading octets y.records z.records y.history z.history y.is_transcript z.is_transcript in
+    let whole = same_format octets y.format z.format y.records z.records y.history z.history [] [] y.is_transcript z.is_transcript in
+    let same = one_reading y.format octets y.records z.records y.history z.history y.is_transcript whole in
     ap Yes (y.counts_are ∙ ap counts_of same.1 ∙ sym z.counts_are)
 
 yes_no : (octets : List ℕ) (settings : Settings) (counts : Counts) (position : ℕ) (why : Reason) → IsAllRight octets settings counts → ¬ (IsWrongAt octets settings position why)
 yes_no octets settings counts position why y n =
-    let last = unfinished_last octets y.records n.records y.history (n.item ∷ n.history) [] n.rest y.is_transcript (nothing_unfinished y.history) n.splits in
+    let splits = same_format octets y.format n.format y.records n.records y.history (n.item ∷ n.history) [] n.rest y.is_transcript n.splits in
+    let last = unfinished_last y.format octets y.records n.records y.history (n.item ∷ n.history) [] n.rest y.is_transcript (nothing_unfinished y.format y.history) splits in
     never_within settings y.history last.0 n.history n.item why y.all_right last.1 n.is_wrong
 
 break_no : (octets : List ℕ) (settings : Settings) (at position : ℕ) (f : RecordFault) (why : Reason) → IsMalformedAt octets settings at f → ¬ (IsWrongAt octets settings position why)
 break_no octets settings at position f why b n =
-    let last = last_read octets b.history f n.records (n.item ∷ n.history) n.rest b.breaks n.splits in
+    let last = last_read octets b.history f n.format n.records (n.item ∷ n.history) n.rest b.breaks n.splits in
     never_within settings b.history last.0 n.history n.item why b.all_right last.1 n.is_wrong
 
 -- of two wrong replies behind right ones neither is later
@@ -136,7 +144,8 @@ stop_parts octets settings position at why other n m same before =
 
 no_no : (octets : List ℕ) (settings : Settings) (position at : ℕ) (why other : Reason) → IsWrongAt octets settings position why → IsWrongAt octets settings at other → No position why ≡ No at other
 no_no octets settings position at why other n m =
-    elim (front octets n.records m.records (n.item ∷ n.history) (m.item ∷ m.history) n.rest m.rest n.splits m.splits) [
+    elim (front n.format octets n.records m.records (n.item ∷ n.history) (m.item ∷ m.history) n.rest m.rest n.splits
+    (same_format octets n.format m.format n.records m.records (n.item ∷ n.history) (m.item ∷ m.history) n.rest m.rest n.splits m.splits)) [
       | inl goes ↦
           let same = no_later settings goes.items n.history m.history n.item m.item why m.all_right n.is_wrong goes.items_are in
           stop_parts octets settings position at why other n m (sym same.0) (sym same.1)
@@ -152,22 +161,22 @@ break_break octets settings position at f e (inl one) (inl other) =
     ap (λ (p : ℕ). Malformed p f) (one.0 ∙ sym other.0) ∙ ap (Malformed at) (one_opening_fault octets f e one.1 other.1)
 break_break octets settings position at f e (inl one) (inr b) =
     let read = break_read octets b.history e b.breaks in
-    absurd (opening_unread octets f read.0 b.history read.1 one.1 read.2)
+    absurd (opening_unread octets f read.0 read.1 b.history read.2 one.1 read.3)
 break_break octets settings position at f e (inr b) (inl other) =
     let read = break_read octets b.history f b.breaks in
-    absurd (opening_unread octets e read.0 b.history read.1 other.1 read.2)
+    absurd (opening_unread octets e read.0 read.1 b.history read.2 other.1 read.3)
 break_break octets settings position at f e (inr b) (inr c) =
     let same = one_break_behind octets b.history c.history f e b.breaks c.breaks in
     ap (λ (p : ℕ). Malformed p f) (b.position_is ∙ ap next_position same.0 ∙ sym c.position_is) ∙ ap (Malformed at) same.1
 
 yes_break : (octets : List ℕ) (settings : Settings) (counts : Counts) (position : ℕ) (f : RecordFault) → IsAllRight octets settings counts
     → (((position ≡ 0) × BreaksOpening octets f) ⊎ IsMalformedAt octets settings position f) → ⊥
-yes_break octets settings counts position f y (inl one) = opening_unread octets f y.records y.history [] one.1 y.is_transcript
-yes_break octets settings counts position f y (inr b) = behind_is_no_transcript octets b.history f y.records y.history b.breaks y.is_transcript
+yes_break octets settings counts position f y (inl one) = opening_unread octets f y.format y.records y.history [] one.1 y.is_transcript
+yes_break octets settings counts position f y (inr b) = behind_is_no_transcript octets b.history f y.format y.records y.history b.breaks y.is_transcript
 
 no_break : (octets : List ℕ) (settings : Settings) (at position : ℕ) (why : Reason) (f : RecordFault) → IsWrongAt octets settings at why
     → (((position ≡ 0) × BreaksOpening octets f) ⊎ IsMalformedAt octets settings position f) → ⊥
-no_break octets settings at position why f n (inl one) = opening_unread octets f n.records (n.item ∷ n.history) n.rest one.1 n.splits
+no_break octets settings at position why f n (inl one) = opening_unread octets f n.format n.records (n.item ∷ n.history) n.rest one.1 n.splits
 no_break octets settings at position why f n (inr b) = break_no octets settings position at f why b n
 
 pub one_verdict : (octets : List ℕ) (settings : Settings) (one other : Verdict) → IsVerdict octets settings one → IsVerdict octets settings other → one ≡ other
@@ -183,21 +192,14 @@ one_verdict octets settings (Malformed p f) (Malformed q e) b c = break_break oc
 
 -- ---- a verdict that stands
 
-splits_more : (octets more : List ℕ) (records : List Record) (h : List Item) (rest : List ℕ) → Splits octets records h rest → Splits (octets ++ more) records h (rest ++ more)
-splits_more octets more records h rest s = record {
-  octets_are = ap (λ (o : List ℕ). o ++ more) s.octets_are
-      ∙ append_assoc opening (records_text records ++ rest) more
-      ∙ ap (λ (o : List ℕ). opening ++ o) (append_assoc (records_text records) rest more);
-  are_read = s.are_read;
-}
-
 pub no_stays : (octets more : List ℕ) (settings : Settings) (position : ℕ) (why : Reason) → IsVerdict octets settings (No position why) → IsVerdict (octets ++ more) settings (No position why)
 no_stays octets more settings position why n = record {
+  format = n.format;
   records = n.records;
   history = n.history;
   item = n.item;
   rest = n.rest ++ more;
-  splits = splits_more octets more n.records (n.item ∷ n.history) n.rest n.splits;
+  splits = splits_more n.format octets more n.records (n.item ∷ n.history) n.rest n.splits;
   all_right = n.all_right;
   is_wrong = n.is_wrong;
   position_is = n.position_is;
@@ -226,7 +228,7 @@ no_memory_opening octets (inr short) = let other : fault.Memory ≡ fault.Torn =
 
 no_memory_behind : (octets : List ℕ) (h : List Item) → ¬ (IsMalformedAfter octets h fault.Memory)
 no_memory_behind octets h (inl broken) =
-    no_memory_check broken.breaks.line (last_moment h) (last_exchange h) (last_forward h) _ _ broken.breaks.fails
+    no_memory_check broken.breaks.line (last_moment h) (last_exchange h) (last_forward h) _ _ _ broken.breaks.fails
 no_memory_behind octets h (inr torn) = let other : fault.Memory ≡ fault.Torn = torn.0 in cc
 
 pub no_memory : (octets : List ℕ) (settings : Settings) (position : ℕ) → ¬ (IsVerdict octets settings (Malformed position fault.Memory))

@@ -1,6 +1,7 @@
 -- The verdict on octets.
 use Rattle.std.specs.Prelude.{◌≡◌, ℕ, ◌⊎◌, List, ◌∷◌}
 use Rattle.hc_transcript.specs.declared.fault.RecordFault.{RecordFault}
+use Rattle.hc_transcript.specs.declared.format.Format.{Format}
 use Rattle.hc_transcript.specs.declared.record.Record.{Record}
 use Rattle.hc_transcript.specs.Items.{Item}
 use Rattle.hc_transcript.specs.History.{next_position}
@@ -18,9 +19,10 @@ use Rattle.hc_history.specs.Right.{AllRight, IsWrong}
 
 -- the octets are a transcript of which every reply is right, and so much is counted in it
 pub record IsAllRight (octets : List ℕ) (settings : Settings) (counts : Counts) : Type 0 where
+  pub format : Format
   pub records : List Record
   pub history : List Item
-  pub is_transcript : IsTranscript octets records history
+  pub is_transcript : IsTranscript format octets records history
   pub all_right : AllRight settings history
   pub counts_are : counts ≡ counts_of history
 
@@ -28,11 +30,12 @@ pub record IsAllRight (octets : List ℕ) (settings : Settings) (counts : Counts
 
 -- behind records of which every reply is right stands, at that position, a reply that is wrong by that reason, whatever follows
 pub record IsWrongAt (octets : List ℕ) (settings : Settings) (position : ℕ) (why : Reason) : Type 0 where
+  pub format : Format
   pub records : List Record
   pub history : List Item
   pub item : Item
   pub rest : List ℕ
-  pub splits : Splits octets records (item ∷ history) rest
+  pub splits : Splits format octets records (item ∷ history) rest
   pub all_right : AllRight settings history
   pub is_wrong : IsWrong settings history item why
   pub position_is : position ≡ next_position history

@@ -1,6 +1,6 @@
 //! What each kind of record makes of an index.
 
-ghost use Rattle.std.specs.Prelude.{◌<◌, ℕ, OnOk};
+ghost use Rattle.std.specs.Prelude.{◌<◌, ℕ, Option, OnOk};
 ghost use Rattle.hc_head.specs.declared.head.ResponseHead.{ResponseHead};
 ghost use Rattle.hc_framing.specs.declared.message.Message.{Message};
 ghost use Rattle.hc_fields.specs.Numbers.{end_of_moments};
@@ -42,8 +42,8 @@ pub(crate) trait Noting {
         request: Message<RequestHead>,
         target: Target,
     ) -> Result<(), AllocError>
-        ensures { (position : ℕ) → OnOk result
-            (Notes (knows self.old) position (OriginRequest number moment request target) (knows self.new)) };
+        ensures { (position : ℕ) (cause : Option ℕ) → OnOk result
+            (Notes (knows self.old) position (OriginRequest number moment request target cause) (knows self.new)) };
 
     /// Notes that the origin gave no answer.
     fn fail_forward(&mut self, number: u64, position: u64) -> Result<(), AllocError>
@@ -78,9 +78,11 @@ pub(crate) fn note_item<N: Noting>(
         Meaning::ClientRequest { request, target } => {
             noting.open_exchange(number, position, request, target)
         }
-        Meaning::OriginRequest { request, target } => {
-            noting.open_forward(number, moment, request, target)
-        }
+        Meaning::OriginRequest {
+            request,
+            target,
+            ..
+        } => { noting.open_forward(number, moment, request, target) }
         Meaning::OriginResponse(response) => {
             noting.answer_forward(number, position, moment, response)
         }

@@ -3,6 +3,7 @@ use Rattle.std.proofs.Common.{◌≡◌, ℕ, suc, ◌+◌, ◌<◌, List, [], �
 use Rattle.std.specs.Prelude.{map, reverse}
 use Rattle.std.proofs.Math.Seq.{take-suc}
 use Rattle.std.proofs.lemmas.List.{reverse-append, map-append, take-append-drop, length-take}
+use Rattle.hc_transcript.specs.declared.format.Format.{Format}
 use Rattle.hc_transcript.specs.declared.record.Record.{Record}
 use Rattle.hc_transcript.specs.Records.{record_text, records_text, opening}
 use Rattle.hc_transcript.specs.Items.{Item, item_of}
@@ -74,28 +75,30 @@ pub open_in : (items : List PastItem) (k : ℕ) (r : PastItem) → k < length it
 open_in items k r less is all =
     open_at (history_of (drop (k + 1) items)) (item_of r.item) (history_of (take k items)) (subst (λ (h : List Item). AllAnswerOpen h) (history_at items k r less is) all)
 
-all_open : (records : List Record) (h : List Item) → AreReadAs records h → AllAnswerOpen h
-all_open [] [] read = tt
-all_open [] (item ∷ h) read = absurd read
-all_open (r ∷ records) [] read = absurd read
-all_open (r ∷ records) (item ∷ h) read = (all_open records h read.0, follows_open h r item read.1)
+all_open : (format : Format) (records : List Record) (h : List Item) → AreReadAs format records h → AllAnswerOpen h
+all_open format [] [] read = tt
+all_open format [] (item ∷ h) read = absurd read
+all_open format (r ∷ records) [] read = absurd read
+all_open format (r ∷ records) (item ∷ h) read = (all_open format records h read.0, follows_open format h r item read.1)
 
 pub first_open : (octets : List ℕ) (h : List Item) → AreFirstOf octets h → AllAnswerOpen h
 first_open octets h first = elim first [
   | inl empty ↦ subst (λ (g : List Item). AllAnswerOpen g) (sym empty) tt
-  | inr read ↦ all_open read.0 h read.2.are_read
+  | inr read ↦ all_open read.0 read.1 h read.3.are_read
 ]
 
 -- ---- the verdict
 
 -- octets that are read as more items are read as the first of them
-fewer : (octets : List ℕ) (later : List Item) (item : Item) (h : List Item) (records : List Record) (rest : List ℕ) → Splits octets records (later ++ item ∷ h) rest
-    → (others : List Record) × (behind : List ℕ) × Splits octets others (item ∷ h) behind
-fewer octets [] item h records rest s = (records, rest, s)
-fewer octets (i ∷ later) item h [] rest s = absurd s.are_read
-fewer octets (i ∷ later) item h (r ∷ records) rest s =
-    fewer octets later item h records (record_text r ++ rest)
-    (record { octets_are = s.octets_are ∙ ap (λ (t : List ℕ). opening ++ t) (append_assoc (records_text records) (record_text r) rest); are_read = s.are_read.0 })
+fewer : (format : Format) (octets : List ℕ) (later : List Item) (item : Item) (h : List Item) (records : List Record) (rest : List ℕ) → Splits format octets records (later ++ item ∷ h) rest
+    → (others : List Record) × (behind : List ℕ) × Splits format octets others (item ∷ h) behind
+fewer format octets [] item h records rest s = (records, rest, s)
+fewer format octets (i ∷ later) item h [] rest s = absurd s.are_read
+fewer format octets (i ∷ later) item h (r ∷ records) rest s =
+    fewer format octets later item h records (record_text format r ++ rest) (record {
+      octets_are = s.octets_are ∙ ap (λ (t : List ℕ). opening format ++ t) (append_assoc (records_text format records) (record_text format r) rest);
+      are_read = s.are_read.0;
+    })
 
 not_empty : (later : List Item) (item : Item) (h : List Item) → [] ≡ later ++ item ∷ h → ⊥
 not_empty [] item h e = cc
@@ -106,8 +109,9 @@ pub wrong_at : (octets : List ℕ) (settings : Settings) (h : List Item) (positi
 wrong_at octets settings h position why first wrong = elim first [
   | inl empty ↦ absurd (not_empty wrong.later wrong.item wrong.earlier (sym empty ∙ wrong.history_is))
   | inr read ↦
-      let s = fewer octets wrong.later wrong.item wrong.earlier read.0 read.1 (subst (λ (g : List Item). Splits octets read.0 g read.1) wrong.history_is read.2) in
+      let s = fewer read.0 octets wrong.later wrong.item wrong.earlier read.1 read.2 (subst (λ (g : List Item). Splits read.0 octets read.1 g read.2) wrong.history_is read.3) in
       record {
+        format = read.0;
         records = s.0;
         history = wrong.earlier;
         item = wrong.item;

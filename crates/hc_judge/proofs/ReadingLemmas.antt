@@ -1,17 +1,18 @@
 -- What octets are read as.
-use Rattle.std.proofs.Common.{◌≡◌, ◌≢◌, ℕ, ◌+◌, ◌⊎◌, Bool, true, false, if◌then◌else◌, IfOk, List, [], ◌∷◌, ◌++◌, Some, None, Result, Ok, Err, refl, sym, ap, subst, ◌∙◌, inl, inr}
+use Rattle.std.proofs.Common.{◌≡◌, ◌≢◌, ℕ, ◌+◌, ◌⊎◌, IfOk, List, [], ◌∷◌, ◌++◌, Option, Some, None, Result, Ok, Err, refl, sym, ap, subst, ◌∙◌, inl, inr}
 use Rattle.std.specs.Prelude.{map, reverse}
 use Rattle.std.specs.Allocator.{alloc_error}
 use Rattle.std.specs.declared.alloc.AllocError.{AllocError}
 use Rattle.std.proofs.lemmas.List.{reverse-append, map-append}
 use Rattle.hc_transcript.specs.declared.fault.RecordFault.{RecordFault}
 use Rattle.hc_transcript.specs.declared.fault.RecordFault.TheVariants as fault
+use Rattle.hc_transcript.specs.declared.format.Format.{Format}
 use Rattle.hc_transcript.specs.declared.item.OwnedItem.{OwnedItem}
 use Rattle.hc_transcript.specs.declared.reader.RecordReader.{RecordReader}
 use Rattle.hc_transcript.specs.declared.record.Record.{Record}
 use Rattle.hc_transcript.specs.Items.{Item, item_of}
 use Rattle.hc_transcript.specs.Malformed.{IsUnfinishedOpening}
-use Rattle.hc_transcript.specs.Reader.{Agrees, ReadsTo, Waits, WaitsBy, HasUnread, HasUnreadBy, HasFailed, MeetsFault, reader_position}
+use Rattle.hc_transcript.specs.Reader.{Agrees, ReadsTo, Waits, WaitsBy, HasUnread, HasUnreadBy, HasFailed, MeetsFault, position_by, reader_position}
 use Rattle.hc_judge.specs.declared.reading.Ending.{Ending}
 use Rattle.hc_judge.specs.declared.reading.Ending.TheVariants.{Broken}
 use Rattle.hc_judge.specs.declared.past.PastItem.{PastItem}
@@ -35,16 +36,16 @@ read_more r octets items more past item records item-is more-is one agrees = (
 )
 
 pub first_of : (r : RecordReader) (octets : List ℕ) (records : List Record) (h : List Item) → Agrees r octets records h → AreFirstOf octets h
-first_of r octets records h agrees = go r.is_open agrees.reads
+first_of r octets records h agrees = go r.format agrees.reads
   where
-    go : (b : Bool) → ReadsTo b octets records h r.held → AreFirstOf octets h
-    go false reads = inl reads.1.0
-    go true reads = inr (records, r.held, reads)
+    go : (o : Option Format) → ReadsTo o octets records h r.held → AreFirstOf octets h
+    go None reads = inl reads.1.0
+    go (Some format) reads = inr (format, records, r.held, reads)
 
 met_at : (r : RecordReader) (octets : List ℕ) (h : List Item) (f : RecordFault) → MeetsFault r octets h f → EndsBy octets h (Broken (reader_position r) f)
 met_at r octets h f met = elim met [
-  | inl begins ↦ inl (begins.1.1, inl (begins.0, begins.1.0))
-  | inr behind ↦ inr (behind.1, inl behind.0)
+  | inl begins ↦ inl (begins.1.1.1, inl (begins.0, begins.1.0))
+  | inr behind ↦ inr (behind.position_is, inl behind.breaks)
 ]
 
 same : (r : Result Ending AllocError) (ending other : Ending) → r ≡ Ok ending → r ≡ Ok other → ending ≡ other
@@ -72,13 +73,13 @@ fault_ends r octets h f position ending position-is meets e = go f meets e
 pub torn_end : (r : RecordReader) (octets : List ℕ) (records : List Record) (h : List Item) (f : RecordFault) (position : ℕ) → position ≡ reader_position r
     → Agrees r octets records h → Waits r h → HasUnread r → (f ≡ fault.Torn) ⊎ HasFailed r f → IfOk (broken_at position f) (EndsBy octets h)
 torn_end r octets records h f position position-is agrees waits unread (inl torn) =
-    subst (λ (g : RecordFault). IfOk (broken_at position g) (EndsBy octets h)) (sym torn) (go r.is_open agrees.reads waits unread position-is)
+    subst (λ (g : RecordFault). IfOk (broken_at position g) (EndsBy octets h)) (sym torn) (go r.format agrees.reads waits unread position-is)
   where
-    go : (b : Bool) → ReadsTo b octets records h r.held → WaitsBy b h r.held → HasUnreadBy b r.held → position ≡ (if b then r.standing.records + 1 else 0)
+    go : (o : Option Format) → ReadsTo o octets records h r.held → WaitsBy o h r.held → HasUnreadBy o r.held → position ≡ position_by o r.standing.records
         → EndsBy octets h (Broken position fault.Torn)
-    go false reads waits unread at = inl (at, inr (subst IsUnfinishedOpening (sym reads.1.1) waits, refl))
-    go true reads waits unread at = inr (
+    go None reads waits unread at = inl (at, inr (subst IsUnfinishedOpening (sym reads.1.1) waits, refl))
+    go (Some format) reads waits unread at = inr (
       at ∙ ap (λ (n : ℕ). n + 1) agrees.stands.records,
-      inr (refl, record { records = records; rest = r.held; splits = reads; some = unread; torn = waits }),
+      inr (refl, record { format = format; records = records; rest = r.held; splits = reads; some = unread; torn = waits }),
     )
 torn_end r octets records h f position position-is agrees waits unread (inr failed) = absurd (let both : None ≡ Some f = sym agrees.unfailed ∙ failed in cc)

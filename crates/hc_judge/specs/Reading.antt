@@ -4,6 +4,7 @@ use Rattle.std.specs.Allocator.{alloc_error}
 use Rattle.std.specs.declared.alloc.AllocError.{AllocError}
 use Rattle.hc_transcript.specs.declared.fault.RecordFault.{RecordFault}
 use Rattle.hc_transcript.specs.declared.fault.RecordFault.TheVariants as fault
+use Rattle.hc_transcript.specs.declared.format.Format.{Format}
 use Rattle.hc_transcript.specs.declared.item.OwnedItem.{OwnedItem}
 use Rattle.hc_transcript.specs.declared.reader.RecordReader.{RecordReader}
 use Rattle.hc_transcript.specs.declared.record.Record.{Record}
@@ -19,11 +20,11 @@ use Rattle.hc_judge.specs.Past.{history_of}
 
 -- the items are those of the first records of the octets
 abbrev pub AreFirstOf : List ℕ → List Item → Type 0
-AreFirstOf octets h = (h ≡ []) ⊎ ((records : List Record) × (rest : List ℕ) × Splits octets records h rest)
+AreFirstOf octets h = (h ≡ []) ⊎ ((format : Format) × (records : List Record) × (rest : List ℕ) × Splits format octets records h rest)
 
 -- how the octets end behind the items
 abbrev pub EndsBy : List ℕ → List Item → Ending → Type 0
-EndsBy octets h Whole = (records : List Record) × IsTranscript octets records h
+EndsBy octets h Whole = (format : Format) × (records : List Record) × IsTranscript format octets records h
 EndsBy octets h (Broken position broken) =
     ((position ≡ 0) × BreaksOpening octets broken) ⊎ ((position ≡ next_position h) × IsMalformedAfter octets h broken)
 

@@ -53,7 +53,11 @@ fn forward_after<'a>(
     ensures { result ≡ forward_after number (item_of item.now) before.entry }
 {
     match &item.of {
-        Meaning::OriginRequest { request, target } => {
+        Meaning::OriginRequest {
+            request,
+            target,
+            ..
+        } => {
             if item.number != number {
                 return before;
             }

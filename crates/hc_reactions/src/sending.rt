@@ -69,7 +69,10 @@ pub fn send_request(
     actions.push(Action::Record(Record {
         number,
         moment: numbers.moment,
-        of: Passed::OriginRequest(text.share()?),
+        of: Passed::OriginRequest {
+            message: text.share()?,
+            cause: None,
+        },
     }))?;
     actions.push(Action::Forward(number, text))?;
     Ok(number)

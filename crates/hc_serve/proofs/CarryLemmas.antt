@@ -7,7 +7,7 @@ use Rattle.hc_transcript.specs.declared.record.Record.{Record}
 use Rattle.hc_transcript.specs.Records.{record_text}
 use Rattle.hc_service.specs.declared.action.Action.{Action}
 use Rattle.hc_service.specs.declared.action.Action.TheVariants as action
-use Rattle.hc_service.specs.Sending.{records_of}
+use Rattle.hc_service.specs.Sending.{recorded_format, records_of}
 use Rattle.hc_connection.specs.Links.{IsBeginning}
 use Rattle.hc_connection.specs.Moves.{Move}
 use Rattle.hc_serve.specs.declared.fault.DriveFault.{DriveFault}
@@ -49,7 +49,7 @@ records_append (action.Forward f octets ∷ a) b = records_append a b
 records_append (action.CloseForward f ∷ a) b = records_append a b
 
 pub texts_append : (a b : List Action) → texts_in (a ++ b) ≡ texts_in a ++ texts_in b
-texts_append a b = ap (flat_map record_text) (records_append a b) ∙ flat_map-append record_text (records_of a) (records_of b)
+texts_append a b = ap (flat_map (record_text recorded_format)) (records_append a b) ∙ flat_map-append (record_text recorded_format) (records_of a) (records_of b)
 
 carried_append : (a b : List Action) (log : List Move) → carried (a ++ b) log ≡ carried b (carried a log)
 carried_append [] b log = refl
@@ -89,8 +89,8 @@ one_cut T H a log text told front begins held = record {
 pub nothing_begins : (octets : List ℕ) → IsBeginning [] octets
 nothing_begins octets = (octets, refl)
 
-pub begins_alone : (front : List ℕ) (r : Record) → IsBeginning front (record_text r) → IsBeginning front (texts_in (action.Record r ∷ []))
-begins_alone front r b = subst (IsBeginning front) (sym (append-nil (record_text r))) b
+pub begins_alone : (front : List ℕ) (r : Record) → IsBeginning front (record_text recorded_format r) → IsBeginning front (texts_in (action.Record r ∷ []))
+begins_alone front r b = subst (IsBeginning front) (sym (append-nil (record_text recorded_format r))) b
 
 -- of no octets nothing was written
 pub quiet_cut : (T : List Move → Type 0) (H : List ℕ → Type 0) (a : Action) (log : List Move) (text : List ℕ) → T log → H text → AreCut T H (a ∷ []) log text

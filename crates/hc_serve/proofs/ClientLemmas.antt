@@ -10,6 +10,7 @@ use Rattle.hc_service.specs.declared.action.Action.TheVariants as action
 use Rattle.hc_service.specs.declared.settings.CoreSettings.{CoreSettings}
 use Rattle.hc_service.specs.Agreement.{Agrees, History}
 use Rattle.hc_service.specs.Runs.{IsJudgedRight, Runs, RunsOn, StepResult, nothing_yet, records_given}
+use Rattle.hc_service.specs.Sending.{recorded_format}
 use Rattle.hc_service.specs.Settings.{AreGood}
 use Rattle.hc_service.specs.State.{State, new_state}
 use Rattle.hc_machine.specs.Steps.{Cache, StandsFor}
@@ -442,31 +443,31 @@ module _ (on : RunsGoOn) (counted : RunsAreCounted) where
     right new events results leads few =
         let led = leads settings (new_state settings) nothing_yet good is_new (begins settings) (still_few (length (records_given results)) few) in judged settings events results (records_given results) led.end led.runs
 
-    pub holds_all : (may : ℕ → Type 0) (n misses : ℕ) (come : ℕ → ℕ → Type 0) (left : List Passage → Type 0) (H : List ℕ → Type 0) (new : Cache) → Serving may n misses come left H old new opening → HoldsTranscript H
+    pub holds_all : (may : ℕ → Type 0) (n misses : ℕ) (come : ℕ → ℕ → Type 0) (left : List Passage → Type 0) (H : List ℕ → Type 0) (new : Cache) → Serving may n misses come left H old new (opening recorded_format) → HoldsTranscript H
     holds_all may n misses come left H new serving = record {
       records = records_given serving.all.results;
       held = serving.held;
       right = right new serving.all.events serving.all.results serving.all.leads;
     }
 
-    pub holds_front : (may : ℕ → Type 0) (why : DriveFault) (count : ℕ) (come : ℕ → ℕ → Type 0) (left : List Passage → Type 0) (H : List ℕ → Type 0) (new : Cache) → BreaksBefore may why count come left H old new opening
+    pub holds_front : (may : ℕ → Type 0) (why : DriveFault) (count : ℕ) (come : ℕ → ℕ → Type 0) (left : List Passage → Type 0) (H : List ℕ → Type 0) (new : Cache) → BreaksBefore may why count come left H old new (opening recorded_format)
         → HoldsBeginning H
     holds_front may why count come left H new breaks =
         let all = breaks.all in
         let b = breaks.broken in
         let events = all.events ++ (b.events ++ events_by b.break) in
         let results = all.results ++ (b.results ++ answers_by b.break) in
-        let f = front_at (IsOwn may (1 + breaks.n)) H b.break (log_of (1 + breaks.n) b.events b.results) ((opening ++ texts_given all.results) ++ texts_given b.results) b.stops in record {
+        let f = front_at (IsOwn may (1 + breaks.n)) H b.break (log_of (1 + breaks.n) b.events b.results) ((opening recorded_format ++ texts_given all.results) ++ texts_given b.results) b.stops in record {
           records = records_given results;
           front = f.0;
-          begins = subst (IsBeginning f.0) (sym (texts_of_three opening all.results b.results (answers_by b.break))) f.1;
+          begins = subst (IsBeginning f.0) (sym (texts_of_three (opening recorded_format) all.results b.results (answers_by b.break))) f.1;
           held = f.2;
           right = right new events results
               (leads_on old breaks.between new all.events (b.events ++ events_by b.break) all.results (b.results ++ answers_by b.break) all.served all.leads b.leads);
         }
 
     pub holds_as : (T : Type 0) (may : ℕ → Type 0) (result : Result T ServingFault) (count : ℕ) (come : ℕ → ℕ → Type 0) (left : List Passage → Type 0) (H : List ℕ → Type 0) (new : Cache)
-        → GivesServing may come left H result count old new opening → GivesTranscript H result
+        → GivesServing may come left H result count old new (opening recorded_format) → GivesTranscript H result
     holds_as T may (Ok done) count come left H new gives = holds_all may count 0 come left H new gives
     holds_as T may (Err fault.Clients) count come left H new gives = holds_all may gives.n 1 come left H new gives.serving
     holds_as T may (Err fault.Recorder) count come left H new gives = holds_front may drive.Recorder count come left H new gives

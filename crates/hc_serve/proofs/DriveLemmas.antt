@@ -15,7 +15,7 @@ use Rattle.hc_service.specs.declared.fault.StepFault.TheVariants.{Memory, Moment
 use Rattle.hc_service.specs.declared.settings.CoreSettings.{CoreSettings}
 use Rattle.hc_service.specs.Agreement.{Agrees, History, IsReady}
 use Rattle.hc_service.specs.Runs.{Runs, RunsTo, StepResult, Steps, records_given}
-use Rattle.hc_service.specs.Sending.{records_of}
+use Rattle.hc_service.specs.Sending.{recorded_format, records_of}
 use Rattle.hc_service.specs.Settings.{AreGood}
 use Rattle.hc_service.specs.State.{State}
 use Rattle.hc_service.proofs.RunLemmas.{steps_append}
@@ -45,7 +45,7 @@ AgreementIsReady = (s : State) (h : History) → Agrees s h → IsReady s
 -- ---- records that are given
 
 abbrev texts_of : List Record → List ℕ
-texts_of records = flat_map record_text records
+texts_of records = flat_map (record_text recorded_format) records
 
 pub given_append : (a b : List StepResult) → records_given (a ++ b) ≡ records_given a ++ records_given b
 given_append [] b = refl
@@ -57,7 +57,7 @@ pub fewer : (before more : List StepResult) (n : ℕ) → n + length (records_gi
 fewer before more n few = omega (arith, few, ap length (given_append before more), length-append (records_given before) (records_given more))
 
 pub texts_given_append : (a b : List StepResult) → texts_given (a ++ b) ≡ texts_given a ++ texts_given b
-texts_given_append a b = ap texts_of (given_append a b) ∙ flat_map-append record_text (records_given a) (records_given b)
+texts_given_append a b = ap texts_of (given_append a b) ∙ flat_map-append (record_text recorded_format) (records_given a) (records_given b)
 
 pub texts_of_one : (actions : Vec Action Global) → texts_given (Ok actions ∷ []) ≡ texts_in actions.items
 texts_of_one actions = ap texts_of (append-nil (records_of actions.items))

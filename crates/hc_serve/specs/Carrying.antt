@@ -5,7 +5,7 @@ use Rattle.hc_transcript.specs.Records.{record_text}
 use Rattle.hc_service.specs.declared.action.Action.{Action}
 use Rattle.hc_service.specs.declared.action.Action.TheVariants.{ToClient, CloseClient, Forward, CloseForward, Record}
 use Rattle.hc_service.specs.declared.fault.StepFault.TheVariants.{Memory}
-use Rattle.hc_service.specs.Sending.{records_of}
+use Rattle.hc_service.specs.Sending.{recorded_format, records_of}
 use Rattle.hc_connection.specs.declared.links.Receiver.TheVariants.{Client, Origin}
 use Rattle.hc_connection.specs.Links.{HasFailed, IsBeginning}
 use Rattle.hc_connection.specs.Moves.{Move}
@@ -44,7 +44,7 @@ carried (Record given ∷ actions) log = carried actions log
 
 -- the texts of the records among actions
 abbrev pub texts_in : List Action → List ℕ
-texts_in actions = flat_map record_text (records_of actions)
+texts_in actions = flat_map (record_text recorded_format) (records_of actions)
 
 -- all were carried out, and the texts of their records stand behind the text
 abbrev pub AreDone : (List Move → Type 0) → (List ℕ → Type 0) → List Action → List Move → List ℕ → Type 0

@@ -9,6 +9,7 @@ use Rattle.hc_service.specs.declared.fault.StepFault.TheVariants.{Failed}
 use Rattle.hc_service.specs.declared.settings.CoreSettings.{CoreSettings}
 use Rattle.hc_service.specs.Agreement.{Agrees, History}
 use Rattle.hc_service.specs.Runs.{Runs, StepResult, records_given}
+use Rattle.hc_service.specs.Sending.{recorded_format}
 use Rattle.hc_service.specs.Settings.{AreGood}
 use Rattle.hc_service.specs.State.{State}
 use Rattle.hc_machine.specs.Steps.{Cache, StandsFor}
@@ -56,7 +57,7 @@ passed [] results log = log
 
 -- the texts of the records that answers give out, in order
 abbrev pub texts_given : List StepResult → List ℕ
-texts_given results = flat_map record_text (records_given results)
+texts_given results = flat_map (record_text recorded_format) (records_given results)
 
 -- ---- whole turns
 

@@ -3,6 +3,7 @@
 ghost use Rattle.std.specs.Prelude.{◌≡◌, ℕ, List};
 ghost use Rattle.hc_transcript.specs.Records.{opening};
 ghost use Rattle.hc_service.specs.declared.settings.CoreSettings.{CoreSettings};
+ghost use Rattle.hc_service.specs.Sending.{recorded_format};
 ghost use Rattle.hc_service.specs.Settings.{AreGood};
 ghost use Rattle.hc_service.specs.State.{new_state};
 ghost use Rattle.hc_machine.specs.Steps.{StandsFor};
@@ -70,7 +71,7 @@ pub fn serve_clients<S: BuildHasher, A: Clients, O: Origins, K: Clock, R: Link>(
     count: u64,
 ) -> Result<(), ServingFault>
     ensures transcript { (settings : CoreSettings) → AreGood settings → StandsFor settings core.old (new_state settings)
-        → R.has_got recorder.old opening → GivesTranscript (R.has_got recorder.new) result }
+        → R.has_got recorder.old (opening recorded_format) → GivesTranscript (R.has_got recorder.new) result }
     ensures serves { (text : List ℕ) → R.has_got recorder.old text
         → GivesServing (K.may_tell clock.now) (ComeSince (A.came clients.old) (A.came clients.new)) (LeftSince (A.left clients.old) (A.left clients.new))
         (R.has_got recorder.new) result count core.old core.new text }

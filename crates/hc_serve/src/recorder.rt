@@ -2,11 +2,12 @@
 
 ghost use Rattle.std.specs.Prelude.{◌≡◌, ◌++◌, ◌∷◌, [], ℕ, List, IfErr};
 ghost use Rattle.hc_transcript.specs.Records.{record_text};
+ghost use Rattle.hc_service.specs.Sending.{recorded_format};
 ghost use Rattle.hc_serve.specs.Carrying.{CountsRecorder, IsOfCarrying, WritesRecord};
 
 use crate::fault::DriveFault;
 use hc_connection::{Link, LinkFailure, send_octets};
-use hc_transcript::{Record, record_parts};
+use hc_transcript::{Format, Record, record_parts};
 use std::alloc::Global;
 
 /// Writes octets. Where the recorder fails, a beginning of them is written.
@@ -52,12 +53,12 @@ pub(crate) fn record<R: Link>(
     recorder: &mut R,
     record: &Record,
 ) -> Result<(), DriveFault>
-    ensures got { WritesRecord (R.has_got recorder.old) (R.has_got recorder.new) result (record_text «record».now) }
+    ensures got { WritesRecord (R.has_got recorder.old) (R.has_got recorder.new) result (record_text recorded_format «record».now) }
     ensures unread { (times : ℕ) → R.was_read recorder.old times → R.was_read recorder.new times }
     ensures count { CountsRecorder result (R.count recorder.old) (R.count recorder.new) }
     ensures why { IfErr result IsOfCarrying }
 {
-    let (mut front, rest) = record_parts(alloc, record)?;
+    let (mut front, rest) = record_parts(alloc, record, Format::First)?;
     if rest.is_empty() {
         write_line(recorder, &mut front)
     } else {

@@ -9,7 +9,7 @@ use hc_connection::{Connection, Origins};
 use hc_index::MapIndex;
 use hc_machine::Core;
 use hc_serve::{DriveFault, serve_connection};
-use hc_transcript::OPENING;
+use hc_transcript::Format;
 use std::alloc::Global;
 
 /// What came of a connection.
@@ -148,7 +148,7 @@ fn audited<I: Index + Drop>(
     mut auditor: Auditor<I>,
     recording: &[u8],
 ) -> Result<Verdict, AuditFault> {
-    auditor.feed(OPENING)?;
+    auditor.feed(Format::First.opening())?;
     auditor.feed(recording)?;
     auditor.finish()
 }

@@ -11,7 +11,7 @@ use hc_cases::Unanswered;
 use hc_fields::Octets;
 use hc_service::CoreSettings;
 use hc_sockets::{Claim, ServeFault, Service, serve};
-use hc_transcript::OPENING;
+use hc_transcript::Format;
 use std::alloc::{AllocError, Global};
 use std::io::Write;
 use std::net::{Net, OpenListener, SocketAddr, TcpListener};
@@ -163,7 +163,7 @@ where
     R::File: Claim,
 {
     let mut file = fs::create(system, name)?;
-    file.write_all(OPENING)?;
+    file.write_all(Format::First.opening())?;
     file.claim()?;
     Ok(file)
 }
@@ -186,7 +186,7 @@ fn say_file(alloc: Global, file: io::Result<Vec<u8>>, out: &mut String) -> Resul
         out.push_str("; no file")?;
         return Ok(());
     };
-    let Some(recording) = file.as_slice().strip_prefix(OPENING) else {
+    let Some(recording) = file.as_slice().strip_prefix(Format::First.opening()) else {
         out.push_str("; no opening")?;
         return Ok(());
     };

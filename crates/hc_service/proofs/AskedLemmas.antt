@@ -86,14 +86,14 @@ module _ (E F : ℕ) (xs : Table OpenExchange) (fs : Table Awaited) (items : Lis
     fresh : get xs e ≡ None
     fresh = k.later_exchanges e newer
 
-    pub asked_sent : AreAsked e f (insert xs e x) (insert fs f a) (OriginRequest f t m g ∷ ClientRequest e t q g ∷ items)
+    pub asked_sent : AreAsked e f (insert xs e x) (insert fs f a) (OriginRequest f t m g None ∷ ClientRequest e t q g ∷ items)
     asked_sent = record {
       exchanges_are = λ d.
           ⊎_elim
-          (λ (same : e ≡ d). subst (λ (n : ℕ). IsSeenExchange n (get (insert xs e x) n) (exchange_of n (OriginRequest f t m g ∷ ClientRequest e t q g ∷ items))) same
-          (seen_as e (get (insert xs e x) e) (Some x) (exchange_of e (OriginRequest f t m g ∷ ClientRequest e t q g ∷ items)) _
+          (λ (same : e ≡ d). subst (λ (n : ℕ). IsSeenExchange n (get (insert xs e x) n) (exchange_of n (OriginRequest f t m g None ∷ ClientRequest e t q g ∷ items))) same
+          (seen_as e (get (insert xs e x) e) (Some x) (exchange_of e (OriginRequest f t m g None ∷ ClientRequest e t q g ∷ items)) _
           (get_same xs e x) (rw (eq-eqb e e refl) refl) (length items + 1, refl)))
-          (λ (other : e ≡ d → ⊥). seen_as d (get (insert xs e x) d) (get xs d) (exchange_of d (OriginRequest f t m g ∷ ClientRequest e t q g ∷ items)) (exchange_of d items)
+          (λ (other : e ≡ d → ⊥). seen_as d (get (insert xs e x) d) (get xs d) (exchange_of d (OriginRequest f t m g None ∷ ClientRequest e t q g ∷ items)) (exchange_of d items)
           (get_other xs e x d other) (rw (ne_eqb e d other) refl) (k.exchanges_are d))
           (cases_eq e d);
       forwards_are = λ d.
@@ -135,7 +135,7 @@ module _ (E F : ℕ) (xs : Table OpenExchange) (fs : Table Awaited) (items : Lis
   -- another forward is opened, which is for nobody, or for a request for which none other is
   pub asked_more : (f t : ℕ) (m : Message RequestHead) (g : Target) (p : Purpose) → F < f → KeepsPurpose xs p (sent_forward m.head g t p).forward
       → ((h n : ℕ) (z : Awaited) → get fs h ≡ Some z → exchange_for z.forward.purpose ≡ Some n → exchange_for p ≡ Some n → ⊥)
-      → AreAsked E f xs (insert fs f (sent_forward m.head g t p)) (OriginRequest f t m g ∷ items)
+      → AreAsked E f xs (insert fs f (sent_forward m.head g t p)) (OriginRequest f t m g None ∷ items)
   asked_more f t m g p further keeps taken = record {
     exchanges_are = k.exchanges_are;
     forwards_are = λ d.
@@ -249,7 +249,7 @@ module _ (E F : ℕ) (xs : Table OpenExchange) (fs : Table Awaited) (items : Lis
 -- a request has its reply at once, and behind it a forward is opened for nobody
 pub asked_validated : (E F : ℕ) (xs : Table OpenExchange) (fs : Table Awaited) (items : List Item) → AreAsked E F xs fs items → (e f t u v : ℕ) (q m : Message RequestHead) (g : Target) (reply : Message ResponseHead)
     → E < e → F < f → m.head.method ≡ codes "GET"
-    → AreAsked e f xs (insert fs f (sent_forward m.head g v purpose.Background)) (OriginRequest f v m g ∷ ClientReply e u reply ∷ ClientRequest e t q g ∷ items)
+    → AreAsked e f xs (insert fs f (sent_forward m.head g v purpose.Background)) (OriginRequest f v m g None ∷ ClientReply e u reply ∷ ClientRequest e t q g ∷ items)
 asked_validated E F xs fs items k e f t u v q m g reply later further get_method =
     asked_more e F xs fs (ClientReply e u reply ∷ ClientRequest e t q g ∷ items) (asked_alone E F xs fs items k e t u q g reply later) f v m g purpose.Background further get_method
     (λ h n z is for_z none. absurd (none_is_some n none))
@@ -262,7 +262,7 @@ pub asked_anew : (E F : ℕ) (xs : Table OpenExchange) (fs : Table Awaited) (ite
     → ((e : ℕ) → exchange_of e (item ∷ items) ≡ exchange_of e items) → ((d : ℕ) → forward_of d (item ∷ items) ≡ cond (nat_eq f d) None (forward_of d items))
     → (e n t : ℕ) (m : Message RequestHead) (why : Cause) (x : OpenExchange) → exchange_for a.forward.purpose ≡ Some e → F < n → get xs e ≡ Some x
     → AsksFor x why false (sent_forward m.head x.target t (purpose.Reply e why false)).forward
-    → AreAsked E n xs (insert (remove fs f) n (sent_forward m.head x.target t (purpose.Reply e why false))) (OriginRequest n t m x.target ∷ item ∷ items)
+    → AreAsked E n xs (insert (remove fs f) n (sent_forward m.head x.target t (purpose.Reply e why false))) (OriginRequest n t m x.target None ∷ item ∷ items)
 asked_anew E F xs fs items k f a item is_open opens_none closes e n t m why x its further waits asks =
     asked_more E F xs (remove fs f) (item ∷ items) (asked_behind E F xs fs items k f a item is_open opens_none closes) n t m x.target (purpose.Reply e why false) further
     (record { exchange = x; waits = waits; asks_for = asks }) taken

@@ -38,7 +38,7 @@ exchange_place e (ClientRequest number moment request target ∷ items) x is =
           let at : x.position ≡ length items + 1 = cc in omega arith
       | inr other ↦ let place = exchange_place e items x (rw (ne_eqb number e other) at is) in omega (arith, place)
     ]
-exchange_place e (OriginRequest number moment request target ∷ items) x is = let place = exchange_place e items x is in omega (arith, place)
+exchange_place e (OriginRequest number moment request target cause ∷ items) x is = let place = exchange_place e items x is in omega (arith, place)
 exchange_place e (OriginResponse number moment response ∷ items) x is = let place = exchange_place e items x is in omega (arith, place)
 exchange_place e (OriginFailure number moment ∷ items) x is = let place = exchange_place e items x is in omega (arith, place)
 exchange_place e (ClientReply number moment reply ∷ items) x is =

@@ -20,17 +20,17 @@ use Rattle.hc_framing.specs.Written.{IsReadableRequest, IsReadableResponse}
 use Rattle.hc_transcript.specs.declared.fault.RecordFault.TheVariants as fault
 use Rattle.hc_transcript.specs.declared.line.Line.{Line}
 use Rattle.hc_transcript.specs.declared.record.Record.{Record}
-use Rattle.hc_transcript.specs.Records.{line_of, records_text, opening}
+use Rattle.hc_transcript.specs.Records.{CanTell, line_of, records_text, opening}
 use Rattle.hc_transcript.specs.Limits.{greatest_number, greatest_moment, longest_message}
 use Rattle.hc_transcript.specs.Items.{Item, ClientRequest, OriginRequest, OriginResponse, OriginFailure, ClientReply, Exchange, Forward, forward_is_head, exchange_is_head}
 use Rattle.hc_transcript.specs.History.{exchange_of, forward_of, last_moment, last_exchange, last_forward}
-use Rattle.hc_transcript.specs.Checks.{first_fault, line_fault, has_right_length, has_right_number, answers_open}
+use Rattle.hc_transcript.specs.Checks.{first_fault, line_fault, has_right_length, has_right_number, has_right_cause, answers_open}
 use Rattle.hc_transcript.specs.Transcript.{AreReadAs}
 use Rattle.hc_transcript.specs.Written.{IsWritableAsk, IsWritableAnswer, IsWritable, written_as}
 use Rattle.hc_transcript.proofs.WrittenLemmas.{read_back}
 use Rattle.hc_service.specs.declared.numbers.Numbers.{Numbers}
 use Rattle.hc_service.specs.Numbers.{one_more, asked, sent, noted}
-use Rattle.hc_service.specs.Sending.{request_record, forward_record, response_record, failure_record, reply_record}
+use Rattle.hc_service.specs.Sending.{recorded_format, request_record, forward_record, response_record, failure_record, reply_record}
 use Rattle.hc_service.specs.Agreement.{History, AreCounted}
 use Rattle.hc_service.specs.Laws.{with_record}
 
@@ -61,26 +61,30 @@ response_small to_head response r low high =
 
 -- ---- the checks of a line
 
-passes : (a b c d e : Bool) → a ≡ true → b ≡ true → c ≡ false → d ≡ true → e ≡ true
+passes : (a b c d e g : Bool) → a ≡ true → b ≡ true → c ≡ false → d ≡ true → e ≡ true → g ≡ true
     → (if not a then Some fault.Line
     else (if not b then Some fault.TooLong
     else (if c then Some fault.MomentBack
     else (if not d then Some fault.Number
-    else (if not e then Some fault.NothingOpen
-    else None))))) ≡ None
-passes a b c d e ea eb ec ed ee = rw (ea, eb, ec, ed, ee) refl
+    else (if not e then Some fault.Cause
+    else (if not g then Some fault.NothingOpen
+    else None)))))) ≡ None
+passes a b c d e g ea eb ec ed ee eg = rw (ea, eb, ec, ed, ee, eg) refl
 
-no_fault : (l : Line) (moment exchange forward : ℕ) (he hf : Bool) → l.moment ≤ greatest_moment → has_right_length l.kind l.size ≡ true → l.size ≤ longest_message → moment ≤ l.moment
-    → has_right_number l.kind exchange forward l.number ≡ true → answers_open l.kind he hf ≡ true → first_fault l moment exchange forward he hf ≡ None
-no_fault l moment exchange forward he hf in_time right small later number open_one =
-    passes _ _ _ _ _ (and_from _ _ (le-leb l.moment greatest_moment in_time) right) (le-leb l.size longest_message small) (le-ltb l.moment moment later) number open_one
+no_fault : (l : Line) (moment exchange forward : ℕ) (hc he hf : Bool) → l.moment ≤ greatest_moment → has_right_length l.kind l.size ≡ true → l.size ≤ longest_message → moment ≤ l.moment
+    → has_right_number l.kind exchange forward l.number ≡ true → has_right_cause l.cause hc ≡ true → answers_open l.kind he hf ≡ true
+    → first_fault l moment exchange forward hc he hf ≡ None
+no_fault l moment exchange forward hc he hf in_time right small later number cause open_one =
+    passes _ _ _ _ _ _ (and_from _ _ (le-leb l.moment greatest_moment in_time) right) (le-leb l.size longest_message small) (le-ltb l.moment moment later) number cause open_one
 
 -- ---- one record more
 
-read_more : (records : List Record) (items : List Item) (item : Item) → AreReadAs records items → IsWritable items item → line_fault items (line_of (written_as items item)) ≡ None
-    → AreReadAs (written_as items item ∷ records) (item ∷ items)
-read_more records items item are w keeps =
-    (read_back (opening ++ (records_text records ++ [])) records items item (record { octets_are = refl; are_read = are }) w keeps).are_read
+read_more : (records : List Record) (items : List Item) (item : Item) → AreReadAs recorded_format records items → IsWritable items item
+    → CanTell recorded_format (written_as items item) → line_fault items (line_of recorded_format (written_as items item)) ≡ None
+    → AreReadAs recorded_format (written_as items item ∷ records) (item ∷ items)
+read_more records items item are w can keeps =
+    (read_back recorded_format (opening recorded_format ++ (records_text recorded_format records ++ [])) records items item
+    (record { octets_are = refl; are_read = are }) w can keeps).are_read
 
 -- a count that isn't at its end goes on by one
 pub one_more_is : (n : ℕ) → n ≤ greatest_number → one_more n ≡ n + 1
@@ -96,9 +100,10 @@ ask_counted n h request target c w le =
     let rises : last_exchange h.items < one_more n.exchange = omega arith in
     let few : one_more n.exchange ≤ greatest_number = omega (arith, c.exchanges, le) in
     record {
-      are_read = read_more h.records h.items item c.are_read w
-          (no_fault (line_of (written_as h.items item)) (last_moment h.items) (last_exchange h.items) (last_forward h.items) (is_some (exchange_of (one_more n.exchange) h.items)) (is_some (forward_of (one_more n.exchange) h.items)) c.in_time refl
-          (request_small request w.readable) c.moment (and_from _ _ (lt-ltb (last_exchange h.items) (one_more n.exchange) rises) (le-leb (one_more n.exchange) greatest_number few)) refl);
+      are_read = read_more h.records h.items item c.are_read w refl
+          (no_fault (line_of recorded_format (written_as h.items item)) (last_moment h.items) (last_exchange h.items) (last_forward h.items) true
+          (is_some (exchange_of (one_more n.exchange) h.items)) (is_some (forward_of (one_more n.exchange) h.items)) c.in_time refl
+          (request_small request w.readable) c.moment (and_from _ _ (lt-ltb (last_exchange h.items) (one_more n.exchange) rises) (le-leb (one_more n.exchange) greatest_number few)) refl refl);
       records = omega (arith, c.records);
       exchange = refl;
       forward = c.forward;
@@ -110,18 +115,19 @@ ask_counted n h request target c w le =
     }
 
 pub send_counted : (n : Numbers) (h : History) (request : Message RequestHead) (target : Target) → AreCounted n h → IsWritableAsk request target → one_more n.records ≤ greatest_number
-    → AreCounted (sent n) (with_record (forward_record (one_more n.forward) n.moment request) (OriginRequest (one_more n.forward) n.moment request target) h)
+    → AreCounted (sent n) (with_record (forward_record (one_more n.forward) n.moment request) (OriginRequest (one_more n.forward) n.moment request target None) h)
 send_counted n h request target c w le =
     let records : one_more n.records ≡ n.records + 1 = one_more_is n.records c.in_range in
     let forward : one_more n.forward ≡ n.forward + 1 = one_more_is n.forward (omega (arith, c.forwards, c.in_range)) in
-    let item = OriginRequest (one_more n.forward) n.moment request target in
+    let item = OriginRequest (one_more n.forward) n.moment request target None in
     let counts = c.forward in
     let rises : last_forward h.items < one_more n.forward = omega arith in
     let few : one_more n.forward ≤ greatest_number = omega (arith, c.forwards, le) in
     record {
-      are_read = read_more h.records h.items item c.are_read w
-          (no_fault (line_of (written_as h.items item)) (last_moment h.items) (last_exchange h.items) (last_forward h.items) (is_some (exchange_of (one_more n.forward) h.items)) (is_some (forward_of (one_more n.forward) h.items)) c.in_time refl
-          (request_small request w.readable) c.moment (and_from _ _ (lt-ltb (last_forward h.items) (one_more n.forward) rises) (le-leb (one_more n.forward) greatest_number few)) refl);
+      are_read = read_more h.records h.items item c.are_read w refl
+          (no_fault (line_of recorded_format (written_as h.items item)) (last_moment h.items) (last_exchange h.items) (last_forward h.items) true
+          (is_some (exchange_of (one_more n.forward) h.items)) (is_some (forward_of (one_more n.forward) h.items)) c.in_time refl
+          (request_small request w.readable) c.moment (and_from _ _ (lt-ltb (last_forward h.items) (one_more n.forward) rises) (le-leb (one_more n.forward) greatest_number few)) refl refl);
       records = omega (arith, c.records);
       exchange = c.exchange;
       forward = refl;
@@ -134,7 +140,7 @@ send_counted n h request target c w le =
 
 -- a response to an open forward, its failure, and a reply to an open exchange
 module _ (n : Numbers) (h : History) (c : AreCounted n h) (le : one_more n.records ≤ greatest_number) where
-  noted_with : (r : Record) (item : Item) → AreReadAs (r ∷ h.records) (item ∷ h.items) → last_exchange (item ∷ h.items) ≡ last_exchange h.items
+  noted_with : (r : Record) (item : Item) → AreReadAs recorded_format (r ∷ h.records) (item ∷ h.items) → last_exchange (item ∷ h.items) ≡ last_exchange h.items
       → last_forward (item ∷ h.items) ≡ last_forward h.items → last_moment (item ∷ h.items) ≡ n.moment → AreCounted (noted n) (with_record r item h)
   noted_with r item are exchange forward moment =
       let records : one_more n.records ≡ n.records + 1 = one_more_is n.records c.in_range in
@@ -158,11 +164,12 @@ module _ (n : Numbers) (h : History) (c : AreCounted n h) (le : one_more n.recor
       let open_head : forward_is_head (forward_of f h.items) ≡ is_head forward.request.method = ap forward_is_head is_open in
       let low = w.is_final in
       noted_with (response_record f n.moment (is_head forward.request.method) response) item
-      (subst (λ (b : Bool). AreReadAs (response_record f n.moment b response ∷ h.records) (item ∷ h.items)) open_head
-      (read_more h.records h.items item c.are_read (subst (λ (b : Bool). IsWritableAnswer b response) (sym open_head) w)
-      (no_fault (line_of (written_as h.items item)) (last_moment h.items) (last_exchange h.items) (last_forward h.items) (is_some (exchange_of f h.items)) (is_some (forward_of f h.items)) c.in_time refl
+      (subst (λ (b : Bool). AreReadAs recorded_format (response_record f n.moment b response ∷ h.records) (item ∷ h.items)) open_head
+      (read_more h.records h.items item c.are_read (subst (λ (b : Bool). IsWritableAnswer b response) (sym open_head) w) refl
+      (no_fault (line_of recorded_format (written_as h.items item)) (last_moment h.items) (last_exchange h.items) (last_forward h.items) true
+      (is_some (exchange_of f h.items)) (is_some (forward_of f h.items)) c.in_time refl
       (response_small _ response (subst (λ (b : Bool). IsReadableResponse b response RECORDED) (sym open_head) w.readable) (omega arith) digits) c.moment
-      (and_from _ _ (lt-ltb 0 f some) (le-leb f greatest_number few)) (ap is_some is_open))))
+      (and_from _ _ (lt-ltb 0 f some) (le-leb f greatest_number few)) refl (ap is_some is_open))))
       refl refl refl
 
   pub failure_counted : (f : ℕ) (forward : Forward) → 1 ≤ f → f ≤ greatest_number → forward_of f h.items ≡ Some forward
@@ -170,9 +177,10 @@ module _ (n : Numbers) (h : History) (c : AreCounted n h) (le : one_more n.recor
   failure_counted f forward some few is_open =
       let item = OriginFailure f n.moment in
       noted_with (failure_record f n.moment) item
-      (read_more h.records h.items item c.are_read tt
-      (no_fault (line_of (written_as h.items item)) (last_moment h.items) (last_exchange h.items) (last_forward h.items) (is_some (exchange_of f h.items)) (is_some (forward_of f h.items)) c.in_time refl
-      (omega arith) c.moment (and_from _ _ (lt-ltb 0 f some) (le-leb f greatest_number few)) (ap is_some is_open)))
+      (read_more h.records h.items item c.are_read tt refl
+      (no_fault (line_of recorded_format (written_as h.items item)) (last_moment h.items) (last_exchange h.items) (last_forward h.items) true
+      (is_some (exchange_of f h.items)) (is_some (forward_of f h.items)) c.in_time refl
+      (omega arith) c.moment (and_from _ _ (lt-ltb 0 f some) (le-leb f greatest_number few)) refl (ap is_some is_open)))
       refl refl refl
 
   pub reply_counted : (e : ℕ) (exchange : Exchange) (reply : Message ResponseHead) → 1 ≤ e → e ≤ greatest_number → exchange_of e h.items ≡ Some exchange
@@ -183,9 +191,10 @@ module _ (n : Numbers) (h : History) (c : AreCounted n h) (le : one_more n.recor
       let open_head : exchange_is_head (exchange_of e h.items) ≡ is_head exchange.request.method = ap exchange_is_head is_open in
       let low = w.is_final in
       noted_with (reply_record e n.moment (is_head exchange.request.method) reply) item
-      (subst (λ (b : Bool). AreReadAs (reply_record e n.moment b reply ∷ h.records) (item ∷ h.items)) open_head
-      (read_more h.records h.items item c.are_read (subst (λ (b : Bool). IsWritableAnswer b reply) (sym open_head) w)
-      (no_fault (line_of (written_as h.items item)) (last_moment h.items) (last_exchange h.items) (last_forward h.items) (is_some (exchange_of e h.items)) (is_some (forward_of e h.items)) c.in_time refl
+      (subst (λ (b : Bool). AreReadAs recorded_format (reply_record e n.moment b reply ∷ h.records) (item ∷ h.items)) open_head
+      (read_more h.records h.items item c.are_read (subst (λ (b : Bool). IsWritableAnswer b reply) (sym open_head) w) refl
+      (no_fault (line_of recorded_format (written_as h.items item)) (last_moment h.items) (last_exchange h.items) (last_forward h.items) true
+      (is_some (exchange_of e h.items)) (is_some (forward_of e h.items)) c.in_time refl
       (response_small _ reply (subst (λ (b : Bool). IsReadableResponse b reply RECORDED) (sym open_head) w.readable) (omega arith) digits) c.moment
-      (and_from _ _ (lt-ltb 0 e some) (le-leb e greatest_number few)) (ap is_some is_open))))
+      (and_from _ _ (lt-ltb 0 e some) (le-leb e greatest_number few)) refl (ap is_some is_open))))
       refl refl refl

@@ -23,7 +23,7 @@ use Rattle.hc_service.specs.Settings.{AreGood}
 use Rattle.hc_service.specs.Numbers.{one_more}
 use Rattle.hc_service.specs.Replying.{Wanted}
 use Rattle.hc_service.specs.State.{State, Connection, new_state}
-use Rattle.hc_service.specs.Sending.{records_of, ask_actions, send_actions, reply_actions, response_actions, failure_actions}
+use Rattle.hc_service.specs.Sending.{recorded_format, records_of, ask_actions, send_actions, reply_actions, response_actions, failure_actions}
 use Rattle.hc_service.specs.Reactions.{Reaction, forward_anew}
 use Rattle.hc_service.specs.Reactions.Reaction.{Replies as RepliesAtOnce, Sends}
 use Rattle.hc_service.specs.Answers.{Outcome}
@@ -206,9 +206,12 @@ runs_to settings (event ∷ events) (Err Failed ∷ results) s h records end run
 
 -- ---- what a run records is judged right
 
-text_behind : (records before : List Record) → records_text (behind records before) ≡ records_text before ++ flat_map record_text records
-text_behind [] before = sym (append-nil (records_text before))
-text_behind (r ∷ records) before = text_behind records (r ∷ before) ∙ append_assoc (records_text before) (record_text r) (flat_map record_text records)
+text_behind : (records before : List Record)
+    → records_text recorded_format (behind records before) ≡ records_text recorded_format before ++ flat_map (record_text recorded_format) records
+text_behind [] before = sym (append-nil (records_text recorded_format before))
+text_behind (r ∷ records) before =
+    text_behind records (r ∷ before)
+    ∙ append_assoc (records_text recorded_format before) (record_text recorded_format r) (flat_map (record_text recorded_format) records)
 
 all_right : (newer items : List Item) → AllRight strict items → AllRightBehind newer items → AllRight strict (newer ++ items)
 all_right [] items right more = right
@@ -220,10 +223,12 @@ right_judged records end to =
     record {
       counts = counts_of to.later.items;
       verdict = record {
+        format = recorded_format;
         records = to.later.records;
         history = to.later.items;
         is_transcript = record {
-          octets_are = ap (λ (text : List ℕ). opening ++ text) (sym (append-nil (records_text to.later.records) ∙ ap records_text more.records_are ∙ text_behind records []));
+          octets_are = ap (λ (text : List ℕ). opening recorded_format ++ text)
+              (sym (append-nil (records_text recorded_format to.later.records) ∙ ap (records_text recorded_format) more.records_are ∙ text_behind records []));
           are_read = to.are_read;
         };
         all_right = subst (AllRight strict) (sym more.items_are) (all_right more.newer [] tt more.right);
@@ -307,7 +312,7 @@ runs_on settings (event ∷ events) (Err TooManyConnections ∷ results) s mid h
     }
 runs_on settings (event ∷ events) (Err Failed ∷ results) s mid h records runs = absurd runs
 
-as_many_items : (records : List Record) (items : List Item) → AreReadAs records items → length records ≡ length items
+as_many_items : (records : List Record) (items : List Item) → AreReadAs recorded_format records items → length records ≡ length items
 as_many_items [] [] read = refl
 as_many_items [] (item ∷ items) read = absurd read
 as_many_items (r ∷ records) [] read = absurd read
@@ -317,7 +322,8 @@ as_many_behind : (records before : List Record) → length (behind records befor
 as_many_behind [] before = omega arith
 as_many_behind (r ∷ records) before = let more = as_many_behind records (r ∷ before) in omega (arith, more)
 
-counted_behind : (records : List Record) (h : History) (s : State) → AreReadAs h.records h.items → RunsTo records h (Some s) → s.numbers.records ≡ length h.items + length records
+counted_behind : (records : List Record) (h : History) (s : State) → AreReadAs recorded_format h.records h.items → RunsTo records h (Some s)
+    → s.numbers.records ≡ length h.items + length records
 counted_behind records h s read_before to =
     let counted = to.agrees.stands.counted.records in
     let read = as_many_items to.later.records to.later.items to.are_read in

@@ -57,7 +57,7 @@ moved items item target old new source steps valid =
 stays : (items : List Item) (item : Item) (kept : Kept) → is_response item ≡ false → state_after items item kept ≡ kept
 unfolding state_after
 stays items (ClientRequest number moment request target) kept is = refl
-stays items (OriginRequest number moment request target) kept is = refl
+stays items (OriginRequest number moment request target cause) kept is = refl
 stays items (OriginResponse number moment response) kept is = absurd (cc)
 stays items (OriginFailure number moment) kept is = refl
 stays items (ClientReply number moment reply) kept is = refl

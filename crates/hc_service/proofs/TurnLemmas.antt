@@ -322,14 +322,14 @@ module _ (s : State) (h : History) (a : Stands s h) where
           let r = ClientReply e n.moment reply in
           let h1 = with_record (request_record e n.moment request) q h in
           let h2 = with_record (reply_record e n.moment (is_head request.head.method) reply) r h1 in
-          let h3 = with_record (forward_record f n.moment m) (OriginRequest f n.moment m target) h2 in
+          let h3 = with_record (forward_record f n.moment m) (OriginRequest f n.moment m target None) h2 in
           let c1 = ask_counted n h request target a.counted writable_ask first in
           let c2 = reply_counted (asked n) h1 c1 second e x reply (omega (arith, number)) (omega (arith, number, counts.exchanges, first, records)) (rw (eq-eqb e e refl) refl) fit.writable fit.digits in
           record {
             later = h3;
             goes_on = record {
               records = record {
-                newer = OriginRequest f n.moment m target ∷ r ∷ q ∷ [];
+                newer = OriginRequest f n.moment m target None ∷ r ∷ q ∷ [];
                 records_are = given_from actions
                     (ask_actions e n.moment request ++ reply_actions e n.moment (is_head request.head.method) c wanted.closes reply ++ send_actions f n.moment m)
                     (request_record e n.moment request ∷ reply_record e n.moment (is_head request.head.method) reply ∷ forward_record f n.moment m ∷ []) h.records t.actions_are
@@ -343,7 +343,7 @@ module _ (s : State) (h : History) (a : Stands s h) where
             stands = of_parts s' h3 (sent (noted (asked n))) (replied wanted.closes c (drop size k.unread) k s.connections) s.exchanges
                 (insert s.forwards f (sent_forward m.head target n.moment purpose.Background)) s'.store t.numbers t.connections t.exchanges t.forwards refl
                 (send_counted (noted (asked n)) h2 m target c2 w last)
-                (still_sound (r ∷ q ∷ h.items) (OriginRequest f n.moment m target) s'.store refl
+                (still_sound (r ∷ q ∷ h.items) (OriginRequest f n.moment m target None) s'.store refl
                 (still_sound (q ∷ h.items) r s'.store refl (still_sound h.items q s'.store refl sound)))
                 (heard_sent n.connection n.forward (replied wanted.closes c (drop size k.unread) k s.connections) s.forwards h.heard h.told (heard_behind wanted.closes) f
                 (sent_forward m.head target n.moment purpose.Background) refl (omega (arith, sends)))
@@ -374,7 +374,7 @@ module _ (s : State) (h : History) (a : Stands s h) where
           let sends : f ≡ n.forward + 1 = one_more_is n.forward (omega (arith, counts.forwards, counts.in_range)) in
           let q = ClientRequest e n.moment request target in
           let h1 = with_record (request_record e n.moment request) q h in
-          let h2 = with_record (forward_record f n.moment m) (OriginRequest f n.moment m target) h1 in
+          let h2 = with_record (forward_record f n.moment m) (OriginRequest f n.moment m target None) h1 in
           let c1 = ask_counted n h request target a.counted writable_ask first in
           let heard1 = heard_same n.connection n.forward s.connections s.forwards h.heard h.told a.heard c (after_request e (drop size k.unread) k)
           (read_request (h.heard c) k idle (a.heard.connections_are c k is_open) e request target size arrives) in
@@ -382,7 +382,7 @@ module _ (s : State) (h : History) (a : Stands s h) where
             later = h2;
             goes_on = record {
               records = record {
-                newer = OriginRequest f n.moment m target ∷ q ∷ [];
+                newer = OriginRequest f n.moment m target None ∷ q ∷ [];
                 records_are = given_from actions (ask_actions e n.moment request ++ send_actions f n.moment m) (request_record e n.moment request ∷ forward_record f n.moment m ∷ []) h.records t.actions_are refl;
                 items_are = refl;
                 right = ((tt, tt), tt);
@@ -394,7 +394,7 @@ module _ (s : State) (h : History) (a : Stands s h) where
                 (insert s.exchanges e (record { connection = c; request = request.head; target = target }))
                 (insert s.forwards f (sent_forward m.head target n.moment (purpose.Reply e why conditional))) s'.store t.numbers t.connections t.exchanges t.forwards refl
                 (send_counted (asked n) h1 m target c1 w last)
-                (still_sound (q ∷ h.items) (OriginRequest f n.moment m target) s'.store refl (still_sound h.items q s'.store refl sound))
+                (still_sound (q ∷ h.items) (OriginRequest f n.moment m target None) s'.store refl (still_sound h.items q s'.store refl sound))
                 (heard_sent n.connection n.forward (insert s.connections c (after_request e (drop size k.unread) k)) s.forwards h.heard h.told heard1 f
                 (sent_forward m.head target n.moment (purpose.Reply e why conditional)) refl (omega (arith, sends)))
                 (asked_sent n.exchange n.forward s.exchanges s.forwards h.items a.asked c e f n.moment request m target why conditional (omega (arith, number)) (omega (arith, sends)) asks)
@@ -553,13 +553,13 @@ module _ (s : State) (h : History) (a : Stands s h) where
               target_is = laws.unconditional_keeps settings.name x0.target x0.request waiting.forwardable.has_target;
             } in
             let h1 = with_record r item h in
-            let h2 = with_record (forward_record g n.moment m) (OriginRequest g n.moment m x0.target) h1 in
+            let h2 = with_record (forward_record g n.moment m) (OriginRequest g n.moment m x0.target None) h1 in
             let aim = sent_forward m.head x0.target n.moment (purpose.Reply e why false) in
             record {
               later = h2;
               goes_on = record {
                 records = record {
-                  newer = OriginRequest g n.moment m x0.target ∷ item ∷ [];
+                  newer = OriginRequest g n.moment m x0.target None ∷ item ∷ [];
                   records_are = given_from actions (given ++ send_actions g n.moment m) (r ∷ forward_record g n.moment m ∷ []) h.records t.actions_are both;
                   items_are = refl;
                   right = ((tt, right), tt);
@@ -569,7 +569,7 @@ module _ (s : State) (h : History) (a : Stands s h) where
               };
               stands = of_parts s' h2 (sent (noted n)) s.connections s.exchanges (insert (remove s.forwards f) g aim) s'.store t.numbers t.connections t.exchanges t.forwards refl
                   (send_counted (noted n) h1 m x0.target (counted first) writable last)
-                  (still_sound (item ∷ h.items) (OriginRequest g n.moment m x0.target) s'.store refl sound)
+                  (still_sound (item ∷ h.items) (OriginRequest g n.moment m x0.target None) s'.store refl sound)
                   (heard_sent n.connection n.forward s.connections (remove s.forwards f) h.heard h.told (heard_ended n.connection n.forward s.connections s.forwards h.heard h.told a.heard f) g aim refl
                   (omega (arith, sends)))
                   (asked_anew n.exchange n.forward s.exchanges s.forwards h.items a.asked f w item is_open opens_none closes e g n.moment m why x0 its (omega (arith, sends)) waits

@@ -35,6 +35,7 @@ use Rattle.hc_service.specs.declared.open.Purpose.TheVariants as purpose
 use Rattle.hc_service.specs.Asking.{is_answered_by_store}
 use Rattle.hc_service.specs.Cases.{asks_store, is_of_stored}
 use Rattle.hc_service.specs.Numbers.{is_later}
+use Rattle.hc_service.specs.Sending.{recorded_format}
 use Rattle.hc_service.specs.State.{State, Table, Connection, Awaited}
 use Rattle.hc_service.specs.Choices.{OnTest}
 use Rattle.hc_service.specs.Serves.{IsQuietAt, AwaitsStill}
@@ -51,7 +52,7 @@ pub record History : Type 0 where
 
 -- the records are a transcript, and what is counted is theirs
 pub record AreCounted (n : Numbers) (h : History) : Type 0 where
-  pub are_read : AreReadAs h.records h.items
+  pub are_read : AreReadAs recorded_format h.records h.items
   pub records : n.records ≡ length h.items
   pub exchange : n.exchange ≡ last_exchange h.items
   pub forward : n.forward ≡ last_forward h.items

@@ -21,7 +21,7 @@ use Rattle.hc_service.specs.declared.fault.StepFault.{StepFault}
 use Rattle.hc_service.specs.declared.fault.StepFault.TheVariants.{Memory, MomentTooLarge, UnknownNumber, TooManyConnections, Failed}
 use Rattle.hc_service.specs.declared.settings.CoreSettings.{CoreSettings}
 use Rattle.hc_service.specs.State.{State}
-use Rattle.hc_service.specs.Sending.{records_of}
+use Rattle.hc_service.specs.Sending.{recorded_format, records_of}
 use Rattle.hc_service.specs.Serves.{Turn, Serves, first_fault}
 use Rattle.hc_service.specs.Serves.Turn.{Hearing, Telling}
 use Rattle.hc_service.specs.Agreement.{History, Agrees}
@@ -159,7 +159,7 @@ EndAgrees (Some s) h = Agrees s h
 pub record RunsTo (records : List Record) (h : History) (end : Option State) : Type 0 where
   pub later : History
   pub goes_on : GoesOnWith records h later
-  pub are_read : AreReadAs later.records later.items
+  pub are_read : AreReadAs recorded_format later.records later.items
   pub agrees : EndAgrees end later
 
 -- behind a run that has led to a cache, what has happened is such that the cache agrees with it, and that a run which goes on from there is, with the first, one run
@@ -173,7 +173,7 @@ pub record RunsOn (settings : CoreSettings) (s : State) (h : History) (events : 
 
 -- records, the oldest first, as they are written
 abbrev pub transcript_of : List Record → List ℕ
-transcript_of records = opening ++ flat_map record_text records
+transcript_of records = opening recorded_format ++ flat_map (record_text recorded_format) records
 
 -- the audit that lets nothing pass says yes to it
 pub record IsJudgedRight (records : List Record) : Type 0 where

@@ -1,10 +1,12 @@
 -- What a cache does: its actions, and the records among them. What is recorded is sent octet by octet.
-use Rattle.std.specs.Prelude.{ℕ, Bool, false, List, [], ◌∷◌, if◌then◌else◌}
+use Rattle.std.specs.Prelude.{ℕ, Bool, false, List, [], ◌∷◌, None, if◌then◌else◌}
 use Rattle.hc_head.specs.declared.head.RequestHead.{RequestHead}
 use Rattle.hc_head.specs.declared.head.ResponseHead.{ResponseHead}
 use Rattle.hc_framing.specs.declared.message.Message.{Message}
 use Rattle.hc_framing.specs.declared.kind.Kind.TheVariants.{Response}
 use Rattle.hc_framing.specs.Texts.{request_text, response_text}
+use Rattle.hc_transcript.specs.declared.format.Format.{Format}
+use Rattle.hc_transcript.specs.declared.format.Format.TheVariants.{First}
 use Rattle.hc_transcript.specs.declared.record.Record.{Record}
 use Rattle.hc_transcript.specs.declared.record.Passed.TheVariants as passed
 use Rattle.hc_service.specs.declared.action.Action.{Action}
@@ -12,11 +14,15 @@ use Rattle.hc_service.specs.declared.action.Action.TheVariants as action
 
 -- ---- records: of a request, of what went to the origin, of what the origin answered, of its failure, of a reply
 
+-- the format in which the cache records itself
+abbrev pub recorded_format : Format
+recorded_format = First
+
 abbrev pub request_record : ℕ → ℕ → Message RequestHead → Record
 request_record exchange moment request = record { number = exchange; moment = moment; of = passed.ClientRequest (request_text request) }
 
 abbrev pub forward_record : ℕ → ℕ → Message RequestHead → Record
-forward_record forward moment request = record { number = forward; moment = moment; of = passed.OriginRequest (request_text request) }
+forward_record forward moment request = record { number = forward; moment = moment; of = passed.OriginRequest (request_text request) None }
 
 abbrev pub response_record : ℕ → ℕ → Bool → Message ResponseHead → Record
 response_record forward moment to_head response =

@@ -181,7 +181,7 @@ pub fn records_keep_to_the_format()
     ensures send { (n : Numbers) (h : History) (request : Message RequestHead) (target : Target) → AreCounted n h
         → IsWritableAsk request target → one_more n.records ≤ greatest_number
         → AreCounted (sent n) (with_record (forward_record (one_more n.forward) n.moment request)
-        (OriginRequest (one_more n.forward) n.moment request target) h) }
+        (OriginRequest (one_more n.forward) n.moment request target None) h) }
     ensures response { (n : Numbers) (h : History) → AreCounted n h → one_more n.records ≤ greatest_number
         → (f : ℕ) (forward : Forward) (response : Message ResponseHead) → 1 ≤ f → f ≤ greatest_number
         → forward_of f h.items ≡ Some forward → IsWritableAnswer (is_head forward.request.method) response

@@ -12,7 +12,7 @@ use crate::system_link::{Recording, SystemLink};
 use hc_machine::{Core, CoreFault};
 use hc_serve::{ServingFault, serve_clients};
 use hc_service::{CoreSettings, StepFault};
-use hc_transcript::OPENING;
+use hc_transcript::Format;
 use std::collections::hash_map::RandomState;
 use std::fs::{OpenFile, OpenOptions, Permissions};
 use std::io;
@@ -124,7 +124,7 @@ where
         file.claim()?;
         file.set_len(0)?;
     }
-    file.write_all(OPENING)?;
+    file.write_all(Format::First.opening())?;
     Ok(file)
 }
 

@@ -14,6 +14,8 @@ use Rattle.hc_framing.specs.FramingLaws.{request_laws, response_laws}
 use Rattle.hc_framing.proofs.ReaderLemmas.{finds_whole}
 use Rattle.hc_transcript.specs.declared.line.Kind.{Kind}
 use Rattle.hc_transcript.specs.declared.line.Kind.TheVariants as kind
+use Rattle.hc_transcript.specs.declared.line.ToldCause.{ToldCause}
+use Rattle.hc_transcript.specs.Records.{exchange_told}
 use Rattle.hc_transcript.specs.Items.{Item, ClientRequest, OriginRequest, OriginResponse, ClientReply}
 use Rattle.hc_transcript.specs.Transcript.{ReadsRequest, ReadsResponse, IsItemOf}
 use Rattle.hc_transcript.specs.Malformed.{IsNoRequest, LacksTarget, IsNoResponse, IsInterim, IsNoMessage}
@@ -32,18 +34,18 @@ one_request_read octets m n s t p q =
     let same : m ≡ n = one_request octets m n p.whole q.whole in
     (same, one_target n.head s t (subst (λ (r : Message RequestHead). HasTarget r.head s) same p.target_is) q.target_is)
 
-pub one_item : (k : Kind) (number moment : ℕ) (to_head : Bool) (octets : List ℕ) (item other : Item) → IsItemOf k number moment to_head octets item → IsItemOf k number moment to_head octets other
+pub one_item : (k : Kind) (cause : ToldCause) (number moment : ℕ) (to_head : Bool) (octets : List ℕ) (item other : Item) → IsItemOf k cause number moment to_head octets item → IsItemOf k cause number moment to_head octets other
     → item ≡ other
-one_item kind.ClientRequest number moment to_head octets item other p q =
+one_item kind.ClientRequest cause number moment to_head octets item other p q =
     let same = one_request_read octets p.0 q.0 p.1 q.1 p.2 q.2 in
     p.3 ∙ (λ i. ClientRequest number moment (same.0 i) (same.1 i)) ∙ sym q.3
-one_item kind.OriginRequest number moment to_head octets item other p q =
+one_item kind.OriginRequest cause number moment to_head octets item other p q =
     let same = one_request_read octets p.0 q.0 p.1 q.1 p.2 q.2 in
-    p.3 ∙ (λ i. OriginRequest number moment (same.0 i) (same.1 i)) ∙ sym q.3
-one_item kind.OriginResponse number moment to_head octets item other p q =
+    p.3 ∙ (λ i. OriginRequest number moment (same.0 i) (same.1 i) (exchange_told cause)) ∙ sym q.3
+one_item kind.OriginResponse cause number moment to_head octets item other p q =
     p.2 ∙ ap (OriginResponse number moment) (one_response to_head octets p.0 q.0 p.1.whole q.1.whole) ∙ sym q.2
-one_item kind.OriginFailure number moment to_head octets item other p q = p ∙ sym q
-one_item kind.ClientReply number moment to_head octets item other p q =
+one_item kind.OriginFailure cause number moment to_head octets item other p q = p ∙ sym q
+one_item kind.ClientReply cause number moment to_head octets item other p q =
     p.2 ∙ ap (ClientReply number moment) (one_response to_head octets p.0 q.0 p.1.whole q.1.whole) ∙ sym q.2
 
 no_request_read : (octets : List ℕ) (m : Message RequestHead) (t : Target) → IsNoRequest octets ⊎ LacksTarget octets → ReadsRequest octets m t → ⊥
@@ -56,9 +58,9 @@ no_response_read to_head octets m (inl none) reads = none m reads.whole
 no_response_read to_head octets m (inr interim) reads =
     omega (arith, interim.low, reads.is_final, ap (λ (r : Message ResponseHead). r.head.status) (one_response to_head octets m interim.response reads.whole interim.whole))
 
-pub no_item : (k : Kind) (number moment : ℕ) (to_head : Bool) (octets : List ℕ) (item : Item) → IsNoMessage k to_head octets → IsItemOf k number moment to_head octets item → ⊥
-no_item kind.ClientRequest number moment to_head octets item none p = no_request_read octets p.0 p.1 none p.2
-no_item kind.OriginRequest number moment to_head octets item none p = no_request_read octets p.0 p.1 none p.2
-no_item kind.OriginResponse number moment to_head octets item none p = no_response_read to_head octets p.0 none p.1
-no_item kind.OriginFailure number moment to_head octets item none p = none
-no_item kind.ClientReply number moment to_head octets item none p = no_response_read to_head octets p.0 none p.1
+pub no_item : (k : Kind) (cause : ToldCause) (number moment : ℕ) (to_head : Bool) (octets : List ℕ) (item : Item) → IsNoMessage k to_head octets → IsItemOf k cause number moment to_head octets item → ⊥
+no_item kind.ClientRequest cause number moment to_head octets item none p = no_request_read octets p.0 p.1 none p.2
+no_item kind.OriginRequest cause number moment to_head octets item none p = no_request_read octets p.0 p.1 none p.2
+no_item kind.OriginResponse cause number moment to_head octets item none p = no_response_read to_head octets p.0 none p.1
+no_item kind.OriginFailure cause number moment to_head octets item none p = none
+no_item kind.ClientReply cause number moment to_head octets item none p = no_response_read to_head octets p.0 none p.1

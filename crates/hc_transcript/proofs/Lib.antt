@@ -3,6 +3,7 @@ pub mod NumeralLemmas
 pub mod LineLemmas
 pub mod FirstLineLemmas
 pub mod LineLaws
+pub mod FormatLemmas
 pub mod ReadingLemmas
 pub mod CheckLemmas
 pub mod FrameLemmas

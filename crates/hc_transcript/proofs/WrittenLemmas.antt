@@ -1,5 +1,5 @@
 -- A written record is read as it was written.
-use Rattle.std.proofs.Common.{◌≡◌, ℕ, Bool, List, [], ◌∷◌, ◌++◌, length, drop, None, refl, subst, arith, append-nil, length-drop}
+use Rattle.std.proofs.Common.{◌≡◌, ℕ, Bool, List, [], ◌∷◌, ◌++◌, length, drop, Some, None, refl, ap, subst, arith, append-nil, length-drop}
 use Rattle.hc_head.specs.declared.head.RequestHead.{RequestHead}
 use Rattle.hc_head.specs.declared.head.ResponseHead.{ResponseHead}
 use Rattle.hc_head.specs.declared.head.Room.{Room}
@@ -16,12 +16,14 @@ use Rattle.hc_framing.specs.Texts.{request_text, response_text}
 use Rattle.hc_framing.specs.Written.{IsReadableRequest, IsReadableResponse}
 use Rattle.hc_framing.proofs.BodyLemmas.{whole_body}
 use Rattle.hc_framing.proofs.TextLemmas.{request_begins, response_begins}
+use Rattle.hc_transcript.specs.declared.format.Format.{Format}
+use Rattle.hc_transcript.specs.declared.format.Format.TheVariants as form
 use Rattle.hc_transcript.specs.declared.record.Record.{Record}
-use Rattle.hc_transcript.specs.Records.{line_of, record_text}
+use Rattle.hc_transcript.specs.Records.{CanTell, line_of, record_text}
 use Rattle.hc_transcript.specs.Items.{Item, ClientRequest, OriginRequest, OriginResponse, OriginFailure, ClientReply, exchange_is_head, forward_is_head}
 use Rattle.hc_transcript.specs.History.{exchange_of, forward_of}
 use Rattle.hc_transcript.specs.Checks.{line_fault}
-use Rattle.hc_transcript.specs.Transcript.{ReadsRequest, ReadsResponse, Follows, IsTranscript}
+use Rattle.hc_transcript.specs.Transcript.{ReadsRequest, ReadsResponse, IsReadAs, IsTranscript}
 use Rattle.hc_transcript.specs.Written.{IsWritableAsk, IsWritableAnswer, IsWritable, written_as}
 use Rattle.hc_transcript.proofs.OnceLemmas.{one_more}
 
@@ -66,14 +68,18 @@ reads_request request target w = record { whole = request_whole request w.readab
 reads_response : (to_head : Bool) (response : Message ResponseHead) → IsWritableAnswer to_head response → ReadsResponse to_head (response_text (Response to_head) response) response
 reads_response to_head response w = record { whole = response_whole to_head response w.readable; is_final = w.is_final }
 
--- the record of an item follows, and is read as it
-follows : (h : List Item) (item : Item) → IsWritable h item → line_fault h (line_of (written_as h item)) ≡ None → Follows h (written_as h item) item
-follows h (ClientRequest n moment request target) w keeps = record { keeps = keeps; reads = (request, target, reads_request request target w, refl) }
-follows h (OriginRequest n moment request target) w keeps = record { keeps = keeps; reads = (request, target, reads_request request target w, refl) }
-follows h (OriginResponse n moment response) w keeps = record { keeps = keeps; reads = (response, reads_response (forward_is_head (forward_of n h)) response w, refl) }
-follows h (OriginFailure n moment) w keeps = record { keeps = keeps; reads = refl }
-follows h (ClientReply n moment reply) w keeps = record { keeps = keeps; reads = (reply, reads_response (exchange_is_head (exchange_of n h)) reply w, refl) }
+-- the message of an item is read back as it
+reads_item : (format : Format) (h : List Item) (item : Item) → IsWritable h item → CanTell format (written_as h item) → IsReadAs format h (written_as h item) item
+reads_item format h (ClientRequest n moment request target) w can = (request, target, reads_request request target w, refl)
+reads_item form.First h (OriginRequest n moment request target cause) w can = (request, target, reads_request request target w, ap (OriginRequest n moment request target) can)
+reads_item form.Second h (OriginRequest n moment request target (Some e)) w can = (request, target, reads_request request target w, refl)
+reads_item form.Second h (OriginRequest n moment request target None) w can = (request, target, reads_request request target w, refl)
+reads_item format h (OriginResponse n moment response) w can = (response, reads_response (forward_is_head (forward_of n h)) response w, refl)
+reads_item format h (OriginFailure n moment) w can = refl
+reads_item format h (ClientReply n moment reply) w can = (reply, reads_response (exchange_is_head (exchange_of n h)) reply w, refl)
 
-pub read_back : (octets : List ℕ) (records : List Record) (h : List Item) (item : Item) → IsTranscript octets records h → IsWritable h item → line_fault h (line_of (written_as h item)) ≡ None
-    → IsTranscript (octets ++ record_text (written_as h item)) (written_as h item ∷ records) (item ∷ h)
-read_back octets records h item t w keeps = one_more octets records h (written_as h item) item t (follows h item w keeps)
+pub read_back : (format : Format) (octets : List ℕ) (records : List Record) (h : List Item) (item : Item) → IsTranscript format octets records h → IsWritable h item
+    → CanTell format (written_as h item) → line_fault h (line_of format (written_as h item)) ≡ None
+    → IsTranscript format (octets ++ record_text format (written_as h item)) (written_as h item ∷ records) (item ∷ h)
+read_back format octets records h item t w can keeps =
+    one_more format octets records h (written_as h item) item t (record { told = can; keeps = keeps; reads = reads_item format h item w can })

@@ -20,7 +20,7 @@ exchange_of e (i ∷ h) = exchange_after e (next_position h) i (exchange_of e h)
 
 -- what an item makes of the open forward of a number: a request opens it, its response or its failure closes it
 abbrev pub forward_after : ℕ → Item → Option Forward → Option Forward
-forward_after f (OriginRequest number moment request target) before =
+forward_after f (OriginRequest number moment request target cause) before =
     if number == f then Some (record { moment = moment; request = request.head; target = target }) else before
 forward_after f (OriginResponse number moment response) before = if number == f then None else before
 forward_after f (OriginFailure number moment) before = if number == f then None else before
@@ -48,7 +48,7 @@ last_exchange (i ∷ h) = exchange_number_after i (last_exchange h)
 
 -- what an item makes of the number of the newest forward
 abbrev pub forward_number_after : Item → ℕ → ℕ
-forward_number_after (OriginRequest number moment request target) before = number
+forward_number_after (OriginRequest number moment request target cause) before = number
 forward_number_after item before = before
 
 -- the number of the newest forward; 0 where there is none

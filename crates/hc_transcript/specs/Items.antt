@@ -11,17 +11,18 @@ use Rattle.hc_transcript.specs.declared.item.OwnedItem.{OwnedItem}
 use Rattle.hc_transcript.specs.declared.line.Kind.{Kind}
 use Rattle.hc_transcript.specs.declared.line.Kind.TheVariants as kind
 
--- numbers are of exchanges and forwards, moments are whole seconds since 1970
+-- Numbers are of exchanges and forwards, moments are whole seconds since 1970. The cause of a forward is the exchange that it was made for; it is none where no
+-- reply waits for the forward, and in the first format.
 pub data Item : Type 0 where
   ClientRequest : (number : ℕ) (moment : ℕ) (request : Message RequestHead) (target : Target) → Item
-  OriginRequest : (number : ℕ) (moment : ℕ) (request : Message RequestHead) (target : Target) → Item
+  OriginRequest : (number : ℕ) (moment : ℕ) (request : Message RequestHead) (target : Target) (cause : Option ℕ) → Item
   OriginResponse : (number : ℕ) (moment : ℕ) (response : Message ResponseHead) → Item
   OriginFailure : (number : ℕ) (moment : ℕ) → Item
   ClientReply : (number : ℕ) (moment : ℕ) (reply : Message ResponseHead) → Item
 
 abbrev pub moment_of : Item → ℕ
 moment_of (ClientRequest number moment request target) = moment
-moment_of (OriginRequest number moment request target) = moment
+moment_of (OriginRequest number moment request target cause) = moment
 moment_of (OriginResponse number moment response) = moment
 moment_of (OriginFailure number moment) = moment
 moment_of (ClientReply number moment reply) = moment
@@ -51,7 +52,7 @@ forward_is_head (Some forward) = is_head forward.request.method
 -- what a meaning is under a number, at a moment
 abbrev pub item_with : ℕ → ℕ → Meaning → Item
 item_with number moment (meaning.ClientRequest request target) = ClientRequest number moment request target
-item_with number moment (meaning.OriginRequest request target) = OriginRequest number moment request target
+item_with number moment (meaning.OriginRequest request target cause) = OriginRequest number moment request target cause
 item_with number moment (meaning.OriginResponse response) = OriginResponse number moment response
 item_with number moment meaning.OriginFailure = OriginFailure number moment
 item_with number moment (meaning.ClientReply reply) = ClientReply number moment reply
@@ -63,7 +64,7 @@ item_of item = item_with item.number item.moment item.of
 -- the kind of the record that bears the meaning
 abbrev pub meaning_kind : Meaning → Kind
 meaning_kind (meaning.ClientRequest request target) = kind.ClientRequest
-meaning_kind (meaning.OriginRequest request target) = kind.OriginRequest
+meaning_kind (meaning.OriginRequest request target cause) = kind.OriginRequest
 meaning_kind (meaning.OriginResponse response) = kind.OriginResponse
 meaning_kind meaning.OriginFailure = kind.OriginFailure
 meaning_kind (meaning.ClientReply reply) = kind.ClientReply

@@ -9,6 +9,7 @@ use Rattle.hc_framing.specs.declared.message.Message.{Message}
 use Rattle.hc_framing.specs.Faults.{IsWholeRequest, IsWholeResponse}
 use Rattle.hc_transcript.specs.declared.fault.RecordFault.{RecordFault}
 use Rattle.hc_transcript.specs.declared.fault.RecordFault.TheVariants as fault
+use Rattle.hc_transcript.specs.declared.format.Format.{Format}
 use Rattle.hc_transcript.specs.declared.line.Kind.{Kind}
 use Rattle.hc_transcript.specs.declared.line.Kind.TheVariants as kind
 use Rattle.hc_transcript.specs.declared.line.Line.{Line}
@@ -22,13 +23,13 @@ use Rattle.hc_transcript.specs.Transcript.{is_to_head, Splits}
 
 -- ---- the opening
 
--- the octets, with whatever follows, don't begin with the opening
+-- the octets, with whatever follows, begin with the opening of no format
 abbrev pub HasNoOpening : List ℕ → Type 0
-HasNoOpening octets = (more rest : List ℕ) → octets ++ more ≢ opening ++ rest
+HasNoOpening octets = (format : Format) (more rest : List ℕ) → octets ++ more ≢ opening format ++ rest
 
--- the octets may go on to the opening
+-- the octets may go on to the opening of a format
 abbrev pub IsUnfinishedOpening : List ℕ → Type 0
-IsUnfinishedOpening octets = (more : List ℕ) × (opening ≡ octets ++ more) × (more ≢ [])
+IsUnfinishedOpening octets = (format : Format) × (more : List ℕ) × (opening format ≡ octets ++ more) × (more ≢ [])
 
 -- the opening breaks the octets by that fault
 abbrev pub BreaksOpening : List ℕ → RecordFault → Type 0
@@ -37,21 +38,22 @@ BreaksOpening octets f = (HasNoOpening octets × (f ≡ fault.Opening)) ⊎ (IsU
 -- ---- the line and the place of a record, by the checks that its line has to pass
 
 -- the octets begin with the text of a line
-pub record HasLine (octets text : List ℕ) (l : Line) : Type 0 where
+pub record HasLine (format : Format) (octets text : List ℕ) (l : Line) : Type 0 where
   pub begins : BeginsLine octets text
-  pub is : IsLineText text l
+  pub is : IsLineText format text l
 
 -- what stands before the first line feed is no line
-pub record HasNoLine (octets : List ℕ) : Type 0 where
+pub record HasNoLine (format : Format) (octets : List ℕ) : Type 0 where
   pub text : List ℕ
   pub begins : BeginsLine octets text
-  pub none : (l : Line) → ¬ (IsLineText text l)
+  pub none : (l : Line) → ¬ (IsLineText format text l)
 
-module _ (check : Line → Option RecordFault) where
+module _ (format : Format) (check : Line → Option RecordFault) where
   -- the octets begin with a record of that line, which passes the check, and of that message; the record takes len of them
   pub record IsFramed (octets : List ℕ) (l : Line) (message : List ℕ) (len : ℕ) : Type 0 where
     pub rest : List ℕ
     pub octets_are : octets ≡ line_text l ++ 10 ∷ (message ++ 10 ∷ rest)
+    pub is : IsLineText format (line_text l) l
     pub size_is : length message ≡ l.size
     pub len_is : len ≡ length (line_text l) + l.size + 2
     pub keeps : check l ≡ None
@@ -60,21 +62,21 @@ module _ (check : Line → Option RecordFault) where
   pub record FailsCheck (f : RecordFault) (octets : List ℕ) : Type 0 where
     pub text : List ℕ
     pub line : Line
-    pub has : HasLine octets text line
+    pub has : HasLine format octets text line
     pub fails : check line ≡ Some f
 
   -- the line passes the check, and no line feed stands behind so many octets
   pub record HasWrongEnd (octets : List ℕ) : Type 0 where
     pub text : List ℕ
     pub line : Line
-    pub has : HasLine octets text line
+    pub has : HasLine format octets text line
     pub keeps : check line ≡ None
     pub enough : length text + line.size + 2 ≤ length octets
     pub wrong : slice_index octets (length text + line.size + 1) ≢ 10
 
   -- where a fault of a record's line stands
   abbrev pub BreaksLine : RecordFault → List ℕ → Type 0
-  BreaksLine fault.Line octets = HasLongLine octets ⊎ (HasNoLine octets ⊎ (HasWrongEnd octets ⊎ FailsCheck fault.Line octets))
+  BreaksLine fault.Line octets = HasLongLine octets ⊎ (HasNoLine format octets ⊎ (HasWrongEnd octets ⊎ FailsCheck fault.Line octets))
   BreaksLine f octets = FailsCheck f octets
 
   -- there is no line feed yet, and room for one
@@ -86,7 +88,7 @@ module _ (check : Line → Option RecordFault) where
   pub record IsUnfinishedRecord (octets : List ℕ) : Type 0 where
     pub text : List ℕ
     pub line : Line
-    pub has : HasLine octets text line
+    pub has : HasLine format octets text line
     pub keeps : check line ≡ None
     pub short : length octets < length text + line.size + 2
 
@@ -125,34 +127,36 @@ IsNoMessage kind.OriginFailure to_head octets = ⊥
 IsNoMessage kind.ClientReply to_head octets = IsNoResponse to_head octets ⊎ IsInterim to_head octets
 
 -- a record stands there after the history, whose octets are no message of its kind
-pub record HasNoMessage (h : List Item) (octets : List ℕ) : Type 0 where
+pub record HasNoMessage (format : Format) (h : List Item) (octets : List ℕ) : Type 0 where
   pub line : Line
   pub message : List ℕ
   pub len : ℕ
-  pub framed : IsFramed (line_fault h) octets line message len
+  pub framed : IsFramed format (line_fault h) octets line message len
   pub none : IsNoMessage line.kind (is_to_head line.kind line.number h) message
 
 -- ---- the rest behind the records of a history
 
 -- where a fault of the next record stands, in the order of the checks
-abbrev pub BreaksRecord : RecordFault → List Item → List ℕ → Type 0
-BreaksRecord fault.Message h octets = HasNoMessage h octets
-BreaksRecord f h octets = BreaksLine (line_fault h) f octets
+abbrev pub BreaksRecord : Format → RecordFault → List Item → List ℕ → Type 0
+BreaksRecord format fault.Message h octets = HasNoMessage format h octets
+BreaksRecord format f h octets = BreaksLine format (line_fault h) f octets
 
 -- behind these items a record breaks the octets by that fault, whatever follows
 pub record BreaksAfter (octets : List ℕ) (h : List Item) (f : RecordFault) : Type 0 where
+  pub format : Format
   pub records : List Record
   pub rest : List ℕ
-  pub splits : Splits octets records h rest
-  pub breaks : BreaksRecord f h rest
+  pub splits : Splits format octets records h rest
+  pub breaks : BreaksRecord format f h rest
 
 -- behind these items the octets end inside a record
 pub record IsTornAfter (octets : List ℕ) (h : List Item) : Type 0 where
+  pub format : Format
   pub records : List Record
   pub rest : List ℕ
-  pub splits : Splits octets records h rest
+  pub splits : Splits format octets records h rest
   pub some : rest ≢ []
-  pub torn : IsUnfinished (line_fault h) rest
+  pub torn : IsUnfinished format (line_fault h) rest
 
 -- behind these items the octets are malformed by that fault
 abbrev pub IsMalformedAfter : List ℕ → List Item → RecordFault → Type 0

@@ -1,7 +1,8 @@
 -- A reader of records, and the octets that it was given.
-use Rattle.std.specs.Prelude.{◌≡◌, ◌≢◌, ℕ, ◌+◌, ◌⊎◌, Bool, true, false, List, [], ◌∷◌, length, Option, Some, None, Result, Ok, Err, IsSome, if◌then◌else◌}
+use Rattle.std.specs.Prelude.{◌≡◌, ◌≢◌, ℕ, ◌+◌, ◌⊎◌, Bool, true, false, List, [], ◌∷◌, ◌++◌, length, Option, Some, None, Result, Ok, Err, IsSome}
 use Rattle.hc_transcript.specs.declared.fault.RecordFault.{RecordFault}
 use Rattle.hc_transcript.specs.declared.fault.RecordFault.TheVariants as fault
+use Rattle.hc_transcript.specs.declared.format.Format.{Format}
 use Rattle.hc_transcript.specs.declared.item.OwnedItem.{OwnedItem}
 use Rattle.hc_transcript.specs.declared.reader.RecordReader.{RecordReader}
 use Rattle.hc_transcript.specs.declared.record.Record.{Record}
@@ -13,24 +14,33 @@ use Rattle.hc_transcript.specs.Transcript.{Splits}
 use Rattle.hc_transcript.specs.Malformed.{HasNoOpening, IsUnfinishedOpening, IsUnfinished, BreaksAfter}
 use Rattle.hc_transcript.specs.Standing.{StandsAs}
 
--- what the octets are to a reader before the opening was read, and after it
-abbrev pub ReadsTo : Bool → List ℕ → List Record → List Item → List ℕ → Type 0
-ReadsTo false octets records h held = (records ≡ []) × ((h ≡ []) × (octets ≡ held))
-ReadsTo true octets records h held = Splits octets records h held
+-- what the octets are to a reader before an opening was read, and after it
+abbrev pub ReadsTo : Option Format → List ℕ → List Record → List Item → List ℕ → Type 0
+ReadsTo None octets records h held = (records ≡ []) × ((h ≡ []) × (octets ≡ held))
+ReadsTo (Some format) octets records h held = Splits format octets records h held
 
 -- the reader was given these octets, and has read of them these records, the newest first, as these items
 pub record Agrees (r : RecordReader) (octets : List ℕ) (records : List Record) (h : List Item) : Type 0 where
   pub unfailed : r.fault ≡ None
-  pub reads : ReadsTo r.is_open octets records h r.held
+  pub reads : ReadsTo r.format octets records h r.held
   pub stands : StandsAs r.standing h
 
--- what is still unread is less than the opening, or than a record
-abbrev pub WaitsBy : Bool → List Item → List ℕ → Type 0
-WaitsBy false h held = IsUnfinishedOpening held
-WaitsBy true h held = IsUnfinished (line_fault h) held
+-- the format that the opening told; none before it was read
+abbrev pub format_read : RecordReader → Option Format
+format_read r = r.format
+
+-- the octets begin with the opening of the format, where one was read
+abbrev pub BeginsAs : Option Format → List ℕ → Type 0
+BeginsAs None octets = Unit {0}
+BeginsAs (Some format) octets = (rest : List ℕ) × (octets ≡ opening format ++ rest)
+
+-- what is still unread is less than an opening, or than a record
+abbrev pub WaitsBy : Option Format → List Item → List ℕ → Type 0
+WaitsBy None h held = IsUnfinishedOpening held
+WaitsBy (Some format) h held = IsUnfinished format (line_fault h) held
 
 abbrev pub Waits : RecordReader → List Item → Type 0
-Waits r h = WaitsBy r.is_open h r.held
+Waits r h = WaitsBy r.format h r.held
 
 -- how many octets wait to be read
 abbrev pub unread : RecordReader → ℕ
@@ -46,13 +56,13 @@ CountsRecord (Ok true) old new = new ≡ old + 1
 CountsRecord (Ok false) old new = new ≡ old
 CountsRecord (Err f) old new = new ≡ old
 
--- octets are left, or the opening isn't there
-abbrev pub HasUnreadBy : Bool → List ℕ → Type 0
-HasUnreadBy false held = held ≢ opening
-HasUnreadBy true held = held ≢ []
+-- octets are left, or no opening is there
+abbrev pub HasUnreadBy : Option Format → List ℕ → Type 0
+HasUnreadBy None held = (format : Format) → held ≢ opening format
+HasUnreadBy (Some format) held = held ≢ []
 
 abbrev pub HasUnread : RecordReader → Type 0
-HasUnread r = HasUnreadBy r.is_open r.held
+HasUnread r = HasUnreadBy r.format r.held
 
 -- what the reader lends: what the record that was read last means
 abbrev pub lent : RecordReader → Option OwnedItem
@@ -77,15 +87,28 @@ HasFailed r f = fault_met r ≡ Some f
 abbrev pub HasNoFault : RecordReader → Type 0
 HasNoFault r = fault_met r ≡ None
 
--- the position of what is read next: 0 while the opening isn't whole, the first record has 1
-abbrev pub reader_position : RecordReader → ℕ
-reader_position r = if r.is_open then r.standing.records + 1 else 0
+-- the position of what is read next: 0 while no opening is whole, the first record has 1
+abbrev pub position_by : Option Format → ℕ → ℕ
+position_by None records = 0
+position_by (Some format) records = records + 1
 
--- the reader has met a fault where the octets break, behind the records of the history
+abbrev pub reader_position : RecordReader → ℕ
+reader_position r = position_by r.format r.standing.records
+
+-- the octets break behind the records of the history, in the format that was read, at that position
+pub record MeetsBreak (read : Option Format) (position : ℕ) (octets : List ℕ) (h : List Item) (f : RecordFault) : Type 0 where
+  pub breaks : BreaksAfter octets h f
+  pub format_is : read ≡ Some breaks.format
+  pub position_is : position ≡ next_position h
+
+-- the reader has met a fault where the octets break
 abbrev pub MeetsFault : RecordReader → List ℕ → List Item → RecordFault → Type 0
 MeetsFault r octets h f =
-    (HasNoOpening octets × ((f ≡ fault.Opening) × (reader_position r ≡ 0)))
-    ⊎ (BreaksAfter octets h f × (reader_position r ≡ next_position h))
+    (HasNoOpening octets × ((f ≡ fault.Opening) × ((format_read r ≡ None) × (reader_position r ≡ 0)))) ⊎ MeetsBreak (format_read r) (reader_position r) octets h f
+
+-- a format that was read stays
+abbrev pub KeepsFormat : RecordReader → RecordReader → Type 0
+KeepsFormat old new = (format : Format) → format_read old ≡ Some format → format_read new ≡ Some format
 
 -- one record more
 pub record Advances (r : RecordReader) (octets : List ℕ) (records : List Record) (h : List Item) : Type 0 where

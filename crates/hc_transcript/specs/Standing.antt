@@ -1,5 +1,5 @@
 -- Plumbing: what a beginning of a transcript leaves for the records after it.
-use Rattle.std.specs.Prelude.{◌≡◌, ℕ, ◌+◌, ◌<◌, ◌≤◌, Bool, List, length, Option, Some, None, IsSome, is_some, ◌==◌, if◌then◌else◌}
+use Rattle.std.specs.Prelude.{◌≡◌, ℕ, ◌+◌, ◌<◌, ◌≤◌, Bool, true, List, length, Option, Some, None, IsSome, is_some, ◌==◌, if◌then◌else◌}
 use Rattle.std.specs.Option.{option_map}
 use Rattle.std.specs.Ordering.{nat_cmp}
 use Rattle.std.specs.BTreeMap.{get}
@@ -9,6 +9,8 @@ use Rattle.hc_transcript.specs.declared.fault.RecordFault.{RecordFault}
 use Rattle.hc_transcript.specs.declared.line.Kind.{Kind}
 use Rattle.hc_transcript.specs.declared.line.Kind.TheVariants as kind
 use Rattle.hc_transcript.specs.declared.line.Line.{Line}
+use Rattle.hc_transcript.specs.declared.line.ToldCause.{ToldCause}
+use Rattle.hc_transcript.specs.declared.line.ToldCause.TheVariants as told
 use Rattle.hc_transcript.specs.declared.open_numbers.Standing.{Standing}
 use Rattle.hc_transcript.specs.Limits.{greatest_number}
 use Rattle.hc_transcript.specs.Items.{Item, Exchange, Forward, meaning_kind}
@@ -30,10 +32,15 @@ pub record StandsAs (s : Standing) (h : List Item) : Type 0 where
   pub exchanges : (e : ℕ) → get nat_cmp s.exchanges e ≡ option_map exchange_head (exchange_of e h)
   pub forwards : (f : ℕ) → get nat_cmp s.forwards f ≡ option_map forward_head (forward_of f h)
 
+-- whether the exchange that is told as a cause is open; true where none is told
+abbrev pub standing_cause_is_open : Standing → ToldCause → Bool
+standing_cause_is_open s (told.Exchange n) = is_some (get nat_cmp s.exchanges n)
+standing_cause_is_open s other = true
+
 -- the first check that a line fails
 abbrev pub standing_fault : Standing → Line → Option RecordFault
 standing_fault s l =
-    first_fault l s.moment s.exchange s.forward (is_some (get nat_cmp s.exchanges l.number)) (is_some (get nat_cmp s.forwards l.number))
+    first_fault l s.moment s.exchange s.forward (standing_cause_is_open s l.cause) (is_some (get nat_cmp s.exchanges l.number)) (is_some (get nat_cmp s.forwards l.number))
 
 -- the number may be opened, or is open
 abbrev pub CanFollowAs : Kind → Standing → ℕ → Type 0

@@ -17,7 +17,7 @@ use Rattle.hc_transcript.specs.History.{exchange_of, forward_of}
 -- the record of an item that follows the history: its message as it is written
 abbrev pub written_as : List Item → Item → Record
 written_as h (ClientRequest n moment request target) = record { number = n; moment = moment; of = passed.ClientRequest (request_text request) }
-written_as h (OriginRequest n moment request target) = record { number = n; moment = moment; of = passed.OriginRequest (request_text request) }
+written_as h (OriginRequest n moment request target cause) = record { number = n; moment = moment; of = passed.OriginRequest (request_text request) cause }
 written_as h (OriginResponse n moment response) =
     record { number = n; moment = moment; of = passed.OriginResponse (response_text (Response (forward_is_head (forward_of n h))) response) }
 written_as h (OriginFailure n moment) = record { number = n; moment = moment; of = passed.OriginFailure }
@@ -37,7 +37,7 @@ pub record IsWritableAnswer (to_head : Bool) (response : Message ResponseHead) :
 -- the message of the item is read back once it is written after the history
 abbrev pub IsWritable : List Item → Item → Type 0
 IsWritable h (ClientRequest n moment request target) = IsWritableAsk request target
-IsWritable h (OriginRequest n moment request target) = IsWritableAsk request target
+IsWritable h (OriginRequest n moment request target cause) = IsWritableAsk request target
 IsWritable h (OriginResponse n moment response) = IsWritableAnswer (forward_is_head (forward_of n h)) response
 IsWritable h (OriginFailure n moment) = Unit {0}
 IsWritable h (ClientReply n moment reply) = IsWritableAnswer (exchange_is_head (exchange_of n h)) reply

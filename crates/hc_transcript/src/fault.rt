@@ -39,6 +39,9 @@ pub enum RecordFault {
     /// Memory was refused.
     #[error("out of memory")]
     Memory,
+    /// The cause of a forward is no open exchange.
+    #[error("the cause of a forward is not open")]
+    Cause,
 }
 
 impl RecordFault {
@@ -59,6 +62,7 @@ impl RecordFault {
             RecordFault::Message => 7,
             RecordFault::TooLong => 8,
             RecordFault::Memory => 9,
+            RecordFault::Cause => 11,
         }
     }
 
@@ -76,6 +80,7 @@ impl RecordFault {
             RecordFault::Message => "Message",
             RecordFault::TooLong => "TooLong",
             RecordFault::Memory => "Memory",
+            RecordFault::Cause => "Cause",
         }
     }
 }

@@ -6,6 +6,7 @@ ghost use Rattle.hc_transcript.specs.Reading.{GivesFrame};
 
 use crate::fault::RecordFault;
 use crate::first_line::line_end;
+use crate::format::Format;
 use crate::limits::LONGEST_LINE;
 use crate::line::{Line, parse_line};
 use crate::open_numbers::Standing;
@@ -20,10 +21,11 @@ pub(crate) struct Framed<'a> {
 
 /// The record that begins the octets, if it is whole.
 pub(crate) fn record_at<'a>(
+    format: Format,
     bytes: &'a [u8],
     standing: &Standing,
 ) -> Result<Option<Framed<'a>>, RecordFault>
-    ensures { GivesFrame (standing_fault standing.now) result bytes.now }
+    ensures { GivesFrame format (standing_fault standing.now) result bytes.now }
 {
     let Some(end) = line_end(bytes) else {
         if bytes.len() < LONGEST_LINE {
@@ -32,7 +34,7 @@ pub(crate) fn record_at<'a>(
         return Err(RecordFault::Line);
     };
     let (text, behind) = bytes.split_at(end);
-    let Some(line) = parse_line(text) else {
+    let Some(line) = parse_line(format, text) else {
         return Err(RecordFault::Line);
     };
     if let Some(fault) = standing.fault(&line) {

@@ -26,10 +26,12 @@ pub enum Meaning {
         request: Message<RequestHead>,
         target: Target,
     },
-    /// What the origin was asked, and for what.
+    /// What the origin was asked, and for what. Its cause is the exchange that it was asked for: none
+    /// where no reply waits for it, and in the first format.
     OriginRequest {
         request: Message<RequestHead>,
         target: Target,
+        cause: Option<u64>,
     },
     /// What the origin answered.
     OriginResponse(Message<ResponseHead>),

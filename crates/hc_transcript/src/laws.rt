@@ -2,9 +2,11 @@
 
 ghost use Rattle.std.specs.Prelude.{◌≡◌, ◌≢◌, ℕ, ◌⊎◌, Bool, List, [], ◌∷◌, ◌++◌, None};
 ghost use Rattle.hc_transcript.specs.declared.fault.RecordFault.{RecordFault};
+ghost use Rattle.hc_transcript.specs.declared.format.Format.{Format};
 ghost use Rattle.hc_transcript.specs.declared.line.Kind.{Kind};
+ghost use Rattle.hc_transcript.specs.declared.line.ToldCause.{ToldCause};
 ghost use Rattle.hc_transcript.specs.declared.record.Record.{Record};
-ghost use Rattle.hc_transcript.specs.Records.{line_of, record_text};
+ghost use Rattle.hc_transcript.specs.Records.{CanTell, line_of, record_text};
 ghost use Rattle.hc_transcript.specs.Items.{Item};
 ghost use Rattle.hc_transcript.specs.Checks.{line_fault};
 ghost use Rattle.hc_transcript.specs.Transcript.{IsItemOf, Follows, Splits, GoesOn, IsTranscript};
@@ -14,37 +16,41 @@ ghost use Rattle.hc_transcript.specs.Malformed.{HasNoOpening, IsUnfinishedOpenin
 /// A record's octets are read as one item at most, and as none where they are no message of its
 /// kind.
 pub fn one_item()
-    ensures one { (kind : Kind) (number moment : ℕ) (to_head : Bool) (octets : List ℕ) (item other : Item)
-        → IsItemOf kind number moment to_head octets item → IsItemOf kind number moment to_head octets other
+    ensures one { (kind : Kind) (cause : ToldCause) (number moment : ℕ) (to_head : Bool) (octets : List ℕ) (item other : Item)
+        → IsItemOf kind cause number moment to_head octets item → IsItemOf kind cause number moment to_head octets other
         → item ≡ other }
-    ensures none { (kind : Kind) (number moment : ℕ) (to_head : Bool) (octets : List ℕ) (item : Item)
-        → IsNoMessage kind to_head octets → ¬ (IsItemOf kind number moment to_head octets item) }
+    ensures none { (kind : Kind) (cause : ToldCause) (number moment : ℕ) (to_head : Bool) (octets : List ℕ) (item : Item)
+        → IsNoMessage kind to_head octets → ¬ (IsItemOf kind cause number moment to_head octets item) }
 {}
 
 /// A transcript, with the text of a record behind it that may follow, is a transcript of one record
 /// more.
 pub fn record_text_goes_on()
-    ensures { (octets : List ℕ) (records : List Record) (h : List Item) (r : Record) (item : Item)
-        → IsTranscript octets records h → Follows h r item
-        → IsTranscript (octets ++ record_text r) (r ∷ records) (item ∷ h) }
+    ensures { (format : Format) (octets : List ℕ) (records : List Record) (h : List Item) (r : Record) (item : Item)
+        → IsTranscript format octets records h → Follows format h r item
+        → IsTranscript format (octets ++ record_text format r) (r ∷ records) (item ∷ h) }
 {}
 
 /// A record that is written for an item is read back as that very item: its message's head may be
-/// written, its body is within its limit, and the record keeps to the format behind the transcript.
+/// written, its body is within its limit, in the first format it has no cause, and the record keeps to
+/// the format behind the transcript.
 pub fn written_record_read_back()
-    ensures { (octets : List ℕ) (records : List Record) (h : List Item) (item : Item)
-        → IsTranscript octets records h → IsWritable h item → line_fault h (line_of (written_as h item)) ≡ None
-        → IsTranscript (octets ++ record_text (written_as h item)) (written_as h item ∷ records) (item ∷ h) }
+    ensures { (format : Format) (octets : List ℕ) (records : List Record) (h : List Item) (item : Item)
+        → IsTranscript format octets records h → IsWritable h item → CanTell format (written_as h item)
+        → line_fault h (line_of format (written_as h item)) ≡ None
+        → IsTranscript format (octets ++ record_text format (written_as h item)) (written_as h item ∷ records) (item ∷ h) }
 {}
 
-/// Octets are a transcript of one list of records at most, read as one list of items; and of two
-/// readings of a front of them one goes on from the other.
+/// Octets are of one format at most, and a transcript of one list of records, read as one list of
+/// items; and of two readings of a front of them one goes on from the other.
 pub fn one_transcript()
-    ensures one { (octets : List ℕ) (records others : List Record) (h g : List Item)
-        → IsTranscript octets records h → IsTranscript octets others g → (records ≡ others) × (h ≡ g) }
-    ensures front { (octets : List ℕ) (records others : List Record) (h g : List Item) (rest behind : List ℕ)
-        → Splits octets records h rest → Splits octets others g behind
-        → GoesOn records h rest others g behind ⊎ GoesOn others g behind records h rest }
+    ensures format { (octets : List ℕ) (format other : Format) (records others : List Record) (h g : List Item) (rest behind : List ℕ)
+        → Splits format octets records h rest → Splits other octets others g behind → format ≡ other }
+    ensures one { (format : Format) (octets : List ℕ) (records others : List Record) (h g : List Item)
+        → IsTranscript format octets records h → IsTranscript format octets others g → (records ≡ others) × (h ≡ g) }
+    ensures front { (format : Format) (octets : List ℕ) (records others : List Record) (h g : List Item) (rest behind : List ℕ)
+        → Splits format octets records h rest → Splits format octets others g behind
+        → GoesOn format records h rest others g behind ⊎ GoesOn format others g behind records h rest }
 {}
 
 /// Octets that break stay broken, whatever follows.
@@ -59,32 +65,32 @@ pub fn broken_for_ever()
 pub fn breaks_once()
     ensures one { (octets : List ℕ) (h g : List Item) (f e : RecordFault)
         → BreaksAfter octets h f → BreaksAfter octets g e → (h ≡ g) × (f ≡ e) }
-    ensures last { (octets : List ℕ) (h : List Item) (f : RecordFault) (records : List Record) (g : List Item) (rest : List ℕ)
-        → BreaksAfter octets h f → Splits octets records g rest → (items : List Item) × (h ≡ items ++ g) }
-    ensures whole { (octets : List ℕ) (h : List Item) (f : RecordFault) (records : List Record) (g : List Item)
-        → BreaksAfter octets h f → ¬ (IsTranscript octets records g) }
-    // Behind octets that don't begin with the opening no record is read, and they can't go on to it.
-    ensures opening { (octets : List ℕ) (records : List Record) (h : List Item) (rest : List ℕ)
-        → HasNoOpening octets → ¬ (Splits octets records h rest) }
+    ensures last { (octets : List ℕ) (h : List Item) (f : RecordFault) (format : Format) (records : List Record) (g : List Item) (rest : List ℕ)
+        → BreaksAfter octets h f → Splits format octets records g rest → (items : List Item) × (h ≡ items ++ g) }
+    ensures whole { (octets : List ℕ) (h : List Item) (f : RecordFault) (format : Format) (records : List Record) (g : List Item)
+        → BreaksAfter octets h f → ¬ (IsTranscript format octets records g) }
+    // Behind octets that don't begin with an opening no record is read, and they can't go on to one.
+    ensures opening { (octets : List ℕ) (format : Format) (records : List Record) (h : List Item) (rest : List ℕ)
+        → HasNoOpening octets → ¬ (Splits format octets records h rest) }
     ensures hopeless { (octets : List ℕ) → HasNoOpening octets → ¬ (IsUnfinishedOpening octets) }
 {}
 
 /// Octets end inside a record in one place at most; no record is read behind it, and they are no
 /// transcript and don't break.
 pub fn unfinished_once()
-    ensures one { (octets : List ℕ) (records others : List Record) (h g : List Item) (rest behind : List ℕ)
-        → Splits octets records h rest → IsUnfinished (line_fault h) rest
-        → Splits octets others g behind → IsUnfinished (line_fault g) behind
+    ensures one { (format : Format) (octets : List ℕ) (records others : List Record) (h g : List Item) (rest behind : List ℕ)
+        → Splits format octets records h rest → IsUnfinished format (line_fault h) rest
+        → Splits format octets others g behind → IsUnfinished format (line_fault g) behind
         → (records ≡ others) × (h ≡ g) × (rest ≡ behind) }
-    ensures last { (octets : List ℕ) (records others : List Record) (h g : List Item) (rest behind : List ℕ)
-        → Splits octets records h rest → IsUnfinished (line_fault h) rest
-        → Splits octets others g behind → (items : List Item) × (h ≡ items ++ g) }
-    ensures whole { (octets : List ℕ) (records others : List Record) (h g : List Item) (rest : List ℕ)
-        → Splits octets records h rest → rest ≢ [] → IsUnfinished (line_fault h) rest
-        → ¬ (IsTranscript octets others g) }
-    ensures unbroken { (octets : List ℕ) (records : List Record) (h g : List Item) (rest : List ℕ) (f : RecordFault)
-        → Splits octets records h rest → IsUnfinished (line_fault h) rest → ¬ (BreaksAfter octets g f) }
-    // Before the opening is whole no record is read.
-    ensures opening { (octets : List ℕ) (records : List Record) (h : List Item) (rest : List ℕ)
-        → IsUnfinishedOpening octets → ¬ (Splits octets records h rest) }
+    ensures last { (format : Format) (octets : List ℕ) (records others : List Record) (h g : List Item) (rest behind : List ℕ)
+        → Splits format octets records h rest → IsUnfinished format (line_fault h) rest
+        → Splits format octets others g behind → (items : List Item) × (h ≡ items ++ g) }
+    ensures whole { (format : Format) (octets : List ℕ) (records others : List Record) (h g : List Item) (rest : List ℕ)
+        → Splits format octets records h rest → rest ≢ [] → IsUnfinished format (line_fault h) rest
+        → ¬ (IsTranscript format octets others g) }
+    ensures unbroken { (format : Format) (octets : List ℕ) (records : List Record) (h g : List Item) (rest : List ℕ) (f : RecordFault)
+        → Splits format octets records h rest → IsUnfinished format (line_fault h) rest → ¬ (BreaksAfter octets g f) }
+    // Before an opening is whole no record is read.
+    ensures opening { (format : Format) (octets : List ℕ) (records : List Record) (h : List Item) (rest : List ℕ)
+        → IsUnfinishedOpening octets → ¬ (Splits format octets records h rest) }
 {}

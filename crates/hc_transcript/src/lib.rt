@@ -3,6 +3,7 @@
 
 mod fault;
 mod first_line;
+mod format;
 mod framed;
 mod item;
 mod laws;
@@ -16,14 +17,15 @@ mod record;
 mod writing;
 
 pub use fault::RecordFault;
+pub use format::Format;
 pub use item::{Meaning, OwnedItem};
 pub use laws::{
     breaks_once, broken_for_ever, one_item, one_transcript, record_text_goes_on, unfinished_once,
     written_record_read_back,
 };
 pub use limits::{GREATEST_MOMENT, GREATEST_NUMBER, LONGEST_MESSAGE};
-pub use line::{Kind, Line};
+pub use line::{Kind, Line, ToldCause};
 pub use numerals::numeral;
 pub use reader::RecordReader;
 pub use record::{Passed, Record};
-pub use writing::{OPENING, append_record, record_parts, write_record};
+pub use writing::{append_record, record_parts, write_record};

@@ -1,11 +1,13 @@
 //! The line that begins a record.
 
-ghost use Rattle.std.specs.Prelude.{◌≡◌, ◌≢◌, ℕ, ◌<◌, IfSome, IfNone, IsTrue, false, List, [], take, drop, length};
+ghost use Rattle.std.specs.Prelude.{◌≡◌, ◌≢◌, ℕ, ◌<◌, IfSome, IfNone, IsTrue, true, false, List, [], ◌∷◌, take, drop, length};
 ghost use Rattle.std.specs.List.{list_any};
 ghost use Rattle.hc_transcript.specs.declared.line.Line.{Line};
-ghost use Rattle.hc_transcript.specs.Records.{letter};
-ghost use Rattle.hc_transcript.specs.Lines.{IsLineText};
+ghost use Rattle.hc_transcript.specs.declared.line.ToldCause.{ToldCause};
+ghost use Rattle.hc_transcript.specs.Records.{letter, line_has_cause, exchange_told};
+ghost use Rattle.hc_transcript.specs.Lines.{IsLineText, WritesCause, IsEnd};
 
+use crate::format::Format;
 use crate::numerals::{numeral, numeral_before_space};
 
 /// What a record tells.
@@ -23,8 +25,31 @@ pub enum Kind {
     ClientReply,
 }
 
+/// What a line tells of the cause of a forward: the exchange that it was made for.
+#[derive(Clone, Copy, Debug, PartialEq, Eq)]
+pub enum ToldCause {
+    /// Nothing: it is no line of a forward, or the format has no causes.
+    Untold,
+    /// `-`: no reply waits for the forward.
+    NoExchange,
+    /// The number of the exchange.
+    Exchange(u64),
+}
+
+impl ToldCause {
+    /// The exchange, where one is told.
+    pub(crate) fn exchange(self) -> Option<u64>
+        ensures { result ≡ exchange_told self }
+    {
+        match self {
+            ToldCause::Exchange(number) => Some(number),
+            ToldCause::Untold | ToldCause::NoExchange => None,
+        }
+    }
+}
+
 /// The line that begins a record: its kind, the number of its exchange or forward, its moment in
-/// whole seconds since 1970, and how many octets its message has.
+/// whole seconds since 1970, how many octets its message has, and the cause of a forward.
 #[derive(Clone, Copy, Debug, PartialEq, Eq)]
 pub struct Line {
     /// What passed.
@@ -35,6 +60,8 @@ pub struct Line {
     pub moment: u64,
     /// How many octets the message has.
     pub size: u64,
+    /// What it tells of the cause of a forward.
+    pub cause: ToldCause,
 }
 
 fn kind_of(octet: u8) -> Option<Kind>
@@ -51,10 +78,46 @@ fn kind_of(octet: u8) -> Option<Kind>
     }
 }
 
+/// Whether the line of a record of that kind tells a cause.
+pub(crate) fn line_has_cause(format: Format, kind: Kind) -> bool
+    ensures { result ≡ line_has_cause format kind }
+{
+    match (format, kind) {
+        (Format::Second, Kind::OriginRequest) => true,
+        _ => false,
+    }
+}
+
+/// The cause that the text writes.
+fn read_cause(text: &[u8]) -> Option<ToldCause>
+    ensures found { IfSome result (WritesCause text.now) }
+    ensures none { IfNone result ((cause : ToldCause) → ¬ (WritesCause text.now cause)) }
+{
+    if let [b'-'] = text {
+        return Some(ToldCause::NoExchange);
+    }
+    let number = numeral(text)?;
+    Some(ToldCause::Exchange(number))
+}
+
+/// The length with which the text of a line ends, and what is told of a cause behind it.
+fn size_and_cause(with_cause: bool, text: &[u8]) -> Option<(u64, ToldCause)>
+    ensures found { IfSome result (λ r. IsEnd with_cause text.now r.0 r.1) }
+    ensures none { IfNone result ((size : ℕ) (cause : ToldCause) → ¬ (IsEnd with_cause text.now size cause)) }
+{
+    if !with_cause {
+        let size = numeral(text)?;
+        return Some((size, ToldCause::Untold));
+    }
+    let (size, rest) = numeral_before_space(text)?;
+    let cause = read_cause(rest)?;
+    Some((size, cause))
+}
+
 /// The line that the text is, without its line feed.
-pub(crate) fn parse_line(text: &[u8]) -> Option<Line>
-    ensures found { IfSome result (IsLineText text.now) }
-    ensures none { IfNone result ((line : Line) → ¬ (IsLineText text.now line)) }
+pub(crate) fn parse_line(format: Format, text: &[u8]) -> Option<Line>
+    ensures found { IfSome result (IsLineText format text.now) }
+    ensures none { IfNone result ((line : Line) → ¬ (IsLineText format text.now line)) }
 {
     let [letter, b' ', rest @ ..] = text else {
         return None;
@@ -62,11 +125,12 @@ pub(crate) fn parse_line(text: &[u8]) -> Option<Line>
     let kind = kind_of(*letter)?;
     let (number, rest) = numeral_before_space(rest)?;
     let (moment, rest) = numeral_before_space(rest)?;
-    let size = numeral(rest)?;
+    let (size, cause) = size_and_cause(line_has_cause(format, kind), rest)?;
     Some(Line {
         kind,
         number,
         moment,
         size,
+        cause,
     })
 }

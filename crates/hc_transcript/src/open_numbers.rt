@@ -5,13 +5,13 @@ ghost use Rattle.std.specs.Ordering.{nat_cmp};
 ghost use Rattle.std.specs.BTreeMap.{get, btree_map_len};
 ghost use Rattle.hc_transcript.specs.Limits.{greatest_number};
 ghost use Rattle.hc_transcript.specs.Items.{Item, item_of};
-ghost use Rattle.hc_transcript.specs.Checks.{has_right_length, has_right_number, answers_open};
+ghost use Rattle.hc_transcript.specs.Checks.{has_right_length, has_right_number, has_right_cause, answers_open};
 ghost use Rattle.hc_transcript.specs.Transcript.{is_to_head};
 
 use crate::fault::RecordFault;
 use crate::item::{Meaning, OwnedItem};
 use crate::limits::{GREATEST_MOMENT, GREATEST_NUMBER, LONGEST_MESSAGE};
-use crate::line::{Kind, Line};
+use crate::line::{Kind, Line, ToldCause};
 use hc_head::is_head;
 use std::alloc::{AllocError, Global};
 use std::collections::BTreeMap;
@@ -52,6 +52,16 @@ fn has_right_number(kind: Kind, exchange: u64, forward: u64, number: u64) -> boo
     last < number && number <= GREATEST_NUMBER
 }
 
+/// Whether an exchange that is told as a cause is open and in range; true where none is told.
+fn has_right_cause(cause: ToldCause, is_open: bool) -> bool
+    ensures { result ≡ has_right_cause cause is_open }
+{
+    match cause {
+        ToldCause::Exchange(number) => is_open && number <= GREATEST_NUMBER,
+        ToldCause::Untold | ToldCause::NoExchange => true,
+    }
+}
+
 fn answers_open(kind: Kind, has_exchange: bool, has_forward: bool) -> bool
     ensures { result ≡ answers_open kind has_exchange has_forward }
 {
@@ -63,7 +73,7 @@ fn answers_open(kind: Kind, has_exchange: bool, has_forward: bool) -> bool
 }
 
 impl Standing {
-    ghost use Rattle.hc_transcript.specs.Standing.{StandsAs, standing_fault, CanFollow, OpensExchange, OpensForward, ClosesExchange, ClosesForward};
+    ghost use Rattle.hc_transcript.specs.Standing.{StandsAs, standing_cause_is_open, standing_fault, CanFollow, OpensExchange, OpensForward, ClosesExchange, ClosesForward};
 
     pub(crate) fn new(alloc: Global) -> Self
         ensures { StandsAs result [] }
@@ -86,10 +96,21 @@ impl Standing {
         self.records
     }
 
+    /// Whether the exchange that is told as a cause is open; true where none is told.
+    fn standing_cause_is_open(&self, cause: ToldCause) -> bool
+        ensures { result ≡ standing_cause_is_open self.now cause }
+    {
+        match cause {
+            ToldCause::Exchange(number) => self.exchanges.contains_key(&number),
+            ToldCause::Untold | ToldCause::NoExchange => true,
+        }
+    }
+
     /// The first check that a line fails.
     pub(crate) fn fault(&self, line: &Line) -> Option<RecordFault>
         ensures { result ≡ standing_fault self.now line.now }
     {
+        let has_cause = self.standing_cause_is_open(line.cause);
         let has_exchange = self.exchanges.contains_key(&line.number);
         let has_forward = self.forwards.contains_key(&line.number);
         if line.moment > GREATEST_MOMENT || !has_right_length(line.kind, line.size) {
@@ -100,6 +121,8 @@ impl Standing {
             Some(RecordFault::MomentBack)
         } else if !has_right_number(line.kind, self.exchange, self.forward, line.number) {
             Some(RecordFault::Number)
+        } else if !has_right_cause(line.cause, has_cause) {
+            Some(RecordFault::Cause)
         } else if !answers_open(line.kind, has_exchange, has_forward) {
             Some(RecordFault::NothingOpen)
         } else {

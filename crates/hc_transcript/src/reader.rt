@@ -7,11 +7,11 @@ ghost use Rattle.hc_transcript.specs.Items.{Item, item_of};
 ghost use Rattle.hc_transcript.specs.Transcript.{IsTranscript};
 
 use crate::fault::RecordFault;
+use crate::format::{Format, format_at, may_open};
 use crate::framed::record_at;
 use crate::item::OwnedItem;
 use crate::open_numbers::Standing;
 use crate::reading::read_item;
-use crate::writing::OPENING;
 use hc_fields::Waiting;
 use std::alloc::Global;
 
@@ -21,7 +21,7 @@ use std::alloc::Global;
 pub struct RecordReader {
     alloc: Global,
     held: Waiting,
-    is_open: bool,
+    format: Option<Format>,
     standing: Standing,
     current: Option<OwnedItem>,
     fault: Option<RecordFault>,
@@ -32,7 +32,7 @@ impl Drop for RecordReader {
         let RecordReader {
             alloc: _,
             held,
-            is_open: _,
+            format: _,
             standing,
             current,
             fault: _,
@@ -44,7 +44,7 @@ impl Drop for RecordReader {
 }
 
 impl RecordReader {
-    ghost use Rattle.hc_transcript.specs.Reader.{Agrees, GivesAdvance, PositionsNext, HasFailed, HasNoFault, fault_met, HasItem, Lends, lent, CountsRecord, HasUnread, unread, records_read, reader_position};
+    ghost use Rattle.hc_transcript.specs.Reader.{Agrees, GivesAdvance, PositionsNext, HasFailed, HasNoFault, fault_met, HasItem, Lends, lent, CountsRecord, HasUnread, unread, records_read, format_read, KeepsFormat, BeginsAs, reader_position};
     ghost use Rattle.hc_transcript.specs.ReaderParts.{is_whole_by, GivesOpening};
 
     /// A reader that was given nothing.
@@ -54,7 +54,7 @@ impl RecordReader {
         RecordReader {
             alloc,
             held: Waiting::new(alloc),
-            is_open: false,
+            format: None,
             standing: Standing::new(alloc),
             current: None,
             fault: None,
@@ -67,6 +67,7 @@ impl RecordReader {
             → OnOk result (Agrees self.new (octets ++ piece.now) records h) }
         ensures counted { records_read self.new ≡ records_read self.old }
         ensures position { reader_position self.new ≡ reader_position self.old }
+        ensures format { format_read self.new ≡ format_read self.old }
         ensures lends { lent self.new ≡ lent self.old }
         ensures unread { unread self.new ≡ (if is_ok result then unread self.old + length piece.now else unread self.old) }
         // Only memory can fail, unless a fault was answered before.
@@ -97,6 +98,10 @@ impl RecordReader {
         ensures waits { result ≡ Ok false → unread self.new ≤ longest_unfinished }
         ensures counted { CountsRecord result (records_read self.old) (records_read self.new) }
         ensures position { PositionsNext result self.old self.new }
+        ensures format { KeepsFormat self.old self.new }
+        // Whatever it answers, a format that was read is that of the octets.
+        ensures told { (octets : List ℕ) (records : List Record) (h : List Item) → Agrees self.old octets records h
+            → BeginsAs (format_read self.new) octets }
         ensures err { IfErr result (HasFailed self.new) }
         ensures unfailed { OnOk result (HasNoFault self.old × HasNoFault self.new) }
         ensures failed { (f : RecordFault) → HasFailed self.old f → (result ≡ Err f) × (self.new ≡ self.old) }
@@ -136,6 +141,7 @@ impl RecordReader {
         ensures unread { unread self.new ≡ unread self.old }
         ensures counted { records_read self.new ≡ records_read self.old }
         ensures position { reader_position self.new ≡ reader_position self.old }
+        ensures format { format_read self.new ≡ format_read self.old }
         ensures fault { fault_met self.new ≡ fault_met self.old }
         ensures taken { lent self.new ≡ None }
     {
@@ -157,26 +163,33 @@ impl RecordReader {
         self.standing.records()
     }
 
+    /// The format that the opening tells; none until `advance` has read it whole.
+    pub fn format(&self) -> Option<Format>
+        ensures { result ≡ format_read self.now }
+    {
+        self.format
+    }
+
     /// The position of what is read next, or of what broke: 0 is the opening, the first record has 1.
     pub fn position(&self) -> u64
         ensures { result ≡ reader_position self.now }
     {
-        if self.is_open {
-            self.standing.records() + 1
-        } else {
-            0
+        match self.format {
+            Some(_) => self.standing.records() + 1,
+            None => 0,
         }
     }
 
-    /// Ends the transcript: `Torn` where the opening isn't whole, or octets are left after the last
+    /// Ends the transcript: `Torn` where no opening is whole, or octets are left after the last
     /// record that was read. After a fault that fault is answered again. Only the fault changes, and
     /// where there is none nothing does.
     pub fn finish(&mut self) -> Result<(), RecordFault>
         ensures ok { (octets : List ℕ) (records : List Record) (h : List Item) → Agrees self.old octets records h
-            → OnOk result (IsTranscript octets records h) }
+            → OnOk result ((format : Format) × IsTranscript format octets records h) }
         ensures unchanged { OnOk result (self.new ≡ self.old) }
         ensures counted { records_read self.new ≡ records_read self.old }
         ensures position { reader_position self.new ≡ reader_position self.old }
+        ensures format { format_read self.new ≡ format_read self.old }
         ensures lends { lent self.new ≡ lent self.old }
         ensures unread { unread self.new ≡ unread self.old }
         ensures err { IfErr result (λ f. HasFailed self.new f × ((f ≡ RecordFault.Torn) ⊎ HasFailed self.old f)) }
@@ -195,15 +208,14 @@ impl RecordReader {
         Ok(())
     }
 
-    /// Whether the opening is there, and no octet after the last record that was read.
+    /// Whether an opening is there, and no octet after the last record that was read.
     fn is_whole(&self) -> bool
-        ensures { result ≡ is_whole_by self.now.is_open self.now.held }
+        ensures { result ≡ is_whole_by self.now.format self.now.held }
     {
         let left = self.held.as_slice();
-        if self.is_open {
-            left.is_empty()
-        } else {
-            left == OPENING
+        match self.format {
+            Some(_) => left.is_empty(),
+            None => left == Format::First.opening() || left == Format::Second.opening(),
         }
     }
 
@@ -218,39 +230,44 @@ impl RecordReader {
         ensures waits { result ≡ Ok false → unread self.new ≤ longest_unfinished }
         ensures counted { CountsRecord result (records_read self.old) (records_read self.new) }
         ensures position { PositionsNext result self.old self.new }
+        ensures format { KeepsFormat self.old self.new }
+        // Whatever it answers, a format that was read is that of the octets.
+        ensures told { (octets : List ℕ) (records : List Record) (h : List Item) → Agrees self.old octets records h
+            → BeginsAs (format_read self.new) octets }
         ensures fault { fault_met self.new ≡ fault_met self.old }
     {
-        if !self.is_open {
-            match self.read_opening() {
+        let format = match self.format {
+            Some(format) => format,
+            None => match self.read_opening() {
                 Err(fault) => return Err(fault),
-                Ok(false) => return Ok(false),
-                Ok(true) => {}
-            }
-        }
-        self.read_record()
+                Ok(None) => return Ok(false),
+                Ok(Some(format)) => format,
+            },
+        };
+        self.read_record(format)
     }
 
-    /// Reads the opening, if it is whole.
-    fn read_opening(&mut self) -> Result<bool, RecordFault>
-        requires { self.old.is_open ≡ false }
+    /// Reads the opening, if it is whole, and answers its format.
+    fn read_opening(&mut self) -> Result<Option<Format>, RecordFault>
+        requires { self.old.format ≡ None }
         ensures { GivesOpening result self.old self.new }
     {
         let held = self.held.as_slice();
-        if !held.starts_with(OPENING) {
-            return if OPENING.starts_with(held) {
-                Ok(false)
+        let Some(format) = format_at(held) else {
+            return if may_open(held) {
+                Ok(None)
             } else {
                 Err(RecordFault::Opening)
             };
-        }
-        self.held.skip(OPENING.len());
-        self.is_open = true;
-        Ok(true)
+        };
+        self.held.skip(format.opening().len());
+        self.format = Some(format);
+        Ok(Some(format))
     }
 
     /// Reads the record behind the opening, if it is whole.
-    fn read_record(&mut self) -> Result<bool, RecordFault>
-        requires is_open { self.old.is_open ≡ true }
+    fn read_record(&mut self, format: Format) -> Result<bool, RecordFault>
+        requires format { self.old.format ≡ Some format }
         requires lent { lent self.old ≡ None }
         ensures gives { (octets : List ℕ) (records : List Record) (h : List Item) → Agrees self.old octets records h
             → GivesAdvance result self.new octets records h }
@@ -259,10 +276,10 @@ impl RecordReader {
         ensures shrinks { result ≡ Ok true → unread self.new < unread self.old }
         ensures waits { result ≡ Ok false → unread self.new ≤ longest_unfinished }
         ensures counted { CountsRecord result (records_read self.old) (records_read self.new) }
-        ensures is_open { self.new.is_open ≡ true }
+        ensures format { self.new.format ≡ Some format }
         ensures fault { fault_met self.new ≡ fault_met self.old }
     {
-        let framed = match record_at(self.held.as_slice(), &self.standing) {
+        let framed = match record_at(format, self.held.as_slice(), &self.standing) {
             Err(fault) => return Err(fault),
             Ok(None) => return Ok(false),
             Ok(Some(framed)) => framed,

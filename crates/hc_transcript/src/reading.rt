@@ -6,7 +6,7 @@ ghost use Rattle.hc_transcript.specs.Reading.{GivesRequestRead, GivesResponseRea
 
 use crate::fault::RecordFault;
 use crate::item::{Meaning, OwnedItem};
-use crate::line::{Kind, Line};
+use crate::line::{Kind, Line, ToldCause};
 use hc_framing::{Message, whole_request, whole_response};
 use hc_head::{RequestHead, ResponseHead, Target, target};
 use std::alloc::Global;
@@ -38,14 +38,16 @@ fn read_response(
     Ok(response)
 }
 
-/// What octets of that kind mean; `to_head` tells whether a response answers HEAD.
+/// What octets of that kind mean, behind a line that tells such a cause; `to_head` tells whether a
+/// response answers HEAD.
 fn read_meaning(
     alloc: Global,
     kind: Kind,
+    cause: ToldCause,
     octets: &[u8],
     to_head: bool,
 ) -> Result<Meaning, RecordFault>
-    ensures { GivesMeaning kind to_head octets.now result }
+    ensures { GivesMeaning kind cause to_head octets.now result }
 {
     Ok(match kind {
         Kind::ClientRequest => {
@@ -54,7 +56,11 @@ fn read_meaning(
         }
         Kind::OriginRequest => {
             let (request, target) = read_request(alloc, octets)?;
-            Meaning::OriginRequest { request, target }
+            Meaning::OriginRequest {
+                request,
+                target,
+                cause: cause.exchange(),
+            }
         }
         Kind::OriginResponse => Meaning::OriginResponse(read_response(alloc, octets, to_head)?),
         Kind::OriginFailure => Meaning::OriginFailure,
@@ -73,7 +79,7 @@ pub(crate) fn read_item(
     requires { line.now.moment ≤ greatest_moment }
     ensures { GivesItem line.now to_head octets.now result }
 {
-    let of = read_meaning(alloc, line.kind, octets, to_head)?;
+    let of = read_meaning(alloc, line.kind, line.cause, octets, to_head)?;
     Ok(OwnedItem {
         number: line.number,
         moment: line.moment,

@@ -21,8 +21,12 @@ pub struct Record {
 pub enum Passed {
     /// What a client asked.
     ClientRequest(MessageText),
-    /// What the origin was asked.
-    OriginRequest(MessageText),
+    /// What the origin was asked, and the exchange that it was asked for: none where no reply waits for
+    /// it. In the first format no line tells it, so that a record with a cause is read back without it.
+    OriginRequest {
+        message: MessageText,
+        cause: Option<u64>,
+    },
     /// What the origin answered.
     OriginResponse(MessageText),
     /// The origin gave no answer.
@@ -53,7 +57,10 @@ impl Passed {
     {
         match self {
             Passed::ClientRequest(message) => Ok(Passed::ClientRequest(message.share()?)),
-            Passed::OriginRequest(message) => Ok(Passed::OriginRequest(message.share()?)),
+            Passed::OriginRequest { message, cause } => Ok(Passed::OriginRequest {
+                message: message.share()?,
+                cause: *cause,
+            }),
             Passed::OriginResponse(message) => Ok(Passed::OriginResponse(message.share()?)),
             Passed::OriginFailure => Ok(Passed::OriginFailure),
             Passed::ClientReply(message) => Ok(Passed::ClientReply(message.share()?)),

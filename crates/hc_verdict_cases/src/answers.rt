@@ -47,6 +47,7 @@ fn answer_of(
             Teller::Program(words.as_slice()).tell(alloc, &[octets], out)
         }
         "records" => Teller::Reader.tell(alloc, &[octets], out),
+        "format" => Teller::Format.tell(alloc, &[octets], out),
         _ => tell(alloc, question, octets, parts, out),
     }
 }

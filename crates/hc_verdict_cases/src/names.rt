@@ -40,6 +40,7 @@ pub fn say_faults(out: &mut String) -> Result<(), AllocError> {
         RecordFault::Message,
         RecordFault::TooLong,
         RecordFault::Memory,
+        RecordFault::Cause,
     ] {
         show_named(fault.number(), fault.name(), out)?;
     }

@@ -5,7 +5,7 @@ use hc_cases::{Unanswered, show_short};
 use hc_framing::Message;
 use hc_head::{ResponseHead, Target};
 use hc_history::Verdict;
-use hc_transcript::{Meaning, OwnedItem, RecordFault, RecordReader};
+use hc_transcript::{Format, Meaning, OwnedItem, RecordFault, RecordReader};
 use std::alloc::{AllocError, Global};
 use std::fmt::Write;
 
@@ -26,6 +26,21 @@ fn say_read(
     }
     let ended = reader.finish();
     say_end(alloc, reader, ended, out)
+}
+
+/// Writes the format that the reader answers behind all records that the pieces make, and behind a fault.
+pub fn say_format(alloc: Global, pieces: &[&[u8]], out: &mut String) -> Result<(), AllocError> {
+    let mut reader = RecordReader::new(alloc);
+    let mut records = String::new(alloc);
+    for piece in pieces {
+        say_piece(&mut reader, piece, &mut records)?;
+    }
+    let _ = reader.finish();
+    out.push_str(match reader.format() {
+        None => "none",
+        Some(Format::First) => "first",
+        Some(Format::Second) => "second",
+    })
 }
 
 // Writes the records that end in the next piece; no more do than it has octets. A fault is met again
@@ -76,7 +91,10 @@ fn say_item(item: &OwnedItem, out: &mut String) -> Result<(), AllocError> {
     let moment = item.moment;
     match &item.of {
         Meaning::ClientRequest { target, .. } => say_request('q', number, moment, target, out),
-        Meaning::OriginRequest { target, .. } => say_request('f', number, moment, target, out),
+        Meaning::OriginRequest { target, cause, .. } => {
+            say_request('f', number, moment, target, out)?;
+            say_cause(*cause, out)
+        }
         Meaning::OriginResponse(response) => say_response('r', number, moment, response, out),
         Meaning::OriginFailure => write!(out, "x {number} {moment}"),
         Meaning::ClientReply(reply) => say_response('a', number, moment, reply, out),
@@ -94,6 +112,14 @@ fn say_request(
     show_short(target.host.as_slice(), out)?;
     out.push(' ')?;
     show_short(target.path.as_slice(), out)
+}
+
+// Writes the exchange that a forward was made for, where it has one.
+fn say_cause(cause: Option<u64>, out: &mut String) -> Result<(), AllocError> {
+    match cause {
+        Some(exchange) => write!(out, " cause={exchange}"),
+        None => Ok(()),
+    }
 }
 
 fn say_response(

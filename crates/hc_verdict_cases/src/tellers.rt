@@ -1,7 +1,7 @@
 //! Who tells something of a transcript.
 
 use crate::program::Audited;
-use crate::records::say_records;
+use crate::records::{say_format, say_records};
 use hc_cases::Unanswered;
 use std::alloc::Global;
 
@@ -12,6 +12,8 @@ pub enum Teller<'a> {
     Program(&'a [&'a str]),
     /// The reader of records.
     Reader,
+    /// The same, of the format alone.
+    Format,
 }
 
 impl<'a> Teller<'a> {
@@ -20,6 +22,7 @@ impl<'a> Teller<'a> {
         match name {
             "audit" => Some(Teller::Program(words)),
             "records" => Some(Teller::Reader),
+            "format" => Some(Teller::Format),
             _ => None,
         }
     }
@@ -34,6 +37,7 @@ impl<'a> Teller<'a> {
         match self {
             Teller::Program(words) => say_audited(alloc, words, pieces, out),
             Teller::Reader => say_records(alloc, pieces, out),
+            Teller::Format => Ok(say_format(alloc, pieces, out)?),
         }
     }
 }

@@ -1,6 +1,7 @@
 use Rattle.std.proofs.Common.{◌≡◌, ◌∙◌, ℕ, Bool, Err, ap, arith, refl, subst}
 use Rattle.std.proofs.lemmas.Result.{err_from_is_err_and}
 use Rattle.hc_transcript.specs.Records.{opening}
+use Rattle.hc_service.specs.Sending.{recorded_format}
 use Rattle.hc_serve.specs.Clients.{ComeSince, LeftSince, Serving}
 use Rattle.hc_serve.proofs.ClientLemmas.{at_fault, counted_from, goes_on, holds_all, holds_as, idle_behind, serving_begins}
 use Rattle.hc_serve.proofs.clients.serve_clients.Goals as goal
@@ -37,9 +38,9 @@ returns-in_err-serve_next-clause-transcript g c =
     (at_fault c.runs_go_on.ensures.on c.runs_go_on.ensures.counted (g.K.Clock.may_tell c.args.clock.now)
     (g.A.Clients.came c.args.clients.now) (g.A.Clients.came c.connections.clients) (g.A.Clients.came c.serve_next.new.clients)
     (g.A.Clients.left c.args.clients.now) (g.A.Clients.left c.connections.clients) (g.A.Clients.left c.serve_next.new.clients)
-    (g.R.Link.has_got c.connections.recorder) (g.R.Link.has_got c.serve_next.new.recorder) c.args.core.now c.connections.core c.serve_next.new.core opening Bool c.in_err-serve_next.field-0.0
-    c.connections.served _ c.args.count (omega (arith, c.connections-test.true)) (omega arith) (c.connections.invariant.so_far opening held)
-    (c.in_err-serve_next.ensures.serves _ (c.connections.invariant.so_far opening held).held)))
+    (g.R.Link.has_got c.connections.recorder) (g.R.Link.has_got c.serve_next.new.recorder) c.args.core.now c.connections.core c.serve_next.new.core (opening recorded_format) Bool c.in_err-serve_next.field-0.0
+    c.connections.served _ c.args.count (omega (arith, c.connections-test.true)) (omega arith) (c.connections.invariant.so_far (opening recorded_format) held)
+    (c.in_err-serve_next.ensures.serves _ (c.connections.invariant.so_far (opening recorded_format) held).held)))
 
 pub returns-in_err-serve_next-clause-serves : goal.returns-in_err-serve_next-clause-serves
 returns-in_err-serve_next-clause-serves g c =
@@ -67,7 +68,7 @@ pub returns-clause-transcript : goal.returns-clause-transcript
 returns-clause-transcript g c =
     λ settings good is_new held.
     holds_all c.runs_go_on.ensures.on c.runs_go_on.ensures.counted c.runs_are_judged_right.ensures c.new_cache_agrees.ensures settings good c.args.core.now is_new
-    (g.K.Clock.may_tell c.args.clock.now) c.connections.served 0 (ComeSince (g.A.Clients.came c.args.clients.now) (g.A.Clients.came c.connections.clients)) (LeftSince (g.A.Clients.left c.args.clients.now) (g.A.Clients.left c.connections.clients)) (g.R.Link.has_got c.connections.recorder) c.connections.core (c.connections.invariant.so_far opening held)
+    (g.K.Clock.may_tell c.args.clock.now) c.connections.served 0 (ComeSince (g.A.Clients.came c.args.clients.now) (g.A.Clients.came c.connections.clients)) (LeftSince (g.A.Clients.left c.args.clients.now) (g.A.Clients.left c.connections.clients)) (g.R.Link.has_got c.connections.recorder) c.connections.core (c.connections.invariant.so_far (opening recorded_format) held)
 
 pub returns-clause-serves : goal.returns-clause-serves
 returns-clause-serves g c =

@@ -1,5 +1,5 @@
-use Rattle.hc_transcript.proofs.OnceLemmas.{one, front}
+use Rattle.hc_transcript.proofs.OnceLemmas.{one_opening, one, front}
 use Rattle.hc_transcript.proofs.laws.one_transcript.Goals as goal
 
 pub returns : goal.returns
-returns c = record { one = one; front = front }
+returns c = record { format = one_opening; one = one; front = front }

@@ -7,4 +7,4 @@ returns-clause-ok c = λ octets records h agrees. whole_is c.args.self.now octet
 
 pub returns-then-not-is_whole-clause-torn : goal.returns-then-not-is_whole-clause-torn
 returns-then-not-is_whole-clause-torn c = λ octets records h agrees.
-    unread_left c.args.self.now.is_open c.args.self.now.held (sym c.is_whole.ensures ∙ c.if-not-is_whole.true)
+    unread_left c.args.self.now.format c.args.self.now.held (sym c.is_whole.ensures ∙ c.if-not-is_whole.true)
