@@ -25,8 +25,8 @@ use Rattle.hc_arguments.specs.declared.refusal.Refusal.{Refusal}
 use Rattle.hc_arguments.specs.declared.refusal.Refusal.TheVariants.{Memory, Missing, Slack, Ignore, Connections, Keys, Bytes, Name}
 use Rattle.hc_arguments.specs.Command.{Asks, AsksAudit, AsksBy, AsksService, AsksSettings, CanBeDone, Command, IsMade, IsRefused, IsWord, RefusesBy, Task}
 use Rattle.hc_arguments.specs.Command.{command_in, command_named, command_of, hcache, lacks, refused_kind, service_words, task_of, value_in}
-use Rattle.hc_arguments.specs.Command.Command.{Audits, Replays, Serves}
-use Rattle.hc_arguments.specs.Command.Task.{ToAudit, ToReplay, ToServe}
+use Rattle.hc_arguments.specs.Command.Command.{Audits, Replays, Converts, Serves}
+use Rattle.hc_arguments.specs.Command.Task.{ToAudit, ToReplay, ToConvert, ToServe}
 use Rattle.hc_arguments.specs.Values.{connections_of, keys_by, name_by, plain, plain_cache}
 
 -- ---- the command
@@ -118,6 +118,7 @@ one_command command value task other a b = one_some command _ _ a.0 b.0
 one_task : (command : Option Command) (value : Text → Option Text) (task other : Task) → AsksBy command value task → AsksBy command value other → task ≡ other
 one_task command value (ToAudit f s) (ToAudit g t) a b = one_audit value f g s t a.1 b.1
 one_task command value (ToReplay f) (ToReplay g) a b = ap ToReplay (one_some _ _ _ a.1 b.1)
+one_task command value (ToConvert f) (ToConvert g) a b = ap ToConvert (one_some _ _ _ a.1 b.1)
 one_task command value (ToServe l o n f s) (ToServe k p m g t) a b = one_service value l o f k p g n m s t a.1 b.1
 one_task command value (ToAudit f s) (ToReplay g) a b = absurd (let e : Audits ≡ Replays = one_some command _ _ a.0 b.0 in cc)
 one_task command value (ToAudit f s) (ToServe k p m g t) a b = absurd (let e : Audits ≡ Serves = one_some command _ _ a.0 b.0 in cc)
@@ -125,6 +126,12 @@ one_task command value (ToReplay f) (ToAudit g t) a b = absurd (let e : Replays 
 one_task command value (ToReplay f) (ToServe k p m g t) a b = absurd (let e : Replays ≡ Serves = one_some command _ _ a.0 b.0 in cc)
 one_task command value (ToServe l o n f s) (ToAudit g t) a b = absurd (let e : Serves ≡ Audits = one_some command _ _ a.0 b.0 in cc)
 one_task command value (ToServe l o n f s) (ToReplay g) a b = absurd (let e : Serves ≡ Replays = one_some command _ _ a.0 b.0 in cc)
+one_task command value (ToAudit f s) (ToConvert g) a b = absurd (let e : Audits ≡ Converts = one_some command _ _ a.0 b.0 in cc)
+one_task command value (ToReplay f) (ToConvert g) a b = absurd (let e : Replays ≡ Converts = one_some command _ _ a.0 b.0 in cc)
+one_task command value (ToServe l o n f s) (ToConvert g) a b = absurd (let e : Serves ≡ Converts = one_some command _ _ a.0 b.0 in cc)
+one_task command value (ToConvert f) (ToAudit g t) a b = absurd (let e : Converts ≡ Audits = one_some command _ _ a.0 b.0 in cc)
+one_task command value (ToConvert f) (ToReplay g) a b = absurd (let e : Converts ≡ Replays = one_some command _ _ a.0 b.0 in cc)
+one_task command value (ToConvert f) (ToServe k p m g t) a b = absurd (let e : Converts ≡ Serves = one_some command _ _ a.0 b.0 in cc)
 
 -- what is asked lacks nothing
 number_is_there : (o : Option Text) (n : ℕ) → option_and_then connections_of o ≡ Some n → is_none o ≡ false
@@ -134,6 +141,7 @@ number_is_there (Some text) n is = refl
 lacks_nothing : (command : Option Command) (value : Text → Option Text) (task : Task) → AsksBy command value task → lacks command value ≡ false
 lacks_nothing command value (ToAudit file settings) asks = rw (asks.0, asks.1.file_is) refl
 lacks_nothing command value (ToReplay file) asks = rw (asks.0, asks.1) refl
+lacks_nothing command value (ToConvert file) asks = rw (asks.0, asks.1) refl
 lacks_nothing command value (ToServe listen origin n file settings) asks =
     rw (asks.0, asks.1.listen_is, asks.1.origin_is, number_is_there (value (codes "connections")) n asks.1.connections_is, asks.1.file_is) refl
 
@@ -144,21 +152,27 @@ none_outside command value task e asks Memory refuses kind = cc
 none_outside command value task e asks Missing refuses kind = true_is_not_false _ refuses (lacks_nothing command value task asks)
 none_outside command value (ToAudit file settings) e asks Slack refuses kind = none_is_some _ _ refuses.1 asks.1.slack_is
 none_outside command value (ToReplay file) e asks Slack refuses kind = let e : Audits ≡ Replays = one_some command _ _ refuses.0 asks.0 in cc
+none_outside command value (ToConvert file) e asks Slack refuses kind = let e : Audits ≡ Converts = one_some command _ _ refuses.0 asks.0 in cc
 none_outside command value (ToServe l o n f s) e asks Slack refuses kind = let e : Audits ≡ Serves = one_some command _ _ refuses.0 asks.0 in cc
 none_outside command value (ToAudit file settings) e asks Ignore refuses kind = none_is_some _ _ refuses.1 asks.1.ignored_is
 none_outside command value (ToReplay file) e asks Ignore refuses kind = let e : Audits ≡ Replays = one_some command _ _ refuses.0 asks.0 in cc
+none_outside command value (ToConvert file) e asks Ignore refuses kind = let e : Audits ≡ Converts = one_some command _ _ refuses.0 asks.0 in cc
 none_outside command value (ToServe l o n f s) e asks Ignore refuses kind = let e : Audits ≡ Serves = one_some command _ _ refuses.0 asks.0 in cc
 none_outside command value (ToAudit file settings) e asks Connections refuses kind = let e : Serves ≡ Audits = one_some command _ _ refuses.0 asks.0 in cc
 none_outside command value (ToReplay file) e asks Connections refuses kind = let e : Serves ≡ Replays = one_some command _ _ refuses.0 asks.0 in cc
+none_outside command value (ToConvert file) e asks Connections refuses kind = let e : Serves ≡ Converts = one_some command _ _ refuses.0 asks.0 in cc
 none_outside command value (ToServe l o n f s) e asks Connections refuses kind = none_is_some _ _ refuses.1 asks.1.connections_is
 none_outside command value (ToAudit file settings) e asks Keys refuses kind = let e : Serves ≡ Audits = one_some command _ _ refuses.0 asks.0 in cc
 none_outside command value (ToReplay file) e asks Keys refuses kind = let e : Serves ≡ Replays = one_some command _ _ refuses.0 asks.0 in cc
+none_outside command value (ToConvert file) e asks Keys refuses kind = let e : Serves ≡ Converts = one_some command _ _ refuses.0 asks.0 in cc
 none_outside command value (ToServe l o n f s) e asks Keys refuses kind = none_is_some _ _ refuses.1 asks.1.settings_are.keys_is
 none_outside command value (ToAudit file settings) e asks Bytes refuses kind = let e : Serves ≡ Audits = one_some command _ _ refuses.0 asks.0 in cc
 none_outside command value (ToReplay file) e asks Bytes refuses kind = let e : Serves ≡ Replays = one_some command _ _ refuses.0 asks.0 in cc
+none_outside command value (ToConvert file) e asks Bytes refuses kind = let e : Serves ≡ Converts = one_some command _ _ refuses.0 asks.0 in cc
 none_outside command value (ToServe l o n f s) e asks Bytes refuses kind = none_is_some _ _ refuses.1 asks.1.settings_are.bytes_is
 none_outside command value (ToAudit file settings) e asks Name refuses kind = let e : Serves ≡ Audits = one_some command _ _ refuses.0 asks.0 in cc
 none_outside command value (ToReplay file) e asks Name refuses kind = let e : Serves ≡ Replays = one_some command _ _ refuses.0 asks.0 in cc
+none_outside command value (ToConvert file) e asks Name refuses kind = let e : Serves ≡ Converts = one_some command _ _ refuses.0 asks.0 in cc
 none_outside command value (ToServe l o n f s) e asks Name refuses kind = none_is_some _ _ refuses.1 asks.1.settings_are.name_is
 
 -- of the settings that are asked for there are caches
@@ -182,6 +196,7 @@ good_size (Some text) keys is = taken_size (is_number text) (is_size (digits_val
 pub possible_from : (command : Option Command) (value : Text → Option Text) (task : Task) → AsksBy command value task → CanBeDone task
 possible_from command value (ToAudit file settings) asks = tt
 possible_from command value (ToReplay file) asks = tt
+possible_from command value (ToConvert file) asks = tt
 possible_from command value (ToServe listen origin connections file settings) asks = record {
   name = good_name (value (codes "name")) settings.name asks.1.settings_are.name_is;
   size = good_size (value (codes "keys")) settings.keys asks.1.settings_are.keys_is;
@@ -328,6 +343,26 @@ pub replay_words : (name file : Text) → IsWord file → AreWordsFor (name ∷ 
 replay_words name file is = let h = no_flag file is in record {
   asks = (is_replay name file h, script_given name file h);
   no_fault = no_replay_fault name file h;
+}
+
+-- ---- `convert FILE`
+
+transcript_given : (name file : Text) → IsNoFlag file → value_in (subcommand_of hcache (name ∷ codes "convert" ∷ file ∷ [])) (codes "FILE") ≡ Some file
+unfolding clap_on_literals
+transcript_given name file h = rw (h.dashes, h.long, h.short) refl
+
+is_convert : (name file : Text) → IsNoFlag file → command_in (subcommand_of hcache (name ∷ codes "convert" ∷ file ∷ [])) ≡ Some Converts
+unfolding clap_on_literals
+is_convert name file h = refl
+
+no_convert_fault : (name file : Text) → IsNoFlag file → fault_of hcache (name ∷ codes "convert" ∷ file ∷ []) ≡ []
+unfolding clap_on_literals
+no_convert_fault name file h = rw (h.dashes, h.long, h.short) refl
+
+pub convert_words : (name file : Text) → IsWord file → AreWordsFor (name ∷ codes "convert" ∷ file ∷ []) (ToConvert file)
+convert_words name file is = let h = no_flag file is in record {
+  asks = (is_convert name file h, transcript_given name file h);
+  no_fault = no_convert_fault name file h;
 }
 
 -- ---- `serve`

@@ -16,14 +16,14 @@ use Rattle.hc_history.specs.declared.settings.Settings.{Settings}
 use Rattle.hc_service.specs.declared.settings.CoreSettings.{CoreSettings}
 use Rattle.hc_service.specs.Settings.{AreGood}
 use Rattle.hc_arguments.specs.declared.order.Order.{Order}
-use Rattle.hc_arguments.specs.declared.order.Order.TheVariants.{Audit, Replay, Serve}
+use Rattle.hc_arguments.specs.declared.order.Order.TheVariants.{Audit, Replay, Convert, Serve}
 use Rattle.hc_arguments.specs.declared.refusal.Refusal.{Refusal}
 use Rattle.hc_arguments.specs.declared.refusal.Refusal.TheVariants.{Memory, Missing, Slack, Ignore, Connections, Keys, Bytes, Name}
 use Rattle.hc_arguments.specs.Values.{bytes_by, connections_of, ignored_by, keys_by, name_by, slack_by, unmarked_by}
 
 -- ---- what the command takes
 
--- the argument of `audit` and of `replay`
+-- the argument of `audit`, of `replay` and of `convert`
 abbrev pub file_rule : Rule
 file_rule = record (new_rule (codes "FILE")) { required = true }
 
@@ -55,8 +55,11 @@ serve = with_rule (with_rule (with_rule (with_rule (with_rule (with_rule (with_r
 abbrev pub program : App
 program = on_top (λ s. record s { has_version = true; subcommand_required = true }) (new_app (codes "hcache"))
 
+abbrev pub convert : App
+convert = with_rule (new_app (codes "convert")) file_rule
+
 abbrev pub hcache : App
-hcache = with_subcommand (with_subcommand (with_subcommand program audit.top) replay.top) serve.top
+hcache = with_subcommand (with_subcommand (with_subcommand (with_subcommand program audit.top) replay.top) serve.top) convert.top
 
 -- ---- what the words say
 
@@ -64,11 +67,13 @@ hcache = with_subcommand (with_subcommand (with_subcommand program audit.top) re
 pub data Command : Type 0 where
   Audits : Command
   Replays : Command
+  Converts : Command
   Serves : Command
 
 abbrev pub command_named : Text → Option Command
 command_named name = if bytes_eq name (codes "audit") then Some Audits
-    else if bytes_eq name (codes "replay") then Some Replays else if bytes_eq name (codes "serve") then Some Serves else None
+    else if bytes_eq name (codes "replay") then Some Replays else if bytes_eq name (codes "serve") then Some Serves
+    else if bytes_eq name (codes "convert") then Some Converts else None
 
 -- what they can be asked
 pub data Task : Type 0 where
@@ -76,17 +81,21 @@ pub data Task : Type 0 where
   ToAudit : (file : Text) (settings : Settings) → Task
   -- to replay it
   ToReplay : (file : Text) → Task
+  -- to convert it
+  ToConvert : (file : Text) → Task
   -- to serve so many connections there, before that origin, to record them to that file, from a cache of those settings
   ToServe : (listen origin : Text) (connections : ℕ) (file : Text) (settings : CoreSettings) → Task
 
 abbrev pub command_of : Task → Command
 command_of (ToAudit file settings) = Audits
 command_of (ToReplay file) = Replays
+command_of (ToConvert file) = Converts
 command_of (ToServe listen origin connections file settings) = Serves
 
 abbrev pub task_of : Order → Task
 task_of (Audit file settings) = ToAudit file.now settings
 task_of (Replay file) = ToReplay file.now
+task_of (Convert file) = ToConvert file.now
 task_of (Serve listen origin connections file settings) = ToServe listen.now origin.now connections file.now settings
 
 -- the values, by their names, ask that of `audit`
@@ -113,6 +122,7 @@ pub record AsksService (value : Text → Option Text) (listen origin : Text) (co
 abbrev pub ValuesAsk : (Text → Option Text) → Task → Type 0
 ValuesAsk value (ToAudit file settings) = AsksAudit value file settings
 ValuesAsk value (ToReplay file) = value (codes "FILE") ≡ Some file
+ValuesAsk value (ToConvert file) = value (codes "FILE") ≡ Some file
 ValuesAsk value (ToServe listen origin connections file settings) = AsksService value listen origin connections file settings
 
 -- the command and its values ask that
@@ -157,6 +167,7 @@ abbrev pub lacks : Option Command → (Text → Option Text) → Bool
 lacks None value = true
 lacks (Some Audits) value = is_none (value (codes "FILE"))
 lacks (Some Replays) value = is_none (value (codes "FILE"))
+lacks (Some Converts) value = is_none (value (codes "FILE"))
 lacks (Some Serves) value = is_none (value (codes "listen")) || (is_none (value (codes "origin"))
     || (is_none (value (codes "connections")) || is_none (value (codes "record"))))
 

@@ -3,8 +3,8 @@
 ghost use Rattle.std.specs.Prelude.{◌≡◌, ◌∷◌, [], IfErr, IfOk, MatchResult, ℕ, Some, None, codes, map};
 ghost use Rattle.clap.specs.Words.{HasKind, Text, fault_of, first_value, found_of, kind_of, subcommand_of, subcommand_rows_of};
 ghost use Rattle.hc_arguments.specs.Command.{Asks, AsksBy, AsksIn, AsksSettings, CanBeDone, IsRefused, IsRefusedIn, IsWord, RefusesBy, RefusesIn, hcache, service_words, task_of};
-ghost use Rattle.hc_arguments.specs.Command.Command.{Audits, Replays, Serves};
-ghost use Rattle.hc_arguments.specs.Command.Task.{ToAudit, ToReplay, ToServe};
+ghost use Rattle.hc_arguments.specs.Command.Command.{Audits, Converts, Replays, Serves};
+ghost use Rattle.hc_arguments.specs.Command.Task.{ToAudit, ToConvert, ToReplay, ToServe};
 ghost use Rattle.hc_arguments.specs.Values.{connections_of, plain, plain_cache};
 ghost use Rattle.hc_arguments.specs.declared.refusal.Refusal.TheVariants.{Missing};
 
@@ -35,6 +35,11 @@ pub fn parsed<'a, S: AsStr>(alloc: Global, words: &'a [S]) -> Result<Order<'a>, 
     ensures replay { (name file : Text) → IsWord file
         → map S.text words.entry.now ≡ name ∷ codes "replay" ∷ file ∷ []
         → MatchResult result (λ order. task_of order ≡ ToReplay file)
+        (λ error. kind_of error ≡ ErrorKind.OutOfMemory) }
+    // And so does `convert FILE`.
+    ensures convert { (name file : Text) → IsWord file
+        → map S.text words.entry.now ≡ name ∷ codes "convert" ∷ file ∷ []
+        → MatchResult result (λ order. task_of order ≡ ToConvert file)
         (λ error. kind_of error ≡ ErrorKind.OutOfMemory) }
     // And `serve` gives the values of the four options that it needs, each behind its `=`, and the plain cache.
     ensures serve { (name listen origin number file : Text) (connections : ℕ)
@@ -96,6 +101,7 @@ fn order_in<'a>(alloc: Global, matches: &ArgMatches<'a>) -> Result<Order<'a>, Re
         "audit" => audit_in(alloc, found),
         "replay" => replay_in(found),
         "serve" => serve_in(alloc, found),
+        "convert" => convert_in(found),
         _ => Err(Refusal::Missing),
     }
 }
@@ -128,6 +134,15 @@ fn replay_in<'a>(found: &ArgMatches<'a>) -> Result<Order<'a>, Refusal>
 {
     let file = required(found, "FILE")?;
     Ok(Order::Replay { file })
+}
+
+// What `convert` asks.
+fn convert_in<'a>(found: &ArgMatches<'a>) -> Result<Order<'a>, Refusal>
+    ensures ok { IfOk result (λ order. AsksBy (Some Converts) (first_value (found_of found.now)) (task_of order)) }
+    ensures err { IfErr result (RefusesBy (Some Converts) (first_value (found_of found.now))) }
+{
+    let file = required(found, "FILE")?;
+    Ok(Order::Convert { file })
 }
 
 // What `serve` asks.

@@ -2,13 +2,14 @@
 
 ghost use Rattle.std.specs.Prelude.{◌≡◌, false};
 ghost use Rattle.clap.specs.Words.{App, rule_of, with_rule, with_subcommand};
-ghost use Rattle.hc_arguments.specs.Command.{IsMade, audit, file_rule, flag_rule, hcache, option_rule, program, replay, required_rule, serve};
+ghost use Rattle.hc_arguments.specs.Command.{IsMade, audit, convert, file_rule, flag_rule, hcache, option_rule, program, replay, required_rule, serve};
 
 use clap::{Arg, ArgAction, Command};
 use std::alloc::{AllocError, Global};
 
 const ABOUT: &str =
-    "Audits the transcripts of a cache, plays scripts to a cache that records one, and serves clients from one";
+    "Audits the transcripts of a cache, plays scripts to a cache that records one, serves clients from one, \
+    and converts transcripts";
 
 const AUDIT_ABOUT: &str = "Says whether every reply in a transcript is right, in one line";
 
@@ -19,6 +20,12 @@ const REPLAY_ABOUT: &str =
     and standard error the line of the verdict on that";
 
 const REPLAYED_HELP: &str = "The script: the settings of the cache, and what happens to it";
+
+const CONVERT_ABOUT: &str =
+    "Converts a transcript to the first format, which doesn't say for which exchange a forward was made: \
+    standard output gets the same records without that";
+
+const CONVERTED_HELP: &str = "The transcript, in the first or the second format";
 
 const SERVE_ABOUT: &str =
     "Serves clients from a new cache before an origin, one connection after another, and records \
@@ -68,6 +75,13 @@ Exit status:
   3   no transcript: standard error says `error: memory` or `error: device`
   64  the command line is wrong: standard error says how";
 
+const CONVERT_STATUSES: &str = "\
+Exit status:
+  0   the transcript was converted, or is in the first format already
+  2   malformed: the transcript breaks at this position, by this fault, as standard error says
+  3   not converted: standard error says `error: memory` or `error: device`
+  64  the command line is wrong: standard error says how";
+
 const SERVE_STATUSES: &str = "\
 Exit status:
   0   all connections were served
@@ -80,7 +94,8 @@ pub(crate) fn command<'a>(alloc: Global) -> Result<Command<'a>, AllocError>
 {
     let audited = with_subcommand(program(alloc), audit_command(alloc));
     let replayed = with_subcommand(audited, replay_command(alloc));
-    with_subcommand(replayed, serve_command(alloc))
+    let served = with_subcommand(replayed, serve_command(alloc));
+    with_subcommand(served, convert_command(alloc))
 }
 
 // The command above its subcommands, without them.
@@ -117,6 +132,17 @@ fn replay_command<'a>(alloc: Global) -> Result<Command<'a>, AllocError>
         .after_help(REPLAY_STATUSES)
         .bin_name("hcache replay");
     with_argument(begun, file_argument(alloc, REPLAYED_HELP))
+}
+
+// The command `convert`, without the one above it.
+fn convert_command<'a>(alloc: Global) -> Result<Command<'a>, AllocError>
+    ensures { IsMade convert result }
+{
+    let begun = Command::new(alloc, "convert")
+        .about(CONVERT_ABOUT)
+        .after_help(CONVERT_STATUSES)
+        .bin_name("hcache convert");
+    with_argument(begun, file_argument(alloc, CONVERTED_HELP))
 }
 
 /// The command `serve`, without the one above it.

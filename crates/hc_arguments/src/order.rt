@@ -18,6 +18,11 @@ pub enum Order<'a> {
         /// Where it is: the name of a file.
         file: &'a str,
     },
+    /// To convert a transcript to the first format.
+    Convert {
+        /// Where it is: the name of a file.
+        file: &'a str,
+    },
     /// To serve clients, and to record that.
     Serve {
         /// The host and the port to which clients connect.

@@ -13,9 +13,9 @@ use Rattle.hc_transcript.specs.History.{next_position, last_moment, last_exchang
 use Rattle.hc_transcript.specs.Checks.{line_fault}
 use Rattle.hc_transcript.specs.Transcript.{Splits, IsTranscript}
 use Rattle.hc_transcript.specs.Malformed.{IsUnfinishedOpening, IsUnfinished, BreaksAfter}
-use Rattle.hc_transcript.specs.Reader.{Agrees, ReadsTo, WaitsBy, Waits, MeetsFault, HasUnread, HasUnreadBy, position_by, reader_position}
+use Rattle.hc_transcript.specs.Reader.{Agrees, ReadsTo, WaitsBy, Waits, MeetsFault, HasUnread, HasUnreadBy, format_read, position_by, reader_position}
 use Rattle.hc_transcript.proofs.CheckLemmas.{no_torn_check}
-use Rattle.hc_transcript.proofs.OnceLemmas.{broken_more, no_opening_more}
+use Rattle.hc_transcript.proofs.OnceLemmas.{one_opening, broken_more, no_opening_more}
 use Rattle.hc_history.specs.declared.reasons.Reason.{Reason}
 use Rattle.hc_history.specs.declared.settings.Settings.{Settings}
 use Rattle.hc_history.specs.declared.verdicts.Counts.{Counts}
@@ -32,7 +32,7 @@ use Rattle.hc_history.proofs.FoundLemmas.{found_right, found_wrong, follows_open
 use Rattle.hc_history.proofs.VerdictLemmas.{no_stays, one_verdict}
 use Rattle.hc_audit.specs.declared.judge.Judge.{Judge}
 use Rattle.hc_audit.specs.Standing.{MayChange, Stands}
-use Rattle.hc_audit.specs.Judging.{IsJudging, IsWaiting, stopped}
+use Rattle.hc_audit.specs.Judging.{MayBeOf, AreRight, IsJudging, IsWaiting, stopped}
 
 -- ---- nothing read yet
 
@@ -50,30 +50,57 @@ fresh_waits r agrees = go r.format agrees.reads
     go None reads = subst (λ (held : List ℕ). IsUnfinishedOpening held) reads.1.1 (First, opening First, refl, some_opening)
     go (Some format) reads = absurd (no_opening_yet format _ reads.octets_are)
 
+-- ---- the format
+
+-- what the octets may be of now, they might be of before
+pub might_be_of : (old new : Option Format) → ((format : Format) → old ≡ Some format → new ≡ Some format) → (format : Format) → MayBeOf new format → MayBeOf old format
+might_be_of None new keeps format may = tt
+might_be_of (Some read) new keeps format may = subst (λ (o : Option Format). MayBeOf o format) (keeps read refl) may
+
+-- a format that was read is what the octets may be of
+pub may_be_read : (read : Option Format) (format : Format) → read ≡ Some format → MayBeOf read format
+may_be_read read format is = subst (λ (o : Option Format). MayBeOf o format) (sym is) refl
+
+-- records that are read of the octets are of a format that they may be of
+may_be_split : (r : RecordReader) (octets : List ℕ) (records others : List Record) (h g : List Item) (rest : List ℕ) (format : Format) → Agrees r octets records h
+    → Splits format octets others g rest → MayBeOf (format_read r) format
+may_be_split r octets records others h g rest format agrees splits = go r.format agrees.reads
+  where
+    go : (o : Option Format) → ReadsTo o octets records h r.held → MayBeOf o format
+    go None reads = tt
+    go (Some read) reads = one_opening octets read format records others h g r.held rest reads splits
+
 -- ---- a fault of the transcript
 
-malformed : (r : RecordReader) (octets : List ℕ) (settings : Settings) (h : List Item) (f : RecordFault) → AllRight settings h → MeetsFault r octets h f
+malformed : (r : RecordReader) (octets : List ℕ) (settings : Settings) (h : List Item) (f : RecordFault) → AreRight (format_read r) settings h → MeetsFault r octets h f
     → IsVerdict octets settings (Malformed (reader_position r) f)
 malformed r octets settings h f right (inl begins) = inl (begins.1.1.1, inl (begins.0, begins.1.0))
-malformed r octets settings h f right (inr behind) = inr (record { history = h; all_right = right; breaks = inl behind.breaks; position_is = behind.position_is })
+malformed r octets settings h f right (inr behind) = inr (record {
+  format = behind.format;
+  history = h;
+  all_right = right behind.format (may_be_read (format_read r) behind.format behind.format_is);
+  breaks = inl behind.breaks;
+  position_is = behind.position_is;
+})
 
 met_more : (r : RecordReader) (octets more : List ℕ) (h : List Item) (f : RecordFault) → MeetsFault r octets h f → MeetsFault r (octets ++ more) h f
 met_more r octets more h f (inl begins) = inl (no_opening_more octets more begins.0, begins.1)
-met_more r octets more h f (inr behind) =
-    inr (record {
-      breaks = broken_more octets more h f behind.breaks;
-      format_is = behind.format_is;
-      position_is = behind.position_is;
-    })
+met_more r octets more h f (inr behind) = inr (record {
+  format = behind.format;
+  format_is = behind.format_is;
+  breaks = broken_more behind.format octets more h f behind.breaks;
+  position_is = behind.position_is;
+})
 
-torn_breaks_nothing : (octets : List ℕ) (h : List Item) → ¬ (BreaksAfter octets h fault.Torn)
-torn_breaks_nothing octets h b = no_torn_check b.breaks.line (last_moment h) (last_exchange h) (last_forward h) _ _ _ b.breaks.fails
+torn_breaks_nothing : (format : Format) (octets : List ℕ) (h : List Item) → ¬ (BreaksAfter format octets h fault.Torn)
+torn_breaks_nothing format octets h b = no_torn_check b.breaks.line (last_moment h) (last_exchange h) (last_forward h) _ _ _ b.breaks.fails
 
 not_torn : (r : RecordReader) (octets : List ℕ) (h : List Item) (f : RecordFault) → MeetsFault r octets h f → f ≢ fault.Torn
 not_torn r octets h f (inl begins) torn = let other : fault.Opening ≡ fault.Torn = sym begins.1.0 ∙ torn in cc
-not_torn r octets h f (inr behind) torn = torn_breaks_nothing octets h (subst (λ (g : RecordFault). BreaksAfter octets h g) torn behind.breaks)
+not_torn r octets h f (inr behind) torn =
+    torn_breaks_nothing behind.format octets h (subst (λ (g : RecordFault). BreaksAfter behind.format octets h g) torn behind.breaks)
 
-met_stands : (r : RecordReader) (octets : List ℕ) (settings : Settings) (h : List Item) (f : RecordFault) → AllRight settings h → MeetsFault r octets h f
+met_stands : (r : RecordReader) (octets : List ℕ) (settings : Settings) (h : List Item) (f : RecordFault) → AreRight (format_read r) settings h → MeetsFault r octets h f
     → Stands (Malformed (reader_position r) f) settings octets
 met_stands r octets settings h f right met = record {
   is_final = not_torn r octets h f met;
@@ -81,7 +108,7 @@ met_stands r octets settings h f right met = record {
 }
 
 -- a fault that isn't memory
-pub stopped_stands : (r : RecordReader) (octets : List ℕ) (settings : Settings) (h : List Item) (f : RecordFault) → AllRight settings h → (f ≢ fault.Memory → MeetsFault r octets h f)
+pub stopped_stands : (r : RecordReader) (octets : List ℕ) (settings : Settings) (h : List Item) (f : RecordFault) → AreRight (format_read r) settings h → (f ≢ fault.Memory → MeetsFault r octets h f)
     → IfOk (stopped f (reader_position r)) (λ verdict. Stands verdict settings octets)
 stopped_stands r octets settings h fault.Memory right meets = tt
 stopped_stands r octets settings h fault.Opening right meets = met_stands r octets settings h fault.Opening right (meets (λ e. cc))
@@ -99,76 +126,88 @@ told r verdict octets settings is stands = subst (λ (s : Result Verdict AllocEr
 
 -- ---- a record more
 
-pub found_here : (given settings : Settings) (held item : Item) (h : List Item) (finding found : Finding) → given ≡ settings → held ≡ item → finding ≡ found
-    → IsFound given h held finding → IsFound settings h item found
-found_here given settings held item h finding found settings-are item-is found-is is =
-    subst (λ (s : Settings). IsFound s h item found) settings-are
-    (subst (λ (i : Item). IsFound given h i found) item-is (subst (λ (f : Finding). IsFound given h held f) found-is is))
+pub found_here : (format : Format) (given settings : Settings) (held item : Item) (h : List Item) (finding found : Finding) → given ≡ settings → held ≡ item → finding ≡ found
+    → IsFound format given h held finding → IsFound format settings h item found
+found_here format given settings held item h finding found settings-are item-is found-is is =
+    subst (λ (s : Settings). IsFound format s h item found) settings-are
+    (subst (λ (i : Item). IsFound format given h i found) item-is (subst (λ (f : Finding). IsFound format given h held f) found-is is))
 
 not_empty : (one : Record) (records : List Record) → one ∷ records ≡ [] → ⊥
 not_empty one records e = cc
 
--- a reader that has read a record has read an opening
-splits_of : (r : RecordReader) (octets : List ℕ) (one : Record) (records : List Record) (h : List Item) → Agrees r octets (one ∷ records) h
-    → (format : Format) × Splits format octets (one ∷ records) h r.held
-splits_of r octets one records h agrees = go r.format agrees.reads
-  where
-    go : (o : Option Format) → ReadsTo o octets (one ∷ records) h r.held → (format : Format) × Splits format octets (one ∷ records) h r.held
-    go (Some format) reads = (format, reads)
-    go None reads = absurd (not_empty one records reads.0)
+-- what a reader has read of the octets that told the format
+splits_of : (r : RecordReader) (format : Format) (octets : List ℕ) (records : List Record) (h : List Item) → format_read r ≡ Some format → Agrees r octets records h
+    → Splits format octets records h r.held
+splits_of r format octets records h is agrees = subst (λ (o : Option Format). ReadsTo o octets records h r.held) is agrees.reads
 
-answers_open : (r : RecordReader) (octets : List ℕ) (one : Record) (records : List Record) (item : Item) (h : List Item) → Agrees r octets (one ∷ records) (item ∷ h) → AnswersOpen h item
-answers_open r octets one records item h agrees = let read = splits_of r octets one records (item ∷ h) agrees in follows_open read.0 h one item read.1.are_read.1
+answers_open : (r : RecordReader) (format : Format) (octets : List ℕ) (one : Record) (records : List Record) (item : Item) (h : List Item) → format_read r ≡ Some format
+    → Agrees r octets (one ∷ records) (item ∷ h) → AnswersOpen h item
+answers_open r format octets one records item h is agrees = follows_open format h one item (splits_of r format octets (one ∷ records) (item ∷ h) is agrees).are_read.1
 
 -- the reader has read one record more, of which this is found
-pub wrong_stands : (r : RecordReader) (octets : List ℕ) (settings : Settings) (one : Record) (records : List Record) (item : Item) (h : List Item) (why : Reason) (position : ℕ)
-    → Agrees r octets (one ∷ records) (item ∷ h) → AllRight settings h → IsFound settings h item (Wrong why) → position ≡ next_position h → Stands (No position why) settings octets
-wrong_stands r octets settings one records item h why position agrees right found position-is = record {
+pub wrong_stands : (r : RecordReader) (format : Format) (octets : List ℕ) (settings : Settings) (one : Record) (records : List Record) (item : Item) (h : List Item) (why : Reason) (position : ℕ)
+    → format_read r ≡ Some format → Agrees r octets (one ∷ records) (item ∷ h) → AllRight format settings h → IsFound format settings h item (Wrong why) → position ≡ next_position h
+    → Stands (No position why) settings octets
+wrong_stands r format octets settings one records item h why position is agrees right found position-is = record {
   is_final = tt;
   holds = λ more. no_stays octets more settings position why (record {
-    format = (splits_of r octets one records (item ∷ h) agrees).0;
+    format = format;
     records = one ∷ records;
     history = h;
     item = item;
     rest = r.held;
-    splits = (splits_of r octets one records (item ∷ h) agrees).1;
+    splits = splits_of r format octets (one ∷ records) (item ∷ h) is agrees;
     all_right = right;
-    is_wrong = found_wrong settings h item why (answers_open r octets one records item h agrees) found;
+    is_wrong = found_wrong format settings h item why (answers_open r format octets one records item h is agrees) found;
     position_is = position-is;
   });
 }
 
-pub right_goes_on : {I : Type 0} (seen : I → Seen) (j : Judge I) (octets : List ℕ) (settings : Settings) (one : Record) (records : List Record) (item : Item) (h : List Item)
-    → Agrees j.reader octets (one ∷ records) (item ∷ h) → AllRight settings h → IsFound settings h item Right → IsSeenAs (seen j.index) (item ∷ h) → j.counts ≡ counts_of (item ∷ h)
-    → j.settings ≡ settings → IsJudging seen j settings octets
-right_goes_on seen j octets settings one records item h agrees right found index counts settings-are = record {
+-- what holds of the format that was read holds of all that the octets may be of
+of_the_read : (P : Format → Type 0) (read : Option Format) (format : Format) → read ≡ Some format → P format → (other : Format) → MayBeOf read other → P other
+of_the_read P read format is holds other may = subst P (subst (λ (o : Option Format). MayBeOf o other) is may) holds
+
+pub right_goes_on : {I : Type 0} (seen : I → Seen) (j : Judge I) (format : Format) (octets : List ℕ) (settings : Settings) (one : Record) (records : List Record) (item : Item) (h : List Item)
+    → format_read j.reader ≡ Some format → Agrees j.reader octets (one ∷ records) (item ∷ h) → AllRight format settings h → IsFound format settings h item Right
+    → IsSeenAs format (seen j.index) (item ∷ h) → j.counts ≡ counts_of (item ∷ h) → j.settings ≡ settings → IsJudging seen j settings octets
+right_goes_on seen j format octets settings one records item h is agrees right found index counts settings-are = record {
   records = one ∷ records;
   history = item ∷ h;
   reads = agrees;
-  index = index;
+  index = of_the_read (λ (k : Format). IsSeenAs k (seen j.index) (item ∷ h)) (format_read j.reader) format is index;
   counts = counts;
   settings_are = settings-are;
-  right = (right, found_right settings h item (answers_open j.reader octets one records item h agrees) found);
+  right = of_the_read (λ (k : Format). AllRight k settings (item ∷ h)) (format_read j.reader) format is
+      (right, found_right format settings h item (answers_open j.reader format octets one records item h is agrees) found);
 }
 
 -- ---- the end
 
-pub yes_of : (format : Format) (octets : List ℕ) (settings : Settings) (records : List Record) (h : List Item) (counts : Counts) → IsTranscript format octets records h → AllRight settings h
-    → counts ≡ counts_of h → IsVerdict octets settings (Yes counts)
-yes_of format octets settings records h counts is right counts-are = record { format = format; records = records; history = h; is_transcript = is; all_right = right; counts_are = counts-are }
+pub yes_of : (r : RecordReader) (octets : List ℕ) (settings : Settings) (records : List Record) (h : List Item) (counts : Counts) → Agrees r octets records h
+    → (format : Format) × IsTranscript format octets records h → AreRight (format_read r) settings h → counts ≡ counts_of h → IsVerdict octets settings (Yes counts)
+yes_of r octets settings records h counts agrees is right counts-are = record {
+  format = is.0;
+  records = records;
+  history = h;
+  is_transcript = is.1;
+  all_right = right is.0 (may_be_split r octets records records h h [] is.0 agrees is.1);
+  counts_are = counts-are;
+}
 
 -- octets that are left are torn
-pub torn_of : (r : RecordReader) (octets : List ℕ) (settings : Settings) (records : List Record) (h : List Item) → Agrees r octets records h → AllRight settings h → Waits r h → HasUnread r
-    → IsVerdict octets settings (Malformed (reader_position r) fault.Torn)
-torn_of r octets settings records h agrees right waits unread = go r.format agrees.reads waits unread
+pub torn_of : (r : RecordReader) (octets : List ℕ) (settings : Settings) (records : List Record) (h : List Item) → Agrees r octets records h → AreRight (format_read r) settings h → Waits r h
+    → HasUnread r → IsVerdict octets settings (Malformed (reader_position r) fault.Torn)
+torn_of r octets settings records h agrees right waits unread = go r.format agrees.reads right waits unread
   where
-    go : (o : Option Format) → ReadsTo o octets records h r.held → WaitsBy o h r.held → HasUnreadBy o r.held → IsVerdict octets settings (Malformed (position_by o r.standing.records) fault.Torn)
-    go None reads waits unread = inl (refl, inr (subst (λ (o : List ℕ). IsUnfinishedOpening o) (sym reads.1.1) waits, refl))
-    go (Some format) reads waits unread =
+    go : (o : Option Format) → ReadsTo o octets records h r.held → AreRight o settings h → WaitsBy o h r.held → HasUnreadBy o r.held
+        → IsVerdict octets settings (Malformed (position_by o r.standing.records) fault.Torn)
+    go None reads right waits unread = inl (refl, inr (subst (λ (o : List ℕ). IsUnfinishedOpening o) (sym reads.1.1) waits, refl))
+    go (Some format) reads right waits unread =
         inr (record {
+          format = format;
           history = h;
-          all_right = right;
-          breaks = inr (refl, record { format = format; records = records; rest = r.held; splits = reads; some = unread; torn = waits });
+          all_right = right format refl;
+          breaks = inr (refl, record { records = records; rest = r.held; splits = reads; some = unread; torn = waits });
           position_is = ap (λ (n : ℕ). n + 1) agrees.stands.records;
         })
 
@@ -176,7 +215,7 @@ none_is_some : (o : Option RecordFault) (f : RecordFault) → o ≡ None → o �
 none_is_some o f none some = cc
 
 pub end_is : (r : RecordReader) (octets : List ℕ) (settings : Settings) (records : List Record) (h : List Item) (f : RecordFault) (position : ℕ)
-    → Agrees r octets records h → AllRight settings h → Waits r h → (f ≡ fault.Torn) ⊎ (r.fault ≡ Some f) → HasUnread r → position ≡ reader_position r
+    → Agrees r octets records h → AreRight (format_read r) settings h → Waits r h → (f ≡ fault.Torn) ⊎ (r.fault ≡ Some f) → HasUnread r → position ≡ reader_position r
     → IsVerdict octets settings (Malformed position f)
 end_is r octets settings records h f position agrees right waits (inl is) unread position-is =
     subst (λ (g : RecordFault). IsVerdict octets settings (Malformed position g)) (sym is)
@@ -193,35 +232,36 @@ record MayGoOn (octets : List ℕ) (settings : Settings) : Type 0 where
 cell : (b : ℕ) (held : List ℕ) → b ∷ held ≢ []
 cell b held e = cc
 
-ends_behind : (format : Format) (octets : List ℕ) (settings : Settings) (records : List Record) (h : List Item) (held : List ℕ) → Splits format octets records h held → AllRight settings h
-    → IsUnfinished format (line_fault h) held → MayGoOn octets settings
+ends_behind : (format : Format) (octets : List ℕ) (settings : Settings) (records : List Record) (h : List Item) (held : List ℕ) → Splits format octets records h held
+    → AllRight format settings h → IsUnfinished format (line_fault h) held → MayGoOn octets settings
 ends_behind format octets settings records h [] splits right waits = record {
   verdict = Yes (counts_of h);
   may = tt;
-  is = yes_of format octets settings records h (counts_of h) splits right refl;
+  is = record { format = format; records = records; history = h; is_transcript = splits; all_right = right; counts_are = refl };
 }
 ends_behind format octets settings records h (b ∷ held) splits right waits = record {
   verdict = Malformed (next_position h) fault.Torn;
   may = refl;
   is = inr (record {
+    format = format;
     history = h;
     all_right = right;
-    breaks = inr (refl, record { format = format; records = records; rest = b ∷ held; splits = splits; some = cell b held; torn = waits });
+    breaks = inr (refl, record { records = records; rest = b ∷ held; splits = splits; some = cell b held; torn = waits });
     position_is = refl;
   });
 }
 
-may_go_on : (r : RecordReader) (octets : List ℕ) (settings : Settings) (records : List Record) (h : List Item) → Agrees r octets records h → AllRight settings h → Waits r h
+may_go_on : (r : RecordReader) (octets : List ℕ) (settings : Settings) (records : List Record) (h : List Item) → Agrees r octets records h → AreRight (format_read r) settings h → Waits r h
     → MayGoOn octets settings
-may_go_on r octets settings records h agrees right waits = go r.format agrees.reads waits
+may_go_on r octets settings records h agrees right waits = go r.format agrees.reads right waits
   where
-    go : (o : Option Format) → ReadsTo o octets records h r.held → WaitsBy o h r.held → MayGoOn octets settings
-    go None reads waits = record {
+    go : (o : Option Format) → ReadsTo o octets records h r.held → AreRight o settings h → WaitsBy o h r.held → MayGoOn octets settings
+    go None reads right waits = record {
       verdict = Malformed 0 fault.Torn;
       may = refl;
       is = inl (refl, inr (subst (λ (o : List ℕ). IsUnfinishedOpening o) (sym reads.1.1) waits, refl));
     }
-    go (Some format) reads waits = ends_behind format octets settings records h r.held reads right waits
+    go (Some format) reads right waits = ends_behind format octets settings records h r.held reads (right format refl) waits
 
 pub may_change : {I : Type 0} (seen : I → Seen) (j : Judge I) (octets : List ℕ) (settings : Settings) (verdict : Verdict) → IsWaiting seen j settings octets → IsVerdict octets settings verdict
     → MayChange verdict

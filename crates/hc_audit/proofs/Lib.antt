@@ -1,2 +1,3 @@
 pub mod JudgeLemmas
 pub mod AuditorLemmas
+pub mod ConversionLemmas

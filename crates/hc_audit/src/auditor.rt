@@ -2,6 +2,7 @@
 
 ghost use Rattle.std.specs.Prelude.{◌≡◌, ◌≤◌, ◌++◌, ◌⊎◌, ℕ, List, [], Option, Some, IsSome, IfOk, IfErr, IfSome, OnOk, OnErr, Ok, Err};
 ghost use Rattle.std.specs.Option.{option_map};
+ghost use Rattle.hc_transcript.specs.declared.format.Format.{Format};
 ghost use Rattle.hc_transcript.specs.Limits.{longest_unfinished};
 ghost use Rattle.hc_history.specs.declared.settings.Settings.{Settings};
 ghost use Rattle.hc_history.specs.declared.verdicts.Verdict.{Verdict};
@@ -38,7 +39,7 @@ impl<I: Index + Drop> Auditor<I> {
 
     /// An auditor that was fed nothing. `index` is to know of nothing yet.
     pub fn new(alloc: Global, index: I, settings: Settings) -> Self
-        ensures { IsSeenAs (I.seen index) [] → Agrees I.seen result settings [] }
+        ensures { ((format : Format) → IsSeenAs format (I.seen index) []) → Agrees I.seen result settings [] }
     {
         Auditor {
             stage: Stage::Open(Judge::new(alloc, index, settings)),

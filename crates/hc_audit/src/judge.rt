@@ -1,6 +1,7 @@
 //! The judging of a transcript, a record at a time.
 
 ghost use Rattle.std.specs.Prelude.{◌≡◌, ◌<◌, ◌≤◌, ◌++◌, ℕ, List, [], IfOk, Ok, None};
+ghost use Rattle.hc_transcript.specs.declared.format.Format.{Format};
 ghost use Rattle.hc_transcript.specs.Items.{Item, item_of};
 ghost use Rattle.hc_transcript.specs.Limits.{longest_unfinished};
 ghost use Rattle.hc_transcript.specs.Reader.{unread, records_read};
@@ -14,7 +15,7 @@ ghost use Rattle.hc_history.specs.Verdicts.{IsVerdict};
 use crate::stops::stopped;
 use hc_history::{Counts, Finding, Mark, MarkedReply, Settings, Verdict};
 use hc_index::Index;
-use hc_transcript::{Meaning, OwnedItem, RecordReader};
+use hc_transcript::{Format, Meaning, OwnedItem, RecordReader};
 use std::alloc::{AllocError, Global};
 
 /// What became of the next record.
@@ -44,7 +45,7 @@ impl<I: Index + Drop> Judge<I> {
     ghost use Rattle.hc_audit.specs.Judging.{IsJudging, IsWaiting, GivesStep, GivesJudged};
 
     pub(crate) fn new(alloc: Global, index: I, settings: Settings) -> Self
-        ensures { IsSeenAs (I.seen index) [] → IsWaiting I.seen result settings [] }
+        ensures { ((format : Format) → IsSeenAs format (I.seen index) []) → IsWaiting I.seen result settings [] }
     {
         Judge {
             alloc,
@@ -102,20 +103,21 @@ impl<I: Index + Drop> Judge<I> {
             Ok(false) => return Ok(Step::Waiting),
             Ok(true) => {}
         }
+        let format = self.reader.format().unwrap();
         let position = self.reader.records();
-        let (finding, mark) = self.found(self.reader.item())?;
+        let (finding, mark) = self.found(self.reader.item(), format)?;
         if let Finding::Wrong(reason) = finding {
             return Ok(Step::Settled(Verdict::No(position, reason)));
         }
         self.counts.count(mark);
-        self.index.note(position, self.reader.take_item())?;
+        self.index.note(position, self.reader.take_item(), format)?;
         Ok(Step::Right)
     }
 
     /// What is found of the next record, and its mark: that it is right, where it is no reply.
-    fn found(&self, item: &OwnedItem) -> Result<(Finding, Option<Mark>), AllocError>
-        ensures finding { (h : List Item) → IsSeenAs (I.seen self.now.index) h
-            → IfOk result (λ found. IsFound self.now.settings h (item_of item.now) found.0) }
+    fn found(&self, item: &OwnedItem, format: Format) -> Result<(Finding, Option<Mark>), AllocError>
+        ensures finding { (h : List Item) → IsSeenAs format (I.seen self.now.index) h
+            → IfOk result (λ found. IsFound format self.now.settings h (item_of item.now) found.0) }
         ensures mark { IfOk result (λ found. found.1 ≡ item_mark (item_of item.now)) }
     {
         let Meaning::ClientReply(reply) = &item.of else {
@@ -124,7 +126,7 @@ impl<I: Index + Drop> Judge<I> {
         let reply = MarkedReply::read(self.alloc, reply)?;
         let finding = self
             .index
-            .find(item.number, &reply, item.moment, &self.settings)?;
+            .find(item.number, &reply, item.moment, &self.settings, format)?;
         Ok((finding, Some(reply.mark())))
     }
 

@@ -4,6 +4,7 @@
 mod auditor;
 mod fault;
 mod judge;
+mod laws;
 mod stops;
 
 pub use auditor::Auditor;
@@ -11,3 +12,4 @@ pub use fault::AuditFault;
 pub use hc_history::{Counts, FieldNames, Reason, Settings, UnmarkedReplies, Verdict};
 pub use hc_index::Index;
 pub use hc_transcript::RecordFault;
+pub use laws::converting_keeps_a_yes;

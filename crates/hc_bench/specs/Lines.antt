@@ -25,15 +25,16 @@ abbrev pub cost_line : List ℕ → ℕ → Rate → Rate → List ℕ
 cost_line name size short long =
     start name size (codes " cost_percent=" ++ (decimal (percent_of long short) ++ 10 ∷ []))
 
--- which transcript was audited: its records, its targets, and how many octets each body has
-abbrev pub sample_text : ℕ → ℕ → ℕ → List ℕ
-sample_text records targets body =
-    codes "records=" ++ (decimal records ++ (codes " targets=" ++ (decimal targets ++ (codes " body=" ++ decimal body))))
+-- which transcript was audited: its format, its records, its targets, and how many octets each body has
+abbrev pub sample_text : ℕ → ℕ → ℕ → ℕ → List ℕ
+sample_text format records targets body =
+    codes "format=" ++ (decimal format ++ (codes " records=" ++ (decimal records
+    ++ (codes " targets=" ++ (decimal targets ++ (codes " body=" ++ decimal body))))))
 
 -- how fast its records were audited
-abbrev pub audit_line : ℕ → ℕ → Rate → List ℕ
-audit_line targets body rate =
-    codes "audit " ++ (sample_text rate.count targets body
+abbrev pub audit_line : ℕ → ℕ → ℕ → Rate → List ℕ
+audit_line format targets body rate =
+    codes "audit " ++ (sample_text format rate.count targets body
     ++ (codes " octets=" ++ (decimal rate.octets ++ (codes " records_per_second=" ++ (decimal (count_per_second rate)
     ++ (codes " octets_per_second=" ++ (decimal (octets_per_second rate) ++ 10 ∷ [])))))))
 

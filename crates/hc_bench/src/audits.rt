@@ -12,6 +12,7 @@ use crate::rate::Rate;
 use crate::transcripts::transcript;
 use crate::trouble::Trouble;
 use hc_fields::Octets;
+use hc_transcript::Format;
 use std::alloc::{AllocError, Global};
 use std::io::Write;
 use std::rt::Clock;
@@ -32,11 +33,12 @@ const LONGEST: usize = 1_000_000;
 /// How many octets a short body has.
 const SHORT_BODY: usize = 100;
 
-/// A transcript of so many records of so many targets, with bodies of so many octets. Four records of
+/// A transcript of that format, of so many records of so many targets, with bodies of so many octets. Four records of
 /// each target are an exchange that is forwarded, and each two of the others a hit: so the number of
 /// records is even, and at least four times that of targets.
 #[derive(Clone, Copy, Debug)]
 pub struct Sample {
+    pub format: Format,
     pub records: usize,
     pub targets: usize,
     pub body: usize,
@@ -44,6 +46,7 @@ pub struct Sample {
 
 /// Bodies so long that they are most of what is audited.
 pub const LONG_BODIES: Sample = Sample {
+    format: Format::First,
     records: 10_000,
     targets: 1,
     body: 16_384,
@@ -73,18 +76,39 @@ fn audit_both<C: Clock, W: Write>(
     body: usize,
     output: &mut W,
 ) -> Result<(), Trouble> {
-    let one = Sample {
-        records,
-        targets: 1,
-        body,
-    };
-    audit_sample(alloc, clock, &one, output)?;
-    let many = Sample {
-        records,
-        targets: (records / 10).max(1),
-        body,
-    };
-    audit_sample(alloc, clock, &many, output)
+    audit_formats(alloc, clock, records, 1, body, output)?;
+    audit_formats(alloc, clock, records, (records / 10).max(1), body, output)
+}
+
+// Audits so many records of so many targets in both formats.
+fn audit_formats<C: Clock, W: Write>(
+    alloc: Global,
+    clock: &C,
+    records: usize,
+    targets: usize,
+    body: usize,
+    output: &mut W,
+) -> Result<(), Trouble>
+    requires { 0 < targets }
+{
+    for format in [Format::First, Format::Second] {
+        let sample = Sample {
+            format,
+            records,
+            targets,
+            body,
+        };
+        audit_sample(alloc, clock, &sample, output)?;
+    }
+    Ok(())
+}
+
+// The number of the format, as the opening has it.
+fn number_of(format: Format) -> u32 {
+    match format {
+        Format::First => 1,
+        Format::Second => 2,
+    }
 }
 
 /// Makes the transcript and audits it, and says how fast that was.
@@ -98,7 +122,13 @@ pub fn audit_sample<C: Clock, W: Write>(
 {
     let octets = sampled(alloc, sample)?;
     let rate = fastest(alloc, clock, octets.as_slice(), sample.records)?;
-    let line = audit_line(alloc, sample.targets, sample.body, &rate)?;
+    let line = audit_line(
+        alloc,
+        number_of(sample.format),
+        sample.targets,
+        sample.body,
+        &rate,
+    )?;
     printed(line.as_str(), output)?;
     Ok(())
 }
@@ -107,7 +137,7 @@ pub fn audit_sample<C: Clock, W: Write>(
 pub fn write_sample<W: Write>(alloc: Global, sample: &Sample, output: &mut W) -> Result<(), Trouble>
     requires { 0 < sample.now.targets }
     ensures { OnOk result (Appends (W.contents output.old) (W.contents output.new)
-        (transcript (filler sample.now.body) sample.now.targets (sample.now.records / 2 - sample.now.targets))) }
+        (transcript sample.now.format (filler sample.now.body) sample.now.targets (sample.now.records / 2 - sample.now.targets))) }
 {
     let octets = sampled(alloc, sample)?;
     output.write_all(octets.as_slice())?;
@@ -118,11 +148,11 @@ pub fn write_sample<W: Write>(alloc: Global, sample: &Sample, output: &mut W) ->
 // The transcript of the sample.
 fn sampled(alloc: Global, sample: &Sample) -> Result<Octets, AllocError>
     requires { 0 < sample.now.targets }
-    ensures { IfOk result (λ text. text ≡ transcript (filler sample.now.body) sample.now.targets
+    ensures { IfOk result (λ text. text ≡ transcript sample.now.format (filler sample.now.body) sample.now.targets
         (sample.now.records / 2 - sample.now.targets)) }
 {
     let exchanges = (sample.records / 2).saturating_sub(sample.targets);
-    transcript(alloc, sample.targets, exchanges, sample.body)
+    transcript(alloc, sample.format, sample.targets, exchanges, sample.body)
 }
 
 // How often a transcript of so many records is audited.

@@ -50,25 +50,27 @@ pub fn cost_line(
 // Which transcript was audited.
 fn sample_text(
     alloc: Global,
+    format: u32,
     records: usize,
     targets: usize,
     body: usize,
 ) -> Result<String, AllocError>
-    ensures { IfOk result (λ text. string_bytes text ≡ sample_text records targets body) }
+    ensures { IfOk result (λ text. string_bytes text ≡ sample_text format records targets body) }
 {
-    format!(in alloc; "records={records} targets={targets} body={body}")
+    format!(in alloc; "format={format} records={records} targets={targets} body={body}")
 }
 
-/// How fast a transcript of records of so many targets was audited, with bodies of so many octets.
+/// How fast a transcript of that format, of records of so many targets, was audited, with bodies of so many octets.
 pub fn audit_line(
     alloc: Global,
+    format: u32,
     targets: usize,
     body: usize,
     rate: &Rate,
 ) -> Result<String, AllocError>
-    ensures { IfOk result (λ line. string_bytes line ≡ audit_line targets body rate.now) }
+    ensures { IfOk result (λ line. string_bytes line ≡ audit_line format targets body rate.now) }
 {
-    let sample = sample_text(alloc, rate.count, targets, body)?;
+    let sample = sample_text(alloc, format, rate.count, targets, body)?;
     let octets = rate.octets;
     let records_speed = rate.count_per_second();
     let octets_speed = rate.octets_per_second();

@@ -9,6 +9,7 @@ use crate::stores::store_sized;
 use crate::trouble::Trouble;
 use hc_framing::Kind;
 use hc_head::RequestHead;
+use hc_transcript::Format;
 use std::alloc::Global;
 use std::cell::Cell;
 use std::io;
@@ -18,9 +19,16 @@ use std::time::Duration;
 
 /// A transcript of few records.
 const FEW_RECORDS: Sample = Sample {
+    format: Format::First,
     records: 20,
     targets: 3,
     body: 100,
+};
+
+/// The same, in the second format.
+const FEW_RECORDS_WITH_CAUSES: Sample = Sample {
+    format: Format::Second,
+    ..FEW_RECORDS
 };
 
 /// A clock that goes on by a microsecond whenever it is read.
@@ -50,6 +58,7 @@ pub fn sample<W: Write>(alloc: Global, output: &mut W) -> Result<(), Trouble> {
     count(alloc, output)?;
     heads(alloc, &clock, output)?;
     audit_sample(alloc, &clock, &FEW_RECORDS, output)?;
+    audit_sample(alloc, &clock, &FEW_RECORDS_WITH_CAUSES, output)?;
     store_sized(alloc, &clock, 3, 2, 20, output)?;
     count_hits(alloc, output)
 }

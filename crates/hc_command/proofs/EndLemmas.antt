@@ -2,7 +2,7 @@
 use Rattle.std.proofs.Common.{◌≡◌, ℕ, List, Option, inl, inr, subst}
 use Rattle.std.specs.Io.KnownBytes.{Keeps}
 use Rattle.hc_arguments.specs.Command.{Command}
-use Rattle.hc_arguments.specs.Command.Command.{Audits, Replays, Serves}
+use Rattle.hc_arguments.specs.Command.Command.{Audits, Replays, Converts, Serves}
 use Rattle.hc_command.specs.Ends.{Does, Ends}
 
 pub does_as : (done command : Command) (status : ℕ) (old new faults_old faults_new : Option (List ℕ)) → done ≡ command
@@ -14,6 +14,7 @@ pub fails_with_3 : (command : Command) (status : ℕ) (old new faults_old faults
     → Does command status old new faults_old faults_new
 fails_with_3 Audits status old new faults_old faults_new is kept = inl is
 fails_with_3 Replays status old new faults_old faults_new is kept = inl is
+fails_with_3 Converts status old new faults_old faults_new is kept = inl is
 fails_with_3 Serves status old new faults_old faults_new is kept = (kept, inl is)
 
 -- and what a command does is how the program ends
@@ -21,4 +22,5 @@ pub does_ends : (command : Command) (status : ℕ) (old new faults_old faults_ne
     → Ends status old new faults_old faults_new
 does_ends Audits status old new faults_old faults_new does = inl does
 does_ends Replays status old new faults_old faults_new does = inr (inl does)
-does_ends Serves status old new faults_old faults_new does = inr (inr (inl does))
+does_ends Converts status old new faults_old faults_new does = inr (inr (inl does))
+does_ends Serves status old new faults_old faults_new does = inr (inr (inr (inl does)))

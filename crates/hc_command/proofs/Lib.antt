@@ -1,3 +1,4 @@
 pub mod AuditLemmas
 pub mod EndLemmas
 pub mod ReplayLemmas
+pub mod ConvertLemmas

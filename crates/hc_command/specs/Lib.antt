@@ -2,4 +2,5 @@ pub mod Audit
 pub mod Ends
 pub mod Line
 pub mod Replay
+pub mod Convert
 pub mod Trouble

@@ -1,10 +1,11 @@
 //! The replay of one script: from a reader to a transcript on a writer, a line on another, and an exit status.
-ghost use Rattle.std.specs.Prelude.{◌≡◌, ◌<◌, length, Some, IfOk, IfSome, OnOk};
-ghost use Rattle.std.specs.Io.KnownBytes.{Appends, Consumes, IsAtEnd, Keeps};
+ghost use Rattle.std.specs.Prelude.{◌≡◌, Some, IfOk, OnOk};
+ghost use Rattle.std.specs.Io.KnownBytes.{Appends};
 ghost use Rattle.hc_command.specs.Audit.{SaysLine};
 ghost use Rattle.hc_command.specs.Replay.{ReplaysFor, refusal_status};
 
-use crate::auditing::{READS, buffer, status};
+use crate::auditing::status;
+use crate::input::all_of;
 use crate::line::verdict_line;
 use crate::print::printed;
 use crate::trouble::Trouble;
@@ -12,7 +13,7 @@ use hc_drive::ReplayFault;
 use hc_history::Verdict;
 use std::alloc::Global;
 use std::io;
-use std::io::{ErrorKind, Read, Write};
+use std::io::{Read, Write};
 
 /// The exit status of a script that can't be played.
 const REFUSED: u8 = 2;
@@ -34,37 +35,10 @@ pub fn replay<R: Read, W: Write, E: Write>(
     ensures { ReplaysFor (R.remaining input.old) result (W.contents output.old) (W.contents output.new)
         (E.contents faults.old) (E.contents faults.new) }
 {
-    match script_of(alloc, input) {
+    match all_of(alloc, input) {
         Ok(script) => played(alloc, script.as_slice(), output, faults),
         Err(trouble) => trouble.told(name, faults),
     }
-}
-
-// What `input` gives up to its end.
-fn script_of<R: Read>(alloc: Global, input: &mut R) -> Result<Vec<u8>, Trouble>
-    ensures consumed { IfOk result (λ script. Consumes (R.remaining input.old) (R.remaining input.new) script.items) }
-    ensures end { OnOk result (IsAtEnd (R.remaining input.new)) }
-{
-    let mut piece = buffer(alloc)?;
-    read_all(alloc, input, piece.as_mut_slice())
-}
-
-// The same, read a piece at a time.
-fn read_all<R: Read>(alloc: Global, input: &mut R, piece: &mut [u8]) -> Result<Vec<u8>, Trouble>
-    requires { 0 < length piece.old }
-    ensures consumed { IfOk result (λ octets. Consumes (R.remaining input.old) (R.remaining input.new) octets.items) }
-    ensures end { OnOk result (IsAtEnd (R.remaining input.new)) }
-{
-    let mut octets = Vec::new(alloc);
-    'pieces: for _ in 0..READS {
-        match input.read(piece) {
-            Ok(0) => return Ok(octets),
-            Ok(count) => octets.extend_from_slice(&piece[..count])?,
-            Err(error) if error.kind() == ErrorKind::Interrupted => {}
-            Err(error) => return Err(Trouble::Device(error)),
-        }
-    }
-    Err(Trouble::Device(io::Error::other("too many reads")))
 }
 
 // Replays the script.

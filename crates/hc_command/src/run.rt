@@ -5,11 +5,13 @@ ghost use Rattle.clap.specs.Words.{Text, fault_of, kind_of};
 ghost use Rattle.hc_arguments.specs.Command.{Asks, CanBeDone, IsErrorStatus, IsWord, Task, command_of, hcache, service_words, task_of};
 ghost use Rattle.hc_arguments.specs.Values.{connections_of};
 ghost use Rattle.hc_command.specs.Audit.{Answers};
+ghost use Rattle.hc_command.specs.Convert.{Converted};
 ghost use Rattle.hc_command.specs.Ends.{Does, Ends, Served};
 ghost use Rattle.hc_command.specs.Replay.{Played};
 ghost use Rattle.hc_service.specs.Settings.{AreGood};
 
 use crate::auditing::audit;
+use crate::converting::convert;
 use crate::print::printed;
 use crate::replaying::replay;
 use crate::trouble::Trouble;
@@ -28,7 +30,8 @@ use std::time::Clock;
 use std::{env, fs, io};
 
 const USAGE: &str = "\nUsage: hcache audit [OPTIONS] <FILE>\n       hcache replay <FILE>\n       \
-    hcache serve [OPTIONS] --listen <HOST:PORT> --origin <HOST:PORT> --connections <N> --record <FILE>\n";
+    hcache serve [OPTIONS] --listen <HOST:PORT> --origin <HOST:PORT> --connections <N> --record <FILE>\n       \
+    hcache convert <FILE>\n";
 
 /// Does what the program's own arguments ask, and answers its exit status.
 pub fn status<R, W: Write, E: Write>(rt: &R, output: &mut W, faults: &mut E) -> u8
@@ -58,8 +61,8 @@ fn arguments<R: Env + AllocGlobal>(rt: &R) -> io::Result<Vec<String>> {
 /// Does what the words ask, of which the first is the program's name, and answers the exit status.
 ///
 /// A transcript or a script is read from the system, and clients are served by its sockets. A verdict, the
-/// transcript of a script, help or the version goes to `output`, and what went wrong, or the verdict on the
-/// transcript of a script, to `faults`.
+/// transcript of a script, a converted transcript, help or the version goes to `output`, and what went wrong, or
+/// the verdict on the transcript of a script, to `faults`.
 pub fn answered<R, S: AsStr, W: Write, E: Write>(
     rt: &R,
     words: &[S],
@@ -79,6 +82,12 @@ where
     ensures replay { (name file : Text) → IsWord file
         → map S.text words.now ≡ name ∷ codes "replay" ∷ file ∷ []
         → Played result (W.contents output.old) (W.contents output.new)
+        (E.contents faults.old) (E.contents faults.new) }
+
+    // And `convert FILE` by a conversion.
+    ensures convert { (name file : Text) → IsWord file
+        → map S.text words.now ≡ name ∷ codes "convert" ∷ file ∷ []
+        → Converted result (W.contents output.old) (W.contents output.new)
         (E.contents faults.old) (E.contents faults.new) }
 
     // And `serve` with the four options that it needs, each value behind its `=`, by serving.
@@ -114,6 +123,7 @@ where
     match order {
         Order::Audit { file, settings } => audited(rt, file, settings, output, faults),
         Order::Replay { file } => replayed(rt, file, output, faults),
+        Order::Convert { file } => converted(rt, file, output, faults),
         Order::Serve {
             listen,
             origin,
@@ -170,6 +180,19 @@ where
 {
     match fs::open(rt, file) {
         Ok(mut opened) => replay(rt.alloc(), file, &mut opened, output, faults),
+        Err(error) => Trouble::Device(error).told(file, faults),
+    }
+}
+
+// Converts the transcript of the file.
+fn converted<R, W: Write, E: Write>(rt: &R, file: &str, output: &mut W, faults: &mut E) -> u8
+where
+    R: Files + AllocGlobal,
+    ensures { Converted result (W.contents output.old) (W.contents output.new)
+        (E.contents faults.old) (E.contents faults.new) }
+{
+    match fs::open(rt, file) {
+        Ok(mut opened) => convert(rt.alloc(), file, &mut opened, output, faults),
         Err(error) => Trouble::Device(error).told(file, faults),
     }
 }

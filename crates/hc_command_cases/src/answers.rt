@@ -51,8 +51,10 @@ fn answer_in_memory(
         "order" => say_order(alloc, about, out),
         "audit in pieces" => say_task(alloc, Task::Audit, about, out),
         "replay in pieces" => say_task(alloc, Task::Replay, about, out),
+        "convert in pieces" => say_task(alloc, Task::Convert, about, out),
         "audit to a full device" => say_full(alloc, Task::Audit, about, out),
         "replay to a full device" => say_full(alloc, Task::Replay, about, out),
+        "convert to a full device" => say_full(alloc, Task::Convert, about, out),
         _ => answer_of_script(alloc, question, about, out),
     }
 }

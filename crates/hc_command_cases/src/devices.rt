@@ -1,6 +1,6 @@
 //! What the program does over devices in memory.
 
-use hc_command::{audit, replay};
+use hc_command::{audit, convert, replay};
 use hc_history::{FieldNames, Settings, UnmarkedReplies};
 use std::alloc::Global;
 use std::io;
@@ -11,6 +11,7 @@ use std::io::{ErrorKind, Read, Write};
 pub(crate) enum Task {
     Audit,
     Replay,
+    Convert,
 }
 
 /// Does it, and answers the exit status.
@@ -24,6 +25,7 @@ pub(crate) fn done<I: Read, W: Write, E: Write>(
     match task {
         Task::Audit => audit(alloc, plain(alloc), "a.hct", input, output, faults),
         Task::Replay => replay(alloc, "a.hcs", input, output, faults),
+        Task::Convert => convert(alloc, "a.hct", input, output, faults),
     }
 }
 

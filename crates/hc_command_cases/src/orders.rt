@@ -26,6 +26,7 @@ fn write_order(order: &Order<'_>, out: &mut String) -> Result<(), AllocError> {
     match order {
         Order::Audit { file, settings } => write_audit(file, settings, out),
         Order::Replay { file } => write!(out, "to replay {file}"),
+        Order::Convert { file } => write!(out, "to convert {file}"),
         Order::Serve {
             listen,
             origin,

@@ -1,4 +1,4 @@
-//! Audits and replays over devices in memory.
+//! Audits, replays and conversions over devices in memory.
 
 use crate::devices::{Fault, Full, Pieces, Task, done};
 use crate::words::say_written;

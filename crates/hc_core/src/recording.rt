@@ -26,7 +26,7 @@ fn append_action(text: &mut Vec<u8>, action: &Action) -> Result<(), AllocError>
     ensures { OnOk result (text.new.items ≡ text.old.items ++ texts_of (records_of (action.now ∷ []))) }
 {
     match action {
-        Action::Record(record) => append_record(text, record, Format::First),
+        Action::Record(record) => append_record(text, record, Format::Second),
         _ => Ok(()),
     }
 }
@@ -58,7 +58,7 @@ pub(crate) fn new_recording(alloc: Global) -> Result<Recording, AllocError>
 {
     Ok(Recording {
         results: Vec::new(alloc),
-        text: Vec::from_slice(alloc, Format::First.opening())?,
+        text: Vec::from_slice(alloc, Format::Second.opening())?,
     })
 }
 

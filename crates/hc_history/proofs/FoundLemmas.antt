@@ -25,23 +25,23 @@ use Rattle.hc_history.specs.Found.{IsFound, AnswersOpen}
 
 -- ---- what is found of a reply to what is open
 
-right_to : (settings : Settings) (o : Option Exchange) (moment : ℕ) (reply : Message ResponseHead) (h : List Item) → IsSome o
-    → IsFinding settings o moment reply h Right → IsRightTo settings o moment reply h
-right_to settings None moment reply h some is = cc
-right_to settings (Some exchange) moment reply h some is = is
+right_to : (format : Format) (settings : Settings) (o : Option Exchange) (moment : ℕ) (reply : Message ResponseHead) (h : List Item) → IsSome o
+    → IsFinding format settings o moment reply h Right → IsRightTo format settings o moment reply h
+right_to format settings None moment reply h some is = cc
+right_to format settings (Some exchange) moment reply h some is = is
 
-wrong_to : (settings : Settings) (o : Option Exchange) (moment : ℕ) (reply : Message ResponseHead) (h : List Item) (why : Reason) → IsSome o
-    → IsFinding settings o moment reply h (Wrong why) → IsWrongTo settings o moment reply h why
-wrong_to settings None moment reply h why some is = cc
-wrong_to settings (Some exchange) moment reply h why some is = is
+wrong_to : (format : Format) (settings : Settings) (o : Option Exchange) (moment : ℕ) (reply : Message ResponseHead) (h : List Item) (why : Reason) → IsSome o
+    → IsFinding format settings o moment reply h (Wrong why) → IsWrongTo format settings o moment reply h why
+wrong_to format settings None moment reply h why some is = cc
+wrong_to format settings (Some exchange) moment reply h why some is = is
 
-pub found_right : (settings : Settings) (h : List Item) (item : Item) → AnswersOpen h item → IsFound settings h item Right → IsRight settings h item
-found_right settings h (ClientReply number moment reply) opens is = right_to settings (exchange_of number h) moment reply h opens is
-found_right settings h item opens is = tt
+pub found_right : (format : Format) (settings : Settings) (h : List Item) (item : Item) → AnswersOpen h item → IsFound format settings h item Right → IsRight format settings h item
+found_right format settings h (ClientReply number moment reply) opens is = right_to format settings (exchange_of number h) moment reply h opens is
+found_right format settings h item opens is = tt
 
-pub found_wrong : (settings : Settings) (h : List Item) (item : Item) (why : Reason) → AnswersOpen h item → IsFound settings h item (Wrong why) → IsWrong settings h item why
-found_wrong settings h (ClientReply number moment reply) why opens is = wrong_to settings (exchange_of number h) moment reply h why opens is
-found_wrong settings h item why opens is = cc
+pub found_wrong : (format : Format) (settings : Settings) (h : List Item) (item : Item) (why : Reason) → AnswersOpen h item → IsFound format settings h item (Wrong why) → IsWrong format settings h item why
+found_wrong format settings h (ClientReply number moment reply) why opens is = wrong_to format settings (exchange_of number h) moment reply h why opens is
+found_wrong format settings h item why opens is = cc
 
 -- ---- a reply of a transcript
 

@@ -9,8 +9,9 @@ use Rattle.hc_head.specs.declared.head.Target.{Target}
 use Rattle.hc_head.specs.Targets.{same_target}
 use Rattle.hc_framing.specs.declared.message.Message.{Message}
 use Rattle.hc_update.specs.States.{initial_state}
+use Rattle.hc_transcript.specs.declared.format.Format.{Format}
 use Rattle.hc_transcript.specs.Items.{Item, ClientRequest, OriginResponse, OriginFailure, ClientReply, Exchange, Forward}
-use Rattle.hc_transcript.specs.History.{next_position, exchange_of, forward_of, exchange_after, forward_after}
+use Rattle.hc_transcript.specs.History.{next_position, exchange_of, forward_of, cause_of, exchange_after, forward_after, cause_after}
 use Rattle.hc_history.specs.declared.kept.Kept.{Kept}
 use Rattle.hc_history.specs.States.{begun_by, begun_to, state_begun, state_answered, kept_answered_to, state_after, state_at}
 use Rattle.hc_history.specs.Windows.{is_error_by, is_failure_by, is_error, is_failure}
@@ -136,10 +137,10 @@ same_lives a b same target position item lives = refl
 
 -- ---- windows
 
-responses_past : (target : Target) (since : ℕ) (h : List Item) → length h ≤ since → responses_since target since h ≡ []
-responses_past target since [] le = refl
-responses_past target since (item ∷ h) le =
-    rw (le-ltb since (length h + 1) (omega arith)) (append-nil (responses_since target since h) ∙ responses_past target since h (omega arith))
+responses_past : (format : Format) (e : ℕ) (target : Target) (since : ℕ) (h : List Item) → length h ≤ since → responses_since format e target since h ≡ []
+responses_past format e target since [] le = refl
+responses_past format e target since (item ∷ h) le =
+    rw (le-ltb since (length h + 1) (omega arith)) (append-nil (responses_since format e target since h) ∙ responses_past format e target since h (omega arith))
 
 position_in : Option Exchange → ℕ
 position_in None = 0
@@ -171,41 +172,44 @@ nothing_added : (b : Bool) (window : List WindowResponse) → window ++ cond b [
 nothing_added true window = append-nil window
 nothing_added false window = append-nil window
 
-quiet : (h : List Item) (item : Item) → ((target : Target) → response_in target h item ≡ []) → (o : Option Exchange)
-    → window_responses_of o (item ∷ h) ≡ window_responses_of o h
-quiet h item none None = refl
-quiet h item none (Some exchange) =
-    ap (λ (added : List WindowResponse). responses_since exchange.target exchange.position h ++ cond (ltb exchange.position (next_position h)) added []) (none exchange.target)
-    ∙ nothing_added (ltb exchange.position (next_position h)) (responses_since exchange.target exchange.position h)
+quiet : (format : Format) (h : List Item) (item : Item) → ((e : ℕ) (target : Target) → response_in format e target h item ≡ []) → (o : Option Exchange)
+    → window_responses_of format o (item ∷ h) ≡ window_responses_of format o h
+quiet format h item none None = refl
+quiet format h item none (Some exchange) =
+    ap (λ (added : List WindowResponse). responses_since format exchange.number exchange.target exchange.position h ++ cond (ltb exchange.position (next_position h)) added [])
+    (none exchange.number exchange.target)
+    ∙ nothing_added (ltb exchange.position (next_position h)) (responses_since format exchange.number exchange.target exchange.position h)
 
-loud : (h : List Item) (number moment e : ℕ) (response : Message ResponseHead) (o : Option Exchange) → exchange_of e h ≡ o
-    → window_responses_of o (OriginResponse number moment response ∷ h) ≡ window_responses_of o h ++ added_to_window o (forward_of number h) response
-loud h number moment e response None is = refl
-loud h number moment e response (Some exchange) is =
+loud : (format : Format) (h : List Item) (number moment e : ℕ) (response : Message ResponseHead) (o : Option Exchange) → exchange_of e h ≡ o
+    → window_responses_of format o (OriginResponse number moment response ∷ h)
+    ≡ window_responses_of format o h ++ added_to_window format o (forward_of number h) (cause_of number h) response
+loud format h number moment e response None is = refl
+loud format h number moment e response (Some exchange) is =
     rw (lt-ltb exchange.position (length h + 1) (let place = exchange_place e h exchange is in omega arith)) refl
 
-opened : (h : List Item) (number moment e : ℕ) (request : Message RequestHead) (target : Target) (b : Bool)
-    → window_responses_of (cond b (Some (record { number = number; position = next_position h; request = request.head; target = target })) (exchange_of e h)) (ClientRequest number moment request target ∷ h)
-    ≡ cond b [] (window_responses_of (exchange_of e h) h)
-opened h number moment e request target true = responses_past target (length h + 1) (ClientRequest number moment request target ∷ h) (omega arith)
-opened h number moment e request target false = quiet h (ClientRequest number moment request target) (λ t. refl) (exchange_of e h)
+opened : (format : Format) (h : List Item) (number moment e : ℕ) (request : Message RequestHead) (target : Target) (b : Bool)
+    → window_responses_of format (cond b (Some (record { number = number; position = next_position h; request = request.head; target = target })) (exchange_of e h)) (ClientRequest number moment request target ∷ h)
+    ≡ cond b [] (window_responses_of format (exchange_of e h) h)
+opened format h number moment e request target true = responses_past format number target (length h + 1) (ClientRequest number moment request target ∷ h) (omega arith)
+opened format h number moment e request target false = quiet format h (ClientRequest number moment request target) (λ n t. refl) (exchange_of e h)
 
-closed : (h : List Item) (number moment e : ℕ) (reply : Message ResponseHead) (b : Bool)
-    → window_responses_of (cond b None (exchange_of e h)) (ClientReply number moment reply ∷ h) ≡ cond b [] (window_responses_of (exchange_of e h) h)
-closed h number moment e reply true = refl
-closed h number moment e reply false = quiet h (ClientReply number moment reply) (λ t. refl) (exchange_of e h)
+closed : (format : Format) (h : List Item) (number moment e : ℕ) (reply : Message ResponseHead) (b : Bool)
+    → window_responses_of format (cond b None (exchange_of e h)) (ClientReply number moment reply ∷ h) ≡ cond b [] (window_responses_of format (exchange_of e h) h)
+closed format h number moment e reply true = refl
+closed format h number moment e reply false = quiet format h (ClientReply number moment reply) (λ n t. refl) (exchange_of e h)
 
-window_behind : (e : ℕ) (h : List Item) (item : Item) → window_responses_of (exchange_of e (item ∷ h)) (item ∷ h)
-    ≡ window_after e (exchange_of e h) (λ f. forward_of f h) item (window_responses_of (exchange_of e h) h)
-window_behind e h (ClientRequest number moment request target) = opened h number moment e request target (eqb number e)
-window_behind e h (OriginResponse number moment response) = loud h number moment e response (exchange_of e h) refl
-window_behind e h (ClientReply number moment reply) = closed h number moment e reply (eqb number e)
-window_behind e h item = quiet h item (λ t. refl) (exchange_of e h)
+window_behind : (format : Format) (e : ℕ) (h : List Item) (item : Item) → window_responses_of format (exchange_of e (item ∷ h)) (item ∷ h)
+    ≡ window_after format e (exchange_of e h) (λ f. forward_of f h) (λ f. cause_of f h) item (window_responses_of format (exchange_of e h) h)
+window_behind format e h (ClientRequest number moment request target) = opened format h number moment e request target (eqb number e)
+window_behind format e h (OriginResponse number moment response) = loud format h number moment e response (exchange_of e h) refl
+window_behind format e h (ClientReply number moment reply) = closed format h number moment e reply (eqb number e)
+window_behind format e h item = quiet format h item (λ n t. refl) (exchange_of e h)
 
-same_window : (a b : ℕ → Option Forward) → ((f : ℕ) → a f ≡ b f) → (e : ℕ) (o : Option Exchange) (item : Item) (window : List WindowResponse)
-    → window_after e o a item window ≡ window_after e o b item window
-same_window a b same e o (OriginResponse number moment response) window = ap (λ (f : Option Forward). window ++ added_to_window o f response) (same number)
-same_window a b same e o item window = refl
+same_window : (format : Format) (a b : ℕ → Option Forward) (c d : ℕ → Option ℕ) → ((f : ℕ) → a f ≡ b f) → ((f : ℕ) → c f ≡ d f) → (e : ℕ) (o : Option Exchange) (item : Item)
+    (window : List WindowResponse) → window_after format e o a c item window ≡ window_after format e o b d item window
+same_window format a b c d same cause e o (OriginResponse number moment response) window =
+    λ i. window ++ added_to_window format o (same number i) (cause number i) response
+same_window format a b c d same cause e o item window = refl
 
 -- ---- errors and failures
 
@@ -220,8 +224,8 @@ same_failure a b same target item = refl
 
 -- ---- all of it
 
-pub noted : (old new : Seen) (h : List Item) (item : Item) → IsSeenAs old h → Notes old (next_position h) item new → IsSeenAs new (item ∷ h)
-noted old new h item is n = record {
+pub noted : (format : Format) (old new : Seen) (h : List Item) (item : Item) → IsSeenAs format old h → Notes format old (next_position h) item new → IsSeenAs format new (item ∷ h)
+noted format old new h item is n = record {
   live = λ target. n.live target
       ∙ same_lives old.forward (λ f. forward_of f h) is.forward target (next_position h) item (old.live target)
       ∙ ap (lives_after target (λ f. forward_of f h) (next_position h) item) (is.live target)
@@ -229,11 +233,12 @@ noted old new h item is n = record {
       ∙ sym (live_behind target h item);
   exchange = λ e. n.exchange e ∙ ap (exchange_after e (next_position h) item) (is.exchange e);
   forward = λ f. n.forward f ∙ ap (forward_after f item) (is.forward f);
+  cause = λ f. n.cause f ∙ ap (cause_after f item) (is.cause f);
   window = λ e. n.window e
-      ∙ ap (λ (o : Option Exchange). window_after e o old.forward item (old.window e)) (is.exchange e)
-      ∙ same_window old.forward (λ f. forward_of f h) is.forward e (exchange_of e h) item (old.window e)
-      ∙ ap (window_after e (exchange_of e h) (λ f. forward_of f h) item) (is.window e)
-      ∙ sym (window_behind e h item);
+      ∙ ap (λ (o : Option Exchange). window_after format e o old.forward old.cause item (old.window e)) (is.exchange e)
+      ∙ same_window format old.forward (λ f. forward_of f h) old.cause (λ f. cause_of f h) is.forward is.cause e (exchange_of e h) item (old.window e)
+      ∙ ap (window_after format e (exchange_of e h) (λ f. forward_of f h) (λ f. cause_of f h) item) (is.window e)
+      ∙ sym (window_behind format e h item);
   error = λ target. n.error target
       ∙ ap (λ (b : Bool). cond b (next_position h) (old.error target)) (same_error old.forward (λ f. forward_of f h) is.forward target item)
       ∙ ap (λ (p : ℕ). cond (is_error target h item) (next_position h) p) (is.error target);

@@ -1,11 +1,12 @@
 -- What is seen of a history is enough to judge its replies.
-use Rattle.std.proofs.Common.{◌≡◌, ℕ, ◌≤◌, Bool, List, Option, Some, None, refl, sym, ap, subst, ◌∙◌, arith, ltb, inl, inr}
+use Rattle.std.proofs.Common.{◌≡◌, ℕ, ◌≤◌, Bool, List, [], Option, Some, None, refl, sym, ap, subst, ◌∙◌, arith, ltb, inl, inr}
 use Rattle.std.specs.List.{list_any}
 use Rattle.hc_head.specs.declared.head.ResponseHead.{ResponseHead}
 use Rattle.hc_head.specs.declared.head.Target.{Target}
 use Rattle.hc_framing.specs.declared.message.Message.{Message}
 use Rattle.hc_status.specs.declared.marks.Mark.{Mark}
 use Rattle.hc_status.specs.declared.marks.Mark.TheVariants.{Hit, Forwarded, Both, Unmarked}
+use Rattle.hc_transcript.specs.declared.format.Format.{Format}
 use Rattle.hc_transcript.specs.Items.{Item, Exchange}
 use Rattle.hc_transcript.specs.History.{exchange_of}
 use Rattle.hc_history.specs.declared.settings.Settings.{Settings}
@@ -24,8 +25,9 @@ use Rattle.hc_history.proofs.FurthestLemmas.{Pass-found, Pass-only}
 use Rattle.hc_history.proofs.LiveLemmas.{furthest_is_live}
 
 -- what a reply to an exchange claims, by what stands in its window
-abbrev pub claim_with : Settings → Exchange → ℕ → Message ResponseHead → Bool → Bool → Claim
-claim_with settings exchange moment reply error failure = record {
+abbrev pub claim_with : Format → Settings → Exchange → ℕ → Message ResponseHead → Bool → Bool → Claim
+claim_with format settings exchange moment reply error failure = record {
+  format = format;
   exchange = exchange.number;
   request = exchange.request;
   target = exchange.target;
@@ -38,100 +40,105 @@ claim_with settings exchange moment reply error failure = record {
   settings = settings;
 }
 
-error_seen : (seen : Seen) (h : List Item) (target : Target) (since : ℕ) → IsSeenAs seen h → ltb since (seen.error target) ≡ some_since (is_error target) since h
-error_seen seen h target since one = ap (ltb since) (one.error target) ∙ sym (some_since-latest (is_error target) since h)
+error_seen : (format : Format) (seen : Seen) (h : List Item) (target : Target) (since : ℕ) → IsSeenAs format seen h → ltb since (seen.error target) ≡ some_since (is_error target) since h
+error_seen format seen h target since one = ap (ltb since) (one.error target) ∙ sym (some_since-latest (is_error target) since h)
 
-failure_seen : (seen : Seen) (h : List Item) (target : Target) (since : ℕ) → IsSeenAs seen h
+failure_seen : (format : Format) (seen : Seen) (h : List Item) (target : Target) (since : ℕ) → IsSeenAs format seen h
     → ltb since (seen.failure target) ≡ some_since (is_failure target) since h
-failure_seen seen h target since one = ap (ltb since) (one.failure target) ∙ sym (some_since-latest (is_failure target) since h)
+failure_seen format seen h target since one = ap (ltb since) (one.failure target) ∙ sym (some_since-latest (is_failure target) since h)
 
 -- what a reply claims, by what is seen
-pub claim_seen : (seen : Seen) (h : List Item) (settings : Settings) (exchange : Exchange) (moment : ℕ) (reply : Message ResponseHead) → IsSeenAs seen h
-    → claim_with settings exchange moment reply (ltb exchange.position (seen.error exchange.target)) (ltb exchange.position (seen.failure exchange.target))
-    ≡ claim_of settings exchange moment reply h
-claim_seen seen h settings exchange moment reply one =
-    ap (λ (b : Bool). claim_with settings exchange moment reply b (ltb exchange.position (seen.failure exchange.target)))
-    (error_seen seen h exchange.target exchange.position one)
-    ∙ ap (λ (b : Bool). claim_with settings exchange moment reply (some_since (is_error exchange.target) exchange.position h) b)
-    (failure_seen seen h exchange.target exchange.position one)
+pub claim_seen : (format : Format) (seen : Seen) (h : List Item) (settings : Settings) (exchange : Exchange) (moment : ℕ) (reply : Message ResponseHead) → IsSeenAs format seen h
+    → claim_with format settings exchange moment reply (ltb exchange.position (seen.error exchange.target)) (ltb exchange.position (seen.failure exchange.target))
+    ≡ claim_of format settings exchange moment reply h
+claim_seen format seen h settings exchange moment reply one =
+    ap (λ (b : Bool). claim_with format settings exchange moment reply b (ltb exchange.position (seen.failure exchange.target)))
+    (error_seen format seen h exchange.target exchange.position one)
+    ∙ ap (λ (b : Bool). claim_with format settings exchange moment reply (some_since (is_error exchange.target) exchange.position h) b)
+    (failure_seen format seen h exchange.target exchange.position one)
 
-same_claim : (seen : Seen) (h g : List Item) (settings : Settings) (exchange : Exchange) (moment : ℕ) (reply : Message ResponseHead) → IsSeenAs seen h → IsSeenAs seen g
-    → claim_of settings exchange moment reply h ≡ claim_of settings exchange moment reply g
-same_claim seen h g settings exchange moment reply one other =
-    sym (claim_seen seen h settings exchange moment reply one) ∙ claim_seen seen g settings exchange moment reply other
+same_claim : (format : Format) (seen : Seen) (h g : List Item) (settings : Settings) (exchange : Exchange) (moment : ℕ) (reply : Message ResponseHead) → IsSeenAs format seen h → IsSeenAs format seen g
+    → claim_of format settings exchange moment reply h ≡ claim_of format settings exchange moment reply g
+same_claim format seen h g settings exchange moment reply one other =
+    sym (claim_seen format seen h settings exchange moment reply one) ∙ claim_seen format seen g settings exchange moment reply other
 
-same_furthest : (seen : Seen) (h g : List Item) (since : ℕ) (claim : Claim) → IsSeenAs seen h → IsSeenAs seen g → furthest since claim h ≡ furthest since claim g
-same_furthest seen h g since claim one other =
+same_furthest : (format : Format) (seen : Seen) (h g : List Item) (since : ℕ) (claim : Claim) → IsSeenAs format seen h → IsSeenAs format seen g → furthest since claim h ≡ furthest since claim g
+same_furthest format seen h g since claim one other =
     sym (furthest_is_live since claim h)
     ∙ ap (furthest_live since claim) (sym (one.live claim.target) ∙ other.live claim.target)
     ∙ furthest_is_live since claim g
 
 -- whom one history has to pass so many filters, the other has too
-pass_alike : (seen : Seen) (h g : List Item) (n since : ℕ) (claim : Claim) → IsSeenAs seen h → IsSeenAs seen g → 1 ≤ n → n ≤ filter_count
+pass_alike : (format : Format) (seen : Seen) (h g : List Item) (n since : ℕ) (claim : Claim) → IsSeenAs format seen h → IsSeenAs format seen g → 1 ≤ n → n ≤ filter_count
     → Pass n since claim h → Pass n since claim g
-pass_alike seen h g n since claim one other some few pass =
-    Pass-found n since claim g some (omega (arith, same_furthest seen h g since claim one other, Pass-only n since claim h few pass))
+pass_alike format seen h g n since claim one other some few pass =
+    Pass-found n since claim g some (omega (arith, same_furthest format seen h g since claim one other, Pass-only n since claim h few pass))
 
-first_alike : (seen : Seen) (h g : List Item) (n : ℕ) (claim : Claim) → IsSeenAs seen h → IsSeenAs seen g → IsFirstFailed n claim h → IsFirstFailed n claim g
-first_alike seen h g n claim one other first = record {
+first_alike : (format : Format) (seen : Seen) (h g : List Item) (n : ℕ) (claim : Claim) → IsSeenAs format seen h → IsSeenAs format seen g → IsFirstFailed n claim h → IsFirstFailed n claim g
+first_alike format seen h g n claim one other first = record {
   is_filter = first.is_filter;
-  leaves_nobody = λ pass. first.leaves_nobody (pass_alike seen g h n anywhere claim other one first.is_filter.0 first.is_filter.1 pass);
-  earlier = λ k some below. pass_alike seen h g k anywhere claim one other some (omega (arith, first.is_filter.1)) (first.earlier k some below);
+  leaves_nobody = λ pass. first.leaves_nobody (pass_alike format seen g h n anywhere claim other one first.is_filter.0 first.is_filter.1 pass);
+  earlier = λ k some below. pass_alike format seen h g k anywhere claim one other some (omega (arith, first.is_filter.1)) (first.earlier k some below);
 }
 
 -- what the window of the exchange holds of its target
-same_window : (seen : Seen) (h g : List Item) (e : ℕ) (exchange : Exchange) → IsSeenAs seen h → IsSeenAs seen g → exchange_of e h ≡ Some exchange
-    → exchange_of e g ≡ Some exchange → responses_since exchange.target exchange.position h ≡ responses_since exchange.target exchange.position g
-same_window seen h g e exchange one other open_there open_here =
-    sym (ap (λ (o : Option Exchange). window_responses_of o h) open_there)
+same_window : (format : Format) (seen : Seen) (h g : List Item) (e : ℕ) (exchange : Exchange) → IsSeenAs format seen h → IsSeenAs format seen g → exchange_of e h ≡ Some exchange
+    → exchange_of e g ≡ Some exchange → responses_since format exchange.number exchange.target exchange.position h ≡ responses_since format exchange.number exchange.target exchange.position g
+same_window format seen h g e exchange one other open_there open_here =
+    sym (ap (λ (o : Option Exchange). window_responses_of format o h) open_there)
     ∙ sym (one.window e)
     ∙ other.window e
-    ∙ ap (λ (o : Option Exchange). window_responses_of o g) open_here
+    ∙ ap (λ (o : Option Exchange). window_responses_of format o g) open_here
 
-same_forwarded : (claim : Claim) (h g : List Item) → responses_since claim.target claim.since h ≡ responses_since claim.target claim.since g
+same_forwarded : (claim : Claim) (h g : List Item) → responses_since claim.format claim.exchange claim.target claim.since h ≡ responses_since claim.format claim.exchange claim.target claim.since g
     → is_forwarded claim h ≡ is_forwarded claim g
 same_forwarded claim h g same =
     carried claim h
     ∙ ap (list_any (λ one. carries claim one.method one.status one.body)) same
     ∙ sym (carried claim g)
 
-found_alike : (seen : Seen) (h g : List Item) (mark : Mark) (claim : Claim) (found : Finding) → IsSeenAs seen h → IsSeenAs seen g
+found_alike : (format : Format) (seen : Seen) (h g : List Item) (mark : Mark) (claim : Claim) (found : Finding) → IsSeenAs format seen h → IsSeenAs format seen g
     → is_forwarded claim h ≡ is_forwarded claim g → IsFoundBy mark claim h found → IsFoundBy mark claim g found
-found_alike seen h g (Hit ttl) claim Right one other window is = pass_alike seen h g filter_count anywhere claim one other (omega arith) (omega arith) is
-found_alike seen h g (Hit ttl) claim (Wrong why) one other window is = first_alike seen h g _ claim one other is
-found_alike seen h g Forwarded claim Right one other window is = elim is [
+found_alike format seen h g (Hit ttl) claim Right one other window is = pass_alike format seen h g filter_count anywhere claim one other (omega arith) (omega arith) is
+found_alike format seen h g (Hit ttl) claim (Wrong why) one other window is = first_alike format seen h g _ claim one other is
+found_alike format seen h g Forwarded claim Right one other window is = elim is [
   | inl carries_it ↦ inl (sym window ∙ carries_it)
-  | inr pass ↦ inr (pass_alike seen h g forwarded_count anywhere claim one other (omega arith) (omega arith) pass)
+  | inr pass ↦ inr (pass_alike format seen h g forwarded_count anywhere claim one other (omega arith) (omega arith) pass)
 ]
-found_alike seen h g Forwarded claim (Wrong why) one other window is = (
+found_alike format seen h g Forwarded claim (Wrong why) one other window is = (
   is.0,
-  (sym window ∙ is.1.0, λ pass. is.1.1 (pass_alike seen g h forwarded_count anywhere claim other one (omega arith) (omega arith) pass)),
+  (sym window ∙ is.1.0, λ pass. is.1.1 (pass_alike format seen g h forwarded_count anywhere claim other one (omega arith) (omega arith) pass)),
 )
-found_alike seen h g Both claim found one other window is = both claim found is
+found_alike format seen h g Both claim found one other window is = both claim found is
   where
     both : (claim : Claim) (found : Finding) → IsFoundBy Both claim h found → IsFoundBy Both claim g found
     both claim Right is = is
     both claim (Wrong why) is = is
-found_alike seen h g Unmarked claim found one other window is = unmarked claim found is
+found_alike format seen h g Unmarked claim found one other window is = unmarked claim found is
   where
     unmarked : (claim : Claim) (found : Finding) → IsFoundBy Unmarked claim h found → IsFoundBy Unmarked claim g found
     unmarked claim Right is = is
     unmarked claim (Wrong why) is = is
 
-finding_alike : (seen : Seen) (h g : List Item) (settings : Settings) (e moment : ℕ) (reply : Message ResponseHead) (found : Finding) (o : Option Exchange)
-    → IsSeenAs seen h → IsSeenAs seen g → exchange_of e h ≡ o → exchange_of e g ≡ o
-    → IsFinding settings o moment reply h found → IsFinding settings o moment reply g found
-finding_alike seen h g settings e moment reply found None one other there here is = tt
-finding_alike seen h g settings e moment reply found (Some exchange) one other there here is =
-    let claim = claim_of settings exchange moment reply in
-    let forwarded = same_forwarded (claim h) h g (same_window seen h g e exchange one other there here) in
-    subst (λ (c : Claim). IsFoundBy (reply_mark reply) c g found) (same_claim seen h g settings exchange moment reply one other)
-    (found_alike seen h g (reply_mark reply) (claim h) found one other forwarded is)
+finding_alike : (format : Format) (seen : Seen) (h g : List Item) (settings : Settings) (e moment : ℕ) (reply : Message ResponseHead) (found : Finding) (o : Option Exchange)
+    → IsSeenAs format seen h → IsSeenAs format seen g → exchange_of e h ≡ o → exchange_of e g ≡ o
+    → IsFinding format settings o moment reply h found → IsFinding format settings o moment reply g found
+finding_alike format seen h g settings e moment reply found None one other there here is = tt
+finding_alike format seen h g settings e moment reply found (Some exchange) one other there here is =
+    let claim = claim_of format settings exchange moment reply in
+    let forwarded = same_forwarded (claim h) h g (same_window format seen h g e exchange one other there here) in
+    subst (λ (c : Claim). IsFoundBy (reply_mark reply) c g found) (same_claim format seen h g settings exchange moment reply one other)
+    (found_alike format seen h g (reply_mark reply) (claim h) found one other forwarded is)
 
-pub seen_is_enough : (seen : Seen) (h g : List Item) (settings : Settings) (e moment : ℕ) (reply : Message ResponseHead) (found : Finding)
-    → IsSeenAs seen h → IsSeenAs seen g
-    → IsFinding settings (exchange_of e h) moment reply h found → IsFinding settings (exchange_of e g) moment reply g found
-seen_is_enough seen h g settings e moment reply found one other is =
+pub seen_is_enough : (format : Format) (seen : Seen) (h g : List Item) (settings : Settings) (e moment : ℕ) (reply : Message ResponseHead) (found : Finding)
+    → IsSeenAs format seen h → IsSeenAs format seen g
+    → IsFinding format settings (exchange_of e h) moment reply h found → IsFinding format settings (exchange_of e g) moment reply g found
+seen_is_enough format seen h g settings e moment reply found one other is =
     let same : exchange_of e h ≡ exchange_of e g = sym (one.exchange e) ∙ other.exchange e in
-    subst (λ (o : Option Exchange). IsFinding settings o moment reply g found) same
-    (finding_alike seen h g settings e moment reply found (exchange_of e h) one other refl (sym same) is)
+    subst (λ (o : Option Exchange). IsFinding format settings o moment reply g found) same
+    (finding_alike format seen h g settings e moment reply found (exchange_of e h) one other refl (sym same) is)
+
+-- of no records the same is seen in both formats
+pub nothing_seen : (format other : Format) (seen : Seen) → IsSeenAs format seen [] → IsSeenAs other seen []
+nothing_seen format other seen is =
+    record { live = is.live; exchange = is.exchange; forward = is.forward; cause = is.cause; window = is.window; error = is.error; failure = is.failure }

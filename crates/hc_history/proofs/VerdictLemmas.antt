@@ -27,35 +27,35 @@ use Rattle.hc_history.proofs.ReasonLemmas.{not_both, one_reason}
 
 -- ---- right and wrong replies
 
-right_to_wrong : (settings : Settings) (o : Option Exchange) (moment : ℕ) (reply : Message ResponseHead) (h : List Item) (why : Reason)
-    → IsRightTo settings o moment reply h → ¬ (IsWrongTo settings o moment reply h why)
-right_to_wrong settings None moment reply h why right wrong = right
-right_to_wrong settings (Some exchange) moment reply h why right wrong =
-    not_both (reply_mark reply) (claim_of settings exchange moment reply h) h why right wrong
+right_to_wrong : (format : Format) (settings : Settings) (o : Option Exchange) (moment : ℕ) (reply : Message ResponseHead) (h : List Item) (why : Reason)
+    → IsRightTo format settings o moment reply h → ¬ (IsWrongTo format settings o moment reply h why)
+right_to_wrong format settings None moment reply h why right wrong = right
+right_to_wrong format settings (Some exchange) moment reply h why right wrong =
+    not_both (reply_mark reply) (claim_of format settings exchange moment reply h) h why right wrong
 
-right_wrong : (settings : Settings) (h : List Item) (item : Item) (why : Reason) → IsRight settings h item → ¬ (IsWrong settings h item why)
-right_wrong settings h (ClientReply number moment reply) why right wrong = right_to_wrong settings (exchange_of number h) moment reply h why right wrong
-right_wrong settings h item why right wrong = wrong
+right_wrong : (format : Format) (settings : Settings) (h : List Item) (item : Item) (why : Reason) → IsRight format settings h item → ¬ (IsWrong format settings h item why)
+right_wrong format settings h (ClientReply number moment reply) why right wrong = right_to_wrong format settings (exchange_of number h) moment reply h why right wrong
+right_wrong format settings h item why right wrong = wrong
 
-wrong_to_once : (settings : Settings) (o : Option Exchange) (moment : ℕ) (reply : Message ResponseHead) (h : List Item) (why other : Reason)
-    → IsWrongTo settings o moment reply h why → IsWrongTo settings o moment reply h other → why ≡ other
-wrong_to_once settings None moment reply h why other one two = absurd one
-wrong_to_once settings (Some exchange) moment reply h why other one two =
-    one_reason (reply_mark reply) (claim_of settings exchange moment reply h) h why other one two
+wrong_to_once : (format : Format) (settings : Settings) (o : Option Exchange) (moment : ℕ) (reply : Message ResponseHead) (h : List Item) (why other : Reason)
+    → IsWrongTo format settings o moment reply h why → IsWrongTo format settings o moment reply h other → why ≡ other
+wrong_to_once format settings None moment reply h why other one two = absurd one
+wrong_to_once format settings (Some exchange) moment reply h why other one two =
+    one_reason (reply_mark reply) (claim_of format settings exchange moment reply h) h why other one two
 
-wrong_once : (settings : Settings) (h : List Item) (item : Item) (why other : Reason) → IsWrong settings h item why → IsWrong settings h item other → why ≡ other
-wrong_once settings h (ClientReply number moment reply) why other one two = wrong_to_once settings (exchange_of number h) moment reply h why other one two
-wrong_once settings h item why other one two = absurd one
+wrong_once : (format : Format) (settings : Settings) (h : List Item) (item : Item) (why other : Reason) → IsWrong format settings h item why → IsWrong format settings h item other → why ≡ other
+wrong_once format settings h (ClientReply number moment reply) why other one two = wrong_to_once format settings (exchange_of number h) moment reply h why other one two
+wrong_once format settings h item why other one two = absurd one
 
 -- where every reply is right, so is the first of any front
-right_within : (settings : Settings) (items : List Item) (item : Item) (h : List Item) → AllRight settings (items ++ item ∷ h) → IsRight settings h item
-right_within settings [] item h all = all.1
-right_within settings (i ∷ items) item h all = right_within settings items item h all.0
+right_within : (format : Format) (settings : Settings) (items : List Item) (item : Item) (h : List Item) → AllRight format settings (items ++ item ∷ h) → IsRight format settings h item
+right_within format settings [] item h all = all.1
+right_within format settings (i ∷ items) item h all = right_within format settings items item h all.0
 
 -- no wrong reply stands in a history of right ones
-never_within : (settings : Settings) (h items g : List Item) (item : Item) (why : Reason) → AllRight settings h → h ≡ items ++ item ∷ g → ¬ (IsWrong settings g item why)
-never_within settings h items g item why all is wrong =
-    right_wrong settings g item why (right_within settings items item g (subst (AllRight settings) is all)) wrong
+never_within : (format : Format) (settings : Settings) (h items g : List Item) (item : Item) (why : Reason) → AllRight format settings h → h ≡ items ++ item ∷ g → ¬ (IsWrong format settings g item why)
+never_within format settings h items g item why all is wrong =
+    right_wrong format settings g item why (right_within format settings items item g (subst (AllRight format settings) is all)) wrong
 
 -- ---- where the octets stop
 
@@ -67,16 +67,15 @@ nothing_unfinished format h = inl (record { short = omega arith; none = λ text 
     no_line (c ∷ text) after is = cc
 
 -- what the octets break behind is the last history that is read of them
-last_read : (octets : List ℕ) (h : List Item) (f : RecordFault) (format : Format) (records : List Record) (g : List Item) (rest : List ℕ)
-    → IsMalformedAfter octets h f → Splits format octets records g rest → (items : List Item) × (h ≡ items ++ g)
-last_read octets h f format records g rest (inl broken) splits = break_last octets h f format records g rest broken splits
-last_read octets h f format records g rest (inr torn) splits =
-    unfinished_last torn.1.format octets torn.1.records records h g torn.1.rest rest torn.1.splits torn.1.torn
-    (same_format octets torn.1.format format torn.1.records records h g torn.1.rest rest torn.1.splits splits)
+last_read : (format other : Format) (octets : List ℕ) (h : List Item) (f : RecordFault) (records : List Record) (g : List Item) (rest : List ℕ)
+    → IsMalformedAfter format octets h f → Splits other octets records g rest → (items : List Item) × (h ≡ items ++ g)
+last_read format other octets h f records g rest (inl broken) splits = break_last format other octets h f records g rest broken splits
+last_read format other octets h f records g rest (inr torn) splits =
+    unfinished_last format other octets torn.1.records records h g torn.1.rest rest torn.1.splits torn.1.torn splits
 
-break_read : (octets : List ℕ) (h : List Item) (f : RecordFault) → IsMalformedAfter octets h f → (format : Format) × (records : List Record) × (rest : List ℕ) × Splits format octets records h rest
-break_read octets h f (inl broken) = (broken.format, broken.records, broken.rest, broken.splits)
-break_read octets h f (inr torn) = (torn.1.format, torn.1.records, torn.1.rest, torn.1.splits)
+pub break_read : (format : Format) (octets : List ℕ) (h : List Item) (f : RecordFault) → IsMalformedAfter format octets h f → (records : List Record) × (rest : List ℕ) × Splits format octets records h rest
+break_read format octets h f (inl broken) = (broken.records, broken.rest, broken.splits)
+break_read format octets h f (inr torn) = (torn.1.records, torn.1.rest, torn.1.splits)
 
 opening_unread : (octets : List ℕ) (f : RecordFault) (format : Format) (records : List Record) (h : List Item) (rest : List ℕ) → BreaksOpening octets f → ¬ (Splits format octets records h rest)
 opening_unread octets f format records h rest (inl none) splits = no_opening_no_records octets format records h rest none.0 splits
@@ -88,25 +87,21 @@ one_opening_fault octets f e (inl none) (inr short) = absurd (no_opening_is_hope
 one_opening_fault octets f e (inr short) (inl none) = absurd (no_opening_is_hopeless octets none.0 short.0)
 one_opening_fault octets f e (inr short) (inr other) = short.1 ∙ sym other.1
 
-one_break_behind : (octets : List ℕ) (h g : List Item) (f e : RecordFault) → IsMalformedAfter octets h f → IsMalformedAfter octets g e → (h ≡ g) × (f ≡ e)
-one_break_behind octets h g f e (inl one) (inl other) = one_break octets h g f e one other
-one_break_behind octets h g f e (inl one) (inr torn) =
-    absurd (unfinished_is_unbroken torn.1.format octets torn.1.records g h torn.1.rest f torn.1.splits torn.1.torn one)
-one_break_behind octets h g f e (inr torn) (inl other) =
-    absurd (unfinished_is_unbroken torn.1.format octets torn.1.records h g torn.1.rest e torn.1.splits torn.1.torn other)
-one_break_behind octets h g f e (inr torn) (inr other) =
-    let splits = same_format octets torn.1.format other.1.format torn.1.records other.1.records h g torn.1.rest other.1.rest torn.1.splits other.1.splits in
-    let same-format = one_opening octets other.1.format torn.1.format other.1.records torn.1.records g h other.1.rest torn.1.rest other.1.splits torn.1.splits in
-    let unfinished : IsUnfinished torn.1.format (line_fault g) other.1.rest = subst (λ (k : Format). IsUnfinished k (line_fault g) other.1.rest) same-format other.1.torn in
-    let same = one_unfinished torn.1.format octets torn.1.records other.1.records h g torn.1.rest other.1.rest torn.1.splits torn.1.torn splits unfinished in
-    (same.1, torn.0 ∙ sym other.0)
+one_break_behind : (format other : Format) (octets : List ℕ) (h g : List Item) (f e : RecordFault) → IsMalformedAfter format octets h f → IsMalformedAfter other octets g e → (h ≡ g) × (f ≡ e)
+one_break_behind format other octets h g f e (inl one) (inl two) = let same = one_break format other octets h g f e one two in (same.1, same.2)
+one_break_behind format other octets h g f e (inl one) (inr torn) =
+    absurd (unfinished_is_unbroken other format octets torn.1.records g h torn.1.rest f torn.1.splits torn.1.torn one)
+one_break_behind format other octets h g f e (inr torn) (inl two) =
+    absurd (unfinished_is_unbroken format other octets torn.1.records h g torn.1.rest e torn.1.splits torn.1.torn two)
+one_break_behind format other octets h g f e (inr torn) (inr two) =
+    let same = one_unfinished format other octets torn.1.records two.1.records h g torn.1.rest two.1.rest torn.1.splits torn.1.torn two.1.splits two.1.torn in
+    (same.1, torn.0 ∙ sym two.0)
 
-behind_is_no_transcript : (octets : List ℕ) (h : List Item) (f : RecordFault) (format : Format) (records : List Record) (g : List Item) → IsMalformedAfter octets h f
-    → ¬ (IsTranscript format octets records g)
-behind_is_no_transcript octets h f format records g (inl broken) whole = broken_is_no_transcript octets h f format records g broken whole
-behind_is_no_transcript octets h f format records g (inr torn) whole =
-    unfinished_is_no_transcript torn.1.format octets torn.1.records records h g torn.1.rest torn.1.splits torn.1.some torn.1.torn
-    (same_format octets torn.1.format format torn.1.records records h g torn.1.rest [] torn.1.splits whole)
+behind_is_no_transcript : (format other : Format) (octets : List ℕ) (h : List Item) (f : RecordFault) (records : List Record) (g : List Item) → IsMalformedAfter format octets h f
+    → ¬ (IsTranscript other octets records g)
+behind_is_no_transcript format other octets h f records g (inl broken) whole = broken_is_no_transcript format other octets h f records g broken whole
+behind_is_no_transcript format other octets h f records g (inr torn) whole =
+    unfinished_is_no_transcript format other octets torn.1.records records h g torn.1.rest torn.1.splits torn.1.some torn.1.torn whole
 
 -- ---- one verdict
 
@@ -116,42 +111,51 @@ same_counts octets settings one other y z =
     let same = one_reading y.format octets y.records z.records y.history z.history y.is_transcript whole in
     ap Yes (y.counts_are ∙ ap counts_of same.1 ∙ sym z.counts_are)
 
+-- what is wrong in the one format of the octets
+wrong_in : (settings : Settings) (h : List Item) (item : Item) (why : Reason) (format other : Format) → other ≡ format → IsWrong other settings h item why → IsWrong format settings h item why
+wrong_in settings h item why format other same wrong = subst (λ (k : Format). IsWrong k settings h item why) same wrong
+
 yes_no : (octets : List ℕ) (settings : Settings) (counts : Counts) (position : ℕ) (why : Reason) → IsAllRight octets settings counts → ¬ (IsWrongAt octets settings position why)
 yes_no octets settings counts position why y n =
-    let splits = same_format octets y.format n.format y.records n.records y.history (n.item ∷ n.history) [] n.rest y.is_transcript n.splits in
-    let last = unfinished_last y.format octets y.records n.records y.history (n.item ∷ n.history) [] n.rest y.is_transcript (nothing_unfinished y.format y.history) splits in
-    never_within settings y.history last.0 n.history n.item why y.all_right last.1 n.is_wrong
+    let same-format = one_opening octets n.format y.format n.records y.records (n.item ∷ n.history) y.history n.rest [] n.splits y.is_transcript in
+    let last =
+    unfinished_last y.format n.format octets y.records n.records y.history (n.item ∷ n.history) [] n.rest y.is_transcript (nothing_unfinished y.format y.history) n.splits in
+    never_within y.format settings y.history last.0 n.history n.item why y.all_right last.1 (wrong_in settings n.history n.item why y.format n.format same-format n.is_wrong)
 
 break_no : (octets : List ℕ) (settings : Settings) (at position : ℕ) (f : RecordFault) (why : Reason) → IsMalformedAt octets settings at f → ¬ (IsWrongAt octets settings position why)
 break_no octets settings at position f why b n =
-    let last = last_read octets b.history f n.format n.records (n.item ∷ n.history) n.rest b.breaks n.splits in
-    never_within settings b.history last.0 n.history n.item why b.all_right last.1 n.is_wrong
+    let read = break_read b.format octets b.history f b.breaks in
+    let same-format = one_opening octets n.format b.format n.records read.0 (n.item ∷ n.history) b.history n.rest read.1 n.splits read.2 in
+    let last = last_read b.format n.format octets b.history f n.records (n.item ∷ n.history) n.rest b.breaks n.splits in
+    never_within b.format settings b.history last.0 n.history n.item why b.all_right last.1 (wrong_in settings n.history n.item why b.format n.format same-format n.is_wrong)
 
 -- of two wrong replies behind right ones neither is later
-no_later : (settings : Settings) (items h g : List Item) (item other : Item) (why : Reason) → AllRight settings g → IsWrong settings h item why
+no_later : (format : Format) (settings : Settings) (items h g : List Item) (item other : Item) (why : Reason) → AllRight format settings g → IsWrong format settings h item why
     → other ∷ g ≡ items ++ item ∷ h → (other ≡ item) × (g ≡ h)
-no_later settings [] h g item other why all wrong is = (cc, cc)
-no_later settings (i ∷ items) h g item other why all wrong is =
-    absurd (let tail : g ≡ items ++ item ∷ h = cc in never_within settings g items h item why all tail wrong)
+no_later format settings [] h g item other why all wrong is = (cc, cc)
+no_later format settings (i ∷ items) h g item other why all wrong is =
+    absurd (let tail : g ≡ items ++ item ∷ h = cc in never_within format settings g items h item why all tail wrong)
 
-stop_parts : (octets : List ℕ) (settings : Settings) (position at : ℕ) (why other : Reason) (n : IsWrongAt octets settings position why) (m : IsWrongAt octets settings at other)
-    → n.item ≡ m.item → n.history ≡ m.history → No position why ≡ No at other
-stop_parts octets settings position at why other n m same before =
-    let here = subst (λ (i : Item). IsWrong settings n.history i why) same n.is_wrong in
-    let there = subst (λ (h : List Item). IsWrong settings h m.item why) before here in
-    ap (λ (p : ℕ). No p why) (n.position_is ∙ ap next_position before ∙ sym m.position_is)
-    ∙ ap (No at) (wrong_once settings m.history m.item why other there m.is_wrong)
+stop_parts : (format : Format) (settings : Settings) (position at : ℕ) (why other : Reason) (item later : Item) (h g : List Item) → IsWrong format settings h item why
+    → IsWrong format settings g later other → position ≡ next_position h → at ≡ next_position g → item ≡ later → h ≡ g → No position why ≡ No at other
+stop_parts format settings position at why other item later h g wrong too position-is at-is same before =
+    let here = subst (λ (i : Item). IsWrong format settings h i why) same wrong in
+    let there = subst (λ (k : List Item). IsWrong format settings k later why) before here in
+    ap (λ (p : ℕ). No p why) (position-is ∙ ap next_position before ∙ sym at-is) ∙ ap (No at) (wrong_once format settings g later why other there too)
 
 no_no : (octets : List ℕ) (settings : Settings) (position at : ℕ) (why other : Reason) → IsWrongAt octets settings position why → IsWrongAt octets settings at other → No position why ≡ No at other
 no_no octets settings position at why other n m =
-    elim (front n.format octets n.records m.records (n.item ∷ n.history) (m.item ∷ m.history) n.rest m.rest n.splits
-    (same_format octets n.format m.format n.records m.records (n.item ∷ n.history) (m.item ∷ m.history) n.rest m.rest n.splits m.splits)) [
+    let same-format = one_opening octets m.format n.format m.records n.records (m.item ∷ m.history) (n.item ∷ n.history) m.rest n.rest m.splits n.splits in
+    let splits = same_format octets n.format m.format n.records m.records (n.item ∷ n.history) (m.item ∷ m.history) n.rest m.rest n.splits m.splits in
+    let right : AllRight n.format settings m.history = subst (λ (k : Format). AllRight k settings m.history) same-format m.all_right in
+    let wrong = wrong_in settings m.history m.item other n.format m.format same-format m.is_wrong in
+    elim (front n.format octets n.records m.records (n.item ∷ n.history) (m.item ∷ m.history) n.rest m.rest n.splits splits) [
       | inl goes ↦
-          let same = no_later settings goes.items n.history m.history n.item m.item why m.all_right n.is_wrong goes.items_are in
-          stop_parts octets settings position at why other n m (sym same.0) (sym same.1)
+          let same = no_later n.format settings goes.items n.history m.history n.item m.item why right n.is_wrong goes.items_are in
+          stop_parts n.format settings position at why other n.item m.item n.history m.history n.is_wrong wrong n.position_is m.position_is (sym same.0) (sym same.1)
       | inr goes ↦
-          let same = no_later settings goes.items m.history n.history m.item n.item other n.all_right m.is_wrong goes.items_are in
-          stop_parts octets settings position at why other n m same.0 same.1
+          let same = no_later n.format settings goes.items m.history n.history m.item n.item other n.all_right wrong goes.items_are in
+          stop_parts n.format settings position at why other n.item m.item n.history m.history n.is_wrong wrong n.position_is m.position_is same.0 same.1
     ]
 
 break_break : (octets : List ℕ) (settings : Settings) (position at : ℕ) (f e : RecordFault)
@@ -160,19 +164,19 @@ break_break : (octets : List ℕ) (settings : Settings) (position at : ℕ) (f e
 break_break octets settings position at f e (inl one) (inl other) =
     ap (λ (p : ℕ). Malformed p f) (one.0 ∙ sym other.0) ∙ ap (Malformed at) (one_opening_fault octets f e one.1 other.1)
 break_break octets settings position at f e (inl one) (inr b) =
-    let read = break_read octets b.history e b.breaks in
-    absurd (opening_unread octets f read.0 read.1 b.history read.2 one.1 read.3)
+    let read = break_read b.format octets b.history e b.breaks in
+    absurd (opening_unread octets f b.format read.0 b.history read.1 one.1 read.2)
 break_break octets settings position at f e (inr b) (inl other) =
-    let read = break_read octets b.history f b.breaks in
-    absurd (opening_unread octets e read.0 read.1 b.history read.2 other.1 read.3)
+    let read = break_read b.format octets b.history f b.breaks in
+    absurd (opening_unread octets e b.format read.0 b.history read.1 other.1 read.2)
 break_break octets settings position at f e (inr b) (inr c) =
-    let same = one_break_behind octets b.history c.history f e b.breaks c.breaks in
+    let same = one_break_behind b.format c.format octets b.history c.history f e b.breaks c.breaks in
     ap (λ (p : ℕ). Malformed p f) (b.position_is ∙ ap next_position same.0 ∙ sym c.position_is) ∙ ap (Malformed at) same.1
 
 yes_break : (octets : List ℕ) (settings : Settings) (counts : Counts) (position : ℕ) (f : RecordFault) → IsAllRight octets settings counts
     → (((position ≡ 0) × BreaksOpening octets f) ⊎ IsMalformedAt octets settings position f) → ⊥
 yes_break octets settings counts position f y (inl one) = opening_unread octets f y.format y.records y.history [] one.1 y.is_transcript
-yes_break octets settings counts position f y (inr b) = behind_is_no_transcript octets b.history f y.format y.records y.history b.breaks y.is_transcript
+yes_break octets settings counts position f y (inr b) = behind_is_no_transcript b.format y.format octets b.history f y.records y.history b.breaks y.is_transcript
 
 no_break : (octets : List ℕ) (settings : Settings) (at position : ℕ) (why : Reason) (f : RecordFault) → IsWrongAt octets settings at why
     → (((position ≡ 0) × BreaksOpening octets f) ⊎ IsMalformedAt octets settings position f) → ⊥
@@ -205,18 +209,19 @@ no_stays octets more settings position why n = record {
   position_is = n.position_is;
 }
 
-behind_stays : (octets more : List ℕ) (h : List Item) (f : RecordFault) → f ≢ fault.Torn → IsMalformedAfter octets h f → IsMalformedAfter (octets ++ more) h f
-behind_stays octets more h f whole (inl broken) = inl (broken_more octets more h f broken)
-behind_stays octets more h f whole (inr torn) = absurd (whole torn.0)
+behind_stays : (format : Format) (octets more : List ℕ) (h : List Item) (f : RecordFault) → f ≢ fault.Torn → IsMalformedAfter format octets h f → IsMalformedAfter format (octets ++ more) h f
+behind_stays format octets more h f whole (inl broken) = inl (broken_more format octets more h f broken)
+behind_stays format octets more h f whole (inr torn) = absurd (whole torn.0)
 
 pub malformed_stays : (octets more : List ℕ) (settings : Settings) (position : ℕ) (f : RecordFault) → f ≢ fault.Torn
     → IsVerdict octets settings (Malformed position f) → IsVerdict (octets ++ more) settings (Malformed position f)
 malformed_stays octets more settings position f whole (inl (at, inl none)) = inl (at, inl (no_opening_more octets more none.0, none.1))
 malformed_stays octets more settings position f whole (inl (at, inr short)) = absurd (whole short.1)
 malformed_stays octets more settings position f whole (inr b) = inr (record {
+  format = b.format;
   history = b.history;
   all_right = b.all_right;
-  breaks = behind_stays octets more b.history f whole b.breaks;
+  breaks = behind_stays b.format octets more b.history f whole b.breaks;
   position_is = b.position_is;
 })
 
@@ -226,11 +231,11 @@ no_memory_opening : (octets : List ℕ) → ¬ (BreaksOpening octets fault.Memor
 no_memory_opening octets (inl none) = let other : fault.Memory ≡ fault.Opening = none.1 in cc
 no_memory_opening octets (inr short) = let other : fault.Memory ≡ fault.Torn = short.1 in cc
 
-no_memory_behind : (octets : List ℕ) (h : List Item) → ¬ (IsMalformedAfter octets h fault.Memory)
-no_memory_behind octets h (inl broken) =
+no_memory_behind : (format : Format) (octets : List ℕ) (h : List Item) → ¬ (IsMalformedAfter format octets h fault.Memory)
+no_memory_behind format octets h (inl broken) =
     no_memory_check broken.breaks.line (last_moment h) (last_exchange h) (last_forward h) _ _ _ broken.breaks.fails
-no_memory_behind octets h (inr torn) = let other : fault.Memory ≡ fault.Torn = torn.0 in cc
+no_memory_behind format octets h (inr torn) = let other : fault.Memory ≡ fault.Torn = torn.0 in cc
 
 pub no_memory : (octets : List ℕ) (settings : Settings) (position : ℕ) → ¬ (IsVerdict octets settings (Malformed position fault.Memory))
 no_memory octets settings position (inl opening) = no_memory_opening octets opening.1
-no_memory octets settings position (inr b) = no_memory_behind octets b.history b.breaks
+no_memory octets settings position (inr b) = no_memory_behind b.format octets b.history b.breaks

@@ -5,9 +5,10 @@ use Rattle.std.proofs.lemmas.Bool.{cases_Bool, cases_lt, lt-ltb, le-ltb}
 use Rattle.hc_head.specs.declared.head.ResponseHead.{ResponseHead}
 use Rattle.hc_head.specs.Targets.{same_target}
 use Rattle.hc_framing.specs.declared.message.Message.{Message}
+use Rattle.hc_transcript.specs.Records.{told_in}
 use Rattle.hc_transcript.specs.Items.{Item, OriginResponse, Forward}
-use Rattle.hc_transcript.specs.History.{next_position, forward_of}
-use Rattle.hc_history.specs.Windows.{some_since, latest}
+use Rattle.hc_transcript.specs.History.{next_position, forward_of, cause_of}
+use Rattle.hc_history.specs.Windows.{some_since, latest, may_be_for}
 use Rattle.hc_history.specs.Claims.{Claim}
 use Rattle.hc_history.specs.Forwarded.{carries, carries_response, is_carried, is_forwarded}
 use Rattle.hc_history.specs.Seen.{WindowResponse, response_to, response_in, responses_since}
@@ -69,22 +70,27 @@ response_carried claim (Some forward) response = go (same_target forward.target 
     go true = or_false (carries claim forward.request.method response.head.status response.body)
     go false = refl
 
-item_carried : (claim : Claim) (h : List Item) (item : Item) → is_carried claim h item ≡ list_any (carries_one claim) (response_in claim.target h item)
-item_carried claim h (OriginResponse number moment response) = response_carried claim (forward_of number h) response
+item_carried : (claim : Claim) (h : List Item) (item : Item) → is_carried claim h item ≡ list_any (carries_one claim) (response_in claim.format claim.exchange claim.target h item)
+item_carried claim h (OriginResponse number moment response) = go (may_be_for (told_in claim.format (cause_of number h)) claim.exchange)
+  where
+    go : (may : Bool) → (may && carries_response claim (forward_of number h) response)
+        ≡ list_any (carries_one claim) (cond may (response_to claim.target (forward_of number h) response) [])
+    go true = response_carried claim (forward_of number h) response
+    go false = refl
 item_carried claim h item = refl
 
-carried_since : (claim : Claim) (since : ℕ) (h : List Item) → some_since (is_carried claim) since h ≡ list_any (carries_one claim) (responses_since claim.target since h)
+carried_since : (claim : Claim) (since : ℕ) (h : List Item) → some_since (is_carried claim) since h ≡ list_any (carries_one claim) (responses_since claim.format claim.exchange claim.target since h)
 carried_since claim since [] = refl
 carried_since claim since (item ∷ h) =
     here (ltb since (next_position h))
-    ∙ either_first (list_any (carries_one claim) (cond (ltb since (next_position h)) (response_in claim.target h item) [])) (some_since (is_carried claim) since h)
-    ∙ ap (λ (b : Bool). b || list_any (carries_one claim) (cond (ltb since (next_position h)) (response_in claim.target h item) [])) (carried_since claim since h)
-    ∙ sym (any_append claim (responses_since claim.target since h) (cond (ltb since (next_position h)) (response_in claim.target h item) []))
+    ∙ either_first (list_any (carries_one claim) (cond (ltb since (next_position h)) (response_in claim.format claim.exchange claim.target h item) [])) (some_since (is_carried claim) since h)
+    ∙ ap (λ (b : Bool). b || list_any (carries_one claim) (cond (ltb since (next_position h)) (response_in claim.format claim.exchange claim.target h item) [])) (carried_since claim since h)
+    ∙ sym (any_append claim (responses_since claim.format claim.exchange claim.target since h) (cond (ltb since (next_position h)) (response_in claim.format claim.exchange claim.target h item) []))
   where
     here : (in_it : Bool) → ((in_it && is_carried claim h item) || some_since (is_carried claim) since h)
-        ≡ (list_any (carries_one claim) (cond in_it (response_in claim.target h item) []) || some_since (is_carried claim) since h)
+        ≡ (list_any (carries_one claim) (cond in_it (response_in claim.format claim.exchange claim.target h item) []) || some_since (is_carried claim) since h)
     here true = ap (λ (b : Bool). b || some_since (is_carried claim) since h) (item_carried claim h item)
     here false = refl
 
-pub carried : (claim : Claim) (h : List Item) → is_forwarded claim h ≡ list_any (carries_one claim) (responses_since claim.target claim.since h)
+pub carried : (claim : Claim) (h : List Item) → is_forwarded claim h ≡ list_any (carries_one claim) (responses_since claim.format claim.exchange claim.target claim.since h)
 carried claim h = carried_since claim claim.since h

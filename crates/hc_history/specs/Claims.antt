@@ -7,12 +7,15 @@ use Rattle.hc_head.specs.Methods.{is_head}
 use Rattle.hc_framing.specs.declared.message.Message.{Message}
 use Rattle.hc_status.specs.declared.marks.Mark.{Mark}
 use Rattle.hc_status.specs.declared.marks.Mark.TheVariants.{Hit}
+use Rattle.hc_transcript.specs.declared.format.Format.{Format}
 use Rattle.hc_transcript.specs.Items.{Item, Exchange}
 use Rattle.hc_history.specs.declared.settings.Settings.{Settings}
 use Rattle.hc_history.specs.Marks.{reply_mark}
 use Rattle.hc_history.specs.Windows.{some_since, is_error, is_failure}
 
 pub record Claim : Type 0 where
+  -- the format of the transcript
+  pub format : Format
   -- the number of the exchange; the request, its target and its position, after which the window begins
   pub exchange : ℕ
   pub request : RequestHead
@@ -33,8 +36,9 @@ ttl_of (Hit ttl) = ttl
 ttl_of mark = None
 
 -- what a reply to an open exchange claims after a history
-abbrev pub claim_of : Settings → Exchange → ℕ → Message ResponseHead → List Item → Claim
-claim_of settings exchange moment reply h = record {
+abbrev pub claim_of : Format → Settings → Exchange → ℕ → Message ResponseHead → List Item → Claim
+claim_of format settings exchange moment reply h = record {
+  format = format;
   exchange = exchange.number;
   request = exchange.request;
   target = exchange.target;

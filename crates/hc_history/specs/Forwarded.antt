@@ -4,10 +4,11 @@ use Rattle.hc_head.specs.declared.head.ResponseHead.{ResponseHead}
 use Rattle.hc_head.specs.Methods.{is_get}
 use Rattle.hc_head.specs.Targets.{same_target}
 use Rattle.hc_framing.specs.declared.message.Message.{Message}
+use Rattle.hc_transcript.specs.Records.{told_in}
 use Rattle.hc_transcript.specs.Items.{Item, OriginResponse, Forward}
-use Rattle.hc_transcript.specs.History.{forward_of}
+use Rattle.hc_transcript.specs.History.{forward_of, cause_of}
 use Rattle.hc_history.specs.Claims.{Claim, asks_head}
-use Rattle.hc_history.specs.Windows.{some_since}
+use Rattle.hc_history.specs.Windows.{some_since, may_be_for}
 use Rattle.hc_history.specs.Filters.{has_body}
 
 -- whether a forward of that method asks what the request asks: by its method, or by GET for HEAD (RFC 9110 section 9.3.2)
@@ -24,9 +25,10 @@ carries_response claim None response = false
 carries_response claim (Some forward) response =
     same_target forward.target claim.target && carries claim forward.request.method response.head.status response.body
 
--- whether the next item is a response that the reply carries
+-- whether the next item is a response that the reply carries, to a forward that was made for its exchange, as far as that is told
 abbrev pub is_carried : Claim → List Item → Item → Bool
-is_carried claim h (OriginResponse number moment response) = carries_response claim (forward_of number h) response
+is_carried claim h (OriginResponse number moment response) =
+    may_be_for (told_in claim.format (cause_of number h)) claim.exchange && carries_response claim (forward_of number h) response
 is_carried claim h item = false
 
 -- whether such a response stands in the window

@@ -4,6 +4,7 @@ use Rattle.hc_head.specs.declared.head.ResponseHead.{ResponseHead}
 use Rattle.hc_framing.specs.declared.message.Message.{Message}
 use Rattle.hc_status.specs.declared.marks.Mark.{Mark}
 use Rattle.hc_status.specs.declared.marks.Mark.TheVariants.{Hit, Forwarded, Both, Unmarked}
+use Rattle.hc_transcript.specs.declared.format.Format.{Format}
 use Rattle.hc_transcript.specs.Items.{Item, ClientReply, Exchange}
 use Rattle.hc_transcript.specs.History.{exchange_of}
 use Rattle.hc_history.specs.declared.reasons.Reason.{Reason}
@@ -44,31 +45,32 @@ abbrev pub IsFoundBy : Mark → Claim → List Item → Finding → Type 0
 IsFoundBy mark claim h finding.Right = IsRightBy mark claim h
 IsFoundBy mark claim h (finding.Wrong why) = IsWrongBy mark claim h why
 
--- the same of a reply to the exchange that it answers
-abbrev pub IsRightTo : Settings → Option Exchange → ℕ → Message ResponseHead → List Item → Type 0
-IsRightTo settings None moment reply h = ⊥
-IsRightTo settings (Some exchange) moment reply h = IsRightBy (reply_mark reply) (claim_of settings exchange moment reply h) h
+module _ (format : Format) (settings : Settings) where
+  -- the same of a reply to the exchange that it answers
+  abbrev pub IsRightTo : Option Exchange → ℕ → Message ResponseHead → List Item → Type 0
+  IsRightTo None moment reply h = ⊥
+  IsRightTo (Some exchange) moment reply h = IsRightBy (reply_mark reply) (claim_of format settings exchange moment reply h) h
 
-abbrev pub IsWrongTo : Settings → Option Exchange → ℕ → Message ResponseHead → List Item → Reason → Type 0
-IsWrongTo settings None moment reply h why = ⊥
-IsWrongTo settings (Some exchange) moment reply h why = IsWrongBy (reply_mark reply) (claim_of settings exchange moment reply h) h why
+  abbrev pub IsWrongTo : Option Exchange → ℕ → Message ResponseHead → List Item → Reason → Type 0
+  IsWrongTo None moment reply h why = ⊥
+  IsWrongTo (Some exchange) moment reply h why = IsWrongBy (reply_mark reply) (claim_of format settings exchange moment reply h) h why
 
--- the next item, if it is a reply, is right
-abbrev pub IsRight : Settings → List Item → Item → Type 0
-IsRight settings h (ClientReply number moment reply) = IsRightTo settings (exchange_of number h) moment reply h
-IsRight settings h item = Unit {0}
+  -- the next item, if it is a reply, is right
+  abbrev pub IsRight : List Item → Item → Type 0
+  IsRight h (ClientReply number moment reply) = IsRightTo (exchange_of number h) moment reply h
+  IsRight h item = Unit {0}
 
--- the next item is a reply, and wrong by that reason
-abbrev pub IsWrong : Settings → List Item → Item → Reason → Type 0
-IsWrong settings h (ClientReply number moment reply) why = IsWrongTo settings (exchange_of number h) moment reply h why
-IsWrong settings h item why = ⊥
+  -- the next item is a reply, and wrong by that reason
+  abbrev pub IsWrong : List Item → Item → Reason → Type 0
+  IsWrong h (ClientReply number moment reply) why = IsWrongTo (exchange_of number h) moment reply h why
+  IsWrong h item why = ⊥
 
--- what is found of a reply to the exchange that it answers; of one to what isn't open, which no transcript has, anything
-abbrev pub IsFinding : Settings → Option Exchange → ℕ → Message ResponseHead → List Item → Finding → Type 0
-IsFinding settings None moment reply h found = Unit {0}
-IsFinding settings (Some exchange) moment reply h found = IsFoundBy (reply_mark reply) (claim_of settings exchange moment reply h) h found
+  -- what is found of a reply to the exchange that it answers; of one to what isn't open, which no transcript has, anything
+  abbrev pub IsFinding : Option Exchange → ℕ → Message ResponseHead → List Item → Finding → Type 0
+  IsFinding None moment reply h found = Unit {0}
+  IsFinding (Some exchange) moment reply h found = IsFoundBy (reply_mark reply) (claim_of format settings exchange moment reply h) h found
 
--- every reply of the history is right
-abbrev pub AllRight : Settings → List Item → Type 0
-AllRight settings [] = Unit {0}
-AllRight settings (item ∷ h) = AllRight settings h × IsRight settings h item
+  -- every reply of the history is right
+  abbrev pub AllRight : List Item → Type 0
+  AllRight [] = Unit {0}
+  AllRight (item ∷ h) = AllRight h × IsRight h item

@@ -6,11 +6,13 @@ use Rattle.hc_head.specs.Targets.{same_target}
 use Rattle.hc_framing.specs.declared.message.Message.{Message}
 use Rattle.hc_update.specs.declared.stored.Stored.{Stored}
 use Rattle.hc_update.specs.Remnants.{is_lost, remnant}
+use Rattle.hc_transcript.specs.declared.format.Format.{Format}
+use Rattle.hc_transcript.specs.Records.{told_in}
 use Rattle.hc_transcript.specs.Items.{Item, OriginResponse, Exchange, Forward}
-use Rattle.hc_transcript.specs.History.{next_position, exchange_of, forward_of}
+use Rattle.hc_transcript.specs.History.{next_position, exchange_of, forward_of, cause_of}
 use Rattle.hc_history.specs.declared.kept.Kept.{Kept}
 use Rattle.hc_history.specs.States.{state_at}
-use Rattle.hc_history.specs.Windows.{latest, is_error, is_failure}
+use Rattle.hc_history.specs.Windows.{latest, may_be_for, is_error, is_failure}
 
 -- ---- the live responses of a target
 
@@ -54,21 +56,23 @@ response_to target (Some forward) response =
     then record { method = forward.request.method; status = response.head.status; body = response.body } ∷ []
     else []
 
--- the response that the next item is
-abbrev pub response_in : Target → List Item → Item → List WindowResponse
-response_in target h (OriginResponse number moment response) = response_to target (forward_of number h) response
-response_in target h item = []
+module _ (format : Format) where
+  -- the response of the target that the next item is, where its forward was made for the exchange, as far as that is told
+  abbrev pub response_in : ℕ → Target → List Item → Item → List WindowResponse
+  response_in e target h (OriginResponse number moment response) =
+      if may_be_for (told_in format (cause_of number h)) e then response_to target (forward_of number h) response else []
+  response_in e target h item = []
 
--- the responses of a target behind a position, by rising position
-abbrev pub responses_since : Target → ℕ → List Item → List WindowResponse
-responses_since target since [] = []
-responses_since target since (item ∷ h) =
-    responses_since target since h ++ (if nat_lt since (next_position h) then response_in target h item else [])
+  -- the responses of a target behind a position to forwards that were made for the exchange, as far as that is told, by rising position
+  abbrev pub responses_since : ℕ → Target → ℕ → List Item → List WindowResponse
+  responses_since e target since [] = []
+  responses_since e target since (item ∷ h) =
+      responses_since e target since h ++ (if nat_lt since (next_position h) then response_in e target h item else [])
 
--- those in the window of an open exchange, so far
-abbrev pub window_responses_of : Option Exchange → List Item → List WindowResponse
-window_responses_of None h = []
-window_responses_of (Some exchange) h = responses_since exchange.target exchange.position h
+  -- those in the window of an open exchange, so far
+  abbrev pub window_responses_of : Option Exchange → List Item → List WindowResponse
+  window_responses_of None h = []
+  window_responses_of (Some exchange) h = responses_since exchange.number exchange.target exchange.position h
 
 -- ---- what is known
 
@@ -76,20 +80,22 @@ window_responses_of (Some exchange) h = responses_since exchange.target exchange
 pub record Seen : Type 0 where
   -- the live responses of a target, by rising position
   pub live : Target → List Live
-  -- what is open
+  -- what is open, and the exchange that an open forward was made for
   pub exchange : ℕ → Option Exchange
   pub forward : ℕ → Option Forward
-  -- what the window of an open exchange holds so far for its target, by rising position
+  pub cause : ℕ → Option ℕ
+  -- what the window of an open exchange holds so far: the responses of its target to forwards that were made for it, as far as that is told, by rising position
   pub window : ℕ → List WindowResponse
   -- the positions of the latest error and of the latest failure of a forward of a target; 0 where there was none
   pub error : Target → ℕ
   pub failure : Target → ℕ
 
--- it is seen as the history
-pub record IsSeenAs (seen : Seen) (h : List Item) : Type 0 where
+-- it is seen as the history of a transcript of that format
+pub record IsSeenAs (format : Format) (seen : Seen) (h : List Item) : Type 0 where
   pub live : (target : Target) → seen.live target ≡ live_of target h
   pub exchange : (e : ℕ) → seen.exchange e ≡ exchange_of e h
   pub forward : (f : ℕ) → seen.forward f ≡ forward_of f h
-  pub window : (e : ℕ) → seen.window e ≡ window_responses_of (exchange_of e h) h
+  pub cause : (f : ℕ) → seen.cause f ≡ cause_of f h
+  pub window : (e : ℕ) → seen.window e ≡ window_responses_of format (exchange_of e h) h
   pub error : (target : Target) → seen.error target ≡ latest (is_error target) h
   pub failure : (target : Target) → seen.failure target ≡ latest (is_failure target) h

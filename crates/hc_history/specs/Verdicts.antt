@@ -23,7 +23,7 @@ pub record IsAllRight (octets : List ℕ) (settings : Settings) (counts : Counts
   pub records : List Record
   pub history : List Item
   pub is_transcript : IsTranscript format octets records history
-  pub all_right : AllRight settings history
+  pub all_right : AllRight format settings history
   pub counts_are : counts ≡ counts_of history
 
 -- ---- no
@@ -36,17 +36,18 @@ pub record IsWrongAt (octets : List ℕ) (settings : Settings) (position : ℕ) 
   pub item : Item
   pub rest : List ℕ
   pub splits : Splits format octets records (item ∷ history) rest
-  pub all_right : AllRight settings history
-  pub is_wrong : IsWrong settings history item why
+  pub all_right : AllRight format settings history
+  pub is_wrong : IsWrong format settings history item why
   pub position_is : position ≡ next_position history
 
 -- ---- malformed
 
 -- behind records of which every reply is right, the record at that position breaks the octets
 pub record IsMalformedAt (octets : List ℕ) (settings : Settings) (position : ℕ) (broken : RecordFault) : Type 0 where
+  pub format : Format
   pub history : List Item
-  pub all_right : AllRight settings history
-  pub breaks : IsMalformedAfter octets history broken
+  pub all_right : AllRight format settings history
+  pub breaks : IsMalformedAfter format octets history broken
   pub position_is : position ≡ next_position history
 
 -- ---- the verdict: what comes first in the octets wins; the opening has position 0, the first record 1

@@ -1,7 +1,9 @@
 -- The window of a reply: the items after its request, whose positions are later than that of the request.
-use Rattle.std.specs.Prelude.{ℕ, Bool, false, ◌&&◌, ◌||◌, nat_lt, List, [], ◌∷◌, Option, Some, None, if◌then◌else◌}
+use Rattle.std.specs.Prelude.{ℕ, Bool, true, false, ◌&&◌, ◌||◌, ◌==◌, nat_lt, List, [], ◌∷◌, Option, Some, None, if◌then◌else◌}
 use Rattle.hc_head.specs.Statuses.{is_error_status}
 use Rattle.hc_head.specs.declared.head.Target.{Target}
+use Rattle.hc_transcript.specs.declared.line.ToldCause.{ToldCause}
+use Rattle.hc_transcript.specs.declared.line.ToldCause.TheVariants.{Untold, NoExchange, Exchange}
 use Rattle.hc_transcript.specs.Items.{Item, OriginResponse, OriginFailure, Forward}
 use Rattle.hc_transcript.specs.History.{next_position, forward_of}
 use Rattle.hc_head.specs.Targets.{same_target}
@@ -15,6 +17,12 @@ some_since test since (item ∷ h) = (nat_lt since (next_position h) && test h i
 abbrev pub latest : (List Item → Item → Bool) → List Item → ℕ
 latest test [] = 0
 latest test (item ∷ h) = if test h item then next_position h else latest test h
+
+-- whether a forward may have been made for the exchange of a number, by what is told of its cause: where nothing is told, it may
+abbrev pub may_be_for : ToldCause → ℕ → Bool
+may_be_for Untold e = true
+may_be_for NoExchange e = false
+may_be_for (Exchange n) e = n == e
 
 -- ---- what permits stale responses in its place: errors (RFC 5861 section 4), and that the origin can't be reached (RFC 9111 section 4.2.4)
 

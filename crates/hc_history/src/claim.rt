@@ -7,11 +7,14 @@ use crate::settings::Settings;
 use hc_framing::Message;
 use hc_head::{RequestHead, ResponseHead, Target, is_head};
 use hc_status::Mark;
+use hc_transcript::Format;
 use std::marker::Model;
 
 /// What a reply says of itself, and what it is held against. Contracts see it as a `Claim`.
 #[derive(Debug, Drop)]
 pub struct ReplyClaim<'a> {
+    /// The format of the transcript.
+    pub format: Format,
     /// The number of the exchange.
     pub exchange: u64,
     /// The request that it answers.
@@ -40,6 +43,7 @@ impl<'a> Model for ReplyClaim<'a> {
     ghost Value = { Claim };
 
     ghost view = { λ c. record {
+      format = c.format;
       exchange = c.exchange;
       request = c.request.now;
       target = c.target.now;

@@ -1,6 +1,6 @@
 //! Laws of the definitions.
 
-ghost use Rattle.std.specs.Prelude.{◌≡◌, ◌≢◌, ◌≤◌, ◌<◌, ◌+◌, ℕ, true, false, nat_lt, Bool, List, ◌∷◌, ◌++◌, Some, length, if◌then◌else◌};
+ghost use Rattle.std.specs.Prelude.{◌≡◌, ◌≢◌, ◌≤◌, ◌<◌, ◌+◌, ℕ, true, false, nat_lt, Bool, List, [], ◌∷◌, ◌++◌, Some, length, if◌then◌else◌};
 ghost use Rattle.std.specs.List.{list_any};
 ghost use Rattle.hc_fields.specs.declared.fields.Field.{Field};
 ghost use Rattle.hc_head.specs.declared.head.ResponseHead.{ResponseHead};
@@ -13,6 +13,7 @@ ghost use Rattle.hc_update.specs.Identifying.{identifies};
 ghost use Rattle.hc_status.specs.declared.marks.Mark.{Mark};
 ghost use Rattle.hc_transcript.specs.declared.fault.RecordFault.{RecordFault};
 ghost use Rattle.hc_transcript.specs.declared.fault.RecordFault.TheVariants.{Torn, Memory};
+ghost use Rattle.hc_transcript.specs.declared.format.Format.{Format};
 ghost use Rattle.hc_transcript.specs.Items.{Item, OriginResponse, Forward};
 ghost use Rattle.hc_transcript.specs.History.{next_position, exchange_of, forward_of};
 ghost use Rattle.hc_history.specs.declared.reasons.Reason.{Reason};
@@ -59,7 +60,8 @@ pub fn window_is_what_is_later_than_the_request()
         → kept.state.validated_at ≡ Some at → (position < at) × (at ≤ length h) }
     // What the windows hold tells whether a reply carries a response of its window.
     ensures carried { (claim : Claim) (h : List Item) → is_forwarded claim h
-        ≡ list_any (λ one. carries claim one.method one.status one.body) (responses_since claim.target claim.since h) }
+        ≡ list_any (λ one. carries claim one.method one.status one.body)
+        (responses_since claim.format claim.exchange claim.target claim.since h) }
 {}
 
 /// The first filter that leaves nobody is the one behind the most filters that one response passes. Who
@@ -101,16 +103,19 @@ pub fn forgetting_and_noting_commute()
 
 /// What is seen as a history goes on, by the next item, to what is seen as the history with it.
 pub fn noting_goes_on()
-    ensures { (old new : Seen) (h : List Item) (item : Item)
-        → IsSeenAs old h → Notes old (next_position h) item new → IsSeenAs new (item ∷ h) }
+    ensures { (format : Format) (old new : Seen) (h : List Item) (item : Item)
+        → IsSeenAs format old h → Notes format old (next_position h) item new → IsSeenAs format new (item ∷ h) }
 {}
 
 /// What is seen of a history is enough to judge by: after two histories that are seen as the same, the
 /// same reply has the same findings.
 pub fn seen_is_enough()
-    ensures { (seen : Seen) (h g : List Item) (settings : Settings) (e moment : ℕ) (reply : Message ResponseHead) (found : Finding)
-        → IsSeenAs seen h → IsSeenAs seen g
-        → IsFinding settings (exchange_of e h) moment reply h found → IsFinding settings (exchange_of e g) moment reply g found }
+    ensures one { (format : Format) (seen : Seen) (h g : List Item) (settings : Settings) (e moment : ℕ) (reply : Message ResponseHead) (found : Finding)
+        → IsSeenAs format seen h → IsSeenAs format seen g
+        → IsFinding format settings (exchange_of e h) moment reply h found
+        → IsFinding format settings (exchange_of e g) moment reply g found }
+    // Of no records what is seen is the same for both formats.
+    ensures nothing { (format other : Format) (seen : Seen) → IsSeenAs format seen [] → IsSeenAs other seen [] }
 {}
 
 /// Octets have one verdict at most.

@@ -19,7 +19,7 @@ mod verdicts;
 pub use claim::{ReplyClaim, ttl_of};
 pub use filters::passed;
 pub use finding::{found_of_forwarded, found_of_hit, found_of_unmarked, reason_behind};
-pub use forwarded::carries;
+pub use forwarded::{carries, may_be_for};
 pub use hc_status::Mark;
 pub use kept::Kept;
 pub use laws::{

@@ -1,5 +1,5 @@
 -- What the lists of an index tell of a reply.
-use Rattle.std.proofs.Common.{◌≡◌, ℕ, ◌≤◌, ◌<◌, Bool, true, false, ◌||◌, cond, List, [], ◌∷◌, ◌++◌, length, max, Option, Some, None, Ok, Err, refl, sym, ap, subst, ◌∙◌, arith, inl, inr, ltb, ltb-true, ltb-false}
+use Rattle.std.proofs.Common.{◌≡◌, ℕ, ◌≤◌, ◌<◌, Bool, true, false, ◌&&◌, ◌||◌, cond, List, [], ◌∷◌, ◌++◌, length, max, Option, Some, None, Ok, Err, refl, sym, ap, subst, ◌∙◌, arith, inl, inr, ltb, ltb-true, ltb-false}
 use Rattle.std.specs.Prelude.{filter, map, Result, IfOk}
 use Rattle.std.specs.declared.alloc.AllocError.{AllocError}
 use Rattle.std.specs.List.{list_any}
@@ -11,12 +11,14 @@ use Rattle.hc_head.specs.Targets.{same_target}
 use Rattle.hc_head.specs.declared.head.ResponseHead.{ResponseHead}
 use Rattle.hc_framing.specs.declared.message.Message.{Message}
 use Rattle.hc_status.specs.declared.marks.Mark.{Mark}
+use Rattle.hc_transcript.specs.declared.format.Format.{Format}
 use Rattle.hc_transcript.specs.Items.{Item, Exchange}
 use Rattle.hc_transcript.specs.History.{exchange_of}
 use Rattle.hc_history.specs.declared.settings.Settings.{Settings}
 use Rattle.hc_history.specs.declared.verdicts.Finding.{Finding}
 use Rattle.hc_history.specs.Marks.{reply_mark}
 use Rattle.hc_history.specs.Claims.{Claim, claim_of}
+use Rattle.hc_history.specs.Windows.{may_be_for}
 use Rattle.hc_history.specs.Filters.{filters}
 use Rattle.hc_history.specs.Forwarded.{carries, is_forwarded}
 use Rattle.hc_history.specs.Furthest.{passed, passed_later, furthest, furthest_live}
@@ -33,7 +35,7 @@ use Rattle.hc_index.specs.declared.kept.PooledExchange.{PooledExchange}
 use Rattle.hc_index.specs.declared.at_target.AtTarget.{AtTarget}
 use Rattle.hc_index.specs.declared.map_index.MapIndex.{MapIndex}
 use Rattle.hc_index.specs.Lists.{live_seen, answer_seen, exchange_seen, by_target, carried_by, live_in, IsMostOrEnough}
-use Rattle.hc_index.specs.Maps.{is_open, answers_behind, live_kept, window_kept, open_kept, known_in, pooled_exchange, window_in, seen_in}
+use Rattle.hc_index.specs.Maps.{ToldResponse, those_for, carries_told, is_open, answers_behind, live_kept, window_kept, open_kept, known_in, pooled_exchange, window_in, seen_in}
 
 -- ---- the most filters that one live response passes
 
@@ -159,7 +161,7 @@ any_seen claim [] = refl
 any_seen claim (answer ∷ window) = ap (λ (b : Bool). carries_answer claim answer || b) (any_seen claim window)
 
 -- the window tells whether the reply carries a response of it
-pub window_tells : (claim : Claim) (mark : Mark) (window : List WindowResponse) (h : List Item) (b : Bool) → window ≡ responses_since claim.target claim.since h
+pub window_tells : (claim : Claim) (mark : Mark) (window : List WindowResponse) (h : List Item) (b : Bool) → window ≡ responses_since claim.format claim.exchange claim.target claim.since h
     → b ≡ carried_by mark (list_any (λ one. carries claim one.method one.status one.body) window) → carried_by mark (is_forwarded claim h) ≡ b
 window_tells claim mark window h b are is =
     ap (carried_by mark) (carried claim h ∙ ap (list_any (λ one. carries claim one.method one.status one.body)) (sym are)) ∙ sym is
@@ -171,51 +173,68 @@ pub answers_tell : (claim : Claim) (mark : Mark) (window : List WindowAnswer) (b
 unfolding carries_answer
 answers_tell claim mark window b is = is ∙ ap (carried_by mark) (sym (any_seen claim window))
 
+-- the answers of a pool tell those of them that may be for the exchange
+any_told : (claim : Claim) (answers : List ToldResponse)
+    → list_any (λ one. carries claim one.method one.status one.body) (those_for claim.exchange answers) ≡ list_any (carries_told claim) answers
+any_told claim [] = refl
+any_told claim (x ∷ answers) = go (may_be_for x.cause claim.exchange) (any_told claim answers)
+  where
+    go : (may : Bool) → list_any (λ one. carries claim one.method one.status one.body) (those_for claim.exchange answers) ≡ list_any (carries_told claim) answers
+        → list_any (λ one. carries claim one.method one.status one.body)
+        (map (λ (one : ToldResponse). one.response) (cond may (x ∷ filter (λ (one : ToldResponse). may_be_for one.cause claim.exchange) answers) (filter (λ (one : ToldResponse). may_be_for one.cause claim.exchange) answers)))
+        ≡ ((may && carries claim x.response.method x.response.status x.response.body) || list_any (carries_told claim) answers)
+    go true more = ap (λ (b : Bool). carries claim x.response.method x.response.status x.response.body || b) more
+    go false more = more
+
+pub pool_tells : (claim : Claim) (mark : Mark) (answers : List ToldResponse) (b : Bool) → b ≡ carried_by mark (list_any (carries_told claim) answers)
+    → b ≡ carried_by mark (list_any (λ one. carries claim one.method one.status one.body) (those_for claim.exchange answers))
+pool_tells claim mark answers b is = is ∙ ap (carried_by mark) (sym (any_told claim answers))
+
 -- ---- what is found
 
 -- what is found of a claim that is the reply's, is found of the reply
-pub found_of_reply : (seen : Seen) (settings : Settings) (number moment : ℕ) (reply : Message ResponseHead) (h : List Item)
+pub found_of_reply : (format : Format) (seen : Seen) (settings : Settings) (number moment : ℕ) (reply : Message ResponseHead) (h : List Item)
     (exchange : Exchange) (mark : Mark) (claim : Claim) (found : Result Finding AllocError)
-    → IsSeenAs seen h → Some exchange ≡ seen.exchange number
-    → mark ≡ reply_mark reply → claim ≡ claim_of settings exchange moment reply h
-    → (seen.live claim.target ≡ live_of claim.target h → seen.window number ≡ responses_since claim.target claim.since h
+    → IsSeenAs format seen h → Some exchange ≡ seen.exchange number
+    → mark ≡ reply_mark reply → claim ≡ claim_of format settings exchange moment reply h
+    → (seen.live claim.target ≡ live_of claim.target h → seen.window number ≡ responses_since claim.format claim.exchange claim.target claim.since h
     → IfOk found (IsFoundBy mark claim h))
-    → IfOk found (IsFinding settings (exchange_of number h) moment reply h)
-found_of_reply seen settings number moment reply h exchange mark claim found one is mark-is claim-is by =
-    let its_claim = claim_of settings exchange moment reply h in
+    → IfOk found (IsFinding format settings (exchange_of number h) moment reply h)
+found_of_reply format seen settings number moment reply h exchange mark claim found one is mark-is claim-is by =
+    let its_claim = claim_of format settings exchange moment reply h in
     let there : exchange_of number h ≡ Some exchange = sym (one.exchange number) ∙ sym is in
-    let window : seen.window number ≡ responses_since exchange.target exchange.position h =
-    one.window number ∙ ap (λ (o : Option Exchange). window_responses_of o h) there in
-    let its_window : seen.window number ≡ responses_since claim.target claim.since h =
-    subst (λ (k : Claim). seen.window number ≡ responses_since k.target k.since h) (sym claim-is) window in
+    let window : seen.window number ≡ responses_since format exchange.number exchange.target exchange.position h =
+    one.window number ∙ ap (λ (o : Option Exchange). window_responses_of format o h) there in
+    let its_window : seen.window number ≡ responses_since claim.format claim.exchange claim.target claim.since h =
+    subst (λ (k : Claim). seen.window number ≡ responses_since k.format k.exchange k.target k.since h) (sym claim-is) window in
     let by_claim = subst (λ (k : Claim). IfOk found (IsFoundBy mark k h)) claim-is (by (one.live claim.target) its_window) in
     let by_mark = subst (λ (m : Mark). IfOk found (IsFoundBy m its_claim h)) mark-is by_claim in
-    subst (λ (o : Option Exchange). IfOk found (IsFinding settings o moment reply h)) (sym there) by_mark
+    subst (λ (o : Option Exchange). IfOk found (IsFinding format settings o moment reply h)) (sym there) by_mark
 
 -- where no exchange of the number is seen, anything may be found
-pub found_of_none : (seen : Seen) (settings : Settings) (number moment : ℕ) (reply : Message ResponseHead) (h : List Item) (found : Result Finding AllocError)
-    → IsSeenAs seen h → seen.exchange number ≡ None → IfOk found (IsFinding settings (exchange_of number h) moment reply h)
-found_of_none seen settings number moment reply h found one none =
-    subst (λ (o : Option Exchange). IfOk found (IsFinding settings o moment reply h)) (sym none ∙ one.exchange number) (anything found)
+pub found_of_none : (format : Format) (seen : Seen) (settings : Settings) (number moment : ℕ) (reply : Message ResponseHead) (h : List Item) (found : Result Finding AllocError)
+    → IsSeenAs format seen h → seen.exchange number ≡ None → IfOk found (IsFinding format settings (exchange_of number h) moment reply h)
+found_of_none format seen settings number moment reply h found one none =
+    subst (λ (o : Option Exchange). IfOk found (IsFinding format settings o moment reply h)) (sym none ∙ one.exchange number) (anything found)
   where
-    anything : (found : Result Finding AllocError) → IfOk found (IsFinding settings None moment reply h)
+    anything : (found : Result Finding AllocError) → IfOk found (IsFinding format settings None moment reply h)
     anything (Ok f) = tt
     anything (Err f) = tt
 
 -- ---- maps
 
 -- what is found by what is kept of the exchange's target
-pub found_at_target : (index : MapIndex) (settings : Settings) (number moment : ℕ) (reply : Message ResponseHead) (h : List Item)
+pub found_at_target : (format : Format) (index : MapIndex) (settings : Settings) (number moment : ℕ) (reply : Message ResponseHead) (h : List Item)
     (pooled : PooledExchange) (here : AtTarget) (mark : Mark) (claim : Claim) (found : Result Finding AllocError)
-    → IsSeenAs (seen_in index) h → Some pooled ≡ get nat_cmp index.exchanges number → Some here ≡ get by_target index.targets pooled.exchange.target
-    → mark ≡ reply_mark reply → claim ≡ claim_of settings (exchange_seen pooled.exchange) moment reply h
-    → (live_in claim.target here.lives.items ≡ live_of claim.target h → answers_behind pooled.behind here.pool ≡ responses_since claim.target claim.since h
+    → IsSeenAs format (seen_in index) h → Some pooled ≡ get nat_cmp index.exchanges number → Some here ≡ get by_target index.targets pooled.exchange.target
+    → mark ≡ reply_mark reply → claim ≡ claim_of format settings (exchange_seen pooled.exchange) moment reply h
+    → (live_in claim.target here.lives.items ≡ live_of claim.target h → those_for claim.exchange (answers_behind pooled.behind here.pool) ≡ responses_since claim.format claim.exchange claim.target claim.since h
     → IfOk found (IsFoundBy mark claim h))
-    → IfOk found (IsFinding settings (exchange_of number h) moment reply h)
-found_at_target index settings number moment reply h pooled here mark claim found one is here-is mark-is claim-is by =
+    → IfOk found (IsFinding format settings (exchange_of number h) moment reply h)
+found_at_target format index settings number moment reply h pooled here mark claim found one is here-is mark-is claim-is by =
     go (is_open pooled.behind number here.pool) refl
   where
-    go : (b : Bool) → is_open pooled.behind number here.pool ≡ b → IfOk found (IsFinding settings (exchange_of number h) moment reply h)
+    go : (b : Bool) → is_open pooled.behind number here.pool ≡ b → IfOk found (IsFinding format settings (exchange_of number h) moment reply h)
     go true there =
         let known : Some pooled ≡ known_in index.targets number (get nat_cmp index.exchanges number) =
         sym (ap (known_in index.targets number) (sym is)
@@ -223,12 +242,13 @@ found_at_target index settings number moment reply h pooled here mark claim foun
         ∙ ap (λ (b : Bool). cond b (Some pooled) None) there) in
         let at_target : Some here ≡ get by_target index.targets claim.target =
         here-is ∙ ap (λ (k : Claim). get by_target index.targets k.target) (sym claim-is) in
-        found_of_reply (seen_in index) settings number moment reply h (exchange_seen pooled.exchange) mark claim found one (ap pooled_exchange known) mark-is claim-is
+        found_of_reply format (seen_in index) settings number moment reply h (exchange_seen pooled.exchange) mark claim found one (ap pooled_exchange known) mark-is claim-is
         (λ live window. by (ap (live_kept claim.target) at_target ∙ live)
-        (ap (window_kept pooled.behind) here-is ∙ ap (window_in index.targets) known ∙ window))
+        (ap (λ (k : Claim). those_for k.exchange (answers_behind pooled.behind here.pool)) claim-is
+        ∙ ap (λ (o : Option AtTarget). those_for pooled.exchange.number (window_kept pooled.behind o)) here-is ∙ ap (window_in index.targets) known ∙ window))
     go false there =
         let unknown : known_in index.targets number (get nat_cmp index.exchanges number) ≡ None =
         ap (known_in index.targets number) (sym is)
         ∙ ap (λ (o : Option AtTarget). cond (open_kept pooled.behind number o) (Some pooled) None) (sym here-is)
         ∙ ap (λ (b : Bool). cond b (Some pooled) None) there in
-        found_of_none (seen_in index) settings number moment reply h found one (ap pooled_exchange unknown)
+        found_of_none format (seen_in index) settings number moment reply h found one (ap pooled_exchange unknown)

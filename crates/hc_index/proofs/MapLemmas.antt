@@ -1,5 +1,5 @@
 -- What each kind of item makes of maps.
-use Rattle.std.proofs.Common.{◌≡◌, ℕ, Bool, true, false, ◌&&◌, cond, eqb, [], ◌∷◌, ◌++◌, Option, Some, None, map, refl, sym, ap, subst, ◌∙◌, inl, inr, eq-eqb, ne_eqb}
+use Rattle.std.proofs.Common.{◌≡◌, ℕ, Bool, true, false, ◌&&◌, cond, eqb, List, [], ◌∷◌, ◌++◌, filter, Option, Some, None, map, refl, sym, ap, subst, ◌∙◌, inl, inr, eq-eqb, ne_eqb}
 use Rattle.std.specs.Option.{option_map}
 use Rattle.std.specs.Ordering.{nat_cmp}
 use Rattle.std.specs.BTreeMap.{BTreeMap, get}
@@ -10,20 +10,23 @@ use Rattle.hc_head.specs.declared.head.ResponseHead.{ResponseHead}
 use Rattle.hc_head.specs.declared.head.Target.{Target}
 use Rattle.hc_head.specs.Targets.{same_target}
 use Rattle.hc_framing.specs.declared.message.Message.{Message}
+use Rattle.hc_transcript.specs.declared.format.Format.{Format}
+use Rattle.hc_transcript.specs.declared.line.ToldCause.{ToldCause}
+use Rattle.hc_transcript.specs.Records.{told_in}
 use Rattle.hc_transcript.specs.Items.{ClientRequest, ClientReply, OriginResponse, OriginFailure, Exchange, Forward}
 use Rattle.hc_history.specs.States.{begun_by}
 use Rattle.hc_head.specs.Statuses.{is_error_status}
-use Rattle.hc_history.specs.Windows.{is_forward_of}
-use Rattle.hc_history.specs.Seen.{live_at, response_to}
+use Rattle.hc_history.specs.Windows.{may_be_for, is_forward_of}
+use Rattle.hc_history.specs.Seen.{live_at, WindowResponse}
 use Rattle.hc_history.specs.Noting.{live_answered, lives_answered, added_to_window, Notes}
 use Rattle.hc_head.proofs.SameTargetLemmas.{same_target_one}
 use Rattle.hc_index.specs.declared.kept.OpenForward.{OpenForward}
 use Rattle.hc_index.specs.declared.kept.PooledExchange.{PooledExchange}
 use Rattle.hc_index.specs.declared.at_target.AtTarget.{AtTarget}
 use Rattle.hc_index.specs.declared.map_index.MapIndex.{MapIndex}
-use Rattle.hc_index.specs.Lists.{by_target, exchange_seen, forward_seen}
-use Rattle.hc_index.specs.Maps.{Targets, ChangesAt, OpensAt, ClosesAt, FailsAt, AnswersAt, answer_to, live_kept, error_kept, failure_kept, open_kept, window_kept, known_in, pooled_exchange, window_in, seen_in}
-use Rattle.hc_index.proofs.NoteLemmas.{ReplacesForward, forward_replaced}
+use Rattle.hc_index.specs.Lists.{by_target, exchange_seen, forward_seen, cause_seen}
+use Rattle.hc_index.specs.Maps.{ToldResponse, those_for, Targets, ChangesAt, OpensAt, ClosesAt, FailsAt, AnswersAt, answer_to, live_kept, error_kept, failure_kept, open_kept, window_kept, known_in, pooled_exchange, window_in, seen_in}
+use Rattle.hc_index.proofs.NoteLemmas.{ReplacesForward, forward_replaced, cause_replaced}
 
 -- ---- what is told of a target, where one changed
 
@@ -80,7 +83,7 @@ known_stays e old new keeps (Some x) = ap (λ (b : Bool). cond b (Some x) None) 
 window_if : (new old : Targets) (x : PooledExchange) (b c : Bool) → c ≡ b
     → (b ≡ true → window_kept x.behind (get by_target new x.exchange.target) ≡ window_kept x.behind (get by_target old x.exchange.target))
     → window_in new (cond c (Some x) None) ≡ window_in old (cond b (Some x) None)
-window_if new old x true true is same = same refl
+window_if new old x true true is same = ap (those_for x.exchange.number) (same refl)
 window_if new old x true false is same = absurd (let e = is in cc)
 window_if new old x false true is same = absurd (let e = is in cc)
 window_if new old x false false is same = refl
@@ -124,16 +127,16 @@ asked_window old number x new asks e =
       | inl same ↦ rw (asks.exchanges e, eq-eqb number e same)
           (ap (λ (b : Bool). window_in new.targets (cond b (Some x) None))
           (subst (λ (k : ℕ). open_kept x.behind k (get by_target new.targets x.exchange.target) ≡ true) same asks.targets.here.opened)
-          ∙ asks.targets.here.nothing_yet)
+          ∙ ap (those_for x.exchange.number) asks.targets.here.nothing_yet)
       | inr ne ↦ rw (asks.exchanges e, ne_eqb number e ne)
           (window_stays e old.targets new.targets (keeps_others number e x.behind x.exchange.target old.targets new.targets (λ k. ne (sym k)) asks.targets)
           (get nat_cmp old.exchanges e))
     ]
 
-pub notes_request : (old : MapIndex) (number position moment : ℕ) (request : Message RequestHead) (x : PooledExchange) (new : MapIndex) → Asks old number x new
+pub notes_request : (format : Format) (old : MapIndex) (number position moment : ℕ) (request : Message RequestHead) (x : PooledExchange) (new : MapIndex) → Asks old number x new
     → exchange_seen x.exchange ≡ (record { number = number; position = position; request = request.head; target = x.exchange.target })
-    → Notes (seen_in old) position (ClientRequest number moment request x.exchange.target) (seen_in new)
-notes_request old number position moment request x new asks is =
+    → Notes format (seen_in old) position (ClientRequest number moment request x.exchange.target) (seen_in new)
+notes_request format old number position moment request x new asks is =
     let target = x.exchange.target in
     let R = OpensAt target number x.behind in
     record {
@@ -141,6 +144,7 @@ notes_request old number position moment request x new asks is =
       exchange = λ e. asked_exchange old number x new asks e
           ∙ ap (λ (exchange : Exchange). cond (eqb number e) (Some exchange) (pooled_exchange (known_in old.targets e (get nat_cmp old.exchanges e)))) is;
       forward = λ f. ap (λ (m : BTreeMap ℕ OpenForward). option_map forward_seen (get nat_cmp m f)) asks.forwards;
+      cause = λ f. ap (λ (m : BTreeMap ℕ OpenForward). cause_seen (get nat_cmp m f)) asks.forwards;
       window = asked_window old number x new asks;
       error = λ t. same_at target t old.targets new.targets R (λ k. error_kept) asks.targets (λ o n opens. opens.error);
       failure = λ t. same_at target t old.targets new.targets R (λ k. failure_kept) asks.targets (λ o n opens. opens.failure);
@@ -180,14 +184,15 @@ replied_window old number target new replies e =
           (get nat_cmp old.exchanges e))
     ]
 
-pub notes_reply : (old : MapIndex) (number position moment : ℕ) (reply : Message ResponseHead) (target : Target) (new : MapIndex) → Replies old number target new
-    → Notes (seen_in old) position (ClientReply number moment reply) (seen_in new)
-notes_reply old number position moment reply target new replies =
+pub notes_reply : (format : Format) (old : MapIndex) (number position moment : ℕ) (reply : Message ResponseHead) (target : Target) (new : MapIndex) → Replies old number target new
+    → Notes format (seen_in old) position (ClientReply number moment reply) (seen_in new)
+notes_reply format old number position moment reply target new replies =
     let R = ClosesAt target number in
     record {
       live = λ t. same_at target t old.targets new.targets R live_kept replies.targets (λ o n closes. closes.live);
       exchange = replied_exchange old number target new replies;
       forward = λ f. ap (λ (m : BTreeMap ℕ OpenForward). option_map forward_seen (get nat_cmp m f)) replies.forwards;
+      cause = λ f. ap (λ (m : BTreeMap ℕ OpenForward). cause_seen (get nat_cmp m f)) replies.forwards;
       window = replied_window old number target new replies;
       error = λ t. same_at target t old.targets new.targets R (λ k. error_kept) replies.targets (λ o n closes. closes.error);
       failure = λ t. same_at target t old.targets new.targets R (λ k. failure_kept) replies.targets (λ o n closes. closes.failure);
@@ -202,9 +207,9 @@ pub record Fails (old : MapIndex) (forward : OpenForward) (number position : ℕ
   pub targets : ChangesAt forward.target old.targets new.targets (FailsAt forward.target position)
   pub exchanges : new.exchanges ≡ old.exchanges
 
-pub notes_failure : (old : MapIndex) (forward : OpenForward) (number position moment : ℕ) (new : MapIndex) → Fails old forward number position new
-    → Notes (seen_in old) position (OriginFailure number moment) (seen_in new)
-notes_failure old forward number position moment new fails =
+pub notes_failure : (format : Format) (old : MapIndex) (forward : OpenForward) (number position moment : ℕ) (new : MapIndex) → Fails old forward number position new
+    → Notes format (seen_in old) position (OriginFailure number moment) (seen_in new)
+notes_failure format old forward number position moment new fails =
     let target = forward.target in
     let R = FailsAt target position in
     let is : Some (forward_seen forward) ≡ option_map forward_seen (get nat_cmp old.forwards number) = sym (ap (option_map forward_seen) fails.was_open) in
@@ -214,6 +219,7 @@ notes_failure old forward number position moment new fails =
       exchange = λ e. ap (λ (m : BTreeMap ℕ PooledExchange). pooled_exchange (known_in new.targets e (get nat_cmp m e))) fails.exchanges
           ∙ ap pooled_exchange (known_stays e old.targets new.targets (keeps e) (get nat_cmp old.exchanges e));
       forward = forward_replaced number None old.forwards new.forwards fails.forwards;
+      cause = cause_replaced number None old.forwards new.forwards fails.forwards;
       window = λ e. ap (λ (m : BTreeMap ℕ PooledExchange). window_in new.targets (known_in new.targets e (get nat_cmp m e))) fails.exchanges
           ∙ window_stays e old.targets new.targets (keeps e) (get nat_cmp old.exchanges e);
       error = λ t. same_at target t old.targets new.targets R (λ k. error_kept) fails.targets (λ o n f. f.error);
@@ -224,56 +230,91 @@ notes_failure old forward number position moment new fails =
 -- ---- responses
 
 -- what a response to an open forward makes of all that is kept
-pub record Answers (old : MapIndex) (forward : OpenForward) (number position moment : ℕ) (response : Message ResponseHead) (new : MapIndex) : Type 0 where
+pub record Answers (format : Format) (old : MapIndex) (forward : OpenForward) (number position moment : ℕ) (response : Message ResponseHead) (new : MapIndex) : Type 0 where
   pub was_open : get nat_cmp old.forwards number ≡ Some forward
   pub forwards : ReplacesForward number None old.forwards new.forwards
-  pub targets : ChangesAt forward.target old.targets new.targets (AnswersAt (forward_seen forward) position moment response)
+  pub targets : ChangesAt forward.target old.targets new.targets (AnswersAt (forward_seen forward) (told_in format forward.cause) position moment response)
   pub exchanges : new.exchanges ≡ old.exchanges
 
--- the window of the exchange of a number grows by the response
-abbrev GrowsWindow : ℕ → Forward → Message ResponseHead → Targets → Targets → Type 0
-GrowsWindow e forward response old new = (t : Target) (b : ℕ) → (open_kept b e (get by_target new t) ≡ open_kept b e (get by_target old t))
-    × (open_kept b e (get by_target old t) ≡ true
-    → window_kept b (get by_target new t) ≡ window_kept b (get by_target old t) ++ response_to t (Some forward) response)
+-- what the response adds to the answers for a target
+abbrev added_for : Target → Forward → ToldCause → Message ResponseHead → List ToldResponse
+added_for t forward cause response = cond (same_target forward.target t) (answer_to forward cause response ∷ []) []
 
-grows_by : (e : ℕ) (forward : Forward) (position moment : ℕ) (response : Message ResponseHead) (old new : Targets) → ChangesAt forward.target old new (AnswersAt forward position moment response)
+-- the answers behind the exchange of a number grow by the response
+abbrev GrowsWindow : ℕ → Forward → ToldCause → Message ResponseHead → Targets → Targets → Type 0
+GrowsWindow e forward cause response old new = (t : Target) (b : ℕ) → (open_kept b e (get by_target new t) ≡ open_kept b e (get by_target old t))
+    × (open_kept b e (get by_target old t) ≡ true
+    → window_kept b (get by_target new t) ≡ window_kept b (get by_target old t) ++ added_for t forward cause response)
+
+grows_by : (e : ℕ) (forward : Forward) (cause : ToldCause) (position moment : ℕ) (response : Message ResponseHead) (old new : Targets)
+    → ChangesAt forward.target old new (AnswersAt forward cause position moment response)
     → (t : Target) (b : ℕ) (same : Bool) → same_target forward.target t ≡ same
     → (open_kept b e (get by_target new t) ≡ open_kept b e (get by_target old t))
     × (open_kept b e (get by_target old t) ≡ true
-    → window_kept b (get by_target new t) ≡ window_kept b (get by_target old t) ++ cond same (answer_to forward response ∷ []) [])
-grows_by e forward position moment response old new changes t b true is =
+    → window_kept b (get by_target new t) ≡ window_kept b (get by_target old t) ++ cond same (answer_to forward cause response ∷ []) [])
+grows_by e forward cause position moment response old new changes t b true is =
     subst (λ (k : Target). (open_kept b e (get by_target new k) ≡ open_kept b e (get by_target old k))
-    × (open_kept b e (get by_target old k) ≡ true → window_kept b (get by_target new k) ≡ window_kept b (get by_target old k) ++ answer_to forward response ∷ []))
+    × (open_kept b e (get by_target old k) ≡ true → window_kept b (get by_target new k) ≡ window_kept b (get by_target old k) ++ answer_to forward cause response ∷ []))
     (same_target_one forward.target t is) (changes.here.others b e, changes.here.windows b e)
-grows_by e forward position moment response old new changes t b false is = (
+grows_by e forward cause position moment response old new changes t b false is = (
   ap (open_kept b e) (changes.elsewhere t is),
   λ there. ap (window_kept b) (changes.elsewhere t is) ∙ sym (append-nil (window_kept b (get by_target old t))),
 )
 
-grows_window : (e : ℕ) (forward : Forward) (position moment : ℕ) (response : Message ResponseHead) (old new : Targets)
-    → ChangesAt forward.target old new (AnswersAt forward position moment response) → GrowsWindow e forward response old new
-grows_window e forward position moment response old new changes t b =
-    grows_by e forward position moment response old new changes t b (same_target forward.target t) refl
+grows_window : (e : ℕ) (forward : Forward) (cause : ToldCause) (position moment : ℕ) (response : Message ResponseHead) (old new : Targets)
+    → ChangesAt forward.target old new (AnswersAt forward cause position moment response) → GrowsWindow e forward cause response old new
+grows_window e forward cause position moment response old new changes t b =
+    grows_by e forward cause position moment response old new changes t b (same_target forward.target t) refl
 
-known_stays_open : (e : ℕ) (forward : Forward) (response : Message ResponseHead) (old new : Targets) → GrowsWindow e forward response old new
+known_stays_open : (e : ℕ) (forward : Forward) (cause : ToldCause) (response : Message ResponseHead) (old new : Targets) → GrowsWindow e forward cause response old new
     → (o : Option PooledExchange) → known_in new e o ≡ known_in old e o
-known_stays_open e forward response old new grows None = refl
-known_stays_open e forward response old new grows (Some x) = ap (λ (b : Bool). cond b (Some x) None) (grows x.exchange.target x.behind).0
+known_stays_open e forward cause response old new grows None = refl
+known_stays_open e forward cause response old new grows (Some x) = ap (λ (b : Bool). cond b (Some x) None) (grows x.exchange.target x.behind).0
 
-window_grown_if : (new old : Targets) (x : PooledExchange) (forward : Forward) (response : Message ResponseHead) (b c : Bool) → c ≡ b
+-- of more answers those for an exchange are more by those for it
+those_append : (e : ℕ) (xs ys : List ToldResponse) → those_for e (xs ++ ys) ≡ those_for e xs ++ those_for e ys
+those_append e [] ys = refl
+those_append e (x ∷ xs) ys = go (may_be_for x.cause e) (those_append e xs ys)
+  where
+    go : (may : Bool) → those_for e (xs ++ ys) ≡ those_for e xs ++ those_for e ys
+        → map (λ (one : ToldResponse). one.response) (cond may (x ∷ filter (λ (one : ToldResponse). may_be_for one.cause e) (xs ++ ys)) (filter (λ (one : ToldResponse). may_be_for one.cause e) (xs ++ ys)))
+        ≡ map (λ (one : ToldResponse). one.response) (cond may (x ∷ filter (λ (one : ToldResponse). may_be_for one.cause e) xs) (filter (λ (one : ToldResponse). may_be_for one.cause e) xs)) ++ those_for e ys
+    go true more = ap (λ (rest : List WindowResponse). x.response ∷ rest) more
+    go false more = more
+
+-- what it adds for an exchange
+added_is : (format : Format) (x : PooledExchange) (forward : Forward) (cause : Option ℕ) (response : Message ResponseHead)
+    → those_for x.exchange.number (added_for x.exchange.target forward (told_in format cause) response)
+    ≡ added_to_window format (Some (exchange_seen x.exchange)) (Some forward) cause response
+added_is format x forward cause response = go (same_target forward.target x.exchange.target) (may_be_for (told_in format cause) x.exchange.number) refl
+  where
+    go : (same may : Bool) → may_be_for (told_in format cause) x.exchange.number ≡ may
+        → those_for x.exchange.number (cond same (answer_to forward (told_in format cause) response ∷ []) [])
+        ≡ cond may (cond same ((answer_to forward (told_in format cause) response).response ∷ []) []) []
+    go true true is = rw is refl
+    go true false is = rw is refl
+    go false true is = refl
+    go false false is = refl
+
+window_grown_if : (format : Format) (new old : Targets) (x : PooledExchange) (forward : Forward) (cause : Option ℕ) (response : Message ResponseHead) (b c : Bool) → c ≡ b
     → (b ≡ true → window_kept x.behind (get by_target new x.exchange.target)
-    ≡ window_kept x.behind (get by_target old x.exchange.target) ++ response_to x.exchange.target (Some forward) response)
-    → window_in new (cond c (Some x) None) ≡ window_in old (cond b (Some x) None) ++ added_to_window (pooled_exchange (cond b (Some x) None)) (Some forward) response
-window_grown_if new old x forward response true true is grown = grown refl
-window_grown_if new old x forward response true false is grown = absurd (let e = is in cc)
-window_grown_if new old x forward response false true is grown = absurd (let e = is in cc)
-window_grown_if new old x forward response false false is grown = refl
+    ≡ window_kept x.behind (get by_target old x.exchange.target) ++ added_for x.exchange.target forward (told_in format cause) response)
+    → window_in new (cond c (Some x) None) ≡ window_in old (cond b (Some x) None) ++ added_to_window format (pooled_exchange (cond b (Some x) None)) (Some forward) cause response
+window_grown_if format new old x forward cause response true true is grown =
+    let before = window_kept x.behind (get by_target old x.exchange.target) in
+    ap (those_for x.exchange.number) (grown refl)
+    ∙ those_append x.exchange.number before (added_for x.exchange.target forward (told_in format cause) response)
+    ∙ ap (λ (added : List WindowResponse). those_for x.exchange.number before ++ added) (added_is format x forward cause response)
+window_grown_if format new old x forward cause response true false is grown = absurd (let e = is in cc)
+window_grown_if format new old x forward cause response false true is grown = absurd (let e = is in cc)
+window_grown_if format new old x forward cause response false false is grown = refl
 
-window_grows : (e : ℕ) (forward : Forward) (response : Message ResponseHead) (old new : Targets) → GrowsWindow e forward response old new
-    → (o : Option PooledExchange) → window_in new (known_in new e o) ≡ window_in old (known_in old e o) ++ added_to_window (pooled_exchange (known_in old e o)) (Some forward) response
-window_grows e forward response old new grows None = refl
-window_grows e forward response old new grows (Some x) =
-    window_grown_if new old x forward response (open_kept x.behind e (get by_target old x.exchange.target)) (open_kept x.behind e (get by_target new x.exchange.target))
+window_grows : (format : Format) (e : ℕ) (forward : Forward) (cause : Option ℕ) (response : Message ResponseHead) (old new : Targets) → GrowsWindow e forward (told_in format cause) response old new
+    → (o : Option PooledExchange)
+    → window_in new (known_in new e o) ≡ window_in old (known_in old e o) ++ added_to_window format (pooled_exchange (known_in old e o)) (Some forward) cause response
+window_grows format e forward cause response old new grows None = refl
+window_grows format e forward cause response old new grows (Some x) =
+    window_grown_if format new old x forward cause response (open_kept x.behind e (get by_target old x.exchange.target)) (open_kept x.behind e (get by_target new x.exchange.target))
     (grows x.exchange.target x.behind).0 (grows x.exchange.target x.behind).1
 
 two_tests : (a b : Bool) (p q : ℕ) → cond b (cond a p q) q ≡ cond (a && b) p q
@@ -282,24 +323,27 @@ two_tests true false p q = refl
 two_tests false true p q = refl
 two_tests false false p q = refl
 
-pub notes_response : (old : MapIndex) (forward : OpenForward) (number position moment : ℕ) (response : Message ResponseHead) (new : MapIndex)
-    → Answers old forward number position moment response new → Notes (seen_in old) position (OriginResponse number moment response) (seen_in new)
-notes_response old forward number position moment response new answers =
+pub notes_response : (format : Format) (old : MapIndex) (forward : OpenForward) (number position moment : ℕ) (response : Message ResponseHead) (new : MapIndex)
+    → Answers format old forward number position moment response new → Notes format (seen_in old) position (OriginResponse number moment response) (seen_in new)
+notes_response format old forward number position moment response new answers =
     let seen = forward_seen forward in
-    let R = AnswersAt seen position moment response in
+    let told = told_in format forward.cause in
+    let R = AnswersAt seen told position moment response in
     let is : Some seen ≡ option_map forward_seen (get nat_cmp old.forwards number) = sym (ap (option_map forward_seen) answers.was_open) in
-    let grows : (e : ℕ) → GrowsWindow e seen response old.targets new.targets = λ e. grows_window e seen position moment response old.targets new.targets answers.targets in
+    let cause : forward.cause ≡ cause_seen (get nat_cmp old.forwards number) = sym (ap cause_seen answers.was_open) in
+    let grows : (e : ℕ) → GrowsWindow e seen told response old.targets new.targets = λ e. grows_window e seen told position moment response old.targets new.targets answers.targets in
     record {
       live = λ t. changed_at forward.target t old.targets new.targets R live_kept
           (λ k o. map (live_answered seen position moment response) (live_kept k o) ++ live_at k position (begun_by seen moment response)) answers.targets (λ o n a. a.live)
           ∙ ap (λ (o : Option Forward). lives_answered t o position moment response (live_kept t (get by_target old.targets t))) is;
       exchange = λ e. ap (λ (m : BTreeMap ℕ PooledExchange). pooled_exchange (known_in new.targets e (get nat_cmp m e))) answers.exchanges
-          ∙ ap pooled_exchange (known_stays_open e seen response old.targets new.targets (grows e) (get nat_cmp old.exchanges e));
+          ∙ ap pooled_exchange (known_stays_open e seen told response old.targets new.targets (grows e) (get nat_cmp old.exchanges e));
       forward = forward_replaced number None old.forwards new.forwards answers.forwards;
+      cause = cause_replaced number None old.forwards new.forwards answers.forwards;
       window = λ e. ap (λ (m : BTreeMap ℕ PooledExchange). window_in new.targets (known_in new.targets e (get nat_cmp m e))) answers.exchanges
-          ∙ window_grows e seen response old.targets new.targets (grows e) (get nat_cmp old.exchanges e)
-          ∙ ap (λ (o : Option Forward). window_in old.targets (known_in old.targets e (get nat_cmp old.exchanges e))
-          ++ added_to_window (pooled_exchange (known_in old.targets e (get nat_cmp old.exchanges e))) o response) is;
+          ∙ window_grows format e seen forward.cause response old.targets new.targets (grows e) (get nat_cmp old.exchanges e)
+          ∙ (λ i. window_in old.targets (known_in old.targets e (get nat_cmp old.exchanges e))
+          ++ added_to_window format (pooled_exchange (known_in old.targets e (get nat_cmp old.exchanges e))) (is i) (cause i) response);
       error = λ t. changed_at forward.target t old.targets new.targets R (λ k. error_kept)
           (λ k o. cond (is_error_status response.head.status) position (error_kept o)) answers.targets (λ o n a. a.error)
           ∙ two_tests (is_error_status response.head.status) (same_target forward.target t) position (error_kept (get by_target old.targets t))

@@ -4,6 +4,9 @@ use Rattle.std.specs.Option.{option_map}
 use Rattle.std.proofs.lemmas.Bool.{ne_eqb, eqb-true, cases_Bool, cases_eq}
 use Rattle.hc_head.specs.declared.head.ResponseHead.{ResponseHead}
 use Rattle.hc_framing.specs.declared.message.Message.{Message}
+use Rattle.hc_transcript.specs.declared.format.Format.{Format}
+use Rattle.hc_transcript.specs.declared.line.ToldCause.{ToldCause}
+use Rattle.hc_transcript.specs.Records.{told_in}
 use Rattle.hc_transcript.specs.Items.{Exchange, Forward}
 use Rattle.hc_history.specs.Seen.{WindowResponse}
 use Rattle.hc_history.specs.Noting.{added_to_window}
@@ -66,19 +69,19 @@ found_watched : (e : ℕ) (xs : List WatchedExchange) → watched_in e (map watc
 found_watched e [] = refl
 found_watched e (x ∷ xs) = elim (cases_Bool (eqb x.exchange.number e)) [ inl same ↦ rw same refl | inr other ↦ rw other (found_watched e xs) ]
 
-found_answered : (forward : Forward) (response : Message ResponseHead) (e : ℕ) (ws : List Watched)
-    → watched_in e (map (watched_answered forward response) ws) ≡ option_map (watched_answered forward response) (watched_in e ws)
-found_answered forward response e [] = refl
-found_answered forward response e (w ∷ ws) =
-    elim (cases_Bool (eqb w.exchange.number e)) [ inl same ↦ rw same refl | inr other ↦ rw other (found_answered forward response e ws) ]
+found_answered : (forward : Forward) (cause : ToldCause) (response : Message ResponseHead) (e : ℕ) (ws : List Watched)
+    → watched_in e (map (watched_answered forward cause response) ws) ≡ option_map (watched_answered forward cause response) (watched_in e ws)
+found_answered forward cause response e [] = refl
+found_answered forward cause response e (w ∷ ws) =
+    elim (cases_Bool (eqb w.exchange.number e)) [ inl same ↦ rw same refl | inr other ↦ rw other (found_answered forward cause response e ws) ]
 
 -- what the response makes of the exchange of a number
-found_in : (forward : Forward) (response : Message ResponseHead) (e : ℕ) (old new : List WatchedExchange)
-    → map watched new ≡ map (watched_answered forward response) (map watched old)
-    → option_map watched (open_in e new) ≡ option_map (watched_answered forward response) (option_map watched (open_in e old))
-found_in forward response e old new is =
-    sym (found_watched e new) ∙ ap (watched_in e) is ∙ found_answered forward response e (map watched old)
-    ∙ ap (option_map (watched_answered forward response)) (found_watched e old)
+found_in : (forward : Forward) (cause : ToldCause) (response : Message ResponseHead) (e : ℕ) (old new : List WatchedExchange)
+    → map watched new ≡ map (watched_answered forward cause response) (map watched old)
+    → option_map watched (open_in e new) ≡ option_map (watched_answered forward cause response) (option_map watched (open_in e old))
+found_in forward cause response e old new is =
+    sym (found_watched e new) ∙ ap (watched_in e) is ∙ found_answered forward cause response e (map watched old)
+    ∙ ap (option_map (watched_answered forward cause response)) (found_watched e old)
 
 abbrev exchange_watched : Option Watched → Option Exchange
 exchange_watched o = option_map (λ (w : Watched). w.exchange) o
@@ -95,29 +98,30 @@ seen_window : (o : Option WatchedExchange) → window_of o ≡ window_watched (o
 seen_window None = refl
 seen_window (Some x) = refl
 
-exchange_stays : (forward : Forward) (response : Message ResponseHead) (o : Option Watched) → exchange_watched (option_map (watched_answered forward response) o) ≡ exchange_watched o
-exchange_stays forward response None = refl
-exchange_stays forward response (Some w) = refl
+exchange_stays : (forward : Forward) (cause : ToldCause) (response : Message ResponseHead) (o : Option Watched) → exchange_watched (option_map (watched_answered forward cause response) o) ≡ exchange_watched o
+exchange_stays forward cause response None = refl
+exchange_stays forward cause response (Some w) = refl
 
-window_grows : (forward : Forward) (response : Message ResponseHead) (o : Option Watched)
-    → window_watched (option_map (watched_answered forward response) o) ≡ window_watched o ++ added_to_window (exchange_watched o) (Some forward) response
-window_grows forward response None = refl
-window_grows forward response (Some w) = refl
+window_grows : (format : Format) (forward : Forward) (cause : Option ℕ) (response : Message ResponseHead) (o : Option Watched)
+    → window_watched (option_map (watched_answered forward (told_in format cause) response) o)
+    ≡ window_watched o ++ added_to_window format (exchange_watched o) (Some forward) cause response
+window_grows format forward cause response None = refl
+window_grows format forward cause response (Some w) = refl
 
 -- the exchange stays, and its window has what the response adds
-pub exchange_answered : (forward : Forward) (response : Message ResponseHead) (e : ℕ) (old new : List WatchedExchange)
-    → map watched new ≡ map (watched_answered forward response) (map watched old)
+pub exchange_answered : (forward : Forward) (cause : ToldCause) (response : Message ResponseHead) (e : ℕ) (old new : List WatchedExchange)
+    → map watched new ≡ map (watched_answered forward cause response) (map watched old)
     → watched_exchange (open_in e new) ≡ watched_exchange (open_in e old)
-exchange_answered forward response e old new is =
-    seen_exchange (open_in e new) ∙ ap exchange_watched (found_in forward response e old new is)
-    ∙ exchange_stays forward response (option_map watched (open_in e old)) ∙ sym (seen_exchange (open_in e old))
+exchange_answered forward cause response e old new is =
+    seen_exchange (open_in e new) ∙ ap exchange_watched (found_in forward cause response e old new is)
+    ∙ exchange_stays forward cause response (option_map watched (open_in e old)) ∙ sym (seen_exchange (open_in e old))
 
-pub window_answered : (forward : Forward) (response : Message ResponseHead) (e : ℕ) (old new : List WatchedExchange)
-    → map watched new ≡ map (watched_answered forward response) (map watched old)
-    → window_of (open_in e new) ≡ window_of (open_in e old) ++ added_to_window (watched_exchange (open_in e old)) (Some forward) response
-window_answered forward response e old new is =
+pub window_answered : (format : Format) (forward : Forward) (cause : Option ℕ) (response : Message ResponseHead) (e : ℕ) (old new : List WatchedExchange)
+    → map watched new ≡ map (watched_answered forward (told_in format cause) response) (map watched old)
+    → window_of (open_in e new) ≡ window_of (open_in e old) ++ added_to_window format (watched_exchange (open_in e old)) (Some forward) cause response
+window_answered format forward cause response e old new is =
     let window = sym (seen_window (open_in e old)) in
     let exchange = sym (seen_exchange (open_in e old)) in
-    seen_window (open_in e new) ∙ ap window_watched (found_in forward response e old new is)
-    ∙ window_grows forward response (option_map watched (open_in e old))
-    ∙ (λ i. window i ++ added_to_window (exchange i) (Some forward) response)
+    seen_window (open_in e new) ∙ ap window_watched (found_in forward (told_in format cause) response e old new is)
+    ∙ window_grows format forward cause response (option_map watched (open_in e old))
+    ∙ (λ i. window i ++ added_to_window format (exchange i) (Some forward) cause response)

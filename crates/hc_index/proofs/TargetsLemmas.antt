@@ -4,16 +4,17 @@ use Rattle.std.specs.BTreeMap.{get, Updates, UpdatesBy, WritesThrough}
 use Rattle.hc_head.specs.declared.head.ResponseHead.{ResponseHead}
 use Rattle.hc_head.specs.declared.head.Target.{Target}
 use Rattle.hc_framing.specs.declared.message.Message.{Message}
+use Rattle.hc_transcript.specs.declared.line.ToldCause.{ToldCause}
 use Rattle.hc_transcript.specs.Items.{Forward}
 use Rattle.hc_history.specs.States.{begun_by}
 use Rattle.hc_head.specs.Statuses.{is_error_status}
 use Rattle.hc_history.specs.Noting.{live_answered}
-use Rattle.hc_history.specs.Seen.{Live, live_at, WindowResponse}
+use Rattle.hc_history.specs.Seen.{Live, live_at}
 use Rattle.hc_head.proofs.SameTargetLemmas.{same_target_itself}
 use Rattle.hc_index.specs.declared.kept.LiveResponse.{LiveResponse}
 use Rattle.hc_index.specs.declared.at_target.AtTarget.{AtTarget}
 use Rattle.hc_index.specs.Lists.{by_target, live_in, targeted, targeted_answered}
-use Rattle.hc_index.specs.Maps.{KeepsSame, OpensAt, ClosesAt, FailsAt, AnswersAt, ChangesAt, Targets, answer_to}
+use Rattle.hc_index.specs.Maps.{ToldResponse, KeepsSame, OpensAt, ClosesAt, FailsAt, AnswersAt, ChangesAt, Targets, answer_to}
 use Rattle.hc_index.proofs.LiveLemmas.{lives_answered_in}
 use Rattle.hc_index.proofs.PositionLemmas.{tied}
 
@@ -48,21 +49,21 @@ fails_from target position o m n same fails = record {
   windows = λ b e is. fails.windows b e (same.others b e ∙ is) ∙ same.windows b e is;
 }
 
-pub answers_from : (forward : Forward) (position moment : ℕ) (response : Message ResponseHead) (o m n : Option AtTarget)
-    → KeepsSame forward.target o m → AnswersAt forward position moment response m n → AnswersAt forward position moment response o n
-answers_from forward position moment response o m n same answers = record {
+pub answers_from : (forward : Forward) (cause : ToldCause) (position moment : ℕ) (response : Message ResponseHead) (o m n : Option AtTarget)
+    → KeepsSame forward.target o m → AnswersAt forward cause position moment response m n → AnswersAt forward cause position moment response o n
+answers_from forward cause position moment response o m n same answers = record {
   live = answers.live
       ∙ ap (λ (ls : List Live). map (live_answered forward position moment response) ls ++ live_at forward.target position (begun_by forward moment response)) same.live;
   error = answers.error ∙ ap (cond (is_error_status response.head.status) position) same.error;
   failure = answers.failure ∙ same.failure;
   others = λ b e. answers.others b e ∙ same.others b e;
   windows = λ b e is. answers.windows b e (same.others b e ∙ is)
-      ∙ ap (λ (ws : List WindowResponse). ws ++ answer_to forward response ∷ []) (same.windows b e is);
+      ∙ ap (λ (ws : List ToldResponse). ws ++ answer_to forward cause response ∷ []) (same.windows b e is);
 }
 
-pub answers_to : (forward : Forward) (position moment : ℕ) (response : Message ResponseHead) (o m n : Option AtTarget)
-    → AnswersAt forward position moment response o m → KeepsSame forward.target m n → AnswersAt forward position moment response o n
-answers_to forward position moment response o m n answers same = record {
+pub answers_to : (forward : Forward) (cause : ToldCause) (position moment : ℕ) (response : Message ResponseHead) (o m n : Option AtTarget)
+    → AnswersAt forward cause position moment response o m → KeepsSame forward.target m n → AnswersAt forward cause position moment response o n
+answers_to forward cause position moment response o m n answers same = record {
   live = same.live ∙ answers.live;
   error = same.error ∙ answers.error;
   failure = same.failure ∙ answers.failure;

@@ -12,8 +12,10 @@ use Rattle.hc_head.specs.Statuses.{not_modified}
 use Rattle.hc_update.specs.States.{invalidates}
 use Rattle.hc_status.specs.declared.marks.Mark.{Mark}
 use Rattle.hc_status.specs.declared.marks.Mark.TheVariants.{Forwarded}
+use Rattle.hc_transcript.specs.declared.line.ToldCause.{ToldCause}
 use Rattle.hc_transcript.specs.Items.{Exchange, Forward}
 use Rattle.hc_framing.specs.declared.message.Message.{Message}
+use Rattle.hc_history.specs.Windows.{may_be_for}
 use Rattle.hc_history.specs.Noting.{live_answered}
 use Rattle.hc_history.specs.Seen.{Live, WindowResponse, response_to, Seen}
 use Rattle.hc_index.specs.declared.kept.LiveResponse.{LiveResponse}
@@ -39,6 +41,11 @@ window_seen watched = map answer_seen watched.window.items
 
 abbrev pub forward_seen : OpenForward → Forward
 forward_seen forward = record { moment = forward.moment; request = forward.request; target = forward.target }
+
+-- the exchange that it was made for
+abbrev pub cause_seen : Option OpenForward → Option ℕ
+cause_seen None = None
+cause_seen (Some forward) = forward.cause
 
 -- ---- lists of them
 
@@ -102,10 +109,12 @@ watched kept = record { exchange = exchange_seen kept.exchange; window = window_
 abbrev pub watched_exchange : Option WatchedExchange → Option Exchange
 watched_exchange o = option_map (λ (kept : WatchedExchange). exchange_seen kept.exchange) o
 
--- its window has the response as well, where that is to a forward of its target
-abbrev pub watched_answered : Forward → Message ResponseHead → Watched → Watched
-watched_answered forward response seen =
-    record { exchange = seen.exchange; window = seen.window ++ response_to seen.exchange.target (Some forward) response }
+-- its window has the response as well, where that is to a forward of its target that may have been made for it
+abbrev pub watched_answered : Forward → ToldCause → Message ResponseHead → Watched → Watched
+watched_answered forward cause response seen = record {
+  exchange = seen.exchange;
+  window = seen.window ++ (if may_be_for cause seen.exchange.number then response_to seen.exchange.target (Some forward) response else []);
+}
 
 -- ---- what a reply carries
 
@@ -127,6 +136,7 @@ seen_in index = record {
   live = λ target. live_in target index.lives.items;
   exchange = λ e. watched_exchange (open_in e index.exchanges.items);
   forward = λ f. option_map forward_seen (get nat_cmp index.forwards f);
+  cause = λ f. cause_seen (get nat_cmp index.forwards f);
   window = λ e. window_of (open_in e index.exchanges.items);
   error = λ target. position_in target index.errors;
   failure = λ target. position_in target index.failures;

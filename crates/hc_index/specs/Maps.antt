@@ -1,5 +1,5 @@
 -- What maps by target and by number are seen as.
-use Rattle.std.specs.Prelude.{◌≡◌, ℕ, ◌-◌, Bool, true, false, List, [], ◌++◌, ◌∷◌, drop, map, Option, Some, None, if◌then◌else◌}
+use Rattle.std.specs.Prelude.{◌≡◌, ℕ, ◌-◌, Bool, true, false, ◌&&◌, List, [], ◌++◌, ◌∷◌, drop, filter, map, Option, Some, None, if◌then◌else◌}
 use Rattle.std.specs.Option.{option_map}
 use Rattle.std.specs.Ordering.{nat_cmp}
 use Rattle.std.specs.BTreeMap.{BTreeMap, get}
@@ -8,27 +8,48 @@ use Rattle.hc_head.specs.declared.head.ResponseHead.{ResponseHead}
 use Rattle.hc_head.specs.declared.head.Target.{Target}
 use Rattle.hc_head.specs.Targets.{same_target}
 use Rattle.hc_framing.specs.declared.message.Message.{Message}
+use Rattle.hc_transcript.specs.declared.line.ToldCause.{ToldCause}
 use Rattle.hc_transcript.specs.Items.{Exchange, Forward}
 use Rattle.hc_history.specs.States.{begun_by}
 use Rattle.hc_head.specs.Statuses.{is_error_status}
+use Rattle.hc_history.specs.Windows.{may_be_for}
+use Rattle.hc_history.specs.Claims.{Claim}
+use Rattle.hc_history.specs.Forwarded.{carries}
 use Rattle.hc_history.specs.Noting.{live_answered}
 use Rattle.hc_history.specs.Seen.{Live, live_at, WindowResponse, Seen}
+use Rattle.hc_index.specs.declared.kept.PooledAnswer.{PooledAnswer}
 use Rattle.hc_index.specs.declared.kept.PooledExchange.{PooledExchange}
 use Rattle.hc_index.specs.declared.pool.Pool.{Pool}
 use Rattle.hc_index.specs.declared.at_target.AtTarget.{AtTarget}
 use Rattle.hc_index.specs.declared.map_index.MapIndex.{MapIndex}
-use Rattle.hc_index.specs.Lists.{answer_seen, by_target, exchange_seen, forward_seen, live_in}
+use Rattle.hc_index.specs.Lists.{answer_seen, by_target, exchange_seen, forward_seen, cause_seen, live_in}
 use Rattle.hc_index.specs.Openings.{by_opening}
 
 -- ---- the pool of a target
+
+-- a response to a forward, and what is told of the forward's cause
+pub record ToldResponse : Type 0 where
+  pub cause : ToldCause
+  pub response : WindowResponse
+
+abbrev pub told_seen : PooledAnswer → ToldResponse
+told_seen pooled = record { cause = pooled.cause; response = answer_seen pooled.answer }
+
+-- the responses that may be for an exchange
+abbrev pub those_for : ℕ → List ToldResponse → List WindowResponse
+those_for e responses = map (λ one. one.response) (filter (λ one. may_be_for one.cause e) responses)
+
+-- whether a response may be for the exchange of a reply, and the reply carries it
+abbrev pub carries_told : Claim → ToldResponse → Bool
+carries_told claim one = may_be_for one.cause claim.exchange && carries claim one.response.method one.response.status one.response.body
 
 -- whether the window of an exchange is open that begins behind so many answers
 abbrev pub is_open : ℕ → ℕ → Pool → Bool
 is_open behind number pool = contains by_opening pool.windows (behind, number)
 
 -- the answers behind so many
-abbrev pub answers_behind : ℕ → Pool → List WindowResponse
-answers_behind behind pool = map answer_seen (drop (behind - pool.dropped) pool.answers.items)
+abbrev pub answers_behind : ℕ → Pool → List ToldResponse
+answers_behind behind pool = map told_seen (drop (behind - pool.dropped) pool.answers.items)
 
 -- what the opening of a window makes of a pool
 pub record OpensWindow (number : ℕ) (old : Pool) (behind : ℕ) (new : Pool) : Type 0 where
@@ -43,7 +64,7 @@ pub record ClosesWindow (number : ℕ) (old : Pool) (new : Pool) : Type 0 where
   pub answers : (b n : ℕ) → (n ≡ number → ⊥) → is_open b n old ≡ true → answers_behind b new ≡ answers_behind b old
 
 -- what one more answer makes of it
-pub record AddsAnswer (answer : WindowResponse) (old : Pool) (new : Pool) : Type 0 where
+pub record AddsAnswer (answer : ToldResponse) (old : Pool) (new : Pool) : Type 0 where
   pub others : (b n : ℕ) → is_open b n new ≡ is_open b n old
   pub answers : (b n : ℕ) → is_open b n old ≡ true → answers_behind b new ≡ answers_behind b old ++ answer ∷ []
 
@@ -68,7 +89,7 @@ open_kept behind number None = false
 open_kept behind number (Some here) = is_open behind number here.pool
 
 -- what it holds
-abbrev pub window_kept : ℕ → Option AtTarget → List WindowResponse
+abbrev pub window_kept : ℕ → Option AtTarget → List ToldResponse
 window_kept behind None = []
 window_kept behind (Some here) = answers_behind behind here.pool
 
@@ -106,18 +127,19 @@ pub record FailsAt (target : Target) (position : ℕ) (old : Option AtTarget) (n
   pub others : (b n : ℕ) → open_kept b n new ≡ open_kept b n old
   pub windows : (b n : ℕ) → open_kept b n old ≡ true → window_kept b new ≡ window_kept b old
 
--- the response to a forward, as a window holds it
-abbrev pub answer_to : Forward → Message ResponseHead → WindowResponse
-answer_to forward response = record { method = forward.request.method; status = response.head.status; body = response.body }
+-- the response to a forward of that cause, as a pool holds it
+abbrev pub answer_to : Forward → ToldCause → Message ResponseHead → ToldResponse
+answer_to forward cause response =
+    record { cause = cause; response = record { method = forward.request.method; status = response.head.status; body = response.body } }
 
 -- what a response to a forward of the target makes of it
-pub record AnswersAt (forward : Forward) (position moment : ℕ) (response : Message ResponseHead) (old : Option AtTarget) (new : Option AtTarget) : Type 0 where
+pub record AnswersAt (forward : Forward) (cause : ToldCause) (position moment : ℕ) (response : Message ResponseHead) (old : Option AtTarget) (new : Option AtTarget) : Type 0 where
   pub live : live_kept forward.target new
       ≡ map (live_answered forward position moment response) (live_kept forward.target old) ++ live_at forward.target position (begun_by forward moment response)
   pub error : error_kept new ≡ (if is_error_status response.head.status then position else error_kept old)
   pub failure : failure_kept new ≡ failure_kept old
   pub others : (b n : ℕ) → open_kept b n new ≡ open_kept b n old
-  pub windows : (b n : ℕ) → open_kept b n old ≡ true → window_kept b new ≡ window_kept b old ++ answer_to forward response ∷ []
+  pub windows : (b n : ℕ) → open_kept b n old ≡ true → window_kept b new ≡ window_kept b old ++ answer_to forward cause response ∷ []
 
 -- ---- all targets
 
@@ -145,7 +167,7 @@ pooled_exchange o = option_map (λ (pooled : PooledExchange). exchange_seen pool
 
 abbrev pub window_in : Targets → Option PooledExchange → List WindowResponse
 window_in targets None = []
-window_in targets (Some pooled) = window_kept pooled.behind (get by_target targets pooled.exchange.target)
+window_in targets (Some pooled) = those_for pooled.exchange.number (window_kept pooled.behind (get by_target targets pooled.exchange.target))
 
 -- what the index is seen as
 abbrev pub seen_in : MapIndex → Seen
@@ -153,6 +175,7 @@ seen_in index = record {
   live = λ target. live_kept target (get by_target index.targets target);
   exchange = λ e. pooled_exchange (open_in index e);
   forward = λ f. option_map forward_seen (get nat_cmp index.forwards f);
+  cause = λ f. cause_seen (get nat_cmp index.forwards f);
   window = λ e. window_in index.targets (open_in index e);
   error = λ target. error_kept (get by_target index.targets target);
   failure = λ target. failure_kept (get by_target index.targets target);

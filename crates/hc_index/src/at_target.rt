@@ -13,6 +13,7 @@ use crate::pool::Pool;
 use hc_fields::SharedOctets;
 use hc_framing::Message;
 use hc_head::{ResponseHead, StatusCode, is_error_status};
+use hc_transcript::ToldCause;
 use std::alloc::{AllocError, Global};
 
 /// What is kept of a target.
@@ -97,24 +98,25 @@ impl AtTarget {
         self.failure = position;
     }
 
-    /// Takes in the response to a forward of the target. A body that the latest live response has as well is
+    /// Takes in the response to a forward of the target and of that cause. A body that the latest live response has as well is
     /// kept once.
     pub(crate) fn answer(
         &mut self,
         alloc: Global,
         forward: OpenForward,
+        cause: ToldCause,
         position: u64,
         moment: u64,
         response: Message<ResponseHead>,
     ) -> Result<(), AllocError>
         requires { moment < end_of_moments }
-        ensures { OnOk result (AnswersAt (forward_seen forward) position moment response (Some self.old) (Some self.new)) }
+        ensures { OnOk result (AnswersAt (forward_seen forward) cause position moment response (Some self.old) (Some self.new)) }
     {
         let Message { head, body } = response;
         self.error = error_after(self.error, head.status, position);
         let body = shared_body(self.lives.as_slice(), body)?;
         let response = Message { head, body };
-        self.pool.add(alloc, &forward, &response)?;
+        self.pool.add(alloc, &forward, cause, &response)?;
         let lives = &mut self.lives;
         answer_lives(alloc, &forward, position, moment, &response, lives)?;
         begin_live(alloc, forward, position, moment, response, lives)

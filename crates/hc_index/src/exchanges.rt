@@ -6,6 +6,8 @@ ghost use Rattle.hc_index.specs.Lists.{forward_seen, open_in, watched, watched_a
 use crate::kept::{OpenForward, WatchedExchange, WindowAnswer};
 use hc_framing::Message;
 use hc_head::{ResponseHead, same_target};
+use hc_history::may_be_for;
+use hc_transcript::ToldCause;
 use std::alloc::{AllocError, Global};
 
 /// Closes the exchange of that number.
@@ -29,15 +31,19 @@ pub(crate) fn open_exchange(
     Ok(())
 }
 
-/// Puts the response to a forward of any target into the window of an exchange.
+/// Puts the response to a forward of any target and cause into the window of an exchange.
 fn add_to_window(
     alloc: Global,
     forward: &OpenForward,
+    cause: ToldCause,
     response: &Message<ResponseHead>,
     exchange: &mut WatchedExchange,
 ) -> Result<(), AllocError>
-    ensures { OnOk result (watched exchange.new ≡ watched_answered (forward_seen forward.now) response.now (watched exchange.old)) }
+    ensures { OnOk result (watched exchange.new ≡ watched_answered (forward_seen forward.now) cause response.now (watched exchange.old)) }
 {
+    if !may_be_for(cause, exchange.exchange.number) {
+        return Ok(());
+    }
     if !same_target(&forward.target, &exchange.exchange.target) {
         return Ok(());
     }
@@ -49,19 +55,20 @@ fn add_to_window(
     Ok(())
 }
 
-/// Puts the response to a forward into the windows of its target.
+/// Puts the response to a forward of that cause into the windows of its target.
 #[tactic(auto, using(crate::proofs::LoopLemmas::seen_over_at))]
 pub(crate) fn add_to_windows(
     alloc: Global,
     forward: &OpenForward,
+    cause: ToldCause,
     response: &Message<ResponseHead>,
     exchanges: &mut Vec<WatchedExchange>,
 ) -> Result<(), AllocError>
     ensures { OnOk result (map watched exchanges.new.items
-        ≡ map (watched_answered (forward_seen forward.now) response.now) (map watched exchanges.old.items)) }
+        ≡ map (watched_answered (forward_seen forward.now) cause response.now) (map watched exchanges.old.items)) }
 {
     for exchange in exchanges.iter_mut() {
-        add_to_window(alloc, forward, response, exchange)?;
+        add_to_window(alloc, forward, cause, response, exchange)?;
     }
     Ok(())
 }

@@ -16,6 +16,7 @@ use hc_history::{
     Finding, Mark, MarkedReply, Reason, ReplyClaim, Settings, carries, found_of_forwarded,
     found_of_hit, found_of_unmarked, passed, ttl_of,
 };
+use hc_transcript::Format;
 use std::alloc::{AllocError, Global};
 
 /// The number of filters; who passes them all is reused.
@@ -38,12 +39,14 @@ pub(crate) fn claim_of<'a>(
     moment: u64,
     reply: &MarkedReply<'a>,
     settings: &'a Settings,
+    format: Format,
 ) -> ReplyClaim<'a>
-    ensures { (seen : Seen) (h : List Item) → IsSeenAs seen h
+    ensures { (seen : Seen) (h : List Item) → IsSeenAs format seen h
         → latest.error ≡ seen.error exchange.now.target → latest.failure ≡ seen.failure exchange.now.target
-        → result ≡ claim_of settings.now (exchange_seen exchange.now) moment reply.now h }
+        → result ≡ claim_of format settings.now (exchange_seen exchange.now) moment reply.now h }
 {
     ReplyClaim {
+        format,
         exchange: exchange.number,
         request: &exchange.request,
         target: &exchange.target,

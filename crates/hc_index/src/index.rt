@@ -7,7 +7,7 @@ ghost use Rattle.hc_history.specs.Seen.{Seen, IsSeenAs};
 ghost use Rattle.hc_history.specs.Right.{IsFinding};
 
 use hc_history::{Finding, MarkedReply, Settings};
-use hc_transcript::OwnedItem;
+use hc_transcript::{Format, OwnedItem};
 use std::alloc::AllocError;
 
 /// The records so far, as far as the next reply needs them.
@@ -15,23 +15,24 @@ pub trait Index {
     /// What it knows, however that is kept.
     ghost seen: { Self → Seen };
 
-    /// Takes in the next record, which stands at that position: an index that is seen as the history
-    /// before it is then seen as the history with it. After an error nothing is said of what the
-    /// index knows, and it is to be asked no more.
-    fn note(&mut self, position: u64, item: OwnedItem) -> Result<(), AllocError>
-        ensures { (h : List Item) → position ≡ next_position h → IsSeenAs (seen self.old) h
-            → OnOk result (IsSeenAs (seen self.new) (item_of item ∷ h)) };
+    /// Takes in the next record of a transcript of that format, which stands at that position: an index
+    /// that is seen as the history before it is then seen as the history with it. After an error nothing
+    /// is said of what the index knows, and it is to be asked no more.
+    fn note(&mut self, position: u64, item: OwnedItem, format: Format) -> Result<(), AllocError>
+        ensures { (h : List Item) → position ≡ next_position h → IsSeenAs format (seen self.old) h
+            → OnOk result (IsSeenAs format (seen self.new) (item_of item ∷ h)) };
 
-    /// What is found of a reply to the open exchange of that number, which comes next, at that moment:
-    /// that it is right, or the least reason why it is wrong. Where no exchange of that number is
-    /// open, the answer says nothing. It fails only where memory is refused.
+    /// What is found of a reply to the open exchange of that number, which comes next in a transcript of
+    /// that format, at that moment: that it is right, or the least reason why it is wrong. Where no
+    /// exchange of that number is open, the answer says nothing. It fails only where memory is refused.
     fn find(
         &self,
         exchange: u64,
         reply: &MarkedReply<'_>,
         moment: u64,
         settings: &Settings,
+        format: Format,
     ) -> Result<Finding, AllocError>
-        ensures { (h : List Item) → IsSeenAs (seen self.now) h
-            → IfOk result (IsFinding settings.now (exchange_of exchange h) moment reply.now h) };
+        ensures { (h : List Item) → IsSeenAs format (seen self.now) h
+            → IfOk result (IsFinding format settings.now (exchange_of exchange h) moment reply.now h) };
 }

@@ -6,6 +6,7 @@ ghost use Rattle.hc_history.specs.Seen.{remaining};
 use hc_fields::SharedOctets;
 use hc_framing::Message;
 use hc_head::{Method, RequestHead, StatusCode, Target};
+use hc_transcript::ToldCause;
 use hc_update::Stored;
 
 /// A response that may be stored, as the records behind it have left it.
@@ -51,6 +52,13 @@ impl Drop for WindowAnswer {
         drop(method);
         drop(body);
     }
+}
+
+/// What the origin answered, in a pool of a target, with what is told of the cause of its forward.
+#[derive(Debug, Drop)]
+pub(crate) struct PooledAnswer {
+    pub(crate) cause: ToldCause,
+    pub(crate) answer: WindowAnswer,
 }
 
 /// An open exchange.
@@ -117,17 +125,25 @@ pub(crate) struct OpenForward {
     pub(crate) moment: u64,
     pub(crate) request: RequestHead,
     pub(crate) target: Target,
+    /// The exchange that it was made for: none where no reply waits for it, and in the first format.
+    pub(crate) cause: Option<u64>,
 }
 
 impl OpenForward {
     /// The forward of a request that was sent at that moment.
-    pub(crate) fn new(moment: u64, request: Message<RequestHead>, target: Target) -> Self
-        ensures { result ≡ record { moment = moment; request = request.head; target = target } }
+    pub(crate) fn new(
+        moment: u64,
+        request: Message<RequestHead>,
+        target: Target,
+        cause: Option<u64>,
+    ) -> Self
+        ensures { result ≡ record { moment = moment; request = request.head; target = target; cause = cause } }
     {
         OpenForward {
             moment,
             request: request.head,
             target,
+            cause,
         }
     }
 }

@@ -14,6 +14,7 @@ use crate::kept::{WatchedExchange, WindowAnswer};
 use crate::list_index::ListIndex;
 use hc_head::Target;
 use hc_history::{Finding, Mark, MarkedReply, ReplyClaim, Settings};
+use hc_transcript::Format;
 use std::alloc::AllocError;
 use std::collections::BTreeMap;
 
@@ -52,9 +53,10 @@ pub(crate) fn finding(
     reply: &MarkedReply<'_>,
     moment: u64,
     settings: &Settings,
+    format: Format,
 ) -> Result<Finding, AllocError>
-    ensures { (h : List Item) → IsSeenAs (seen_in index.now) h
-        → IfOk result (IsFinding settings.now (exchange_of number h) moment reply.now h) }
+    ensures { (h : List Item) → IsSeenAs format (seen_in index.now) h
+        → IfOk result (IsFinding format settings.now (exchange_of number h) moment reply.now h) }
 {
     let Some(watched) = open_exchange(index.exchanges.as_slice(), number) else {
         return Ok(Finding::Right);
@@ -64,7 +66,7 @@ pub(crate) fn finding(
         error: position_of(&index.errors, &exchange.target),
         failure: position_of(&index.failures, &exchange.target),
     };
-    let claim = claim_of(exchange, latest, moment, reply, settings);
+    let claim = claim_of(exchange, latest, moment, reply, settings, format);
     let mark = reply.mark();
     let carried = is_carried(mark, &claim, watched.window.as_slice());
     found_by(index.alloc, mark, &claim, index.lives.as_slice(), carried)

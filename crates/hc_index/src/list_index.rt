@@ -7,6 +7,7 @@ ghost use Rattle.hc_head.specs.declared.head.Target.{Target};
 ghost use Rattle.hc_head.specs.Targets.{same_target};
 ghost use Rattle.hc_transcript.specs.Items.{Item, ClientRequest, OriginRequest, OriginResponse, OriginFailure, ClientReply, item_of};
 ghost use Rattle.hc_head.specs.Statuses.{is_error_status};
+ghost use Rattle.hc_transcript.specs.declared.format.Format.{Format};
 ghost use Rattle.hc_history.specs.Seen.{IsSeenAs};
 ghost use Rattle.hc_history.specs.Noting.{Notes};
 ghost use Rattle.hc_index.specs.Lists.{by_target, position_in, seen_in};
@@ -20,7 +21,7 @@ use crate::noting::{Noting, note_item};
 use hc_framing::Message;
 use hc_head::{RequestHead, ResponseHead, Target, is_error_status};
 use hc_history::{Finding, MarkedReply, Settings};
-use hc_transcript::OwnedItem;
+use hc_transcript::{Format, OwnedItem, ToldCause};
 use std::alloc::{AllocError, Global};
 use std::collections::BTreeMap;
 
@@ -72,7 +73,7 @@ fn keep_error(
 impl ListIndex {
     /// An index that has noted nothing.
     pub fn new(alloc: Global) -> Self
-        ensures { IsSeenAs (⟦<ListIndex as Index>⟧.seen result) [] }
+        ensures { (format : Format) → IsSeenAs format (⟦<ListIndex as Index>⟧.seen result) [] }
     {
         ListIndex {
             alloc,
@@ -112,8 +113,9 @@ impl Noting for ListIndex {
         moment: u64,
         request: Message<RequestHead>,
         target: Target,
+        cause: Option<u64>,
     ) -> Result<(), AllocError> {
-        let forward = OpenForward::new(moment, request, target);
+        let forward = OpenForward::new(moment, request, target, cause);
         self.forwards.insert(number, forward)?;
         Ok(())
     }
@@ -131,13 +133,15 @@ impl Noting for ListIndex {
         position: u64,
         moment: u64,
         response: Message<ResponseHead>,
+        format: Format,
     ) -> Result<(), AllocError> {
         let alloc = self.alloc;
         let Some(forward) = self.forwards.remove(&number) else {
             return Ok(());
         };
         keep_error(alloc, &mut self.errors, &forward, &response, position)?;
-        add_to_windows(alloc, &forward, &response, &mut self.exchanges)?;
+        let cause = ToldCause::told_in(format, forward.cause);
+        add_to_windows(alloc, &forward, cause, &response, &mut self.exchanges)?;
         let lives = &mut self.lives;
         answer_lives(alloc, &forward, position, moment, &response, lives)?;
         begin_live(alloc, forward, position, moment, response, lives)
@@ -147,8 +151,8 @@ impl Noting for ListIndex {
 impl Index for ListIndex {
     ghost seen = { λ index. seen_in index };
 
-    fn note(&mut self, position: u64, item: OwnedItem) -> Result<(), AllocError> {
-        note_item(self, position, item)
+    fn note(&mut self, position: u64, item: OwnedItem, format: Format) -> Result<(), AllocError> {
+        note_item(self, position, item, format)
     }
 
     fn find(
@@ -157,7 +161,8 @@ impl Index for ListIndex {
         reply: &MarkedReply<'_>,
         moment: u64,
         settings: &Settings,
+        format: Format,
     ) -> Result<Finding, AllocError> {
-        finding(self, exchange, reply, moment, settings)
+        finding(self, exchange, reply, moment, settings, format)
     }
 }

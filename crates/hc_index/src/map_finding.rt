@@ -4,22 +4,22 @@ ghost use Rattle.std.specs.Prelude.{◌≡◌, List, IfOk};
 ghost use Rattle.std.specs.List.{list_any};
 ghost use Rattle.hc_transcript.specs.Items.{Item};
 ghost use Rattle.hc_transcript.specs.History.{exchange_of};
-ghost use Rattle.hc_history.specs.Forwarded.{carries};
 ghost use Rattle.hc_history.specs.Right.{IsFinding};
 ghost use Rattle.hc_history.specs.Seen.{IsSeenAs};
 ghost use Rattle.hc_index.specs.Lists.{carried_by};
-ghost use Rattle.hc_index.specs.Maps.{answers_behind, seen_in};
+ghost use Rattle.hc_index.specs.Maps.{answers_behind, carries_told, seen_in};
 
 use crate::finding::{Latest, claim_of, found_by};
 use crate::map_index::MapIndex;
 use crate::pool::Pool;
 use hc_history::{Finding, Mark, MarkedReply, ReplyClaim, Settings};
+use hc_transcript::Format;
 use std::alloc::AllocError;
 
 /// Whether the reply went forward and carries one of the answers behind so many.
 fn is_carried(mark: Mark, claim: &ReplyClaim<'_>, pool: &Pool, behind: usize) -> bool
     ensures { result ≡ carried_by mark
-        (list_any (λ one. carries claim.now one.method one.status one.body) (answers_behind behind pool.now)) }
+        (list_any (carries_told claim.now) (answers_behind behind pool.now)) }
 {
     match mark {
         Mark::Forwarded => pool.carries_one(claim, behind),
@@ -35,9 +35,10 @@ pub(crate) fn finding(
     reply: &MarkedReply<'_>,
     moment: u64,
     settings: &Settings,
+    format: Format,
 ) -> Result<Finding, AllocError>
-    ensures { (h : List Item) → IsSeenAs (seen_in index.now) h
-        → IfOk result (IsFinding settings.now (exchange_of number h) moment reply.now h) }
+    ensures { (h : List Item) → IsSeenAs format (seen_in index.now) h
+        → IfOk result (IsFinding format settings.now (exchange_of number h) moment reply.now h) }
 {
     let Some(pooled) = index.exchanges.get(&number) else {
         return Ok(Finding::Right);
@@ -50,7 +51,7 @@ pub(crate) fn finding(
         error: here.error,
         failure: here.failure,
     };
-    let claim = claim_of(exchange, latest, moment, reply, settings);
+    let claim = claim_of(exchange, latest, moment, reply, settings, format);
     let mark = reply.mark();
     let carried = is_carried(mark, &claim, &here.pool, pooled.behind);
     found_by(index.alloc, mark, &claim, here.lives.as_slice(), carried)

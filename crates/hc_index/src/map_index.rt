@@ -3,6 +3,7 @@
 ghost use Rattle.std.specs.Prelude.{◌≡◌, ◌<◌, ℕ, [], OnOk};
 ghost use Rattle.hc_fields.specs.Numbers.{end_of_moments};
 ghost use Rattle.hc_transcript.specs.Items.{ClientRequest, OriginRequest, OriginResponse, OriginFailure, ClientReply, item_of};
+ghost use Rattle.hc_transcript.specs.declared.format.Format.{Format};
 ghost use Rattle.hc_history.specs.Seen.{IsSeenAs};
 ghost use Rattle.hc_history.specs.Noting.{Notes};
 ghost use Rattle.hc_index.specs.Maps.{seen_in};
@@ -16,7 +17,7 @@ use crate::targets::{answer_at, close_at, fail_at, open_at};
 use hc_framing::Message;
 use hc_head::{RequestHead, ResponseHead, Target};
 use hc_history::{Finding, MarkedReply, Settings};
-use hc_transcript::OwnedItem;
+use hc_transcript::{Format, OwnedItem, ToldCause};
 use std::alloc::{AllocError, Global};
 use std::collections::BTreeMap;
 
@@ -33,7 +34,7 @@ pub struct MapIndex {
 impl MapIndex {
     /// An index that has noted nothing.
     pub fn new(alloc: Global) -> Self
-        ensures { IsSeenAs (⟦<MapIndex as Index>⟧.seen result) [] }
+        ensures { (format : Format) → IsSeenAs format (⟦<MapIndex as Index>⟧.seen result) [] }
     {
         MapIndex {
             alloc,
@@ -76,8 +77,9 @@ impl Noting for MapIndex {
         moment: u64,
         request: Message<RequestHead>,
         target: Target,
+        cause: Option<u64>,
     ) -> Result<(), AllocError> {
-        let forward = OpenForward::new(moment, request, target);
+        let forward = OpenForward::new(moment, request, target, cause);
         self.forwards.insert(number, forward)?;
         Ok(())
     }
@@ -95,20 +97,24 @@ impl Noting for MapIndex {
         position: u64,
         moment: u64,
         response: Message<ResponseHead>,
+        format: Format,
     ) -> Result<(), AllocError> {
         let Some(forward) = self.forwards.remove(&number) else {
             return Ok(());
         };
+        let cause = ToldCause::told_in(format, forward.cause);
         let targets = &mut self.targets;
-        answer_at(self.alloc, targets, forward, position, moment, response)
+        answer_at(
+            self.alloc, targets, forward, cause, position, moment, response,
+        )
     }
 }
 
 impl Index for MapIndex {
     ghost seen = { λ index. seen_in index };
 
-    fn note(&mut self, position: u64, item: OwnedItem) -> Result<(), AllocError> {
-        note_item(self, position, item)
+    fn note(&mut self, position: u64, item: OwnedItem, format: Format) -> Result<(), AllocError> {
+        note_item(self, position, item, format)
     }
 
     fn find(
@@ -117,7 +123,8 @@ impl Index for MapIndex {
         reply: &MarkedReply<'_>,
         moment: u64,
         settings: &Settings,
+        format: Format,
     ) -> Result<Finding, AllocError> {
-        finding(self, exchange, reply, moment, settings)
+        finding(self, exchange, reply, moment, settings, format)
     }
 }

@@ -1,16 +1,17 @@
 //! What each kind of record makes of an index.
 
-ghost use Rattle.std.specs.Prelude.{◌<◌, ℕ, Option, OnOk};
+ghost use Rattle.std.specs.Prelude.{◌<◌, ℕ, OnOk};
 ghost use Rattle.hc_head.specs.declared.head.ResponseHead.{ResponseHead};
 ghost use Rattle.hc_framing.specs.declared.message.Message.{Message};
 ghost use Rattle.hc_fields.specs.Numbers.{end_of_moments};
+ghost use Rattle.hc_transcript.specs.declared.format.Format.{Format};
 ghost use Rattle.hc_transcript.specs.Items.{ClientRequest, OriginRequest, OriginResponse, OriginFailure, ClientReply, item_of};
 ghost use Rattle.hc_history.specs.Noting.{Notes};
 ghost use Rattle.hc_history.specs.Seen.{Seen};
 
 use hc_framing::Message;
 use hc_head::{RequestHead, ResponseHead, Target};
-use hc_transcript::{Meaning, OwnedItem};
+use hc_transcript::{Format, Meaning, OwnedItem};
 use std::alloc::AllocError;
 
 /// What notes each kind of record for itself.
@@ -26,13 +27,13 @@ pub(crate) trait Noting {
         request: Message<RequestHead>,
         target: Target,
     ) -> Result<(), AllocError>
-        ensures { (moment : ℕ) → OnOk result
-            (Notes (knows self.old) position (ClientRequest number moment request target) (knows self.new)) };
+        ensures { (format : Format) (moment : ℕ) → OnOk result
+            (Notes format (knows self.old) position (ClientRequest number moment request target) (knows self.new)) };
 
     /// Notes a reply to a client.
     fn close_exchange(&mut self, number: u64)
-        ensures { (position moment : ℕ) (reply : Message ResponseHead)
-            → Notes (knows self.old) position (ClientReply number moment reply) (knows self.new) };
+        ensures { (format : Format) (position moment : ℕ) (reply : Message ResponseHead)
+            → Notes format (knows self.old) position (ClientReply number moment reply) (knows self.new) };
 
     /// Notes a request to the origin.
     fn open_forward(
@@ -41,14 +42,15 @@ pub(crate) trait Noting {
         moment: u64,
         request: Message<RequestHead>,
         target: Target,
+        cause: Option<u64>,
     ) -> Result<(), AllocError>
-        ensures { (position : ℕ) (cause : Option ℕ) → OnOk result
-            (Notes (knows self.old) position (OriginRequest number moment request target cause) (knows self.new)) };
+        ensures { (format : Format) (position : ℕ) → OnOk result
+            (Notes format (knows self.old) position (OriginRequest number moment request target cause) (knows self.new)) };
 
     /// Notes that the origin gave no answer.
     fn fail_forward(&mut self, number: u64, position: u64) -> Result<(), AllocError>
-        ensures { (moment : ℕ) → OnOk result
-            (Notes (knows self.old) position (OriginFailure number moment) (knows self.new)) };
+        ensures { (format : Format) (moment : ℕ) → OnOk result
+            (Notes format (knows self.old) position (OriginFailure number moment) (knows self.new)) };
 
     /// Notes a response of the origin.
     fn answer_forward(
@@ -57,10 +59,11 @@ pub(crate) trait Noting {
         position: u64,
         moment: u64,
         response: Message<ResponseHead>,
+        format: Format,
     ) -> Result<(), AllocError>
         requires { moment < end_of_moments }
         ensures { OnOk result
-            (Notes (knows self.old) position (OriginResponse number moment response) (knows self.new)) };
+            (Notes format (knows self.old) position (OriginResponse number moment response) (knows self.new)) };
 }
 
 /// Notes the next item, which stands at that position.
@@ -68,8 +71,9 @@ pub(crate) fn note_item<N: Noting>(
     noting: &mut N,
     position: u64,
     item: OwnedItem,
+    format: Format,
 ) -> Result<(), AllocError>
-    ensures { OnOk result (Notes (N.knows noting.old) position (item_of item) (N.knows noting.new)) }
+    ensures { OnOk result (Notes format (N.knows noting.old) position (item_of item) (N.knows noting.new)) }
 {
     let number = item.number;
     let moment = item.moment;
@@ -81,10 +85,10 @@ pub(crate) fn note_item<N: Noting>(
         Meaning::OriginRequest {
             request,
             target,
-            ..
-        } => { noting.open_forward(number, moment, request, target) }
+            cause,
+        } => noting.open_forward(number, moment, request, target, cause),
         Meaning::OriginResponse(response) => {
-            noting.answer_forward(number, position, moment, response)
+            noting.answer_forward(number, position, moment, response, format)
         }
         Meaning::OriginFailure => noting.fail_forward(number, position),
         Meaning::ClientReply(_) => Ok(noting.close_exchange(number)),

@@ -1,14 +1,17 @@
 //! What the windows of a target hold.
 
-ghost use Rattle.std.specs.Prelude.{◌≡◌, ◌≤◌, ◌+◌, ◌^◌, ◌++◌, ℕ, true, length, drop};
+ghost use Rattle.std.specs.Prelude.{◌≡◌, ◌≤◌, ◌+◌, ◌^◌, ◌++◌, ◌&&◌, ℕ, true, length, drop};
 ghost use Rattle.std.specs.BTreeSet.{contains};
+ghost use Rattle.std.specs.List.{list_any};
+ghost use Rattle.hc_history.specs.Windows.{may_be_for};
+ghost use Rattle.hc_history.specs.Forwarded.{carries};
 ghost use Rattle.hc_index.specs.Openings.{by_opening};
 
-use crate::finding::carries_one;
-use crate::kept::{OpenForward, WindowAnswer};
+use crate::kept::{OpenForward, PooledAnswer, WindowAnswer};
 use hc_framing::Message;
 use hc_head::ResponseHead;
-use hc_history::ReplyClaim;
+use hc_history::{ReplyClaim, carries, may_be_for};
+use hc_transcript::ToldCause;
 use std::alloc::{AllocError, Global};
 use std::collections::{BTreeSet, VecDeque};
 
@@ -22,7 +25,7 @@ pub(crate) struct Pool {
     /// How many answers were given up.
     dropped: usize,
     /// The answers behind them, the oldest first.
-    answers: VecDeque<WindowAnswer>,
+    answers: VecDeque<PooledAnswer>,
     /// How many answers there were before a window, and the number of its exchange.
     windows: BTreeSet<(usize, u64)>,
     ghost few: { dropped ≤ 2 ^ 62 },
@@ -30,7 +33,7 @@ pub(crate) struct Pool {
 }
 
 /// Gives up so many of the oldest answers.
-fn drop_oldest(answers: &mut VecDeque<WindowAnswer>, count: usize)
+fn drop_oldest(answers: &mut VecDeque<PooledAnswer>, count: usize)
     ensures { answers.new.items ≡ drop count answers.old.items }
 {
     for _ in 0..count {
@@ -40,9 +43,9 @@ fn drop_oldest(answers: &mut VecDeque<WindowAnswer>, count: usize)
 
 /// The two runs of the answers behind so many.
 fn parts_behind(
-    answers: &VecDeque<WindowAnswer>,
+    answers: &VecDeque<PooledAnswer>,
     before: usize,
-) -> (&[WindowAnswer], &[WindowAnswer])
+) -> (&[PooledAnswer], &[PooledAnswer])
     ensures { result.0.now ++ result.1.now ≡ drop before answers.now.items }
 {
     let (older, newer) = answers.as_slices();
@@ -52,12 +55,22 @@ fn parts_behind(
     (older, newer)
 }
 
+/// Whether the reply carries one of those answers that may be for its exchange.
+fn carries_one(claim: &ReplyClaim<'_>, answers: &[PooledAnswer]) -> bool
+    ensures { result ≡ list_any (λ one. may_be_for one.cause claim.now.exchange
+        && carries claim.now one.answer.method one.answer.status one.answer.body) answers.now }
+{
+    answers.iter().any(|one| {
+        let answer = &one.answer;
+        may_be_for(one.cause, claim.exchange)
+            && carries(claim, &answer.method, answer.status, answer.body.as_slice())
+    })
+}
+
 impl Pool {
     ghost use Rattle.std.specs.Prelude.{IfOk, OnOk};
-    ghost use Rattle.std.specs.List.{list_any};
-    ghost use Rattle.hc_history.specs.Forwarded.{carries};
     ghost use Rattle.hc_index.specs.Lists.{forward_seen};
-    ghost use Rattle.hc_index.specs.Maps.{AddsAnswer, ClosesWindow, OpensWindow, answer_to, answers_behind, is_open};
+    ghost use Rattle.hc_index.specs.Maps.{AddsAnswer, ClosesWindow, OpensWindow, answer_to, answers_behind, carries_told, is_open};
     ghost use Rattle.std.specs.Prelude.{false};
 
     /// A pool without windows.
@@ -119,29 +132,31 @@ impl Pool {
         self.dropped += count;
     }
 
-    /// Adds the response to a forward of the target, if a window is open.
+    /// Adds the response to a forward of the target and of that cause, if a window is open.
     pub(crate) fn add(
         &mut self,
         alloc: Global,
         forward: &OpenForward,
+        cause: ToldCause,
         response: &Message<ResponseHead>,
     ) -> Result<(), AllocError>
-        ensures { OnOk result (AddsAnswer (answer_to (forward_seen forward.now) response.now) self.old self.new) }
+        ensures { OnOk result (AddsAnswer (answer_to (forward_seen forward.now) cause response.now) self.old self.new) }
     {
         if self.windows.is_empty() {
             return Ok(());
         }
-        self.answers.push_back(WindowAnswer {
+        let answer = WindowAnswer {
             method: forward.request.method.clone()?,
             status: response.head.status,
             body: response.body.share()?,
-        })?;
+        };
+        self.answers.push_back(PooledAnswer { cause, answer })?;
         Ok(())
     }
 
-    /// Whether the reply carries one of the answers behind so many.
+    /// Whether the reply carries one of the answers behind so many that may be for its exchange.
     pub(crate) fn carries_one(&self, claim: &ReplyClaim<'_>, behind: usize) -> bool
-        ensures { result ≡ list_any (λ one. carries claim.now one.method one.status one.body) (answers_behind behind self.now) }
+        ensures { result ≡ list_any (carries_told claim.now) (answers_behind behind self.now) }
     {
         let before = behind.saturating_sub(self.dropped);
         let (older, newer) = parts_behind(&self.answers, before);

@@ -9,6 +9,7 @@ use crate::at_target::AtTarget;
 use crate::kept::OpenForward;
 use hc_framing::Message;
 use hc_head::{ResponseHead, Target};
+use hc_transcript::ToldCause;
 use std::alloc::{AllocError, Global};
 use std::collections::BTreeMap;
 
@@ -67,24 +68,25 @@ pub(crate) fn fail_at(
     Ok(())
 }
 
-/// Takes in the response to a forward.
+/// Takes in the response to a forward of that cause.
 pub(crate) fn answer_at(
     alloc: Global,
     targets: &mut BTreeMap<Target, AtTarget>,
     forward: OpenForward,
+    cause: ToldCause,
     position: u64,
     moment: u64,
     response: Message<ResponseHead>,
 ) -> Result<(), AllocError>
     requires { moment < end_of_moments }
-    ensures { OnOk result (ChangesAt forward.target targets.old targets.new (AnswersAt (forward_seen forward) position moment response)) }
+    ensures { OnOk result (ChangesAt forward.target targets.old targets.new (AnswersAt (forward_seen forward) cause position moment response)) }
 {
     if let Some(here) = targets.get_mut(&forward.target) {
-        return here.answer(alloc, forward, position, moment, response);
+        return here.answer(alloc, forward, cause, position, moment, response);
     }
     let target = forward.target.copy(alloc)?;
     let mut here = AtTarget::new(alloc);
-    here.answer(alloc, forward, position, moment, response)?;
+    here.answer(alloc, forward, cause, position, moment, response)?;
     if !here.is_nothing() {
         targets.insert(target, here)?;
     }

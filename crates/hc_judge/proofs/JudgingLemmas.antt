@@ -15,14 +15,22 @@ use Rattle.hc_judge.specs.declared.past.PastItem.{PastItem}
 use Rattle.hc_history.specs.declared.settings.Settings.{Settings}
 use Rattle.hc_history.specs.Claims.{Claim}
 use Rattle.hc_history.specs.States.{state_at}
-use Rattle.hc_history.specs.Verdicts.{IsWrongAt}
+use Rattle.hc_history.specs.declared.verdicts.Counts.{Counts}
+use Rattle.hc_history.specs.declared.verdicts.Verdict.TheVariants.{Yes, Malformed}
+use Rattle.hc_history.specs.Counting.{counts_of}
+use Rattle.hc_history.specs.Right.{AllRight}
+use Rattle.hc_history.specs.Verdicts.{IsWrongAt, IsVerdict}
 use Rattle.hc_history.specs.Furthest.{passed_by, passed_later, furthest_up_to}
 use Rattle.hc_history.specs.Reused.{anywhere}
 use Rattle.std.proofs.lemmas.Bool.{lt-ltb}
 use Rattle.hc_judge.specs.Past.{history_of}
-use Rattle.hc_judge.specs.Reading.{AreFirstOf}
+use Rattle.hc_judge.specs.declared.reading.Ending.TheVariants.{Whole, Broken}
+use Rattle.hc_judge.specs.Reading.{AreFirstOf, EndsBy}
 use Rattle.hc_history.specs.Found.{AnswersOpen}
+use Rattle.hc_transcript.specs.declared.fault.RecordFault.{RecordFault}
+use Rattle.hc_transcript.proofs.OnceLemmas.{one_opening}
 use Rattle.hc_history.proofs.FoundLemmas.{follows_open}
+use Rattle.hc_history.proofs.VerdictLemmas.{break_read}
 use Rattle.hc_judge.specs.Judging.{AllAnswerOpen, HasWrongAt}
 use Rattle.hc_judge.proofs.PastLemmas.{position_behind}
 use Rattle.hc_judge.proofs.ReadingLemmas.{history_more}
@@ -81,10 +89,10 @@ all_open format [] (item ∷ h) read = absurd read
 all_open format (r ∷ records) [] read = absurd read
 all_open format (r ∷ records) (item ∷ h) read = (all_open format records h read.0, follows_open format h r item read.1)
 
-pub first_open : (octets : List ℕ) (h : List Item) → AreFirstOf octets h → AllAnswerOpen h
-first_open octets h first = elim first [
+pub first_open : (format : Format) (octets : List ℕ) (h : List Item) → AreFirstOf format octets h → AllAnswerOpen h
+first_open format octets h first = elim first [
   | inl empty ↦ subst (λ (g : List Item). AllAnswerOpen g) (sym empty) tt
-  | inr read ↦ all_open read.0 read.1 h read.3.are_read
+  | inr read ↦ all_open format read.0 h read.2.are_read
 ]
 
 -- ---- the verdict
@@ -104,14 +112,14 @@ not_empty : (later : List Item) (item : Item) (h : List Item) → [] ≡ later +
 not_empty [] item h e = cc
 not_empty (i ∷ later) item h e = cc
 
-pub wrong_at : (octets : List ℕ) (settings : Settings) (h : List Item) (position : ℕ) (why : Reason) → AreFirstOf octets h → HasWrongAt settings h position why
+pub wrong_at : (format : Format) (octets : List ℕ) (settings : Settings) (h : List Item) (position : ℕ) (why : Reason) → AreFirstOf format octets h → HasWrongAt format settings h position why
     → IsWrongAt octets settings position why
-wrong_at octets settings h position why first wrong = elim first [
+wrong_at format octets settings h position why first wrong = elim first [
   | inl empty ↦ absurd (not_empty wrong.later wrong.item wrong.earlier (sym empty ∙ wrong.history_is))
   | inr read ↦
-      let s = fewer read.0 octets wrong.later wrong.item wrong.earlier read.1 read.2 (subst (λ (g : List Item). Splits read.0 octets read.1 g read.2) wrong.history_is read.3) in
+      let s = fewer format octets wrong.later wrong.item wrong.earlier read.0 read.1 (subst (λ (g : List Item). Splits format octets read.0 g read.1) wrong.history_is read.2) in
       record {
-        format = read.0;
+        format = format;
         records = s.0;
         history = wrong.earlier;
         item = wrong.item;
@@ -122,3 +130,36 @@ wrong_at octets settings h position why first wrong = elim first [
         position_is = wrong.position_is;
       }
 ]
+
+-- what is right in the format that was told is right in the format in which the octets are read
+right_read : (format other : Format) (octets : List ℕ) (settings : Settings) (h : List Item) (records : List Record) (rest : List ℕ) → AreFirstOf format octets h → AllRight format settings h
+    → Splits other octets records h rest → AllRight other settings h
+right_read format other octets settings h records rest first right splits = elim first [
+  | inl empty ↦ subst (λ (g : List Item). AllRight other settings g) (sym empty) tt
+  | inr read ↦ subst (λ (k : Format). AllRight k settings h) (one_opening octets format other read.0 records h h read.1 rest read.2 splits) right
+]
+
+-- the verdict on octets of which every reply is right
+pub right_to_the_end : (format : Format) (octets : List ℕ) (settings : Settings) (h : List Item) (counts : Counts) → AreFirstOf format octets h → AllRight format settings h → counts ≡ counts_of h
+    → EndsBy octets h Whole → IsVerdict octets settings (Yes counts)
+right_to_the_end format octets settings h counts first right counts-are ends = record {
+  format = ends.0;
+  records = ends.1;
+  history = h;
+  is_transcript = ends.2;
+  all_right = right_read format ends.0 octets settings h ends.1 [] first right ends.2;
+  counts_are = counts-are;
+}
+
+pub right_to_the_break : (format : Format) (octets : List ℕ) (settings : Settings) (h : List Item) (position : ℕ) (f : RecordFault) → AreFirstOf format octets h → AllRight format settings h
+    → EndsBy octets h (Broken position f) → IsVerdict octets settings (Malformed position f)
+right_to_the_break format octets settings h position f first right (inl opening) = inl opening
+right_to_the_break format octets settings h position f first right (inr behind) =
+    let read = break_read behind.1.0 octets h f behind.1.1 in
+    inr (record {
+      format = behind.1.0;
+      history = h;
+      all_right = right_read format behind.1.0 octets settings h read.0 read.1 first right read.2;
+      breaks = behind.1.1;
+      position_is = behind.0;
+    })

@@ -11,8 +11,9 @@ use Rattle.hc_transcript.specs.declared.item.OwnedItem.{OwnedItem}
 use Rattle.hc_transcript.specs.declared.reader.RecordReader.{RecordReader}
 use Rattle.hc_transcript.specs.declared.record.Record.{Record}
 use Rattle.hc_transcript.specs.Items.{Item, item_of}
+use Rattle.hc_transcript.specs.Transcript.{Splits}
 use Rattle.hc_transcript.specs.Malformed.{IsUnfinishedOpening}
-use Rattle.hc_transcript.specs.Reader.{Agrees, ReadsTo, Waits, WaitsBy, HasUnread, HasUnreadBy, HasFailed, MeetsFault, position_by, reader_position}
+use Rattle.hc_transcript.specs.Reader.{Agrees, ReadsTo, Waits, WaitsBy, HasUnread, HasUnreadBy, HasFailed, MeetsFault, format_read, KeepsFormat, position_by, reader_position}
 use Rattle.hc_judge.specs.declared.reading.Ending.{Ending}
 use Rattle.hc_judge.specs.declared.reading.Ending.TheVariants.{Broken}
 use Rattle.hc_judge.specs.declared.past.PastItem.{PastItem}
@@ -35,17 +36,19 @@ read_more r octets items more past item records item-is more-is one agrees = (
       (sym (ap history_of more-is ∙ history_more items past ∙ ap (λ (i : OwnedItem). item_of i ∷ history_of items) item-is)) agrees,
 )
 
-pub first_of : (r : RecordReader) (octets : List ℕ) (records : List Record) (h : List Item) → Agrees r octets records h → AreFirstOf octets h
-first_of r octets records h agrees = go r.format agrees.reads
+-- what a reader has read, in the format that it tells behind its next call
+pub first_of : (old new : RecordReader) (format : Format) (octets : List ℕ) (records : List Record) (h : List Item) → KeepsFormat old new
+    → ((told : Format) → format_read new ≡ Some told → format ≡ told) → Agrees old octets records h → AreFirstOf format octets h
+first_of old new format octets records h keeps tells agrees = go old.format refl agrees.reads
   where
-    go : (o : Option Format) → ReadsTo o octets records h r.held → AreFirstOf octets h
-    go None reads = inl reads.1.0
-    go (Some format) reads = inr (format, records, r.held, reads)
+    go : (o : Option Format) → old.format ≡ o → ReadsTo o octets records h old.held → AreFirstOf format octets h
+    go None is reads = inl reads.1.0
+    go (Some told) is reads = inr (records, old.held, subst (λ (k : Format). Splits k octets records h old.held) (sym (tells told (keeps told is))) reads)
 
 met_at : (r : RecordReader) (octets : List ℕ) (h : List Item) (f : RecordFault) → MeetsFault r octets h f → EndsBy octets h (Broken (reader_position r) f)
 met_at r octets h f met = elim met [
   | inl begins ↦ inl (begins.1.1.1, inl (begins.0, begins.1.0))
-  | inr behind ↦ inr (behind.position_is, inl behind.breaks)
+  | inr behind ↦ inr (behind.position_is, (behind.format, inl behind.breaks))
 ]
 
 same : (r : Result Ending AllocError) (ending other : Ending) → r ≡ Ok ending → r ≡ Ok other → ending ≡ other
@@ -80,6 +83,6 @@ torn_end r octets records h f position position-is agrees waits unread (inl torn
     go None reads waits unread at = inl (at, inr (subst IsUnfinishedOpening (sym reads.1.1) waits, refl))
     go (Some format) reads waits unread at = inr (
       at ∙ ap (λ (n : ℕ). n + 1) agrees.stands.records,
-      inr (refl, record { format = format; records = records; rest = r.held; splits = reads; some = unread; torn = waits }),
+      (format, inr (refl, record { records = records; rest = r.held; splits = reads; some = unread; torn = waits })),
     )
 torn_end r octets records h f position position-is agrees waits unread (inr failed) = absurd (let both : None ≡ Some f = sym agrees.unfailed ∙ failed in cc)

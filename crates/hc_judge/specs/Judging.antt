@@ -1,5 +1,6 @@
 -- For the plain judge: what it finds of one reply, and of all.
 use Rattle.std.specs.Prelude.{◌≡◌, ℕ, List, [], ◌∷◌, ◌++◌, Option, Some, None}
+use Rattle.hc_transcript.specs.declared.format.Format.{Format}
 use Rattle.hc_transcript.specs.Items.{Item}
 use Rattle.hc_transcript.specs.History.{next_position}
 use Rattle.hc_history.specs.declared.reasons.Reason.{Reason}
@@ -13,16 +14,16 @@ AllAnswerOpen [] = Unit {0}
 AllAnswerOpen (item ∷ h) = AllAnswerOpen h × AnswersOpen h item
 
 -- behind right replies stands, at that position, one that is wrong by that reason
-pub record HasWrongAt (settings : Settings) (h : List Item) (position : ℕ) (why : Reason) : Type 0 where
+pub record HasWrongAt (format : Format) (settings : Settings) (h : List Item) (position : ℕ) (why : Reason) : Type 0 where
   pub later : List Item
   pub item : Item
   pub earlier : List Item
   pub history_is : h ≡ later ++ item ∷ earlier
-  pub all_right : AllRight settings earlier
-  pub is_wrong : IsWrong settings earlier item why
+  pub all_right : AllRight format settings earlier
+  pub is_wrong : IsWrong format settings earlier item why
   pub position_is : position ≡ next_position earlier
 
 -- the first reply that is wrong, if one is
-abbrev pub IsFirstWrong : Settings → List Item → Option (ℕ × Reason) → Type 0
-IsFirstWrong settings h None = AllRight settings h
-IsFirstWrong settings h (Some wrong) = HasWrongAt settings h wrong.0 wrong.1
+abbrev pub IsFirstWrong : Format → Settings → List Item → Option (ℕ × Reason) → Type 0
+IsFirstWrong format settings h None = AllRight format settings h
+IsFirstWrong format settings h (Some wrong) = HasWrongAt format settings h wrong.0 wrong.1

@@ -18,19 +18,19 @@ use Rattle.hc_judge.specs.declared.reading.Ending.TheVariants.{Whole, Broken}
 use Rattle.hc_judge.specs.declared.past.PastItem.{PastItem}
 use Rattle.hc_judge.specs.Past.{history_of}
 
--- the items are those of the first records of the octets
-abbrev pub AreFirstOf : List ℕ → List Item → Type 0
-AreFirstOf octets h = (h ≡ []) ⊎ ((format : Format) × (records : List Record) × (rest : List ℕ) × Splits format octets records h rest)
+-- the items are those of the first records of the octets, in that format, or there are none
+abbrev pub AreFirstOf : Format → List ℕ → List Item → Type 0
+AreFirstOf format octets h = (h ≡ []) ⊎ ((records : List Record) × (rest : List ℕ) × Splits format octets records h rest)
 
 -- how the octets end behind the items
 abbrev pub EndsBy : List ℕ → List Item → Ending → Type 0
 EndsBy octets h Whole = (format : Format) × (records : List Record) × IsTranscript format octets records h
 EndsBy octets h (Broken position broken) =
-    ((position ≡ 0) × BreaksOpening octets broken) ⊎ ((position ≡ next_position h) × IsMalformedAfter octets h broken)
+    ((position ≡ 0) × BreaksOpening octets broken) ⊎ ((position ≡ next_position h) × ((format : Format) × IsMalformedAfter format octets h broken))
 
--- the octets are read as these items
-pub record AreItemsOf (octets : List ℕ) (items : List PastItem) (ending : Ending) : Type 0 where
-  pub are_first : AreFirstOf octets (history_of items)
+-- the octets are read as these items, in that format if there are any
+pub record AreItemsOf (format : Format) (octets : List ℕ) (items : List PastItem) (ending : Ending) : Type 0 where
+  pub are_first : AreFirstOf format octets (history_of items)
   pub ends : EndsBy octets (history_of items) ending
 
 -- what the answer to a call for the next item says

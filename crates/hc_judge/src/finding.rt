@@ -18,10 +18,12 @@ use hc_history::{
     Finding, Mark, Reason, ReplyClaim, Settings, found_of_forwarded, found_of_hit,
     found_of_unmarked, reply_mark, ttl_of,
 };
+use hc_transcript::Format;
 use std::alloc::{AllocError, Global};
 
 /// What a reply with that mark claims, behind those items.
 fn claim_of<'a>(
+    format: Format,
     settings: &'a Settings,
     exchange: &OpenExchange<'a>,
     moment: u64,
@@ -30,9 +32,10 @@ fn claim_of<'a>(
     items: &[PastItem],
 ) -> ReplyClaim<'a>
     ensures { mark ≡ reply_mark reply.now
-        → result ≡ claim_of settings.now exchange.now moment reply.now (history_of items.now) }
+        → result ≡ claim_of format settings.now exchange.now moment reply.now (history_of items.now) }
 {
     ReplyClaim {
+        format,
         exchange: exchange.number,
         request: exchange.request,
         target: exchange.target,
@@ -93,18 +96,19 @@ fn found_by(
 /// What is found of the reply to the exchange of that number, behind those items.
 pub(crate) fn found(
     alloc: Global,
+    format: Format,
     settings: &Settings,
     items: &[PastItem],
     number: u64,
     moment: u64,
     reply: &Message<ResponseHead>,
 ) -> Result<Finding, AllocError>
-    ensures { IfOk result (IsFinding settings.now (exchange_of number (history_of items.now)) moment reply.now (history_of items.now)) }
+    ensures { IfOk result (IsFinding format settings.now (exchange_of number (history_of items.now)) moment reply.now (history_of items.now)) }
 {
     let Some(exchange) = open_exchange(items, number) else {
         return Ok(Finding::Right);
     };
     let mark = reply_mark(alloc, reply)?;
-    let claim = claim_of(settings, &exchange, moment, reply, mark, items);
+    let claim = claim_of(format, settings, &exchange, moment, reply, mark, items);
     found_by(alloc, mark, &claim, items)
 }

@@ -5,11 +5,11 @@ ghost use Rattle.hc_transcript.specs.Items.{item_of};
 ghost use Rattle.hc_history.specs.Forwarded.{is_carried, is_forwarded};
 ghost use Rattle.hc_judge.specs.Past.{history_of};
 
-use crate::open::open_forward;
+use crate::open::{open_cause, open_forward};
 use crate::past::PastItem;
 use hc_head::same_target;
-use hc_history::{ReplyClaim, carries};
-use hc_transcript::Meaning;
+use hc_history::{ReplyClaim, carries, may_be_for};
+use hc_transcript::{Meaning, ToldCause};
 
 /// Whether the item behind those is a response that the reply carries.
 fn is_carried(claim: &ReplyClaim<'_>, earlier: &[PastItem], past: &PastItem) -> bool
@@ -22,9 +22,12 @@ fn is_carried(claim: &ReplyClaim<'_>, earlier: &[PastItem], past: &PastItem) -> 
     let Some(forward) = open_forward(earlier, item.number) else {
         return false;
     };
+    let cause = ToldCause::told_in(claim.format, open_cause(earlier, item.number));
     let method = &forward.request.method;
     let body = response.body.as_slice();
-    same_target(forward.target, claim.target) && carries(claim, method, response.head.status, body)
+    may_be_for(cause, claim.exchange)
+        && same_target(forward.target, claim.target)
+        && carries(claim, method, response.head.status, body)
 }
 
 /// Whether a response that the reply carries stands after its request.

@@ -2,7 +2,7 @@
 
 ghost use Rattle.std.specs.Prelude.{◌≡◌};
 ghost use Rattle.hc_transcript.specs.Items.{item_of};
-ghost use Rattle.hc_transcript.specs.History.{forward_after, forward_of, exchange_after, exchange_of};
+ghost use Rattle.hc_transcript.specs.History.{forward_after, forward_of, cause_after, cause_of, exchange_after, exchange_of};
 ghost use Rattle.hc_judge.specs.Past.{history_of};
 
 use crate::past::PastItem;
@@ -83,6 +83,33 @@ pub(crate) fn open_forward<'a>(items: &'a [PastItem], number: u64) -> Option<Ope
         open = forward_after(number, past.item(), open);
     }
     open
+}
+
+/// What an item makes of the exchange that the open forward of a number was made for.
+fn cause_after(number: u64, item: &OwnedItem, before: Option<u64>) -> Option<u64>
+    ensures { result ≡ cause_after number (item_of item.now) before }
+{
+    if item.number != number {
+        return before;
+    }
+    match &item.of {
+        Meaning::OriginRequest { cause, .. } => *cause,
+        Meaning::OriginResponse(_) => None,
+        Meaning::OriginFailure => None,
+        Meaning::ClientRequest { .. } => before,
+        Meaning::ClientReply(_) => before,
+    }
+}
+
+/// The exchange that the open forward of a number was made for, if there is one.
+pub(crate) fn open_cause(items: &[PastItem], number: u64) -> Option<u64>
+    ensures { result ≡ cause_of number (history_of items.now) }
+{
+    let mut cause = None;
+    for past in items {
+        cause = cause_after(number, past.item(), cause);
+    }
+    cause
 }
 
 /// What the item at a position makes of the open exchange of a number.

@@ -230,7 +230,7 @@ module _ (S H : Type 0) (settings : CoreSettings) (d : Desk S H) (s : State) (c 
       let reacts = reacts_now closes exchange n before mid (Replies reply (Some validation)) store stands there is has in
       let behind = drop size k.unread in
       let answer : List Action = reply_actions (one_more s.numbers.exchange) s.numbers.moment (is_head request.head.method) c (closes_behind request.head k) reply in
-      let sends : List Action = send_actions (one_more s.numbers.forward) s.numbers.moment validation in
+      let sends : List Action = send_actions (one_more s.numbers.forward) s.numbers.moment None validation in
       record {
         state = record {
           numbers = sent (noted (asked s.numbers));
@@ -253,8 +253,8 @@ module _ (S H : Type 0) (settings : CoreSettings) (d : Desk S H) (s : State) (c 
         };
         takes = (
           ask_actions (one_more s.numbers.exchange) s.numbers.moment request ++ (answer ++ sends),
-          behind_asked closes exchange n before mid (Replies reply (Some validation)) store stands there is has after (reply_actions exchange n.moment (is_head request.head.method) c closes reply ++ send_actions (one_more n.forward) n.moment validation) (answer ++ sends) gives.actions
-              (λ i. reply_actions (e i) (t i) (is_head request.head.method) c (b i) reply ++ send_actions (f i) (t i) validation),
+          behind_asked closes exchange n before mid (Replies reply (Some validation)) store stands there is has after (reply_actions exchange n.moment (is_head request.head.method) c closes reply ++ send_actions (one_more n.forward) n.moment None validation) (answer ++ sends) gives.actions
+              (λ i. reply_actions (e i) (t i) (is_head request.head.method) c (b i) reply ++ send_actions (f i) (t i) None validation),
           record {
             connection = k;
             is_open = there;
@@ -281,7 +281,7 @@ module _ (S H : Type 0) (settings : CoreSettings) (d : Desk S H) (s : State) (c 
       let t = moment_now closes exchange n before mid (Sends forward why conditional) store stands there is has in
       let f = forward_now closes exchange n before mid (Sends forward why conditional) store stands there is has in
       let behind = drop size k.unread in
-      let sends : List Action = send_actions (one_more s.numbers.forward) s.numbers.moment forward in
+      let sends : List Action = send_actions (one_more s.numbers.forward) s.numbers.moment (Some (one_more s.numbers.exchange)) forward in
       record {
         state = record {
           numbers = sent (asked s.numbers);
@@ -306,8 +306,8 @@ module _ (S H : Type 0) (settings : CoreSettings) (d : Desk S H) (s : State) (c 
         };
         takes = (
           ask_actions (one_more s.numbers.exchange) s.numbers.moment request ++ sends,
-          behind_asked closes exchange n before mid (Sends forward why conditional) store stands there is has after (send_actions (one_more n.forward) n.moment forward) sends gives.actions
-              (λ i. send_actions (f i) (t i) forward),
+          behind_asked closes exchange n before mid (Sends forward why conditional) store stands there is has after (send_actions (one_more n.forward) n.moment (Some exchange) forward) sends gives.actions
+              (λ i. send_actions (f i) (t i) (Some (e i)) forward),
           record {
             connection = k;
             is_open = there;
@@ -353,9 +353,9 @@ reply_then_behind S H number exchange client closes reply validation before betw
       subst (λ (n : Numbers). AreLinks new.links (insert forwards (one_more n.forward) (opens_behind exchange.target validation n))) replies.numbers
       (sends.links forwards (subst (λ (l : OpenLinks). AreLinks l forwards) (sym replies.links) are) place);
   store = sends.store ∙ replies.store;
-  actions = sends.actions ∙ ap (λ (l : List Action). l ++ send_actions (one_more mid.numbers.forward) mid.numbers.moment validation) replies.actions
+  actions = sends.actions ∙ ap (λ (l : List Action). l ++ send_actions (one_more mid.numbers.forward) mid.numbers.moment None validation) replies.actions
       ∙ append_assoc before _ _
-      ∙ ap (λ (n : Numbers). before ++ (reply_actions number old.numbers.moment (is_head exchange.request.method) exchange.connection closes reply ++ send_actions (one_more n.forward) n.moment validation)) replies.numbers;
+      ∙ ap (λ (n : Numbers). before ++ (reply_actions number old.numbers.moment (is_head exchange.request.method) exchange.connection closes reply ++ send_actions (one_more n.forward) n.moment None validation)) replies.numbers;
 }
 
 -- what is behind it may be nothing

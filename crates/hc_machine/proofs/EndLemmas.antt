@@ -237,7 +237,7 @@ module _ (S H : Type 0) (settings : CoreSettings) (d : Desk S H) (s : State) (f 
               (sent_forward request.head x.target s.numbers.moment (purpose.Reply e why false));
           store = new.store;
         } in
-        let sends : List Action = send_actions (one_more s.numbers.forward) s.numbers.moment request in
+        let sends : List Action = send_actions (one_more s.numbers.forward) s.numbers.moment (Some e) request in
         record {
           state = left;
           stands = record {
@@ -258,8 +258,8 @@ module _ (S H : Type 0) (settings : CoreSettings) (d : Desk S H) (s : State) (f 
           takes = λ ready. (
             (
               first ++ sends,
-              gives.actions ∙ ap (λ (l : List Action). l ++ send_actions (one_more mid.numbers.forward) mid.numbers.moment (request_anew mid w)) ended.actions
-                  ∙ append_assoc before first _ ∙ (λ i. before ++ (first ++ send_actions (next i) (m i) (forward_anew (name i) x.target x.request))),
+              gives.actions ∙ ap (λ (l : List Action). l ++ send_actions (one_more mid.numbers.forward) mid.numbers.moment (Some w.number) (request_anew mid w)) ended.actions
+                  ∙ append_assoc before first _ ∙ (λ i. before ++ (first ++ send_actions (next i) (m i) (Some (taken.number_is i)) (forward_anew (name i) x.target x.request))),
               takes (first ++ sends) left (record {
                 exchange = x;
                 is_waiting = taken.waits;

@@ -101,7 +101,7 @@ pub record SendsAnew {S H : Type 0} (w : Waiting) (why : Cause) (before after : 
   pub links : (forwards : Table Awaited) → AreLinks old.links forwards → AreLinks new.links (insert forwards (one_more old.numbers.forward)
       (sent_forward (request_anew old w).head w.exchange.target old.numbers.moment (purpose.Reply w.number why false)))
   pub store : new.store ≡ old.store
-  pub actions : after ≡ before ++ send_actions (one_more old.numbers.forward) old.numbers.moment (request_anew old w)
+  pub actions : after ≡ before ++ send_actions (one_more old.numbers.forward) old.numbers.moment (Some w.number) (request_anew old w)
 
 -- the same, as is decided by what is stored
 pub record GivesForwardAnew {S H : Type 0} (w : Waiting) (why : Cause) (decides : Holdings → Holdings → Type 0) (before after : List Action) (old new : Desk S H) : Type 0 where
@@ -113,7 +113,7 @@ pub record GivesForwardAnew {S H : Type 0} (w : Waiting) (why : Cause) (decides 
   pub exchanges : (waits : Table OpenExchange) → AreExchanges old.exchanges waits → AreExchanges new.exchanges (insert waits w.number w.exchange)
   pub links : (forwards : Table Awaited) → AreLinks old.links forwards → AreLinks new.links (insert forwards (one_more old.numbers.forward)
       (sent_forward (request_anew old w).head w.exchange.target old.numbers.moment (purpose.Reply w.number why false)))
-  pub actions : after ≡ before ++ send_actions (one_more old.numbers.forward) old.numbers.moment (request_anew old w)
+  pub actions : after ≡ before ++ send_actions (one_more old.numbers.forward) old.numbers.moment (Some w.number) (request_anew old w)
 
 -- it gets its reply, or goes to the origin anew
 abbrev pub GivesOutcome : {S H : Type 0} → Waiting → Cause → (Outcome → Holdings → Holdings → Type 0) → List Action → List Action → Desk S H → Desk S H → Type 0

@@ -15,6 +15,7 @@ use Rattle.hc_service.specs.declared.numbers.Numbers.{Numbers}
 use Rattle.hc_service.specs.declared.open.OpenExchange.{OpenExchange}
 use Rattle.hc_service.specs.declared.open.Purpose.{Purpose}
 use Rattle.hc_service.specs.declared.open.Purpose.TheVariants as purpose
+use Rattle.hc_service.specs.Agreement.{exchange_for}
 use Rattle.hc_service.specs.Numbers.{noted, one_more, sent}
 use Rattle.hc_service.specs.Sending.{reply_actions, send_actions}
 use Rattle.hc_service.specs.State.{Table, Connection, Awaited}
@@ -54,7 +55,7 @@ pub record SendsBehind {S H : Type 0} (target : Target) (validation : Message Re
   pub links : (forwards : Table Awaited) → AreLinks old.links forwards → HasPlace (opens_behind target validation old.numbers) forwards
       → AreLinks new.links (insert forwards (one_more old.numbers.forward) (opens_behind target validation old.numbers))
   pub store : new.store ≡ old.store
-  pub actions : after ≡ before ++ send_actions (one_more old.numbers.forward) old.numbers.moment validation
+  pub actions : after ≡ before ++ send_actions (one_more old.numbers.forward) old.numbers.moment None validation
 
 -- the request gets its reply, and behind it a request goes to the origin for the store alone
 pub record GivesReplyThenBehind {S H : Type 0} (number : ℕ) (exchange : OpenExchange) (client : Client) (closes : Bool) (reply : Message ResponseHead) (validation : Message RequestHead) (before after : List Action) (old new : Desk S H) : Type 0 where
@@ -67,7 +68,7 @@ pub record GivesReplyThenBehind {S H : Type 0} (number : ℕ) (exchange : OpenEx
       → AreLinks new.links (insert forwards (one_more old.numbers.forward) (opens_behind exchange.target validation old.numbers))
   pub store : new.store ≡ old.store
   pub actions : after ≡ before ++ (reply_actions number old.numbers.moment (is_head exchange.request.method) exchange.connection closes reply
-      ++ send_actions (one_more old.numbers.forward) old.numbers.moment validation)
+      ++ send_actions (one_more old.numbers.forward) old.numbers.moment None validation)
 
 abbrev pub GivesReplies : {S H : Type 0} → ℕ → OpenExchange → Client → Bool → Message ResponseHead → Option (Message RequestHead) → List Action → List Action → Desk S H → Desk S H → Type 0
 GivesReplies number exchange client closes reply None before after old new = GivesReplyAtOnce number exchange client closes reply before after old new
@@ -84,7 +85,7 @@ pub record GivesForward {S H : Type 0} (number : ℕ) (exchange : OpenExchange) 
   pub links : (forwards : Table Awaited) → AreLinks old.links forwards → HasPlace (sent_forward forward.head exchange.target old.numbers.moment aim) forwards
       → AreLinks new.links (insert forwards (one_more old.numbers.forward) (sent_forward forward.head exchange.target old.numbers.moment aim))
   pub store : new.store ≡ old.store
-  pub actions : after ≡ before ++ send_actions (one_more old.numbers.forward) old.numbers.moment forward
+  pub actions : after ≡ before ++ send_actions (one_more old.numbers.forward) old.numbers.moment (exchange_for aim) forward
 
 -- how many octets wait to be read on a connection
 abbrev pub waiting_of : Option Client → ℕ

@@ -4,6 +4,7 @@ ghost use Rattle.std.specs.Prelude.{◌≡◌, ◌≤◌, ◌++◌, None, OnOk, 
 ghost use Rattle.std.specs.BTreeMap.{get as kept_at};
 ghost use Rattle.std.specs.Ordering.{nat_cmp};
 ghost use Rattle.std.specs.FinMap.{insert};
+ghost use Rattle.hc_service.specs.Agreement.{exchange_for};
 ghost use Rattle.hc_service.specs.Numbers.{noted, one_more, sent};
 ghost use Rattle.hc_service.specs.Sending.{reply_actions, send_actions};
 ghost use Rattle.hc_service.specs.declared.open.OpenExchange.{OpenExchange};
@@ -84,10 +85,10 @@ pub(crate) fn send_forward(
         → OnOk result (AreLinks links.new (insert forwards (one_more numbers.old.forward)
         (sent_forward request.head target numbers.old.moment purpose))) }
     ensures actions { OnOk result (actions.new.items
-        ≡ actions.old.items ++ send_actions (one_more numbers.old.forward) numbers.old.moment request) }
+        ≡ actions.old.items ++ send_actions (one_more numbers.old.forward) numbers.old.moment (exchange_for purpose) request) }
 {
     let moment = numbers.moment;
-    let number = send_request(alloc, numbers, &request, actions)?;
+    let number = send_request(alloc, numbers, purpose.exchange(), &request, actions)?;
     let to_head = is_head(&request.head.method);
     let link = Link {
         forward: OpenForward {

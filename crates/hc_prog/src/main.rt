@@ -1,5 +1,5 @@
-//! `hcache`: a program that audits transcripts of caches, and has a cache of its own, to which it plays scripts of events
-//! and from which it serves clients.
+//! `hcache`: a program that audits and converts transcripts of caches, and has a cache of its own, to which it plays
+//! scripts of events and from which it serves clients.
 //!
 //! `hcache audit FILE` reads a transcript, says on standard output whether every reply in it is right, and ends with
 //! a status: 0 for a transcript that is right, 1 for one with a wrong reply, 2 for one that is malformed, 3 where no
@@ -7,6 +7,9 @@
 //!
 //! `hcache replay FILE` plays a script, writes the transcript that the cache recorded to standard output, and says the
 //! audit's verdict on it on standard error, with the same statuses; 2 also for a text that is no script.
+//!
+//! `hcache convert FILE` writes the records of a transcript in the first format to standard output and ends with 0, or
+//! says on standard error where the transcript is malformed and ends with 2, or with 3 where it couldn't convert.
 //!
 //! `hcache serve --listen A --origin B --connections N --record FILE` serves so many connections of clients, one after
 //! another, records both sides to the file, and prints nothing. It ends with 0, or with 3 where it couldn't go on.

@@ -52,17 +52,18 @@ pub fn record_request(
 }
 
 /// Records a request at the last moment and sends it to the origin, and answers the number of its forward.
-/// The body is shared.
+/// `cause` is the number of the exchange that it is sent for, if it is for one. The body is shared.
 pub fn send_request(
     alloc: Global,
     numbers: &mut Numbers,
+    cause: Option<u64>,
     request: &Message<RequestHead>,
     actions: &mut Vec<Action>,
 ) -> Result<u64, AllocError>
     ensures number { IfOk result (λ forward. forward ≡ one_more numbers.old.forward) }
     ensures numbers { OnOk result (numbers.new ≡ sent numbers.old) }
     ensures actions { OnOk result (actions.new.items
-        ≡ actions.old.items ++ send_actions (one_more numbers.old.forward) numbers.old.moment request.now) }
+        ≡ actions.old.items ++ send_actions (one_more numbers.old.forward) numbers.old.moment cause request.now) }
 {
     let number = numbers.send();
     let text = write_message(alloc, request, Kind::Request)?;
@@ -71,7 +72,7 @@ pub fn send_request(
         moment: numbers.moment,
         of: Passed::OriginRequest {
             message: text.share()?,
-            cause: None,
+            cause,
         },
     }))?;
     actions.push(Action::Forward(number, text))?;

@@ -58,7 +58,7 @@ pub(crate) fn record<R: Link>(
     ensures count { CountsRecorder result (R.count recorder.old) (R.count recorder.new) }
     ensures why { IfErr result IsOfCarrying }
 {
-    let (mut front, rest) = record_parts(alloc, record, Format::First)?;
+    let (mut front, rest) = record_parts(alloc, record, Format::Second)?;
     if rest.is_empty() {
         write_line(recorder, &mut front)
     } else {

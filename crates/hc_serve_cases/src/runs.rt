@@ -148,7 +148,7 @@ fn audited<I: Index + Drop>(
     mut auditor: Auditor<I>,
     recording: &[u8],
 ) -> Result<Verdict, AuditFault> {
-    auditor.feed(Format::First.opening())?;
+    auditor.feed(Format::Second.opening())?;
     auditor.feed(recording)?;
     auditor.finish()
 }

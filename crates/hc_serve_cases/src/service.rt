@@ -163,7 +163,7 @@ where
     R::File: Claim,
 {
     let mut file = fs::create(system, name)?;
-    file.write_all(Format::First.opening())?;
+    file.write_all(Format::Second.opening())?;
     file.claim()?;
     Ok(file)
 }
@@ -186,7 +186,7 @@ fn say_file(alloc: Global, file: io::Result<Vec<u8>>, out: &mut String) -> Resul
         out.push_str("; no file")?;
         return Ok(());
     };
-    let Some(recording) = file.as_slice().strip_prefix(Format::First.opening()) else {
+    let Some(recording) = file.as_slice().strip_prefix(Format::Second.opening()) else {
         out.push_str("; no opening")?;
         return Ok(());
     };

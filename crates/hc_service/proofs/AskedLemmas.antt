@@ -9,7 +9,7 @@ use Rattle.hc_head.specs.declared.head.ResponseHead.{ResponseHead}
 use Rattle.hc_head.specs.declared.head.Target.{Target}
 use Rattle.hc_framing.specs.declared.message.Message.{Message}
 use Rattle.hc_transcript.specs.Items.{Item, ClientRequest, OriginRequest, ClientReply, Exchange}
-use Rattle.hc_transcript.specs.History.{exchange_of, forward_of}
+use Rattle.hc_transcript.specs.History.{exchange_of, forward_of, cause_of}
 use Rattle.hc_service.specs.declared.cases.Cause.{Cause}
 use Rattle.hc_service.specs.declared.open.OpenExchange.{OpenExchange}
 use Rattle.hc_service.specs.declared.open.OpenForward.{OpenForward}
@@ -54,6 +54,16 @@ keeps_less xs e forward (purpose.Reply d why conditional) other keeps = record {
   asks_for = keeps.asks_for;
 }
 
+-- a forward that opens has the exchange that it is for as its cause, and the others keep theirs
+cause_put : (f : ℕ) (cause : Option ℕ) (t : ℕ) (m : Message RequestHead) (g : Target) (fs : Table Awaited) (a : Awaited) (items : List Item)
+    → ((d : ℕ) (b : Awaited) → get fs d ≡ Some b → cause_of d items ≡ exchange_for b.forward.purpose) → cause ≡ exchange_for a.forward.purpose
+    → (d : ℕ) (b : Awaited) → get (insert fs f a) d ≡ Some b → cause_of d (OriginRequest f t m g cause ∷ items) ≡ exchange_for b.forward.purpose
+cause_put f cause t m g fs a items causes is_for d b is =
+    ⊎_elim
+    (λ (p : (f ≡ d) × (a ≡ b)). rw (eq-eqb f d p.0) (is_for ∙ ap (λ (b : Awaited). exchange_for b.forward.purpose) p.1))
+    (λ (p : (f ≡ d → ⊥) × (get fs d ≡ Some b)). rw (ne_eqb f d p.0) (causes d b p.1))
+    (was_put fs f a d b is)
+
 module _ (E F : ℕ) (xs : Table OpenExchange) (fs : Table Awaited) (items : List Item) (k : AreAsked E F xs fs items) where
   -- a request has its reply at once
   pub asked_alone : (e t u : ℕ) (q : Message RequestHead) (g : Target) (a : Message ResponseHead) → E < e → AreAsked e F xs fs (ClientReply e u a ∷ ClientRequest e t q g ∷ items)
@@ -67,6 +77,7 @@ module _ (E F : ℕ) (xs : Table OpenExchange) (fs : Table Awaited) (items : Lis
         (cases_eq e d);
     forwards_are = k.forwards_are;
     purposes = k.purposes;
+    causes = k.causes;
     alone = k.alone;
     later_exchanges = λ d is. k.later_exchanges d (omega arith);
     later_forwards = k.later_forwards;
@@ -86,14 +97,14 @@ module _ (E F : ℕ) (xs : Table OpenExchange) (fs : Table Awaited) (items : Lis
     fresh : get xs e ≡ None
     fresh = k.later_exchanges e newer
 
-    pub asked_sent : AreAsked e f (insert xs e x) (insert fs f a) (OriginRequest f t m g None ∷ ClientRequest e t q g ∷ items)
+    pub asked_sent : AreAsked e f (insert xs e x) (insert fs f a) (OriginRequest f t m g (Some e) ∷ ClientRequest e t q g ∷ items)
     asked_sent = record {
       exchanges_are = λ d.
           ⊎_elim
-          (λ (same : e ≡ d). subst (λ (n : ℕ). IsSeenExchange n (get (insert xs e x) n) (exchange_of n (OriginRequest f t m g None ∷ ClientRequest e t q g ∷ items))) same
-          (seen_as e (get (insert xs e x) e) (Some x) (exchange_of e (OriginRequest f t m g None ∷ ClientRequest e t q g ∷ items)) _
+          (λ (same : e ≡ d). subst (λ (n : ℕ). IsSeenExchange n (get (insert xs e x) n) (exchange_of n (OriginRequest f t m g (Some e) ∷ ClientRequest e t q g ∷ items))) same
+          (seen_as e (get (insert xs e x) e) (Some x) (exchange_of e (OriginRequest f t m g (Some e) ∷ ClientRequest e t q g ∷ items)) _
           (get_same xs e x) (rw (eq-eqb e e refl) refl) (length items + 1, refl)))
-          (λ (other : e ≡ d → ⊥). seen_as d (get (insert xs e x) d) (get xs d) (exchange_of d (OriginRequest f t m g None ∷ ClientRequest e t q g ∷ items)) (exchange_of d items)
+          (λ (other : e ≡ d → ⊥). seen_as d (get (insert xs e x) d) (get xs d) (exchange_of d (OriginRequest f t m g (Some e) ∷ ClientRequest e t q g ∷ items)) (exchange_of d items)
           (get_other xs e x d other) (rw (ne_eqb e d other) refl) (k.exchanges_are d))
           (cases_eq e d);
       forwards_are = λ d.
@@ -106,6 +117,7 @@ module _ (E F : ℕ) (xs : Table OpenExchange) (fs : Table Awaited) (items : Lis
           (λ (p : (f ≡ d) × (a ≡ b)). subst (λ (b : Awaited). KeepsPurpose (insert xs e x) b.forward.purpose b.forward) p.1 (record { exchange = x; waits = get_same xs e x; asks_for = asks }))
           (λ (p : (f ≡ d → ⊥) × (get fs d ≡ Some b)). keeps_more xs e x fresh b.forward b.forward.purpose (k.purposes d b p.1))
           (was_put fs f a d b is);
+      causes = λ d b is. cause_put f (Some e) t m g fs a (ClientRequest e t q g ∷ items) k.causes refl d b is;
       alone = λ d h n b z is_b is_z for_b for_z.
           ⊎_elim
           (λ (p : (f ≡ d) × (a ≡ b)). ⊎_elim
@@ -135,7 +147,7 @@ module _ (E F : ℕ) (xs : Table OpenExchange) (fs : Table Awaited) (items : Lis
   -- another forward is opened, which is for nobody, or for a request for which none other is
   pub asked_more : (f t : ℕ) (m : Message RequestHead) (g : Target) (p : Purpose) → F < f → KeepsPurpose xs p (sent_forward m.head g t p).forward
       → ((h n : ℕ) (z : Awaited) → get fs h ≡ Some z → exchange_for z.forward.purpose ≡ Some n → exchange_for p ≡ Some n → ⊥)
-      → AreAsked E f xs (insert fs f (sent_forward m.head g t p)) (OriginRequest f t m g None ∷ items)
+      → AreAsked E f xs (insert fs f (sent_forward m.head g t p)) (OriginRequest f t m g (exchange_for p) ∷ items)
   asked_more f t m g p further keeps taken = record {
     exchanges_are = k.exchanges_are;
     forwards_are = λ d.
@@ -148,6 +160,7 @@ module _ (E F : ℕ) (xs : Table OpenExchange) (fs : Table Awaited) (items : Lis
         (λ (q : (f ≡ d) × (a ≡ b)). subst (λ (b : Awaited). KeepsPurpose xs b.forward.purpose b.forward) q.1 keeps)
         (λ (q : (f ≡ d → ⊥) × (get fs d ≡ Some b)). k.purposes d b q.1)
         (was_put fs f a d b is);
+    causes = λ d b is. cause_put f (exchange_for p) t m g fs a items k.causes refl d b is;
     alone = λ d h n b z is_b is_z for_b for_z.
         ⊎_elim
         (λ (q : (f ≡ d) × (a ≡ b)). ⊎_elim
@@ -182,6 +195,7 @@ module _ (E F : ℕ) (xs : Table OpenExchange) (fs : Table Awaited) (items : Lis
         (λ (other : f ≡ d → ⊥). k.forwards_are d ∙ sym (ap (option_map seen_forward) (get_other fs f (after_hearing octets a) d other)))
         (cases_eq f d);
     purposes = λ d b is. let w = was d b is in subst (λ (o : OpenForward). KeepsPurpose xs o.purpose o) w.2 (k.purposes d w.0 w.1);
+    causes = λ d b is. let w = was d b is in k.causes d w.0 w.1 ∙ ap (λ (o : OpenForward). exchange_for o.purpose) w.2;
     alone = λ d h n b z is_b is_z for_b for_z.
         let w = was d b is_b in
         let v = was h z is_z in
@@ -202,7 +216,13 @@ module _ (E F : ℕ) (xs : Table OpenExchange) (fs : Table Awaited) (items : Lis
 
   -- a forward ends, with a record that opens and closes nothing else
   module _ (f : ℕ) (a : Awaited) (item : Item) (is_open : get fs f ≡ Some a) (opens_none : (e : ℕ) → exchange_of e (item ∷ items) ≡ exchange_of e items)
-      (closes : (d : ℕ) → forward_of d (item ∷ items) ≡ cond (nat_eq f d) None (forward_of d items)) where
+      (closes : (d : ℕ) → forward_of d (item ∷ items) ≡ cond (nat_eq f d) None (forward_of d items))
+      (forgets : (d : ℕ) → cause_of d (item ∷ items) ≡ cond (nat_eq f d) None (cause_of d items)) where
+    cause_left : (d : ℕ) (b : Awaited) → get (remove fs f) d ≡ Some b → cause_of d (item ∷ items) ≡ exchange_for b.forward.purpose
+    cause_left d b is =
+        let w = was_left fs f d b is in
+        forgets d ∙ ap (λ (b : Bool). cond b None (cause_of d items)) (ne_eqb f d w.0) ∙ k.causes d b w.1
+
     forwards_left : (d : ℕ) → cond (nat_eq f d) None (forward_of d items) ≡ option_map seen_forward (get (remove fs f) d)
     forwards_left d =
         ⊎_elim
@@ -218,6 +238,7 @@ module _ (E F : ℕ) (xs : Table OpenExchange) (fs : Table Awaited) (items : Lis
       exchanges_are = λ e. subst (IsSeenExchange e (get xs e)) (sym (opens_none e)) (k.exchanges_are e);
       forwards_are = λ d. closes d ∙ forwards_left d;
       purposes = λ d b is. k.purposes d b (was_left fs f d b is).1;
+      causes = cause_left;
       alone = λ d h n b z is_b is_z for_b for_z. k.alone d h n b z (was_left fs f d b is_b).1 (was_left fs f h z is_z).1 for_b for_z;
       later_exchanges = k.later_exchanges;
       later_forwards = λ d is. none_left fs f d (k.later_forwards d is);
@@ -239,6 +260,7 @@ module _ (E F : ℕ) (xs : Table OpenExchange) (fs : Table Awaited) (items : Lis
       purposes = λ d b is.
           let w = was_left fs f d b is in
           keeps_less xs e b.forward b.forward.purpose (λ for_e. w.0 (k.alone f d e a b is_open w.1 its for_e)) (k.purposes d b w.1);
+      causes = cause_left;
       alone = λ d h n b z is_b is_z for_b for_z. k.alone d h n b z (was_left fs f d b is_b).1 (was_left fs f h z is_z).1 for_b for_z;
       later_exchanges = λ d is. none_left xs e d (k.later_exchanges d is);
       later_forwards = λ d is. none_left fs f d (k.later_forwards d is);
@@ -260,11 +282,11 @@ asked_validated E F xs fs items k e f t u v q m g reply later further get_method
 -- a forward ends, and the request that waited for it goes to the origin anew
 pub asked_anew : (E F : ℕ) (xs : Table OpenExchange) (fs : Table Awaited) (items : List Item) → AreAsked E F xs fs items → (f : ℕ) (a : Awaited) (item : Item) → get fs f ≡ Some a
     → ((e : ℕ) → exchange_of e (item ∷ items) ≡ exchange_of e items) → ((d : ℕ) → forward_of d (item ∷ items) ≡ cond (nat_eq f d) None (forward_of d items))
-    → (e n t : ℕ) (m : Message RequestHead) (why : Cause) (x : OpenExchange) → exchange_for a.forward.purpose ≡ Some e → F < n → get xs e ≡ Some x
+    → ((d : ℕ) → cause_of d (item ∷ items) ≡ cond (nat_eq f d) None (cause_of d items)) → (e n t : ℕ) (m : Message RequestHead) (why : Cause) (x : OpenExchange) → exchange_for a.forward.purpose ≡ Some e → F < n → get xs e ≡ Some x
     → AsksFor x why false (sent_forward m.head x.target t (purpose.Reply e why false)).forward
-    → AreAsked E n xs (insert (remove fs f) n (sent_forward m.head x.target t (purpose.Reply e why false))) (OriginRequest n t m x.target None ∷ item ∷ items)
-asked_anew E F xs fs items k f a item is_open opens_none closes e n t m why x its further waits asks =
-    asked_more E F xs (remove fs f) (item ∷ items) (asked_behind E F xs fs items k f a item is_open opens_none closes) n t m x.target (purpose.Reply e why false) further
+    → AreAsked E n xs (insert (remove fs f) n (sent_forward m.head x.target t (purpose.Reply e why false))) (OriginRequest n t m x.target (Some e) ∷ item ∷ items)
+asked_anew E F xs fs items k f a item is_open opens_none closes forgets e n t m why x its further waits asks =
+    asked_more E F xs (remove fs f) (item ∷ items) (asked_behind E F xs fs items k f a item is_open opens_none closes forgets) n t m x.target (purpose.Reply e why false) further
     (record { exchange = x; waits = waits; asks_for = asks }) taken
   where
     some_one : (i j : ℕ) → Some i ≡ Some j → i ≡ j

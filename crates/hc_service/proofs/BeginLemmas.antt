@@ -46,6 +46,7 @@ new_agrees settings = record {
       exchanges_are = λ e. rw get_none refl;
       forwards_are = λ f. rw get_none refl;
       purposes = λ f a is. nothing_there f a is;
+      causes = λ f a is. nothing_there f a is;
       alone = λ f g e a b is. nothing_there f a is;
       later_exchanges = λ e later. get_none e;
       later_forwards = λ f later. get_none f;

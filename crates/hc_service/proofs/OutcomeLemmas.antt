@@ -16,7 +16,7 @@ use Rattle.hc_update.specs.declared.stored.Stored.{Stored}
 use Rattle.hc_transcript.specs.Items.{Item, ClientRequest, OriginResponse, OriginFailure, ClientReply, Exchange}
 use Rattle.hc_rules.specs.Forwards.{conditional_request}
 use Rattle.hc_rules.specs.Validators.{has_validator}
-use Rattle.hc_transcript.specs.History.{next_position, exchange_of, forward_of}
+use Rattle.hc_transcript.specs.History.{next_position, exchange_of, forward_of, cause_of}
 use Rattle.hc_transcript.specs.Written.{IsWritableAsk}
 use Rattle.hc_head.specs.Statuses.{is_error_status}
 use Rattle.hc_history.specs.Right.{IsRight}
@@ -26,6 +26,7 @@ use Rattle.hc_service.specs.declared.cases.Cause.{Cause}
 use Rattle.hc_service.specs.declared.cases.Cause.TheVariants.{Method, Bypass, NoStore, UriMiss, VaryMiss, Stale, Request}
 use Rattle.hc_service.specs.declared.cases.Case.TheVariants as case
 use Rattle.hc_service.specs.declared.open.OpenForward.{OpenForward}
+use Rattle.hc_service.specs.Sending.{recorded_format}
 use Rattle.hc_service.specs.Settings.{is_name}
 use Rattle.hc_service.specs.Asking.{is_answered_by_store}
 use Rattle.hc_service.specs.Cases.{asks_store, is_of_stored, case_before_store, case_by_store, has_other_method, asks_origin, forbids_storing, cause_of_stored}
@@ -104,14 +105,14 @@ module _ (laws : ForwardLaws) (name : List ℕ) (good : is_name name ≡ true) (
     pub reply : Message ResponseHead
     pub reaction_is : reaction ≡ RepliesAtOnce reply None
     pub fit : IsFit (is_head request.head.method) reply
-    pub right : IsRight strict (ClientRequest e t request target ∷ items) (ClientReply e t reply)
+    pub right : IsRight recorded_format strict (ClientRequest e t request target ∷ items) (ClientReply e t reply)
 
   pub record GetsBehind (reaction : Reaction) : Type 0 where
     pub reply : Message ResponseHead
     pub validation : Message RequestHead
     pub reaction_is : reaction ≡ RepliesAtOnce reply (Some validation)
     pub fit : IsFit (is_head request.head.method) reply
-    pub right : IsRight strict (ClientRequest e t request target ∷ items) (ClientReply e t reply)
+    pub right : IsRight recorded_format strict (ClientRequest e t request target ∷ items) (ClientReply e t reply)
     pub get : validation.head.method ≡ codes "GET"
     pub writable : IsWritableAsk validation target
 
@@ -209,7 +210,7 @@ module _ (laws : ForwardLaws) (name : List ℕ) (good : is_name name ≡ true) (
       fits : IsFit (is_head request.head.method) (hit_reply wanted stored)
       fits = hit_fit wanted stored good can
 
-      right : IsRight strict (ClientRequest e t request target ∷ items) (ClientReply e t (hit_reply (record { name = name; moment = t; asked = request.head; closes = closes }) stored))
+      right : IsRight recorded_format strict (ClientRequest e t request target ∷ items) (ClientReply e t (hit_reply (record { name = name; moment = t; asked = request.head; closes = closes }) stored))
       right = hit_right the_items the_exchange t name closes stored (still_source items (ClientRequest e t request target) refl target stored source) can method selected it_waits served
           (hit_writable name stored t good).plain
 
@@ -314,12 +315,12 @@ module _ (name : List ℕ) (good : is_name name ≡ true) (t : ℕ) (early : t <
     pub reply : Message ResponseHead
     pub outcome_is : outcome ≡ Replies reply
     pub fit : IsFit (is_head x.request.method) reply
-    pub right : IsRight strict items' (ClientReply x.number t reply)
+    pub right : IsRight recorded_format strict items' (ClientReply x.number t reply)
 
   of_exchange : (items' : List Item) (stored : Stored) → HasSource items' forward.target stored → HasSource items' x.target stored
   of_exchange items' stored source = subst (λ (g : Target). HasSource items' g stored) target source
 
-  module _ (response : Message ResponseHead) (r : IsReceivedAnswer (is_head forward.request.method) response) where
+  module _ (response : Message ResponseHead) (r : IsReceivedAnswer (is_head forward.request.method) response) (cause : cause_of f items ≡ Some x.number) where
     same_head : is_head forward.request.method ≡ is_head x.request.method
     same_head = ap is_head method
 
@@ -337,7 +338,7 @@ module _ (name : List ℕ) (good : is_name name ≡ true) (t : ℕ) (early : t <
         reply = passed_reply wants why p.stored response;
         outcome_is = p.outcome_is;
         fit = passed_fit wants why p.stored (is_head x.request.method) response good early (subst (λ (b : Bool). IsReceivedAnswer b response) same_head r);
-        right = passed_right items f t response forward x wants why p.stored is_open waits method target bare_body (forward_writable name why p.stored good).plain;
+        right = passed_right items f t response forward x wants why p.stored is_open cause waits method target bare_body (forward_writable name why p.stored good).plain;
       },
     )
 

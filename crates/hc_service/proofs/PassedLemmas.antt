@@ -15,14 +15,17 @@ use Rattle.hc_status.specs.declared.marks.Mark.TheVariants as mark
 use Rattle.hc_replies.specs.Laws.{IsPlainStatus}
 use Rattle.hc_replies.proofs.ReplyLemmas.{forwarded_marked, generated_unmarked}
 use Rattle.hc_transcript.specs.Items.{Item, ClientRequest, OriginRequest, OriginResponse, OriginFailure, ClientReply, Exchange, Forward}
-use Rattle.hc_transcript.specs.History.{next_position, exchange_of, forward_of}
+use Rattle.hc_transcript.specs.Records.{told}
+use Rattle.hc_transcript.specs.History.{next_position, exchange_of, forward_of, cause_of}
 use Rattle.hc_history.specs.Claims.{Claim, claim_of}
 use Rattle.hc_history.specs.Forwarded.{carries_response}
 use Rattle.hc_history.specs.Marks.{reply_mark, judged_mark}
 use Rattle.hc_history.specs.Right.{IsRight, IsRightTo, IsRightBy}
+use Rattle.hc_history.specs.Windows.{may_be_for}
 use Rattle.hc_head.proofs.SameTargetLemmas.{same_target_itself}
 use Rattle.hc_service.specs.declared.cases.Cause.{Cause}
 use Rattle.hc_service.specs.declared.open.OpenForward.{OpenForward}
+use Rattle.hc_service.specs.Sending.{recorded_format}
 use Rattle.hc_service.specs.Cases.{word_of}
 use Rattle.hc_service.specs.Laws.{recorded_forward}
 use Rattle.hc_service.specs.Replying.{Wanted, made_reply, passed_reply}
@@ -52,7 +55,7 @@ module _ (items : List Item) (f moment : ℕ) (response : Message ResponseHead) 
   the_reply = passed_reply wanted why stored response
 
   abbrev the_claim : Claim
-  the_claim = claim_of strict x wanted.moment the_reply (OriginResponse f moment response ∷ items)
+  the_claim = claim_of recorded_format strict x wanted.moment the_reply (OriginResponse f moment response ∷ items)
 
   same_body : (head : Bool) → (head ≡ true → response.body ≡ []) → (if head then length response.body == 0 else bytes_eq response.body response.body) ≡ true
   same_body true bare = ap (λ (body : List ℕ). length body == 0) (bare refl)
@@ -69,22 +72,25 @@ module _ (items : List Item) (f moment : ℕ) (response : Message ResponseHead) 
       (three _ _ _ (or_left _ _ ((bytes_eq-Decides forward.request.method x.request.method).1 method)) (eq-eqb response.head.status response.head.status refl)
       (same_body (is_head x.request.method) bare)))
 
-  pub passed_right : forward_of f items ≡ Some (recorded_forward forward) → exchange_of x.number items ≡ Some x → forward.request.method ≡ x.request.method
+  is_for_it : cause_of f items ≡ Some x.number → may_be_for (told (cause_of f items)) x.number ≡ true
+  is_for_it cause = subst (λ (o : Option ℕ). may_be_for (told o) x.number ≡ true) (sym cause) (eq-eqb x.number x.number refl)
+
+  pub passed_right : forward_of f items ≡ Some (recorded_forward forward) → cause_of f items ≡ Some x.number → exchange_of x.number items ≡ Some x → forward.request.method ≡ x.request.method
       → forward.target ≡ x.target → (is_head x.request.method ≡ true → response.body ≡ []) → IsPlainStatus wanted.name (Fwd (word_of why) None stored)
-      → IsRight strict (OriginResponse f moment response ∷ items) (ClientReply x.number wanted.moment the_reply)
-  passed_right is_open waits method target bare plain =
+      → IsRight recorded_format strict (OriginResponse f moment response ∷ items) (ClientReply x.number wanted.moment the_reply)
+  passed_right is_open cause waits method target bare plain =
       let place = exchange_place x.number items x waits in
       let marked : reply_mark the_reply ≡ mark.Forwarded =
       ap (judged_mark response.head.status) (forwarded_marked wanted.name (Fwd (word_of why) None stored) wanted.closes wanted.moment response plain) in
-      subst (λ (o : Option Exchange). IsRightTo strict o wanted.moment the_reply (OriginResponse f moment response ∷ items)) (sym waits)
+      subst (λ (o : Option Exchange). IsRightTo recorded_format strict o wanted.moment the_reply (OriginResponse f moment response ∷ items)) (sym waits)
       (subst (λ (m : Mark). IsRightBy m the_claim (OriginResponse f moment response ∷ items)) (sym marked)
-      (inl (or_left _ _ (and_from _ _ (lt-ltb x.position (next_position items) (omega (arith, place))) (is_its is_open method target bare)))))
+      (inl (or_left _ _ (and_from _ _ (lt-ltb x.position (next_position items) (omega (arith, place))) (and_from _ _ (is_for_it cause) (is_its is_open method target bare))))))
 
 -- a reply that says that there is none
 pub made_right : (items : List Item) (x : Exchange) (wanted : Wanted) (status : ℕ) → exchange_of x.number items ≡ Some x → 400 ≤ status
-    → IsRight strict items (ClientReply x.number wanted.moment (made_reply wanted status))
+    → IsRight recorded_format strict items (ClientReply x.number wanted.moment (made_reply wanted status))
 made_right items x wanted status waits is_error =
     let marked : reply_mark (made_reply wanted status) ≡ mark.Unmarked = ap (judged_mark status) (generated_unmarked status wanted.moment wanted.closes) in
-    subst (λ (o : Option Exchange). IsRightTo strict o wanted.moment (made_reply wanted status) items) (sym waits)
-    (subst (λ (m : Mark). IsRightBy m (claim_of strict x wanted.moment (made_reply wanted status) items) items) (sym marked)
+    subst (λ (o : Option Exchange). IsRightTo recorded_format strict o wanted.moment (made_reply wanted status) items) (sym waits)
+    (subst (λ (m : Mark). IsRightBy m (claim_of recorded_format strict x wanted.moment (made_reply wanted status) items) items) (sym marked)
     (le-leb 400 status is_error))

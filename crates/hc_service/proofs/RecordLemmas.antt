@@ -1,5 +1,5 @@
 -- The records that are given out keep to the format of a transcript.
-use Rattle.std.proofs.Common.{◌≡◌, ℕ, ◌+◌, ◌≤◌, ◌<◌, Bool, true, false, List, [], ◌∷◌, ◌++◌, length, Some, None, refl, sym, ap, ◌∙◌, subst, arith, lit<, length-append}
+use Rattle.std.proofs.Common.{◌≡◌, ℕ, ◌+◌, ◌≤◌, ◌<◌, Bool, true, false, List, [], ◌∷◌, ◌++◌, length, Option, Some, None, refl, sym, ap, ◌∙◌, subst, arith, lit<, length-append}
 use Rattle.std.specs.Prelude.{not, is_some, if◌then◌else◌, decimal}
 use Rattle.std.proofs.lemmas.Bool.{and_from, le-leb, le-ltb, lt-ltb}
 use Rattle.std.proofs.lemmas.Fmt.{length-decimal-le}
@@ -20,11 +20,11 @@ use Rattle.hc_framing.specs.Written.{IsReadableRequest, IsReadableResponse}
 use Rattle.hc_transcript.specs.declared.fault.RecordFault.TheVariants as fault
 use Rattle.hc_transcript.specs.declared.line.Line.{Line}
 use Rattle.hc_transcript.specs.declared.record.Record.{Record}
-use Rattle.hc_transcript.specs.Records.{CanTell, line_of, records_text, opening}
+use Rattle.hc_transcript.specs.Records.{CanTell, line_of, records_text, opening, told as cause_told}
 use Rattle.hc_transcript.specs.Limits.{greatest_number, greatest_moment, longest_message}
 use Rattle.hc_transcript.specs.Items.{Item, ClientRequest, OriginRequest, OriginResponse, OriginFailure, ClientReply, Exchange, Forward, forward_is_head, exchange_is_head}
 use Rattle.hc_transcript.specs.History.{exchange_of, forward_of, last_moment, last_exchange, last_forward}
-use Rattle.hc_transcript.specs.Checks.{first_fault, line_fault, has_right_length, has_right_number, has_right_cause, answers_open}
+use Rattle.hc_transcript.specs.Checks.{first_fault, line_fault, has_right_length, has_right_number, has_right_cause, cause_is_open, answers_open}
 use Rattle.hc_transcript.specs.Transcript.{AreReadAs}
 use Rattle.hc_transcript.specs.Written.{IsWritableAsk, IsWritableAnswer, IsWritable, written_as}
 use Rattle.hc_transcript.proofs.WrittenLemmas.{read_back}
@@ -100,7 +100,7 @@ ask_counted n h request target c w le =
     let rises : last_exchange h.items < one_more n.exchange = omega arith in
     let few : one_more n.exchange ≤ greatest_number = omega (arith, c.exchanges, le) in
     record {
-      are_read = read_more h.records h.items item c.are_read w refl
+      are_read = read_more h.records h.items item c.are_read w tt
           (no_fault (line_of recorded_format (written_as h.items item)) (last_moment h.items) (last_exchange h.items) (last_forward h.items) true
           (is_some (exchange_of (one_more n.exchange) h.items)) (is_some (forward_of (one_more n.exchange) h.items)) c.in_time refl
           (request_small request w.readable) c.moment (and_from _ _ (lt-ltb (last_exchange h.items) (one_more n.exchange) rises) (le-leb (one_more n.exchange) greatest_number few)) refl refl);
@@ -114,20 +114,21 @@ ask_counted n h request target c w le =
       in_time = c.in_time;
     }
 
-pub send_counted : (n : Numbers) (h : History) (request : Message RequestHead) (target : Target) → AreCounted n h → IsWritableAsk request target → one_more n.records ≤ greatest_number
-    → AreCounted (sent n) (with_record (forward_record (one_more n.forward) n.moment request) (OriginRequest (one_more n.forward) n.moment request target None) h)
-send_counted n h request target c w le =
+pub send_counted : (n : Numbers) (h : History) (cause : Option ℕ) (request : Message RequestHead) (target : Target) → AreCounted n h
+    → has_right_cause (cause_told cause) (cause_is_open (cause_told cause) h.items) ≡ true → IsWritableAsk request target → one_more n.records ≤ greatest_number
+    → AreCounted (sent n) (with_record (forward_record (one_more n.forward) n.moment cause request) (OriginRequest (one_more n.forward) n.moment request target cause) h)
+send_counted n h cause request target c is_right w le =
     let records : one_more n.records ≡ n.records + 1 = one_more_is n.records c.in_range in
     let forward : one_more n.forward ≡ n.forward + 1 = one_more_is n.forward (omega (arith, c.forwards, c.in_range)) in
-    let item = OriginRequest (one_more n.forward) n.moment request target None in
+    let item = OriginRequest (one_more n.forward) n.moment request target cause in
     let counts = c.forward in
     let rises : last_forward h.items < one_more n.forward = omega arith in
     let few : one_more n.forward ≤ greatest_number = omega (arith, c.forwards, le) in
     record {
-      are_read = read_more h.records h.items item c.are_read w refl
-          (no_fault (line_of recorded_format (written_as h.items item)) (last_moment h.items) (last_exchange h.items) (last_forward h.items) true
-          (is_some (exchange_of (one_more n.forward) h.items)) (is_some (forward_of (one_more n.forward) h.items)) c.in_time refl
-          (request_small request w.readable) c.moment (and_from _ _ (lt-ltb (last_forward h.items) (one_more n.forward) rises) (le-leb (one_more n.forward) greatest_number few)) refl refl);
+      are_read = read_more h.records h.items item c.are_read w tt
+          (no_fault (line_of recorded_format (written_as h.items item)) (last_moment h.items) (last_exchange h.items) (last_forward h.items)
+          (cause_is_open (cause_told cause) h.items) (is_some (exchange_of (one_more n.forward) h.items)) (is_some (forward_of (one_more n.forward) h.items)) c.in_time refl
+          (request_small request w.readable) c.moment (and_from _ _ (lt-ltb (last_forward h.items) (one_more n.forward) rises) (le-leb (one_more n.forward) greatest_number few)) is_right refl);
       records = omega (arith, c.records);
       exchange = c.exchange;
       forward = refl;
@@ -165,7 +166,7 @@ module _ (n : Numbers) (h : History) (c : AreCounted n h) (le : one_more n.recor
       let low = w.is_final in
       noted_with (response_record f n.moment (is_head forward.request.method) response) item
       (subst (λ (b : Bool). AreReadAs recorded_format (response_record f n.moment b response ∷ h.records) (item ∷ h.items)) open_head
-      (read_more h.records h.items item c.are_read (subst (λ (b : Bool). IsWritableAnswer b response) (sym open_head) w) refl
+      (read_more h.records h.items item c.are_read (subst (λ (b : Bool). IsWritableAnswer b response) (sym open_head) w) tt
       (no_fault (line_of recorded_format (written_as h.items item)) (last_moment h.items) (last_exchange h.items) (last_forward h.items) true
       (is_some (exchange_of f h.items)) (is_some (forward_of f h.items)) c.in_time refl
       (response_small _ response (subst (λ (b : Bool). IsReadableResponse b response RECORDED) (sym open_head) w.readable) (omega arith) digits) c.moment
@@ -177,7 +178,7 @@ module _ (n : Numbers) (h : History) (c : AreCounted n h) (le : one_more n.recor
   failure_counted f forward some few is_open =
       let item = OriginFailure f n.moment in
       noted_with (failure_record f n.moment) item
-      (read_more h.records h.items item c.are_read tt refl
+      (read_more h.records h.items item c.are_read tt tt
       (no_fault (line_of recorded_format (written_as h.items item)) (last_moment h.items) (last_exchange h.items) (last_forward h.items) true
       (is_some (exchange_of f h.items)) (is_some (forward_of f h.items)) c.in_time refl
       (omega arith) c.moment (and_from _ _ (lt-ltb 0 f some) (le-leb f greatest_number few)) refl (ap is_some is_open)))
@@ -192,7 +193,7 @@ module _ (n : Numbers) (h : History) (c : AreCounted n h) (le : one_more n.recor
       let low = w.is_final in
       noted_with (reply_record e n.moment (is_head exchange.request.method) reply) item
       (subst (λ (b : Bool). AreReadAs recorded_format (reply_record e n.moment b reply ∷ h.records) (item ∷ h.items)) open_head
-      (read_more h.records h.items item c.are_read (subst (λ (b : Bool). IsWritableAnswer b reply) (sym open_head) w) refl
+      (read_more h.records h.items item c.are_read (subst (λ (b : Bool). IsWritableAnswer b reply) (sym open_head) w) tt
       (no_fault (line_of recorded_format (written_as h.items item)) (last_moment h.items) (last_exchange h.items) (last_forward h.items) true
       (is_some (exchange_of e h.items)) (is_some (forward_of e h.items)) c.in_time refl
       (response_small _ reply (subst (λ (b : Bool). IsReadableResponse b reply RECORDED) (sym open_head) w.readable) (omega arith) digits) c.moment

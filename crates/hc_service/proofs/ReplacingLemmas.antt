@@ -19,6 +19,7 @@ use Rattle.hc_head.proofs.SameTargetLemmas.{same_target_itself}
 use Rattle.hc_store.specs.Choosing.{is_selected, is_selected_validated}
 use Rattle.hc_service.specs.declared.cases.Cause.{Cause}
 use Rattle.hc_service.specs.declared.open.OpenForward.{OpenForward}
+use Rattle.hc_service.specs.Sending.{recorded_format}
 use Rattle.hc_service.specs.Settings.{is_name}
 use Rattle.hc_service.specs.Cases.{word_of}
 use Rattle.hc_service.specs.Agreement.{HasSource, CanReply}
@@ -65,7 +66,7 @@ module _ (name : List ℕ) (good : is_name name ≡ true) (t : ℕ) (closes : Bo
   -- it was validated in the window
   pub validated_right : (items : List Item) → exchange_of x.number items ≡ Some x → HasSource items x.target stored → (position : ℕ)
       → is_selected_validated x.request.fields position stored ≡ true → x.position < position
-      → IsRight strict items (ClientReply x.number t (replacing_reply (record { name = name; moment = t; asked = x.request; closes = closes }) why (Some not_modified) stored))
+      → IsRight recorded_format strict items (ClientReply x.number t (replacing_reply (record { name = name; moment = t; asked = x.request; closes = closes }) why (Some not_modified) stored))
   validated_right items waits source position validated later =
       let parts = and_parts (option_eq nat_eq stored.validated_at (Some position)) (is_selected x.request.fields stored) validated in
       entry_right items x t name closes stored source can method parts.1 waits (word_of why) (status_told (Some not_modified) (entry_status wants stored)) false
@@ -76,7 +77,7 @@ module _ (name : List ℕ) (good : is_name name ≡ true) (t : ℕ) (closes : Bo
       (waits : exchange_of x.number items ≡ Some x) (selected : is_selected x.request.fields stored ≡ true) (may : may_replace x.request.fields stored t ≡ true) where
     -- an error stands in the window
     pub error_right : (response : Message ResponseHead) → is_error_status response.head.status ≡ true → HasSource (OriginResponse f moment response ∷ items) x.target stored
-        → IsRight strict (OriginResponse f moment response ∷ items)
+        → IsRight recorded_format strict (OriginResponse f moment response ∷ items)
         (ClientReply x.number t (replacing_reply (record { name = name; moment = t; asked = x.request; closes = closes }) why (Some response.head.status) stored))
     error_right response is source =
         let told = status_told (Some response.head.status) (entry_status wants stored) in
@@ -88,7 +89,7 @@ module _ (name : List ℕ) (good : is_name name ≡ true) (t : ℕ) (closes : Bo
 
     -- a failure does
     pub failure_right : HasSource (OriginFailure f moment ∷ items) x.target stored
-        → IsRight strict (OriginFailure f moment ∷ items)
+        → IsRight recorded_format strict (OriginFailure f moment ∷ items)
         (ClientReply x.number t (replacing_reply (record { name = name; moment = t; asked = x.request; closes = closes }) why None stored))
     failure_right source =
         entry_right (OriginFailure f moment ∷ items) x t name closes stored source can method selected waits (word_of why) None false

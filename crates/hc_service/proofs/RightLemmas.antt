@@ -36,6 +36,7 @@ use Rattle.hc_history.specs.Usable.{lifetime_of, is_usable}
 use Rattle.hc_history.proofs.StateLemmas.{place_of}
 use Rattle.hc_head.proofs.SameTargetLemmas.{same_target_itself}
 use Rattle.hc_store.specs.Choosing.{is_selected}
+use Rattle.hc_service.specs.Sending.{recorded_format}
 use Rattle.hc_service.specs.Agreement.{HasSource, CanReply}
 use Rattle.hc_service.specs.Replying.{Wanted, entry_reply, hit_reply}
 use Rattle.hc_service.specs.Runs.{strict}
@@ -106,8 +107,8 @@ module _ (items : List Item) (x : Exchange) (moment : ℕ) (name : List ℕ) (cl
   pub record Carries (reply : Message ResponseHead) : Type 0 where
     pub marked : mark_of reply.head.fields ≡ written_mark handling
     pub is_whole : (reply.head.status == partial_content) ≡ false
-    pub body : has_its_body (claim_of strict x moment reply items) stored ≡ true
-    pub fields : has_its_fields (claim_of strict x moment reply items) stored ≡ true
+    pub body : has_its_body (claim_of recorded_format strict x moment reply items) stored ≡ true
+    pub fields : has_its_fields (claim_of recorded_format strict x moment reply items) stored ≡ true
     pub age : option_and_then number_of (only_value (codes "age") reply.head.fields) ≡ Some (age_at stored moment)
 
   abbrev kept_reply : Message ResponseHead
@@ -117,17 +118,17 @@ module _ (items : List Item) (x : Exchange) (moment : ℕ) (name : List ℕ) (cl
   short_reply = not_modified_reply name handling closes moment stored
 
   -- the names that the cache writes anew are exempt
-  exempt : (reply : Message ResponseHead) (field : List ℕ) → is_own_name field ≡ true → is_exempt (claim_of strict x moment reply items) field ≡ true
+  exempt : (reply : Message ResponseHead) (field : List ℕ) → is_own_name field ≡ true → is_exempt (claim_of recorded_format strict x moment reply items) field ≡ true
   exempt reply field own =
       ⊎_elim
       (λ (e : bytes_eq (codes "age") field ≡ true).
-      subst (λ (n : List ℕ). is_exempt (claim_of strict x moment reply items) n ≡ true) ((bytes_eq-Decides (codes "age") field).0 e) (second_of_three _ true _ refl))
+      subst (λ (n : List ℕ). is_exempt (claim_of recorded_format strict x moment reply items) n ≡ true) ((bytes_eq-Decides (codes "age") field).0 e) (second_of_three _ true _ refl))
       (λ (past : bytes_eq (codes "age") field ≡ false). ⊎_elim
       (λ (e : bytes_eq (codes "cache-status") field ≡ true).
-      subst (λ (n : List ℕ). is_exempt (claim_of strict x moment reply items) n ≡ true) ((bytes_eq-Decides (codes "cache-status") field).0 e) (second_of_three _ true _ refl))
+      subst (λ (n : List ℕ). is_exempt (claim_of recorded_format strict x moment reply items) n ≡ true) ((bytes_eq-Decides (codes "cache-status") field).0 e) (second_of_three _ true _ refl))
       (λ (beyond : bytes_eq (codes "cache-status") field ≡ false). ⊎_elim
       (λ (e : bytes_eq (codes "connection") field ≡ true).
-      subst (λ (n : List ℕ). is_exempt (claim_of strict x moment reply items) n ≡ true) ((bytes_eq-Decides (codes "connection") field).0 e) refl)
+      subst (λ (n : List ℕ). is_exempt (claim_of recorded_format strict x moment reply items) n ≡ true) ((bytes_eq-Decides (codes "connection") field).0 e) refl)
       (λ (none : bytes_eq (codes "connection") field ≡ false). absurd (true_is_false (sym own ∙ rw (past, beyond, none) refl)))
       (cases_Bool (bytes_eq (codes "connection") field)))
       (cases_Bool (bytes_eq (codes "cache-status") field)))
@@ -141,7 +142,7 @@ module _ (items : List Item) (x : Exchange) (moment : ℕ) (name : List ℕ) (cl
   same_body false = (bytes_eq-Decides stored.body stored.body).1 refl
 
   -- the stored response
-  same_field : (field : List ℕ) → (is_exempt (claim_of strict x moment kept_reply items) field || same_values kept_reply.head.fields stored.fields field) ≡ true
+  same_field : (field : List ℕ) → (is_exempt (claim_of recorded_format strict x moment kept_reply items) field || same_values kept_reply.head.fields stored.fields field) ≡ true
   same_field field =
       ⊎_elim
       (λ (own : is_own_name field ≡ true). or_left _ _ (exempt kept_reply field own))
@@ -156,19 +157,19 @@ module _ (items : List Item) (x : Exchange) (moment : ℕ) (name : List ℕ) (cl
     marked = stored_marked name handling closes moment (is_head x.request.method) stored plain;
     is_whole = can.is_whole;
     body = or_left _ _ (and_from _ _ (eq-eqb stored.status stored.status refl) (same_body (is_head x.request.method)));
-    fields = all_so _ same_field (compared_names (claim_of strict x moment kept_reply items) stored);
+    fields = all_so _ same_field (compared_names (claim_of recorded_format strict x moment kept_reply items) stored);
     age = stored_age_told name handling closes moment (is_head x.request.method) stored can.no_age;
   }
 
   -- that it still holds
-  repeated_field : (field : List ℕ) → is_repeated field ≡ true → (is_exempt (claim_of strict x moment short_reply items) field || same_values short_reply.head.fields stored.fields field) ≡ true
+  repeated_field : (field : List ℕ) → is_repeated field ≡ true → (is_exempt (claim_of recorded_format strict x moment short_reply items) field || same_values short_reply.head.fields stored.fields field) ≡ true
   repeated_field field repeats =
       or_right _ _
       (subst (λ (vs : List (List ℕ)). pointwise bytes_eq vs (values_of field stored.fields) ≡ true) (sym (repeated_values field name handling closes moment stored repeats))
       (pointwise_same (values_of field stored.fields)))
 
   named_field : (field : List ℕ) → has_name field short_reply.head.fields ≡ true
-      → (is_exempt (claim_of strict x moment short_reply items) field || same_values short_reply.head.fields stored.fields field) ≡ true
+      → (is_exempt (claim_of recorded_format strict x moment short_reply items) field || same_values short_reply.head.fields stored.fields field) ≡ true
   named_field field there =
       ⊎_elim
       (λ (repeats : is_repeated field ≡ true). repeated_field field repeats)
@@ -204,8 +205,8 @@ module _ (items : List Item) (x : Exchange) (moment : ℕ) (name : List ℕ) (cl
 
   module _ (source : HasSource items x.target stored) (can : CanReply stored) (method : (is_get x.request.method || is_head x.request.method) ≡ true)
       (selected : is_selected x.request.fields stored ≡ true) (reply : Message ResponseHead) (carries : Carries reply)
-      (usable : is_usable (claim_of strict x moment reply items) stored ≡ true) where
-    pub passes_seven : Pass forwarded_count anywhere (claim_of strict x moment reply items) items
+      (usable : is_usable (claim_of recorded_format strict x moment reply items) stored ≡ true) where
+    pub passes_seven : Pass forwarded_count anywhere (claim_of recorded_format strict x moment reply items) items
     passes_seven =
         let place = place_of source.position items (record { target = x.target; state = stored }) source.is_its_state in
         record {
@@ -213,11 +214,11 @@ module _ (items : List Item) (x : Exchange) (moment : ℕ) (name : List ℕ) (cl
           kept = record { target = x.target; state = stored };
           is_later = omega (arith, place.0);
           is_its_state = source.is_its_state;
-          holds = all_seven _ _ _ _ _ _ _ (has_its_age (claim_of strict x moment reply items) stored) (has_its_ttl (claim_of strict x moment reply items) stored)
+          holds = all_seven _ _ _ _ _ _ _ (has_its_age (claim_of recorded_format strict x moment reply items) stored) (has_its_ttl (claim_of recorded_format strict x moment reply items) stored)
               (and_from _ _ method (same_target_itself x.target)) selected (ap not source.is_valid) (or_right _ _ usable) usable carries.body carries.fields;
         }
 
-    pub passes_nine : reply_mark reply ≡ mark.Hit (Some (ttl_at stored moment)) → IsReused (claim_of strict x moment reply items) items
+    pub passes_nine : reply_mark reply ≡ mark.Hit (Some (ttl_at stored moment)) → IsReused (claim_of recorded_format strict x moment reply items) items
     passes_nine marked =
         let place = place_of source.position items (record { target = x.target; state = stored }) source.is_its_state in
         record {
@@ -227,8 +228,8 @@ module _ (items : List Item) (x : Exchange) (moment : ℕ) (name : List ℕ) (cl
           is_its_state = source.is_its_state;
           holds = all_nine _ _ _ _ _ _ _ _ _
               (and_from _ _ method (same_target_itself x.target)) selected (ap not source.is_valid) (or_right _ _ usable) usable carries.body carries.fields
-              (subst (λ (o : Option ℕ). is_age (claim_of strict x moment reply items) (age_at stored moment) o ≡ true) (sym carries.age) (within_itself (age_at stored moment)))
-              (subst (λ (m : Mark). is_ttl (claim_of strict x moment reply items) (pos (lifetime_of stored) -ℤ pos (age_at stored moment)) (ttl_of m) ≡ true) (sym marked)
+              (subst (λ (o : Option ℕ). is_age (claim_of recorded_format strict x moment reply items) (age_at stored moment) o ≡ true) (sym carries.age) (within_itself (age_at stored moment)))
+              (subst (λ (m : Mark). is_ttl (claim_of recorded_format strict x moment reply items) (pos (lifetime_of stored) -ℤ pos (age_at stored moment)) (ttl_of m) ≡ true) (sym marked)
               (no_difference (pos (lifetime_of stored) -ℤ pos (age_at stored moment))));
         }
 
@@ -237,13 +238,13 @@ module _ (items : List Item) (x : Exchange) (moment : ℕ) (name : List ℕ) (cl
     (selected : is_selected x.request.fields stored ≡ true) (is_open : exchange_of x.number items ≡ Some x) where
   -- a hit is reused
   pub hit_right : may_be_served x.request.fields stored moment ≡ true → IsPlainStatus name (Hit (Some (ttl_at stored moment)))
-      → IsRight strict items (ClientReply x.number moment (hit_reply (record { name = name; moment = moment; asked = x.request; closes = closes }) stored))
+      → IsRight recorded_format strict items (ClientReply x.number moment (hit_reply (record { name = name; moment = moment; asked = x.request; closes = closes }) stored))
   hit_right served plain =
       let reply = hit_reply (record { name = name; moment = moment; asked = x.request; closes = closes }) stored in
       let carries = entry_carries items x moment name closes (Hit (Some (ttl_at stored moment))) stored can plain in
       let marked = hit_mark reply carries in
-      subst (λ (o : Option Exchange). IsRightTo strict o moment reply items) (sym is_open)
-      (subst (λ (m : Mark). IsRightBy m (claim_of strict x moment reply items) items) (sym marked)
+      subst (λ (o : Option Exchange). IsRightTo recorded_format strict o moment reply items) (sym is_open)
+      (subst (λ (m : Mark). IsRightBy m (claim_of recorded_format strict x moment reply items) items) (sym marked)
       (passes_nine items x moment name closes (Hit (Some (ttl_at stored moment))) stored source can method selected reply carries (served_usable items x moment reply stored served) marked))
     where
       hit_mark : (reply : Message ResponseHead) → Carries items x moment name closes (Hit (Some (ttl_at stored moment))) stored reply → reply_mark reply ≡ mark.Hit (Some (ttl_at stored moment))
@@ -252,12 +253,12 @@ module _ (items : List Item) (x : Exchange) (moment : ℕ) (name : List ℕ) (cl
 
   -- so is what stands in the place of what the origin answered, where it may be used
   pub entry_right : (word : List ℕ) (told : Option ℕ) (put : Bool) → IsPlainStatus name (Fwd word told put)
-      → is_usable (claim_of strict x moment (entry_reply (record { name = name; moment = moment; asked = x.request; closes = closes }) (Fwd word told put) stored) items) stored ≡ true
-      → IsRight strict items (ClientReply x.number moment (entry_reply (record { name = name; moment = moment; asked = x.request; closes = closes }) (Fwd word told put) stored))
+      → is_usable (claim_of recorded_format strict x moment (entry_reply (record { name = name; moment = moment; asked = x.request; closes = closes }) (Fwd word told put) stored) items) stored ≡ true
+      → IsRight recorded_format strict items (ClientReply x.number moment (entry_reply (record { name = name; moment = moment; asked = x.request; closes = closes }) (Fwd word told put) stored))
   entry_right word told put plain usable =
       let reply = entry_reply (record { name = name; moment = moment; asked = x.request; closes = closes }) (Fwd word told put) stored in
       let carries = entry_carries items x moment name closes (Fwd word told put) stored can plain in
       let marked : reply_mark reply ≡ mark.Forwarded = ap (judged_mark reply.head.status) carries.marked in
-      subst (λ (o : Option Exchange). IsRightTo strict o moment reply items) (sym is_open)
-      (subst (λ (m : Mark). IsRightBy m (claim_of strict x moment reply items) items) (sym marked)
+      subst (λ (o : Option Exchange). IsRightTo recorded_format strict o moment reply items) (sym is_open)
+      (subst (λ (m : Mark). IsRightBy m (claim_of recorded_format strict x moment reply items) items) (sym marked)
       (inr (passes_seven items x moment name closes (Fwd word told put) stored source can method selected reply carries usable)))

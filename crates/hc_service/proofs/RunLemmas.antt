@@ -92,7 +92,7 @@ outcome_counts settings f e x k why given wanted (Replies reply) s actions s' on
     counts_two s.numbers s'.numbers actions
     (count_of actions _ d.actions_are ∙ then_reply given e s.numbers.moment (is_head x.request.method) x.connection wanted.closes reply one) (records_in s'.numbers _ d.numbers)
 outcome_counts settings f e x k why given wanted GoesAnew s actions s' one d =
-    let sends = send_actions (one_more s.numbers.forward) s.numbers.moment (forward_anew settings.name x.target x.request) in
+    let sends = send_actions (one_more s.numbers.forward) s.numbers.moment (Some e) (forward_anew settings.name x.target x.request) in
     let both = count_append given sends in
     let last : count sends ≡ 1 = refl in
     let all : count (given ++ sends) ≡ 2 = omega arith in
@@ -113,7 +113,7 @@ turn_counts settings (Asking c) s actions s' t = by_reaction t.reaction t.does
     by_reaction (RepliesAtOnce reply (Some validation)) d =
         let e = one_more s.numbers.exchange in
         let first = ask_actions e s.numbers.moment t.request ++ reply_actions e s.numbers.moment (is_head t.request.head.method) c (wanted_now settings s t.request.head t.connection).closes reply in
-        let sends = send_actions (one_more s.numbers.forward) s.numbers.moment validation in
+        let sends = send_actions (one_more s.numbers.forward) s.numbers.moment None validation in
         let one = then_reply (ask_actions e s.numbers.moment t.request) e s.numbers.moment (is_head t.request.head.method) c (wanted_now settings s t.request.head t.connection).closes reply refl in
         let both = count_append first sends in
         let last : count sends ≡ 1 = refl in
@@ -213,7 +213,7 @@ text_behind (r ∷ records) before =
     text_behind records (r ∷ before)
     ∙ append_assoc (records_text recorded_format before) (record_text recorded_format r) (flat_map (record_text recorded_format) records)
 
-all_right : (newer items : List Item) → AllRight strict items → AllRightBehind newer items → AllRight strict (newer ++ items)
+all_right : (newer items : List Item) → AllRight recorded_format strict items → AllRightBehind newer items → AllRight recorded_format strict (newer ++ items)
 all_right [] items right more = right
 all_right (item ∷ newer) items right more = (all_right newer items right more.0, more.1)
 
@@ -231,7 +231,7 @@ right_judged records end to =
               (sym (append-nil (records_text recorded_format to.later.records) ∙ ap (records_text recorded_format) more.records_are ∙ text_behind records []));
           are_read = to.are_read;
         };
-        all_right = subst (AllRight strict) (sym more.items_are) (all_right more.newer [] tt more.right);
+        all_right = subst (AllRight recorded_format strict) (sym more.items_are) (all_right more.newer [] tt more.right);
         counts_are = refl;
       };
     }

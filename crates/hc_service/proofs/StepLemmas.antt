@@ -17,7 +17,7 @@ use Rattle.hc_service.specs.declared.cases.Cause.{Cause}
 use Rattle.hc_service.specs.declared.open.OpenExchange.{OpenExchange}
 use Rattle.hc_service.specs.Replying.{Wanted}
 use Rattle.hc_service.specs.State.{State, Connection}
-use Rattle.hc_service.specs.Sending.{records_of, response_actions, failure_actions}
+use Rattle.hc_service.specs.Sending.{recorded_format, records_of, response_actions, failure_actions}
 use Rattle.hc_service.specs.Reactions.{Reaction}
 use Rattle.hc_service.specs.Reactions.Reaction.{Replies as RepliesAtOnce, Sends}
 use Rattle.hc_service.specs.Answers.{Outcome}
@@ -111,7 +111,7 @@ behind_append (r ∷ xs) ys records = behind_append xs ys (r ∷ records)
 pub right_append : (newer older items : List Item) → AllRightBehind newer (older ++ items) → AllRightBehind older items → AllRightBehind (newer ++ older) items
 right_append [] older items new old = old
 right_append (item ∷ newer) older items new old =
-    (right_append newer older items new.0 old, subst (λ (before : List Item). IsRight strict before item) (sym (append_assoc newer older items)) new.1)
+    (right_append newer older items new.0 old, subst (λ (before : List Item). IsRight recorded_format strict before item) (sym (append_assoc newer older items)) new.1)
 
 records_append : (first rest actions : List Action) (h between later : History) → actions ≡ first ++ rest → Records first h between → Records rest between later → Records actions h later
 records_append first rest actions h between later split one more = record {

@@ -1,8 +1,9 @@
 -- Each turn keeps what the cache has to do with what has happened.
 use Rattle.std.proofs.Common.{◌≡◌, ℕ, ◌+◌, ◌≤◌, ◌<◌, Bool, true, false, cond, ◌||◌, List, [], ◌∷◌, ◌++◌, length, drop, Option, Some, None, nat_eq, refl, sym, ap, ◌∙◌, subst, arith, inl, inr, ⊎_elim}
 use Rattle.std.specs.Option.{option_map}
+use Rattle.std.specs.Prelude.{is_some}
 use Rattle.std.specs.FinMap.{get, insert, remove, len}
-use Rattle.std.proofs.lemmas.Bool.{cases_eq, cases_lt, eq-eqb}
+use Rattle.std.proofs.lemmas.Bool.{cases_eq, cases_lt, eq-eqb, and_from, le-leb}
 use Rattle.hc_head.specs.declared.head.RequestHead.{RequestHead}
 use Rattle.hc_head.specs.declared.head.ResponseHead.{ResponseHead}
 use Rattle.hc_head.specs.declared.head.Target.{Target}
@@ -13,7 +14,9 @@ use Rattle.hc_framing.specs.declared.message.Message.{Message}
 use Rattle.hc_transcript.specs.declared.record.Record.{Record}
 use Rattle.hc_transcript.specs.Limits.{greatest_number}
 use Rattle.hc_transcript.specs.Items.{Item, ClientRequest, OriginRequest, OriginResponse, OriginFailure, ClientReply, Exchange}
-use Rattle.hc_transcript.specs.History.{exchange_of, forward_of, next_position}
+use Rattle.hc_transcript.specs.Checks.{has_right_cause, cause_is_open}
+use Rattle.hc_transcript.specs.Records.{told as cause_told}
+use Rattle.hc_transcript.specs.History.{exchange_of, forward_of, cause_of, next_position}
 use Rattle.hc_transcript.specs.Written.{IsWritableAsk, IsWritableAnswer}
 use Rattle.hc_history.specs.Right.{IsRight}
 use Rattle.hc_links.specs.Requests.{IsRequest}
@@ -30,7 +33,7 @@ use Rattle.hc_service.specs.Asking.{ends_connection, is_answered_by_store}
 use Rattle.hc_service.specs.Cases.{asks_store, is_of_stored}
 use Rattle.hc_service.specs.Numbers.{one_more, after_opening, asked, sent, noted, is_later}
 use Rattle.hc_service.specs.State.{State, Table, Connection, Awaited, new_connection}
-use Rattle.hc_service.specs.Sending.{request_record, forward_record, response_record, failure_record, reply_record, ask_actions, send_actions, reply_actions, response_actions, failure_actions, records_of}
+use Rattle.hc_service.specs.Sending.{recorded_format, request_record, forward_record, response_record, failure_record, reply_record, ask_actions, send_actions, reply_actions, response_actions, failure_actions, records_of}
 use Rattle.hc_service.specs.Replying.{Wanted}
 use Rattle.hc_service.specs.Reactions.{Reaction, forward_anew}
 use Rattle.std.specs.Prelude.{◌⊎◌, codes}
@@ -237,10 +240,15 @@ module _ (s : State) (h : History) (a : Stands s h) where
   reply_given e t to_head c true reply = refl
   reply_given e t to_head c false reply = refl
 
-  reply_then : (e t : ℕ) (to_head : Bool) (c : ℕ) (closes : Bool) (reply : Message ResponseHead) (f : ℕ) (m : Message RequestHead)
-      → records_of (reply_actions e t to_head c closes reply ++ send_actions f t m) ≡ reply_record e t to_head reply ∷ forward_record f t m ∷ []
-  reply_then e t to_head c true reply f m = refl
-  reply_then e t to_head c false reply f m = refl
+  reply_then : (e t : ℕ) (to_head : Bool) (c : ℕ) (closes : Bool) (reply : Message ResponseHead) (f : ℕ) (cause : Option ℕ) (m : Message RequestHead)
+      → records_of (reply_actions e t to_head c closes reply ++ send_actions f t cause m) ≡ reply_record e t to_head reply ∷ forward_record f t cause m ∷ []
+  reply_then e t to_head c true reply f cause m = refl
+  reply_then e t to_head c false reply f cause m = refl
+
+  -- an open exchange can be the cause of a forward
+  right_cause : (e : ℕ) (items : List Item) (x : Exchange) → exchange_of e items ≡ Some x → e ≤ greatest_number
+      → has_right_cause (cause_told (Some e)) (cause_is_open (cause_told (Some e)) items) ≡ true
+  right_cause e items x is few = and_from _ _ (ap is_some is) (le-leb e greatest_number few)
 
   module _ (settings : CoreSettings) (good : AreGood settings) (laws : ForwardLaws) where
     early : s.numbers.moment < 253402300800
@@ -257,7 +265,7 @@ module _ (s : State) (h : History) (a : Stands s h) where
       -- it gets a reply at once
       asking_alone : (wanted : Wanted) (reply : Message ResponseHead) (actions : List Action) (s' : State) → RepliesAlone c k (drop size k.unread) request wanted reply s actions s' → s'.numbers.records ≤ greatest_number
           → SoundStore h.items s'.store → IsFit (is_head request.head.method) reply
-          → IsRight strict (ClientRequest (one_more s.numbers.exchange) s.numbers.moment request target ∷ h.items) (ClientReply (one_more s.numbers.exchange) s.numbers.moment reply)
+          → IsRight recorded_format strict (ClientRequest (one_more s.numbers.exchange) s.numbers.moment request target ∷ h.items) (ClientReply (one_more s.numbers.exchange) s.numbers.moment reply)
           → KeepsOn (Asking c) actions h s'
       asking_alone wanted reply actions s' t le sound fit right =
           let n = s.numbers in
@@ -304,7 +312,7 @@ module _ (s : State) (h : History) (a : Stands s h) where
       asking_behind : (wanted : Wanted) (reply : Message ResponseHead) (m : Message RequestHead) (actions : List Action) (s' : State)
           → RepliesAndValidates c k (drop size k.unread) request target wanted reply m s actions s' → s'.numbers.records ≤ greatest_number
           → SoundStore h.items s'.store → IsFit (is_head request.head.method) reply
-          → IsRight strict (ClientRequest (one_more s.numbers.exchange) s.numbers.moment request target ∷ h.items) (ClientReply (one_more s.numbers.exchange) s.numbers.moment reply)
+          → IsRight recorded_format strict (ClientRequest (one_more s.numbers.exchange) s.numbers.moment request target ∷ h.items) (ClientReply (one_more s.numbers.exchange) s.numbers.moment reply)
           → m.head.method ≡ codes "GET" → IsWritableAsk m target → KeepsOn (Asking c) actions h s'
       asking_behind wanted reply m actions s' t le sound fit right get_method w =
           let n = s.numbers in
@@ -322,7 +330,7 @@ module _ (s : State) (h : History) (a : Stands s h) where
           let r = ClientReply e n.moment reply in
           let h1 = with_record (request_record e n.moment request) q h in
           let h2 = with_record (reply_record e n.moment (is_head request.head.method) reply) r h1 in
-          let h3 = with_record (forward_record f n.moment m) (OriginRequest f n.moment m target None) h2 in
+          let h3 = with_record (forward_record f n.moment None m) (OriginRequest f n.moment m target None) h2 in
           let c1 = ask_counted n h request target a.counted writable_ask first in
           let c2 = reply_counted (asked n) h1 c1 second e x reply (omega (arith, number)) (omega (arith, number, counts.exchanges, first, records)) (rw (eq-eqb e e refl) refl) fit.writable fit.digits in
           record {
@@ -331,9 +339,9 @@ module _ (s : State) (h : History) (a : Stands s h) where
               records = record {
                 newer = OriginRequest f n.moment m target None ∷ r ∷ q ∷ [];
                 records_are = given_from actions
-                    (ask_actions e n.moment request ++ reply_actions e n.moment (is_head request.head.method) c wanted.closes reply ++ send_actions f n.moment m)
-                    (request_record e n.moment request ∷ reply_record e n.moment (is_head request.head.method) reply ∷ forward_record f n.moment m ∷ []) h.records t.actions_are
-                    (ap (λ (rs : List Record). request_record e n.moment request ∷ rs) (reply_then e n.moment (is_head request.head.method) c wanted.closes reply f m));
+                    (ask_actions e n.moment request ++ reply_actions e n.moment (is_head request.head.method) c wanted.closes reply ++ send_actions f n.moment None m)
+                    (request_record e n.moment request ∷ reply_record e n.moment (is_head request.head.method) reply ∷ forward_record f n.moment None m ∷ []) h.records t.actions_are
+                    (ap (λ (rs : List Record). request_record e n.moment request ∷ rs) (reply_then e n.moment (is_head request.head.method) c wanted.closes reply f None m));
                 items_are = refl;
                 right = (((tt, tt), right), tt);
               };
@@ -342,7 +350,7 @@ module _ (s : State) (h : History) (a : Stands s h) where
             };
             stands = of_parts s' h3 (sent (noted (asked n))) (replied wanted.closes c (drop size k.unread) k s.connections) s.exchanges
                 (insert s.forwards f (sent_forward m.head target n.moment purpose.Background)) s'.store t.numbers t.connections t.exchanges t.forwards refl
-                (send_counted (noted (asked n)) h2 m target c2 w last)
+                (send_counted (noted (asked n)) h2 None m target c2 refl w last)
                 (still_sound (r ∷ q ∷ h.items) (OriginRequest f n.moment m target None) s'.store refl
                 (still_sound (q ∷ h.items) r s'.store refl (still_sound h.items q s'.store refl sound)))
                 (heard_sent n.connection n.forward (replied wanted.closes c (drop size k.unread) k s.connections) s.forwards h.heard h.told (heard_behind wanted.closes) f
@@ -374,7 +382,9 @@ module _ (s : State) (h : History) (a : Stands s h) where
           let sends : f ≡ n.forward + 1 = one_more_is n.forward (omega (arith, counts.forwards, counts.in_range)) in
           let q = ClientRequest e n.moment request target in
           let h1 = with_record (request_record e n.moment request) q h in
-          let h2 = with_record (forward_record f n.moment m) (OriginRequest f n.moment m target None) h1 in
+          let records : one_more n.records ≡ n.records + 1 = one_more_is n.records counts.in_range in
+          let x : Exchange = record { number = e; position = length h.items + 1; request = request.head; target = target } in
+          let h2 = with_record (forward_record f n.moment (Some e) m) (OriginRequest f n.moment m target (Some e)) h1 in
           let c1 = ask_counted n h request target a.counted writable_ask first in
           let heard1 = heard_same n.connection n.forward s.connections s.forwards h.heard h.told a.heard c (after_request e (drop size k.unread) k)
           (read_request (h.heard c) k idle (a.heard.connections_are c k is_open) e request target size arrives) in
@@ -382,8 +392,8 @@ module _ (s : State) (h : History) (a : Stands s h) where
             later = h2;
             goes_on = record {
               records = record {
-                newer = OriginRequest f n.moment m target None ∷ q ∷ [];
-                records_are = given_from actions (ask_actions e n.moment request ++ send_actions f n.moment m) (request_record e n.moment request ∷ forward_record f n.moment m ∷ []) h.records t.actions_are refl;
+                newer = OriginRequest f n.moment m target (Some e) ∷ q ∷ [];
+                records_are = given_from actions (ask_actions e n.moment request ++ send_actions f n.moment (Some e) m) (request_record e n.moment request ∷ forward_record f n.moment (Some e) m ∷ []) h.records t.actions_are refl;
                 items_are = refl;
                 right = ((tt, tt), tt);
               };
@@ -393,8 +403,9 @@ module _ (s : State) (h : History) (a : Stands s h) where
             stands = of_parts s' h2 (sent (asked n)) (insert s.connections c (after_request e (drop size k.unread) k))
                 (insert s.exchanges e (record { connection = c; request = request.head; target = target }))
                 (insert s.forwards f (sent_forward m.head target n.moment (purpose.Reply e why conditional))) s'.store t.numbers t.connections t.exchanges t.forwards refl
-                (send_counted (asked n) h1 m target c1 w last)
-                (still_sound (q ∷ h.items) (OriginRequest f n.moment m target None) s'.store refl (still_sound h.items q s'.store refl sound))
+                (send_counted (asked n) h1 (Some e) m target c1
+                (right_cause e h1.items x (rw (eq-eqb e e refl) refl) (omega (arith, number, counts.exchanges, first, records))) w last)
+                (still_sound (q ∷ h.items) (OriginRequest f n.moment m target (Some e)) s'.store refl (still_sound h.items q s'.store refl sound))
                 (heard_sent n.connection n.forward (insert s.connections c (after_request e (drop size k.unread) k)) s.forwards h.heard h.told heard1 f
                 (sent_forward m.head target n.moment (purpose.Reply e why conditional)) refl (omega (arith, sends)))
                 (asked_sent n.exchange n.forward s.exchanges s.forwards h.items a.asked c e f n.moment request m target why conditional (omega (arith, number)) (omega (arith, sends)) asks)
@@ -451,8 +462,8 @@ module _ (s : State) (h : History) (a : Stands s h) where
       ends_behind : (turn : Turn) (r : Record) (item : Item) (given actions : List Action) (s' : State) → heard_with turn h.heard ≡ h.heard → told_with turn h.told ≡ h.told
           → records_of given ≡ r ∷ [] → EndsBehind f given s actions s' → AreCounted (noted s.numbers) (with_record r item h) → SoundStore (item ∷ h.items) s'.store
           → ((e : ℕ) → exchange_of e (item ∷ h.items) ≡ exchange_of e h.items) → ((d : ℕ) → forward_of d (item ∷ h.items) ≡ cond (nat_eq f d) None (forward_of d h.items))
-          → IsRight strict h.items item → KeepsOn turn actions h s'
-      ends_behind turn r item given actions s' heard told gives t counted sound opens_none closes right = record {
+          → ((d : ℕ) → cause_of d (item ∷ h.items) ≡ cond (nat_eq f d) None (cause_of d h.items)) → IsRight recorded_format strict h.items item → KeepsOn turn actions h s'
+      ends_behind turn r item given actions s' heard told gives t counted sound opens_none closes forgets right = record {
         later = with_record r item h;
         goes_on = record {
           records = record { newer = item ∷ []; records_are = given_from actions given (r ∷ []) h.records t.actions_are gives; items_are = refl; right = (tt, right) };
@@ -461,7 +472,7 @@ module _ (s : State) (h : History) (a : Stands s h) where
         };
         stands = of_parts s' (with_record r item h) (noted s.numbers) s.connections s.exchanges (remove s.forwards f) s'.store t.numbers t.connections t.exchanges t.forwards refl counted sound
             (heard_ended s.numbers.connection s.numbers.forward s.connections s.forwards h.heard h.told a.heard f)
-            (asked_behind s.numbers.exchange s.numbers.forward s.exchanges s.forwards h.items a.asked f w item is_open opens_none closes) a.linked a.few;
+            (asked_behind s.numbers.exchange s.numbers.forward s.exchanges s.forwards h.items a.asked f w item is_open opens_none closes forgets) a.linked a.few;
       }
 
       -- a forward ends, by a record, and the request that waits for it gets its reply
@@ -497,9 +508,10 @@ module _ (s : State) (h : History) (a : Stands s h) where
             → EndsWithReply f e x0 k given wanted reply s actions s' → s'.numbers.records ≤ greatest_number
             → (one_more s.numbers.records ≤ greatest_number → AreCounted (noted s.numbers) (with_record r item h)) → SoundStore (item ∷ h.items) s'.store
             → ((d : ℕ) → exchange_of d (item ∷ h.items) ≡ exchange_of d h.items) → ((d : ℕ) → forward_of d (item ∷ h.items) ≡ cond (nat_eq f d) None (forward_of d h.items))
-            → IsRight strict h.items item → IsFit (is_head x0.request.method) reply → IsRight strict (item ∷ h.items) (ClientReply e s.numbers.moment reply)
+            → ((d : ℕ) → cause_of d (item ∷ h.items) ≡ cond (nat_eq f d) None (cause_of d h.items))
+            → IsRight recorded_format strict h.items item → IsFit (is_head x0.request.method) reply → IsRight recorded_format strict (item ∷ h.items) (ClientReply e s.numbers.moment reply)
             → exchange_for w.forward.purpose ≡ Some e → KeepsOn turn actions h s'
-        ends_with_reply turn r item given actions wanted reply s' heard told gives stays both t le counted sound opens_none closes right fit replied_right its =
+        ends_with_reply turn r item given actions wanted reply s' heard told gives stays both t le counted sound opens_none closes forgets right fit replied_right its =
             let n = s.numbers in
             let last : one_more (one_more n.records) ≤ greatest_number = subst (λ (m : Numbers). m.records ≤ greatest_number) t.numbers le in
             let counts = a.counted in
@@ -526,20 +538,21 @@ module _ (s : State) (h : History) (a : Stands s h) where
                   (reply_counted (noted n) h1 (counted first) last e x reply some_exchange few_exchange (opens_none e ∙ seen.1) fit.writable fit.digits)
                   (still_sound (item ∷ h.items) (ClientReply e n.moment reply) s'.store refl sound)
                   (heard_after wanted.closes stays)
-                  (asked_answered n.exchange n.forward s.exchanges s.forwards h.items a.asked f w item is_open opens_none closes e n.moment reply its)
+                  (asked_answered n.exchange n.forward s.exchanges s.forwards h.items a.asked f w item is_open opens_none closes forgets e n.moment reply its)
                   (linked_answered n.connection s.connections s.exchanges a.linked e x0 k waits on wanted.closes k.unread)
                   (len_replied wanted.closes x0.connection k.unread k k on);
             }
 
         -- and the request goes to the origin anew
         ends_anew : (turn : Turn) (r : Record) (item : Item) (why : Cause) (given actions : List Action) (s' : State) → heard_with turn h.heard ≡ h.heard → told_with turn h.told ≡ h.told
-            → records_of (given ++ send_actions (one_more s.numbers.forward) s.numbers.moment (forward_anew settings.name x0.target x0.request))
-            ≡ r ∷ forward_record (one_more s.numbers.forward) s.numbers.moment (forward_anew settings.name x0.target x0.request) ∷ []
+            → records_of (given ++ send_actions (one_more s.numbers.forward) s.numbers.moment (Some e) (forward_anew settings.name x0.target x0.request))
+            ≡ r ∷ forward_record (one_more s.numbers.forward) s.numbers.moment (Some e) (forward_anew settings.name x0.target x0.request) ∷ []
             → EndsWithForward f e x0 why given (forward_anew settings.name x0.target x0.request) s actions s' → s'.numbers.records ≤ greatest_number
             → (one_more s.numbers.records ≤ greatest_number → AreCounted (noted s.numbers) (with_record r item h)) → SoundStore (item ∷ h.items) s'.store
             → ((d : ℕ) → exchange_of d (item ∷ h.items) ≡ exchange_of d h.items) → ((d : ℕ) → forward_of d (item ∷ h.items) ≡ cond (nat_eq f d) None (forward_of d h.items))
-            → IsRight strict h.items item → exchange_for w.forward.purpose ≡ Some e → (asks_store why ≡ true → is_answered_by_store x0.request.method ≡ true) → KeepsOn turn actions h s'
-        ends_anew turn r item why given actions s' heard told both t le counted sound opens_none closes right its by_store =
+            → ((d : ℕ) → cause_of d (item ∷ h.items) ≡ cond (nat_eq f d) None (cause_of d h.items))
+            → IsRight recorded_format strict h.items item → exchange_for w.forward.purpose ≡ Some e → (asks_store why ≡ true → is_answered_by_store x0.request.method ≡ true) → KeepsOn turn actions h s'
+        ends_anew turn r item why given actions s' heard told both t le counted sound opens_none closes forgets right its by_store =
             let n = s.numbers in
             let counts = a.counted in
             let g = one_more n.forward in
@@ -553,14 +566,16 @@ module _ (s : State) (h : History) (a : Stands s h) where
               target_is = laws.unconditional_keeps settings.name x0.target x0.request waiting.forwardable.has_target;
             } in
             let h1 = with_record r item h in
-            let h2 = with_record (forward_record g n.moment m) (OriginRequest g n.moment m x0.target None) h1 in
+            let seen = subst (λ (o : Option OpenExchange). IsSeenExchange e o (exchange_of e h.items)) waits (a.asked.exchanges_are e) in
+            let x : Exchange = record { number = e; position = seen.0; request = x0.request; target = x0.target } in
+            let h2 = with_record (forward_record g n.moment (Some e) m) (OriginRequest g n.moment m x0.target (Some e)) h1 in
             let aim = sent_forward m.head x0.target n.moment (purpose.Reply e why false) in
             record {
               later = h2;
               goes_on = record {
                 records = record {
-                  newer = OriginRequest g n.moment m x0.target None ∷ item ∷ [];
-                  records_are = given_from actions (given ++ send_actions g n.moment m) (r ∷ forward_record g n.moment m ∷ []) h.records t.actions_are both;
+                  newer = OriginRequest g n.moment m x0.target (Some e) ∷ item ∷ [];
+                  records_are = given_from actions (given ++ send_actions g n.moment (Some e) m) (r ∷ forward_record g n.moment (Some e) m ∷ []) h.records t.actions_are both;
                   items_are = refl;
                   right = ((tt, right), tt);
                 };
@@ -568,11 +583,11 @@ module _ (s : State) (h : History) (a : Stands s h) where
                 told = sym told;
               };
               stands = of_parts s' h2 (sent (noted n)) s.connections s.exchanges (insert (remove s.forwards f) g aim) s'.store t.numbers t.connections t.exchanges t.forwards refl
-                  (send_counted (noted n) h1 m x0.target (counted first) writable last)
-                  (still_sound (item ∷ h.items) (OriginRequest g n.moment m x0.target None) s'.store refl sound)
+                  (send_counted (noted n) h1 (Some e) m x0.target (counted first) (right_cause e h1.items x (opens_none e ∙ seen.1) few_exchange) writable last)
+                  (still_sound (item ∷ h.items) (OriginRequest g n.moment m x0.target (Some e)) s'.store refl sound)
                   (heard_sent n.connection n.forward s.connections (remove s.forwards f) h.heard h.told (heard_ended n.connection n.forward s.connections s.forwards h.heard h.told a.heard f) g aim refl
                   (omega (arith, sends)))
-                  (asked_anew n.exchange n.forward s.exchanges s.forwards h.items a.asked f w item is_open opens_none closes e g n.moment m why x0 its (omega (arith, sends)) waits
+                  (asked_anew n.exchange n.forward s.exchanges s.forwards h.items a.asked f w item is_open opens_none closes forgets e g n.moment m why x0 its (omega (arith, sends)) waits
                   (record { method = refl; target = refl; by_store = by_store; asks_after = λ is. absurd (false_true is) }))
                   a.linked a.few;
             }
@@ -610,6 +625,9 @@ module _ (s : State) (h : History) (a : Stands s h) where
 
       its_number : exchange_for w.forward.purpose ≡ Some e
       its_number = ap exchange_for is_for
+
+      its_cause : cause_of f h.items ≡ Some e
+      its_cause = a.asked.causes f w is_open ∙ its_number
 
       it_stays : closes_behind x0.request k ≡ false → k.leaves ≡ false
       it_stays is = second_false (ends_connection x0.request) k.leaves is
@@ -658,7 +676,7 @@ module _ (s : State) (h : History) (a : Stands s h) where
             stored_sound h.items f n.moment t.response w.forward t.told q.1.0 s'.store (recorded f w t.is_open) r early told q.1.1)
             (λ (q : (is_news t.response.head ≡ false) × (s'.store ≡ t.told)). subst (SoundStore (OriginResponse f n.moment t.response ∷ h.items)) (sym q.1) told)
             (on_test (is_news t.response.head) _ _ ends.0))
-            (λ d. refl) (λ d. refl) tt
+            (λ d. refl) (λ d. refl) (λ d. refl) tt
         by_purpose f ended actions s' t le r writable told (purpose.Reply e why conditional) is_for ends =
             let n = s.numbers in
             let w = t.awaited in
@@ -670,7 +688,7 @@ module _ (s : State) (h : History) (a : Stands s h) where
             let out = response_outcome settings.name good.name n.moment early wanted.closes h.items f w.forward (record { number = e; position = seen.0; request = x0.request; target = x0.target }) why
             (recorded f w t.is_open) seen.1 (its_method f w t.is_open e why conditional is_for x0 k ends.is_waiting) (its_target f w t.is_open e why conditional is_for x0 k ends.is_waiting)
             (its_by_store f w t.is_open e why conditional is_for x0 k ends.is_waiting)
-            t.response r conditional (its_reason f w t.is_open e why conditional is_for x0 k ends.is_waiting) (one_more n.records) next t.told s'.store ends.outcome told ends.decided in
+            t.response r (its_cause f w t.is_open e why conditional is_for x0 k ends.is_waiting) conditional (its_reason f w t.is_open e why conditional is_for x0 k ends.is_waiting) (one_more n.records) next t.told s'.store ends.outcome told ends.decided in
             ⊎_elim
             (λ (got : GetsAnswer settings.name good.name n.moment early wanted.closes h.items f w.forward (record { number = e; position = seen.0; request = x0.request; target = x0.target }) why
             (recorded f w t.is_open) seen.1 (its_method f w t.is_open e why conditional is_for x0 k ends.is_waiting) (its_target f w t.is_open e why conditional is_for x0 k ends.is_waiting)
@@ -680,13 +698,13 @@ module _ (s : State) (h : History) (a : Stands s h) where
             (ap (λ (rs : List Record). response_record f n.moment to_head t.response ∷ rs) (reply_given e n.moment (is_head x0.request.method) x0.connection wanted.closes got.reply))
             (subst (λ (o : Outcome). DoesOutcome o settings f e x0 k why (response_actions f n.moment to_head t.response) wanted s actions s') got.outcome_is ends.does) le
             (λ first. response_counted n h a.counted first f (recorded_forward w.forward) t.response (some_forward f w t.is_open) (few_forward f w t.is_open) (recorded f w t.is_open) writable r.plain.greatest)
-            out.0 (λ d. refl) (λ d. refl) tt got.fit got.right (its_number f w t.is_open e why conditional is_for x0 k ends.is_waiting))
+            out.0 (λ d. refl) (λ d. refl) (λ d. refl) tt got.fit got.right (its_number f w t.is_open e why conditional is_for x0 k ends.is_waiting))
             (λ (anew : ends.outcome ≡ GoesAnew).
             ends_anew f w t.is_open e x0 k ends.is_waiting ends.is_open (Answering f ended) (response_record f n.moment to_head t.response) (OriginResponse f n.moment t.response) why
             (response_actions f n.moment to_head t.response) actions s' refl refl refl
             (subst (λ (o : Outcome). DoesOutcome o settings f e x0 k why (response_actions f n.moment to_head t.response) wanted s actions s') anew ends.does) le
             (λ first. response_counted n h a.counted first f (recorded_forward w.forward) t.response (some_forward f w t.is_open) (few_forward f w t.is_open) (recorded f w t.is_open) writable r.plain.greatest)
-            out.0 (λ d. refl) (λ d. refl) tt (its_number f w t.is_open e why conditional is_for x0 k ends.is_waiting)
+            out.0 (λ d. refl) (λ d. refl) (λ d. refl) tt (its_number f w t.is_open e why conditional is_for x0 k ends.is_waiting)
             (its_by_store f w t.is_open e why conditional is_for x0 k ends.is_waiting))
             out.1
 
@@ -710,7 +728,7 @@ module _ (s : State) (h : History) (a : Stands s h) where
             refl refl (failure_given f n.moment (is_closed how)) ends.1
             (failure_counted n h a.counted first f (recorded_forward w.forward) (some_forward f w t.is_open) (few_forward f w t.is_open) (recorded f w t.is_open))
             (subst (SoundStore (OriginFailure f n.moment ∷ h.items)) (sym ends.0) (still_sound h.items (OriginFailure f n.moment) s.store refl (sound_of s h a)))
-            (λ d. refl) (λ d. refl) tt
+            (λ d. refl) (λ d. refl) (λ d. refl) tt
         by_purpose (purpose.Reply e why conditional) is_for ends =
             let n = s.numbers in
             let w = t.awaited in
@@ -727,7 +745,7 @@ module _ (s : State) (h : History) (a : Stands s h) where
             ∙ ap (λ (rs : List Record). failure_record f n.moment ∷ rs) (reply_given e n.moment (is_head x0.request.method) x0.connection wanted.closes out.1.reply))
             (subst (λ (o : Outcome). DoesOutcome o settings f e x0 k why (failure_actions f n.moment (is_closed how)) wanted s actions s') out.1.outcome_is ends.does) le
             (λ first. failure_counted n h a.counted first f (recorded_forward w.forward) (some_forward f w t.is_open) (few_forward f w t.is_open) (recorded f w t.is_open))
-            out.0 (λ d. refl) (λ d. refl) tt out.1.fit out.1.right (its_number f w t.is_open e why conditional is_for x0 k ends.is_waiting)
+            out.0 (λ d. refl) (λ d. refl) (λ d. refl) tt out.1.fit out.1.right (its_number f w t.is_open e why conditional is_for x0 k ends.is_waiting)
 
     -- each turn
     pub turn_keeps : (turn : Turn) (actions : List Action) (s' : State) → Takes settings turn s actions s' → s'.numbers.records ≤ greatest_number → KeepsOn turn actions h s'

@@ -13,6 +13,7 @@ use Rattle.hc_transcript.specs.Items.{Item, Exchange}
 use Rattle.hc_history.specs.Claims.{Claim, claim_of}
 use Rattle.hc_history.specs.Usable.{lifetime_of, validated_since, is_usable, permits_stale}
 use Rattle.hc_history.specs.Usable as audit
+use Rattle.hc_service.specs.Sending.{recorded_format}
 use Rattle.hc_service.specs.Asking.{allows_age, asks_for_fresh}
 use Rattle.hc_service.specs.Runs.{strict}
 use Rattle.hc_service.specs.Serving.{age_at, is_fresh, staleness_at, permits, max_stale_permits, while_revalidating, on_error, may_be_used, is_fresh_enough, is_permitted_stale, may_be_served, may_replace}
@@ -58,7 +59,7 @@ validated_is (Some n) position is = ap Some (eqb-true n position is)
 
 module _ (items : List Item) (x : Exchange) (moment : ℕ) (reply : Message ResponseHead) (stored : Stored) where
   abbrev the_claim : Claim
-  the_claim = claim_of strict x moment reply items
+  the_claim = claim_of recorded_format strict x moment reply items
 
   -- what a directive permits is permitted without slack
   permits_still : (n : ℕ) (s : Seconds) → permits n s ≡ true → audit.permits the_claim n s ≡ true

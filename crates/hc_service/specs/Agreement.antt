@@ -21,7 +21,7 @@ use Rattle.hc_update.specs.declared.stored.Stored.{Stored}
 use Rattle.hc_transcript.specs.declared.record.Record.{Record}
 use Rattle.hc_transcript.specs.Limits.{greatest_number, greatest_moment}
 use Rattle.hc_transcript.specs.Items.{Item, Exchange, Forward}
-use Rattle.hc_transcript.specs.History.{exchange_of, forward_of, last_moment, last_exchange, last_forward}
+use Rattle.hc_transcript.specs.History.{exchange_of, forward_of, cause_of, last_moment, last_exchange, last_forward}
 use Rattle.hc_transcript.specs.Transcript.{AreReadAs}
 use Rattle.hc_history.specs.States.{state_at}
 use Rattle.hc_links.specs.Requests.{IsRequest}
@@ -164,6 +164,8 @@ pub record AreAsked (exchange forward : ℕ) (exchanges : Table OpenExchange) (f
   pub exchanges_are : (e : ℕ) → IsSeenExchange e (get exchanges e) (exchange_of e items)
   pub forwards_are : (f : ℕ) → forward_of f items ≡ option_map seen_forward (get forwards f)
   pub purposes : (f : ℕ) (a : Awaited) → get forwards f ≡ Some a → KeepsPurpose exchanges a.forward.purpose a.forward
+  -- the cause of a forward is the exchange that it is for
+  pub causes : (f : ℕ) (a : Awaited) → get forwards f ≡ Some a → cause_of f items ≡ exchange_for a.forward.purpose
   -- no two forwards are for the same request
   pub alone : (f g e : ℕ) (a b : Awaited) → get forwards f ≡ Some a → get forwards g ≡ Some b
       → exchange_for a.forward.purpose ≡ Some e → exchange_for b.forward.purpose ≡ Some e → f ≡ g

@@ -62,7 +62,7 @@ strict = record { slack = 0; ignored = []; unmarked = ErrorsOnly }
 -- each of the newer items is right behind those before it
 abbrev pub AllRightBehind : List Item → List Item → Type 0
 AllRightBehind [] items = Unit {0}
-AllRightBehind (item ∷ newer) items = AllRightBehind newer items × IsRight strict (newer ++ items) item
+AllRightBehind (item ∷ newer) items = AllRightBehind newer items × IsRight recorded_format strict (newer ++ items) item
 
 -- the records that are given out stand behind the others, and each reply among them is right
 pub record Records (actions : List Action) (old new : History) : Type 0 where

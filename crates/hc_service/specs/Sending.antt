@@ -1,12 +1,12 @@
 -- What a cache does: its actions, and the records among them. What is recorded is sent octet by octet.
-use Rattle.std.specs.Prelude.{ℕ, Bool, false, List, [], ◌∷◌, None, if◌then◌else◌}
+use Rattle.std.specs.Prelude.{ℕ, Bool, false, List, [], ◌∷◌, Option, if◌then◌else◌}
 use Rattle.hc_head.specs.declared.head.RequestHead.{RequestHead}
 use Rattle.hc_head.specs.declared.head.ResponseHead.{ResponseHead}
 use Rattle.hc_framing.specs.declared.message.Message.{Message}
 use Rattle.hc_framing.specs.declared.kind.Kind.TheVariants.{Response}
 use Rattle.hc_framing.specs.Texts.{request_text, response_text}
 use Rattle.hc_transcript.specs.declared.format.Format.{Format}
-use Rattle.hc_transcript.specs.declared.format.Format.TheVariants.{First}
+use Rattle.hc_transcript.specs.declared.format.Format.TheVariants.{Second}
 use Rattle.hc_transcript.specs.declared.record.Record.{Record}
 use Rattle.hc_transcript.specs.declared.record.Passed.TheVariants as passed
 use Rattle.hc_service.specs.declared.action.Action.{Action}
@@ -14,15 +14,17 @@ use Rattle.hc_service.specs.declared.action.Action.TheVariants as action
 
 -- ---- records: of a request, of what went to the origin, of what the origin answered, of its failure, of a reply
 
--- the format in which the cache records itself
+-- the format in which the cache records itself: of each forward it tells the cause
 abbrev pub recorded_format : Format
-recorded_format = First
+recorded_format = Second
 
 abbrev pub request_record : ℕ → ℕ → Message RequestHead → Record
 request_record exchange moment request = record { number = exchange; moment = moment; of = passed.ClientRequest (request_text request) }
 
-abbrev pub forward_record : ℕ → ℕ → Message RequestHead → Record
-forward_record forward moment request = record { number = forward; moment = moment; of = passed.OriginRequest (request_text request) None }
+-- by the exchange that the forward is made for, if it is for one
+abbrev pub forward_record : ℕ → ℕ → Option ℕ → Message RequestHead → Record
+forward_record forward moment cause request =
+    record { number = forward; moment = moment; of = passed.OriginRequest (request_text request) cause }
 
 abbrev pub response_record : ℕ → ℕ → Bool → Message ResponseHead → Record
 response_record forward moment to_head response =
@@ -41,10 +43,10 @@ reply_record exchange moment to_head reply =
 abbrev pub ask_actions : ℕ → ℕ → Message RequestHead → List Action
 ask_actions exchange moment request = action.Record (request_record exchange moment request) ∷ []
 
--- a request goes to the origin
-abbrev pub send_actions : ℕ → ℕ → Message RequestHead → List Action
-send_actions forward moment request =
-    action.Record (forward_record forward moment request) ∷ action.Forward forward (request_text request) ∷ []
+-- a request goes to the origin, for an exchange or for none
+abbrev pub send_actions : ℕ → ℕ → Option ℕ → Message RequestHead → List Action
+send_actions forward moment cause request =
+    action.Record (forward_record forward moment cause request) ∷ action.Forward forward (request_text request) ∷ []
 
 -- the connection closes, where it does
 abbrev pub close_actions : ℕ → Bool → List Action

@@ -177,7 +177,7 @@ pub record RepliesAndValidates (c : ℕ) (k : Connection) (behind : List ℕ) (r
   pub actions_are : actions
       ≡ ask_actions (one_more s.numbers.exchange) s.numbers.moment request
       ++ reply_actions (one_more s.numbers.exchange) s.numbers.moment (is_head request.head.method) c wanted.closes reply
-      ++ send_actions (one_more s.numbers.forward) s.numbers.moment validation
+      ++ send_actions (one_more s.numbers.forward) s.numbers.moment None validation
 
 -- it goes to the origin, and waits for its reply
 pub record GoesForward (c : ℕ) (k : Connection) (behind : List ℕ) (request : Message RequestHead) (target : Target) (forward : Message RequestHead) (why : Cause) (conditional : Bool) (s : State) (actions : List Action) (s' : State) : Type 0 where
@@ -190,7 +190,7 @@ pub record GoesForward (c : ℕ) (k : Connection) (behind : List ℕ) (request :
       (sent_forward forward.head target s.numbers.moment (purpose.Reply (one_more s.numbers.exchange) why conditional))
   pub actions_are : actions
       ≡ ask_actions (one_more s.numbers.exchange) s.numbers.moment request
-      ++ send_actions (one_more s.numbers.forward) s.numbers.moment forward
+      ++ send_actions (one_more s.numbers.forward) s.numbers.moment (Some (one_more s.numbers.exchange)) forward
 
 -- what the reaction makes of each part but the store
 abbrev pub DoesReaction : Reaction → ℕ → Connection → List ℕ → Message RequestHead → Target → Wanted → State → List Action → State → Type 0
@@ -250,7 +250,7 @@ pub record EndsWithForward (f : ℕ) (e : ℕ) (x : OpenExchange) (why : Cause) 
   pub forwards : s'.forwards
       ≡ insert (remove s.forwards f) (one_more s.numbers.forward)
       (sent_forward forward.head x.target s.numbers.moment (purpose.Reply e why false))
-  pub actions_are : actions ≡ first ++ send_actions (one_more s.numbers.forward) s.numbers.moment forward
+  pub actions_are : actions ≡ first ++ send_actions (one_more s.numbers.forward) s.numbers.moment (Some e) forward
 
 -- what the outcome makes of each part but the store
 abbrev pub DoesOutcome : Outcome → CoreSettings → ℕ → ℕ → OpenExchange → Connection → Cause → List Action → Wanted → State → List Action → State → Type 0

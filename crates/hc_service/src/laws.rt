@@ -12,15 +12,17 @@ ghost use Rattle.hc_framing.specs.declared.message.Message.{Message};
 ghost use Rattle.hc_fresh.specs.Lifetimes.{says, seconds_said, stale_forbidden};
 ghost use Rattle.hc_update.specs.declared.stored.Stored.{Stored};
 ghost use Rattle.hc_transcript.specs.Items.{ClientReply, ClientRequest, Exchange, Forward, Item, OriginFailure, OriginRequest, OriginResponse};
-ghost use Rattle.hc_transcript.specs.History.{exchange_of, forward_of, next_position};
+ghost use Rattle.hc_transcript.specs.Checks.{cause_is_open, has_right_cause};
+ghost use Rattle.hc_transcript.specs.History.{cause_of, exchange_of, forward_of, next_position};
 ghost use Rattle.hc_transcript.specs.Limits.{greatest_number};
+ghost use Rattle.hc_transcript.specs.Records.{told};
 ghost use Rattle.hc_transcript.specs.Written.{IsWritableAnswer, IsWritableAsk};
 ghost use Rattle.hc_history.specs.Right.{IsRight};
 ghost use Rattle.hc_head.specs.Statuses.{is_error_status};
 ghost use Rattle.hc_store.specs.Calls.{Freshens};
 ghost use Rattle.hc_service.specs.declared.numbers.Numbers.{Numbers};
 ghost use Rattle.hc_service.specs.Numbers.{asked, is_later, noted, one_more, sent};
-ghost use Rattle.hc_service.specs.Sending.{failure_record, forward_record, records_of, reply_record, request_record, response_record};
+ghost use Rattle.hc_service.specs.Sending.{recorded_format, failure_record, forward_record, records_of, reply_record, request_record, response_record};
 ghost use Rattle.hc_store.specs.Choosing.{is_selected, is_selected_validated};
 ghost use Rattle.hc_links.specs.Requests.{IsRequest};
 ghost use Rattle.hc_store.specs.Entries.{Holdings};
@@ -96,7 +98,7 @@ pub fn hits_are_right()
         → exchange_of x.number items ≡ Some x → wanted.asked ≡ x.request → IsSound items x.target stored
         → is_answered_by_store x.request.method ≡ true → is_selected x.request.fields stored ≡ true
         → may_be_served x.request.fields stored wanted.moment ≡ true
-        → IsRight strict items (ClientReply x.number wanted.moment (hit_reply wanted stored)) }
+        → IsRight recorded_format strict items (ClientReply x.number wanted.moment (hit_reply wanted stored)) }
 {}
 
 /// What forbids that a stored response is served, or takes the place of an error, is obeyed whatever else
@@ -128,19 +130,19 @@ pub fn what_forbids_serving_is_obeyed()
 pub fn other_replies_are_right()
     ensures passed { (items : List Item) (f moment : ℕ) (response : Message ResponseHead) (forward : OpenForward)
         (x : Exchange) (wanted : Wanted) (why : Cause) (stored : Bool) → is_name wanted.name ≡ true
-        → forward_of f items ≡ Some (recorded_forward forward) → exchange_of x.number items ≡ Some x
-        → forward.request.method ≡ x.request.method → forward.target ≡ x.target
+        → forward_of f items ≡ Some (recorded_forward forward) → cause_of f items ≡ Some x.number
+        → exchange_of x.number items ≡ Some x → forward.request.method ≡ x.request.method → forward.target ≡ x.target
         → (is_head x.request.method ≡ true → response.body ≡ [])
-        → IsRight strict (OriginResponse f moment response ∷ items)
+        → IsRight recorded_format strict (OriginResponse f moment response ∷ items)
         (ClientReply x.number wanted.moment (passed_reply wanted why stored response)) }
     ensures made { (items : List Item) (x : Exchange) (wanted : Wanted) (status : ℕ)
         → exchange_of x.number items ≡ Some x → 400 ≤ status
-        → IsRight strict items (ClientReply x.number wanted.moment (made_reply wanted status)) }
+        → IsRight recorded_format strict items (ClientReply x.number wanted.moment (made_reply wanted status)) }
     ensures validated { (items : List Item) (x : Exchange) (wanted : Wanted) (why : Cause) (position : ℕ)
         (stored : Stored) → is_name wanted.name ≡ true → exchange_of x.number items ≡ Some x
         → wanted.asked ≡ x.request → IsSound items x.target stored → is_answered_by_store x.request.method ≡ true
         → is_selected_validated x.request.fields position stored ≡ true → x.position < position
-        → IsRight strict items
+        → IsRight recorded_format strict items
         (ClientReply x.number wanted.moment (replacing_reply wanted why (Some not_modified) stored)) }
     ensures in_place_of_error { (items : List Item) (f moment : ℕ) (response : Message ResponseHead)
         (forward : OpenForward) (x : Exchange) (wanted : Wanted) (why : Cause) (stored : Stored)
@@ -150,7 +152,7 @@ pub fn other_replies_are_right()
         → IsSound (OriginResponse f moment response ∷ items) x.target stored
         → is_answered_by_store x.request.method ≡ true → is_selected x.request.fields stored ≡ true
         → may_replace x.request.fields stored wanted.moment ≡ true
-        → IsRight strict (OriginResponse f moment response ∷ items)
+        → IsRight recorded_format strict (OriginResponse f moment response ∷ items)
         (ClientReply x.number wanted.moment (replacing_reply wanted why (Some response.head.status) stored)) }
     ensures in_place_of_failure { (items : List Item) (f moment : ℕ) (forward : OpenForward) (x : Exchange)
         (wanted : Wanted) (why : Cause) (stored : Stored)
@@ -159,7 +161,7 @@ pub fn other_replies_are_right()
         → IsSound (OriginFailure f moment ∷ items) x.target stored
         → is_answered_by_store x.request.method ≡ true → is_selected x.request.fields stored ≡ true
         → may_replace x.request.fields stored wanted.moment ≡ true
-        → IsRight strict (OriginFailure f moment ∷ items)
+        → IsRight recorded_format strict (OriginFailure f moment ∷ items)
         (ClientReply x.number wanted.moment (replacing_reply wanted why None stored)) }
 {}
 
@@ -172,16 +174,17 @@ pub fn received_messages_can_be_recorded()
 {}
 
 /// What is recorded keeps to the format of a transcript, as far as records can be numbered, and the counts
-/// stay those of the records.
+/// stay those of the records; that of a forward where its cause is an open exchange, or where it has none.
 pub fn records_keep_to_the_format()
     ensures ask { (n : Numbers) (h : History) (request : Message RequestHead) (target : Target) → AreCounted n h
         → IsWritableAsk request target → one_more n.records ≤ greatest_number
         → AreCounted (asked n) (with_record (request_record (one_more n.exchange) n.moment request)
         (ClientRequest (one_more n.exchange) n.moment request target) h) }
-    ensures send { (n : Numbers) (h : History) (request : Message RequestHead) (target : Target) → AreCounted n h
+    ensures send { (n : Numbers) (h : History) (cause : Option ℕ) (request : Message RequestHead) (target : Target)
+        → AreCounted n h → has_right_cause (told cause) (cause_is_open (told cause) h.items) ≡ true
         → IsWritableAsk request target → one_more n.records ≤ greatest_number
-        → AreCounted (sent n) (with_record (forward_record (one_more n.forward) n.moment request)
-        (OriginRequest (one_more n.forward) n.moment request target None) h) }
+        → AreCounted (sent n) (with_record (forward_record (one_more n.forward) n.moment cause request)
+        (OriginRequest (one_more n.forward) n.moment request target cause) h) }
     ensures response { (n : Numbers) (h : History) → AreCounted n h → one_more n.records ≤ greatest_number
         → (f : ℕ) (forward : Forward) (response : Message ResponseHead) → 1 ≤ f → f ≤ greatest_number
         → forward_of f h.items ≡ Some forward → IsWritableAnswer (is_head forward.request.method) response

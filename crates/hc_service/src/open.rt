@@ -1,5 +1,8 @@
 //! What is open: exchanges with clients, and forwards to the origin.
 
+ghost use Rattle.std.specs.Prelude.{◌≡◌};
+ghost use Rattle.hc_service.specs.Agreement.{exchange_for};
+
 use crate::cases::Cause;
 use hc_head::{RequestHead, Target};
 
@@ -41,4 +44,17 @@ pub enum Purpose {
     },
     /// The store alone: it validates what was served stale (RFC 5861 section 3).
     Background,
+}
+
+impl Purpose {
+    /// The number of the exchange that the answer is for, which a recording tells as the cause of the forward;
+    /// `None` where it is for the store alone.
+    pub fn exchange(self) -> Option<u64>
+        ensures { result ≡ exchange_for self }
+    {
+        match self {
+            Purpose::Reply { exchange, .. } => Some(exchange),
+            Purpose::Background => None,
+        }
+    }
 }

@@ -124,7 +124,7 @@ where
         file.claim()?;
         file.set_len(0)?;
     }
-    file.write_all(Format::First.opening())?;
+    file.write_all(Format::Second.opening())?;
     Ok(file)
 }
 

@@ -12,3 +12,4 @@ pub mod ItemLemmas
 pub mod FrontLemmas
 pub mod OnceLemmas
 pub mod WrittenLemmas
+pub mod ConvertLemmas

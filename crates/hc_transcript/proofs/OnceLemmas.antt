@@ -149,61 +149,66 @@ same_format octets format other records others h g rest tail s t =
 
 -- ---- where the octets break
 
-break_without_record : (octets : List ℕ) (h : List Item) (f : RecordFault) (b : BreaksAfter octets h f) → HasNoRecord b.format h b.rest
-break_without_record octets h f b = no_record_broken b.format f h b.rest b.breaks
+break_without_record : (format : Format) (octets : List ℕ) (h : List Item) (f : RecordFault) (b : BreaksAfter format octets h f) → HasNoRecord format h b.rest
+break_without_record format octets h f b = no_record_broken format f h b.rest b.breaks
 
-pub one_break : (octets : List ℕ) (h g : List Item) (f e : RecordFault) → BreaksAfter octets h f → BreaksAfter octets g e → (h ≡ g) × (f ≡ e)
-one_break octets h g f e b c =
-    let format : c.format ≡ b.format = one_opening octets c.format b.format c.records b.records g h c.rest b.rest c.splits b.splits in
-    let splits = same_format octets b.format c.format b.records c.records h g b.rest c.rest b.splits c.splits in
-    let breaks : BreaksRecord b.format e g c.rest = subst (λ (k : Format). BreaksRecord k e g c.rest) format c.breaks in
-    let same = one_last b.format octets b.records c.records h g b.rest c.rest (break_without_record octets h f b) (no_record_broken b.format e g c.rest breaks) b.splits splits in
-    let here : BreaksRecord b.format e h b.rest =
-    subst (λ (k : List Item). BreaksRecord b.format e k b.rest) (sym same.1) (subst (λ (t : List ℕ). BreaksRecord b.format e g t) (sym same.2) breaks) in
-    (same.1, one_fault b.format f e h b.rest b.breaks here)
+pub one_break : (format other : Format) (octets : List ℕ) (h g : List Item) (f e : RecordFault) → BreaksAfter format octets h f → BreaksAfter other octets g e
+    → (format ≡ other) × (h ≡ g) × (f ≡ e)
+one_break format other octets h g f e b c =
+    let same-format : other ≡ format = one_opening octets other format c.records b.records g h c.rest b.rest c.splits b.splits in
+    let splits = same_format octets format other b.records c.records h g b.rest c.rest b.splits c.splits in
+    let breaks : BreaksRecord format e g c.rest = subst (λ (k : Format). BreaksRecord k e g c.rest) same-format c.breaks in
+    let same = one_last format octets b.records c.records h g b.rest c.rest (break_without_record format octets h f b) (no_record_broken format e g c.rest breaks) b.splits splits in
+    let here : BreaksRecord format e h b.rest =
+    subst (λ (k : List Item). BreaksRecord format e k b.rest) (sym same.1) (subst (λ (t : List ℕ). BreaksRecord format e g t) (sym same.2) breaks) in
+    (sym same-format, same.1, one_fault format f e h b.rest b.breaks here)
 
-pub break_last : (octets : List ℕ) (h : List Item) (f : RecordFault) (format : Format) (records : List Record) (g : List Item) (rest : List ℕ) → BreaksAfter octets h f
-    → Splits format octets records g rest → (items : List Item) × (h ≡ items ++ g)
-break_last octets h f format records g rest b s =
-    let splits = same_format octets b.format format b.records records h g b.rest rest b.splits s in
-    let on = last b.format octets b.records records h g b.rest rest (break_without_record octets h f b) b.splits splits in
+pub break_last : (format other : Format) (octets : List ℕ) (h : List Item) (f : RecordFault) (records : List Record) (g : List Item) (rest : List ℕ) → BreaksAfter format octets h f
+    → Splits other octets records g rest → (items : List Item) × (h ≡ items ++ g)
+break_last format other octets h f records g rest b s =
+    let splits = same_format octets format other b.records records h g b.rest rest b.splits s in
+    let on = last format octets b.records records h g b.rest rest (break_without_record format octets h f b) b.splits splits in
     (on.items, on.items_are)
 
-pub broken_is_no_transcript : (octets : List ℕ) (h : List Item) (f : RecordFault) (format : Format) (records : List Record) (g : List Item) → BreaksAfter octets h f
-    → ¬ (IsTranscript format octets records g)
-broken_is_no_transcript octets h f format records g b t =
-    let splits = same_format octets b.format format b.records records h g b.rest [] b.splits t in
-    let same = one_last b.format octets b.records records h g b.rest [] (break_without_record octets h f b) (no_record_empty b.format g) b.splits splits in
-    break_is_some b.format f h b.rest b.breaks same.2
+pub broken_is_no_transcript : (format other : Format) (octets : List ℕ) (h : List Item) (f : RecordFault) (records : List Record) (g : List Item) → BreaksAfter format octets h f
+    → ¬ (IsTranscript other octets records g)
+broken_is_no_transcript format other octets h f records g b t =
+    let splits = same_format octets format other b.records records h g b.rest [] b.splits t in
+    let same = one_last format octets b.records records h g b.rest [] (break_without_record format octets h f b) (no_record_empty format g) b.splits splits in
+    break_is_some format f h b.rest b.breaks same.2
 
 -- ---- where a record is unfinished
 
-pub one_unfinished : (format : Format) (octets : List ℕ) (records others : List Record) (h g : List Item) (rest behind : List ℕ) → Splits format octets records h rest → IsUnfinished format (line_fault h) rest
-    → Splits format octets others g behind → IsUnfinished format (line_fault g) behind → (records ≡ others) × (h ≡ g) × (rest ≡ behind)
-one_unfinished format octets records others h g rest tail s u t v =
-    one_last format octets records others h g rest tail (no_record_unfinished format h rest u) (no_record_unfinished format g tail v) s t
+pub one_unfinished : (format other : Format) (octets : List ℕ) (records others : List Record) (h g : List Item) (rest behind : List ℕ) → Splits format octets records h rest
+    → IsUnfinished format (line_fault h) rest → Splits other octets others g behind → IsUnfinished other (line_fault g) behind → (records ≡ others) × (h ≡ g) × (rest ≡ behind)
+one_unfinished format other octets records others h g rest tail s u t v =
+    let same-format : other ≡ format = one_opening octets other format others records g h tail rest t s in
+    let unfinished : IsUnfinished format (line_fault g) tail = subst (λ (k : Format). IsUnfinished k (line_fault g) tail) same-format v in
+    one_last format octets records others h g rest tail (no_record_unfinished format h rest u) (no_record_unfinished format g tail unfinished) s
+    (same_format octets format other records others h g rest tail s t)
 
-pub unfinished_last : (format : Format) (octets : List ℕ) (records others : List Record) (h g : List Item) (rest behind : List ℕ) → Splits format octets records h rest → IsUnfinished format (line_fault h) rest
-    → Splits format octets others g behind → (items : List Item) × (h ≡ items ++ g)
-unfinished_last format octets records others h g rest tail s u t =
-    let on = last format octets records others h g rest tail (no_record_unfinished format h rest u) s t in
+pub unfinished_last : (format other : Format) (octets : List ℕ) (records others : List Record) (h g : List Item) (rest behind : List ℕ) → Splits format octets records h rest
+    → IsUnfinished format (line_fault h) rest → Splits other octets others g behind → (items : List Item) × (h ≡ items ++ g)
+unfinished_last format other octets records others h g rest tail s u t =
+    let on = last format octets records others h g rest tail (no_record_unfinished format h rest u) s (same_format octets format other records others h g rest tail s t) in
     (on.items, on.items_are)
 
-pub unfinished_is_no_transcript : (format : Format) (octets : List ℕ) (records others : List Record) (h g : List Item) (rest : List ℕ) → Splits format octets records h rest → rest ≢ [] → IsUnfinished format (line_fault h) rest
-    → ¬ (IsTranscript format octets others g)
-unfinished_is_no_transcript format octets records others h g rest s some u t =
-    some (one_last format octets records others h g rest [] (no_record_unfinished format h rest u) (no_record_empty format g) s t).2
+pub unfinished_is_no_transcript : (format other : Format) (octets : List ℕ) (records others : List Record) (h g : List Item) (rest : List ℕ) → Splits format octets records h rest → rest ≢ []
+    → IsUnfinished format (line_fault h) rest → ¬ (IsTranscript other octets others g)
+unfinished_is_no_transcript format other octets records others h g rest s some u t =
+    some (one_last format octets records others h g rest [] (no_record_unfinished format h rest u) (no_record_empty format g) s
+    (same_format octets format other records others h g rest [] s t)).2
 
-pub unfinished_is_unbroken : (format : Format) (octets : List ℕ) (records : List Record) (h g : List Item) (rest : List ℕ) (f : RecordFault) → Splits format octets records h rest → IsUnfinished format (line_fault h) rest
-    → ¬ (BreaksAfter octets g f)
-unfinished_is_unbroken format octets records h g rest f s u b =
-    let same-format : format ≡ b.format = one_opening octets format b.format records b.records h g rest b.rest s b.splits in
-    let splits = same_format octets b.format format b.records records g h b.rest rest b.splits s in
-    let unfinished : IsUnfinished b.format (line_fault h) rest = subst (λ (k : Format). IsUnfinished k (line_fault h) rest) same-format u in
-    let same = one_last b.format octets b.records records g h b.rest rest (break_without_record octets g f b) (no_record_unfinished b.format h rest unfinished) b.splits splits in
-    let here : IsUnfinished b.format (line_fault g) b.rest =
-    subst (λ (k : List Item). IsUnfinished b.format (line_fault k) b.rest) (sym same.1) (subst (λ (t : List ℕ). IsUnfinished b.format (line_fault h) t) (sym same.2) unfinished) in
-    no_unfinished_break b.format f g b.rest b.breaks here
+pub unfinished_is_unbroken : (format other : Format) (octets : List ℕ) (records : List Record) (h g : List Item) (rest : List ℕ) (f : RecordFault) → Splits format octets records h rest
+    → IsUnfinished format (line_fault h) rest → ¬ (BreaksAfter other octets g f)
+unfinished_is_unbroken format other octets records h g rest f s u b =
+    let same-format : format ≡ other = one_opening octets format other records b.records h g rest b.rest s b.splits in
+    let splits = same_format octets other format b.records records g h b.rest rest b.splits s in
+    let unfinished : IsUnfinished other (line_fault h) rest = subst (λ (k : Format). IsUnfinished k (line_fault h) rest) same-format u in
+    let same = one_last other octets b.records records g h b.rest rest (break_without_record other octets g f b) (no_record_unfinished other h rest unfinished) b.splits splits in
+    let here : IsUnfinished other (line_fault g) b.rest =
+    subst (λ (k : List Item). IsUnfinished other (line_fault k) b.rest) (sym same.1) (subst (λ (t : List ℕ). IsUnfinished other (line_fault h) t) (sym same.2) unfinished) in
+    no_unfinished_break other f g b.rest b.breaks here
 
 -- ---- the opening
 
@@ -236,15 +241,9 @@ unfinished_opening_no_records format octets records h rest u s =
 
 -- ---- broken octets, and more behind them
 
--- they break in the same format
-abbrev pub broken_more : (octets more : List ℕ) (h : List Item) (f : RecordFault) → BreaksAfter octets h f → BreaksAfter (octets ++ more) h f
-broken_more octets more h f b = record {
-  format = b.format;
-  records = b.records;
-  rest = b.rest ++ more;
-  splits = splits_more b.format octets more b.records h b.rest b.splits;
-  breaks = breaks_more b.format f h b.rest more b.breaks;
-}
+pub broken_more : (format : Format) (octets more : List ℕ) (h : List Item) (f : RecordFault) → BreaksAfter format octets h f → BreaksAfter format (octets ++ more) h f
+broken_more format octets more h f b =
+    record { records = b.records; rest = b.rest ++ more; splits = splits_more format octets more b.records h b.rest b.splits; breaks = breaks_more format f h b.rest more b.breaks }
 
 pub no_opening_more : (octets more : List ℕ) → HasNoOpening octets → HasNoOpening (octets ++ more)
 no_opening_more octets more none format behind rest e = none format (more ++ behind) rest (sym (append_assoc octets more behind) ∙ e)

@@ -46,7 +46,7 @@ position_of : (r : RecordReader) (format : Format) (h : List Item) → r.format 
 position_of r format h is stands = ap (λ (o : Option Format). position_by o r.standing.records) is ∙ ap (λ (n : ℕ). n + 1) stands.records
 
 -- a line that fails a check breaks the record
-record_breaks : (format : Format) (f : RecordFault) (h : List Item) (octets : List ℕ) → BreaksLine format (line_fault h) f octets → BreaksRecord format f h octets
+pub record_breaks : (format : Format) (f : RecordFault) (h : List Item) (octets : List ℕ) → BreaksLine format (line_fault h) f octets → BreaksRecord format f h octets
 record_breaks format fault.Message h octets b = absurd (no_message_check b.line _ _ _ _ _ _ b.fails)
 record_breaks format fault.Opening h octets b = b
 record_breaks format fault.Line h octets b = b
@@ -64,13 +64,14 @@ stops_by_line r format octets records h f is agrees breaks =
     let b : BreaksLine format (line_fault h) f r.held =
     subst (λ (check : Line → Option RecordFault). BreaksLine format check f r.held) (checks_same r octets records h agrees) breaks in
     inr (record {
-      breaks = record { format = format; records = records; rest = r.held; splits = opened r format octets records h is agrees; breaks = record_breaks format f h r.held b };
+      format = format;
       format_is = is;
+      breaks = record { records = records; rest = r.held; splits = opened r format octets records h is agrees; breaks = record_breaks format f h r.held b };
       position_is = position_of r format h is agrees.stands;
     })
 
 -- octets that are no message break the record
-item_breaks : (format : Format) (f : RecordFault) (h : List Item) (octets : List ℕ) (Nothing : Type 0) → (Nothing → HasNoMessage format h octets) → Refuses f Nothing → f ≢ fault.Memory → BreaksRecord format f h octets
+pub item_breaks : (format : Format) (f : RecordFault) (h : List Item) (octets : List ℕ) (Nothing : Type 0) → (Nothing → HasNoMessage format h octets) → Refuses f Nothing → f ≢ fault.Memory → BreaksRecord format f h octets
 item_breaks format fault.Message h octets Nothing so refuses other = so refuses
 item_breaks format fault.Memory h octets Nothing so refuses other = absurd (other refl)
 item_breaks format fault.Opening h octets Nothing so refuses other = absurd refuses
@@ -91,8 +92,9 @@ stops_by_item r format octets records h f l message len to_head is agrees framed
     let none : IsNoMessage l.kind to_head message → HasNoMessage format h r.held =
     λ none. record { line = l; message = message; len = len; framed = framed'; none = subst (λ (b : Bool). IsNoMessage l.kind b message) head-is none } in
     inr (record {
-      breaks = record { format = format; records = records; rest = r.held; splits = opened r format octets records h is agrees; breaks = item_breaks format f h r.held _ none refuses other };
+      format = format;
       format_is = is;
+      breaks = record { records = records; rest = r.held; splits = opened r format octets records h is agrees; breaks = item_breaks format f h r.held _ none refuses other };
       position_is = position_of r format h is agrees.stands;
     })
 
@@ -104,7 +106,7 @@ waits_on r format octets records h is agrees waits =
 
 -- ---- the record of a line and a message
 
-abbrev passed_as : Kind → ToldCause → List ℕ → Passed
+abbrev pub passed_as : Kind → ToldCause → List ℕ → Passed
 passed_as kind.ClientRequest cause message = passed.ClientRequest message
 passed_as kind.OriginRequest cause message = passed.OriginRequest message (exchange_told cause)
 passed_as kind.OriginResponse cause message = passed.OriginResponse message
@@ -122,7 +124,7 @@ empty_of : (held : List ℕ) → (length held == 0) ≡ true → held ≡ []
 empty_of [] e = refl
 empty_of (b ∷ held) e = absurd (omega (arith, eqb-true (length (b ∷ held)) 0 e))
 
-octets_as : (k : Kind) (cause : ToldCause) (message : List ℕ) → has_right_length k (length message) ≡ true → passed_octets (passed_as k cause message) ≡ message
+pub octets_as : (k : Kind) (cause : ToldCause) (message : List ℕ) → has_right_length k (length message) ≡ true → passed_octets (passed_as k cause message) ≡ message
 octets_as kind.ClientRequest cause message right = refl
 octets_as kind.OriginRequest cause message right = refl
 octets_as kind.OriginResponse cause message right = refl
@@ -157,22 +159,22 @@ untold kind.OriginResponse cause message is = refl
 untold kind.OriginFailure cause message is = refl
 untold kind.ClientReply cause message is = refl
 
-abbrev record_as : Line → List ℕ → Record
+abbrev pub record_as : Line → List ℕ → Record
 record_as l message = record { number = l.number; moment = l.moment; of = passed_as l.kind l.cause message }
 
 -- a record that was read may stand in its format
-can_tell : (format : Format) (l : Line) (message end : List ℕ) → IsEnd (line_has_cause format l.kind) end l.size l.cause → CanTell format (record_as l message)
+pub can_tell : (format : Format) (l : Line) (message end : List ℕ) → IsEnd (line_has_cause format l.kind) end l.size l.cause → CanTell format (record_as l message)
 can_tell form.First l message end is = untold l.kind l.cause message is.1
 can_tell form.Second l message end is = tt
 
-line_as : (format : Format) (l : Line) (message end : List ℕ) → IsEnd (line_has_cause format l.kind) end l.size l.cause → length message ≡ l.size → message_of (record_as l message) ≡ message
+pub line_as : (format : Format) (l : Line) (message end : List ℕ) → IsEnd (line_has_cause format l.kind) end l.size l.cause → length message ≡ l.size → message_of (record_as l message) ≡ message
     → line_of format (record_as l message) ≡ l
 line_as format l message end ends size-is message-is =
     let size : length (message_of (record_as l message)) ≡ l.size = ap length message-is ∙ size-is in
     let cause = cause_as format l.kind l.cause message end l.size ends in
     λ i. record { kind = kind_as l.kind l.cause message i; number = l.number; moment = l.moment; size = size i; cause = cause i }
 
-right_length : (s : Standing) (l : Line) → standing_fault s l ≡ None → has_right_length l.kind l.size ≡ true
+pub right_length : (s : Standing) (l : Line) → standing_fault s l ≡ None → has_right_length l.kind l.size ≡ true
 right_length s l none = (order_kept s l none).right_length
 
 -- the text of a record, as it stands in the octets
@@ -187,7 +189,7 @@ record_len format one l message len line-is message-is size-is len-is =
     omega (arith, len-is, size-is, ap (λ (k : Line). length (line_text k)) line-is, ap length message-is, length-append (line_text (line_of format one)) (10 ∷ (message_of one ++ 10 ∷ [])), length-append (message_of one) (10 ∷ []))
 
 -- one record more was read off the octets
-splits_next : (format : Format) (octets : List ℕ) (records : List Record) (h : List Item) (held : List ℕ) (l : Line) (message : List ℕ) (len : ℕ) (one : Record) (item : Item)
+pub splits_next : (format : Format) (octets : List ℕ) (records : List Record) (h : List Item) (held : List ℕ) (l : Line) (message : List ℕ) (len : ℕ) (one : Record) (item : Item)
     → Splits format octets records h held → IsFramed format (line_fault h) held l message len → IsItemOf l.kind l.cause l.number l.moment (is_to_head l.kind l.number h) message item
     → CanTell format one → line_of format one ≡ l → message_of one ≡ message → Splits format octets (one ∷ records) (item ∷ h) (drop len held)
 splits_next format octets records h held l message len one item splits framed reads can line-is message-is =

@@ -31,6 +31,18 @@ abbrev pub forward_of : ℕ → List Item → Option Forward
 forward_of f [] = None
 forward_of f (i ∷ h) = forward_after f i (forward_of f h)
 
+-- what an item makes of the cause of the open forward of a number
+abbrev pub cause_after : ℕ → Item → Option ℕ → Option ℕ
+cause_after f (OriginRequest number moment request target cause) before = if number == f then cause else before
+cause_after f (OriginResponse number moment response) before = if number == f then None else before
+cause_after f (OriginFailure number moment) before = if number == f then None else before
+cause_after f item before = before
+
+-- the exchange that the open forward of a number was made for; none where no reply waits for it, and where none is open
+abbrev pub cause_of : ℕ → List Item → Option ℕ
+cause_of f [] = None
+cause_of f (i ∷ h) = cause_after f i (cause_of f h)
+
 -- the moment of the newest item; 0 where there is none
 abbrev pub last_moment : List Item → ℕ
 last_moment [] = 0

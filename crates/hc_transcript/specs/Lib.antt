@@ -11,5 +11,6 @@ pub mod Malformed
 pub mod Written
 pub mod Reading
 pub mod Standing
+pub mod Converting
 pub mod Reader
 pub mod ReaderParts

@@ -142,16 +142,14 @@ BreaksRecord format fault.Message h octets = HasNoMessage format h octets
 BreaksRecord format f h octets = BreaksLine format (line_fault h) f octets
 
 -- behind these items a record breaks the octets by that fault, whatever follows
-pub record BreaksAfter (octets : List ℕ) (h : List Item) (f : RecordFault) : Type 0 where
-  pub format : Format
+pub record BreaksAfter (format : Format) (octets : List ℕ) (h : List Item) (f : RecordFault) : Type 0 where
   pub records : List Record
   pub rest : List ℕ
   pub splits : Splits format octets records h rest
   pub breaks : BreaksRecord format f h rest
 
 -- behind these items the octets end inside a record
-pub record IsTornAfter (octets : List ℕ) (h : List Item) : Type 0 where
-  pub format : Format
+pub record IsTornAfter (format : Format) (octets : List ℕ) (h : List Item) : Type 0 where
   pub records : List Record
   pub rest : List ℕ
   pub splits : Splits format octets records h rest
@@ -159,5 +157,5 @@ pub record IsTornAfter (octets : List ℕ) (h : List Item) : Type 0 where
   pub torn : IsUnfinished format (line_fault h) rest
 
 -- behind these items the octets are malformed by that fault
-abbrev pub IsMalformedAfter : List ℕ → List Item → RecordFault → Type 0
-IsMalformedAfter octets h f = BreaksAfter octets h f ⊎ ((f ≡ fault.Torn) × IsTornAfter octets h)
+abbrev pub IsMalformedAfter : Format → List ℕ → List Item → RecordFault → Type 0
+IsMalformedAfter format octets h f = BreaksAfter format octets h f ⊎ ((f ≡ fault.Torn) × IsTornAfter format octets h)

@@ -97,8 +97,9 @@ reader_position r = position_by r.format r.standing.records
 
 -- the octets break behind the records of the history, in the format that was read, at that position
 pub record MeetsBreak (read : Option Format) (position : ℕ) (octets : List ℕ) (h : List Item) (f : RecordFault) : Type 0 where
-  pub breaks : BreaksAfter octets h f
-  pub format_is : read ≡ Some breaks.format
+  pub format : Format
+  pub format_is : read ≡ Some format
+  pub breaks : BreaksAfter format octets h f
   pub position_is : position ≡ next_position h
 
 -- the reader has met a fault where the octets break

@@ -70,6 +70,11 @@ abbrev pub told : Option ℕ → ToldCause
 told (Some n) = Exchange n
 told None = NoExchange
 
+-- a cause, as far as the format tells it: in the first nothing is told
+abbrev pub told_in : Format → Option ℕ → ToldCause
+told_in form.First cause = Untold
+told_in form.Second cause = told cause
+
 -- what the line of a record tells of its cause
 abbrev pub told_cause : Format → Passed → ToldCause
 told_cause format of = if line_has_cause format (passed_kind of) then told (passed_cause of) else Untold

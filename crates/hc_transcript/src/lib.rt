@@ -1,6 +1,7 @@
 //! Transcripts: recordings of what a cache received and sent.
 #![tactic(auto)]
 
+mod converting;
 mod fault;
 mod first_line;
 mod format;
@@ -16,12 +17,13 @@ mod reading;
 mod record;
 mod writing;
 
+pub use converting::{ConvertFault, convert};
 pub use fault::RecordFault;
 pub use format::Format;
 pub use item::{Meaning, OwnedItem};
 pub use laws::{
-    breaks_once, broken_for_ever, one_item, one_transcript, record_text_goes_on, unfinished_once,
-    written_record_read_back,
+    breaks_once, broken_for_ever, converted_is_a_transcript, first_format_is_converted_to_itself,
+    one_item, one_transcript, record_text_goes_on, unfinished_once, written_record_read_back,
 };
 pub use limits::{GREATEST_MOMENT, GREATEST_NUMBER, LONGEST_MESSAGE};
 pub use line::{Kind, Line, ToldCause};

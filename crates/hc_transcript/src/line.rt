@@ -4,7 +4,7 @@ ghost use Rattle.std.specs.Prelude.{◌≡◌, ◌≢◌, ℕ, ◌<◌, IfSome, 
 ghost use Rattle.std.specs.List.{list_any};
 ghost use Rattle.hc_transcript.specs.declared.line.Line.{Line};
 ghost use Rattle.hc_transcript.specs.declared.line.ToldCause.{ToldCause};
-ghost use Rattle.hc_transcript.specs.Records.{letter, line_has_cause, exchange_told};
+ghost use Rattle.hc_transcript.specs.Records.{letter, line_has_cause, told_in, exchange_told};
 ghost use Rattle.hc_transcript.specs.Lines.{IsLineText, WritesCause, IsEnd};
 
 use crate::format::Format;
@@ -37,6 +37,17 @@ pub enum ToldCause {
 }
 
 impl ToldCause {
+    /// What a transcript of that format tells of the cause of a forward: in the first format nothing.
+    pub fn told_in(format: Format, cause: Option<u64>) -> Self
+        ensures { result ≡ told_in format cause }
+    {
+        match (format, cause) {
+            (Format::First, _) => ToldCause::Untold,
+            (Format::Second, None) => ToldCause::NoExchange,
+            (Format::Second, Some(exchange)) => ToldCause::Exchange(exchange),
+        }
+    }
+
     /// The exchange, where one is told.
     pub(crate) fn exchange(self) -> Option<u64>
         ensures { result ≡ exchange_told self }

@@ -1,6 +1,6 @@
 //! A reader of the records of a transcript.
 
-ghost use Rattle.std.specs.Prelude.{◌≡◌, ◌≢◌, ℕ, ◌+◌, ◌<◌, ◌≤◌, ◌⊎◌, List, [], ◌∷◌, ◌++◌, length, Some, None, is_ok, OnOk, OnErr, IfErr, Ok, Err, true, false, if◌then◌else◌};
+ghost use Rattle.std.specs.Prelude.{◌≡◌, ◌≢◌, ℕ, ◌+◌, ◌<◌, ◌≤◌, ◌⊎◌, List, [], ◌∷◌, ◌++◌, length, Some, None, is_ok, IsSome, OnOk, OnErr, IfErr, Ok, Err, true, false, if◌then◌else◌};
 ghost use Rattle.hc_transcript.specs.declared.record.Record.{Record};
 ghost use Rattle.hc_transcript.specs.Limits.{greatest_moment, longest_unfinished};
 ghost use Rattle.hc_transcript.specs.Items.{Item, item_of};
@@ -93,6 +93,7 @@ impl RecordReader {
         ensures gives { (octets : List ℕ) (records : List Record) (h : List Item) → Agrees self.old octets records h
             → GivesAdvance result self.new octets records h }
         ensures lends { result ≡ Ok true → HasItem self.new }
+        ensures opened { result ≡ Ok true → IsSome (format_read self.new) }
         ensures gives_up { HasNoFault self.old → result ≢ Ok true → lent self.new ≡ None }
         ensures shrinks { result ≡ Ok true → unread self.new < unread self.old }
         ensures waits { result ≡ Ok false → unread self.new ≤ longest_unfinished }
@@ -225,6 +226,7 @@ impl RecordReader {
         ensures gives { (octets : List ℕ) (records : List Record) (h : List Item) → Agrees self.old octets records h
             → GivesAdvance result self.new octets records h }
         ensures lends { result ≡ Ok true → HasItem self.new }
+        ensures opened { result ≡ Ok true → IsSome (format_read self.new) }
         ensures gives_up { result ≢ Ok true → lent self.new ≡ None }
         ensures shrinks { result ≡ Ok true → unread self.new < unread self.old }
         ensures waits { result ≡ Ok false → unread self.new ≤ longest_unfinished }

@@ -108,7 +108,8 @@ fn line_of(record: &Record, format: Format) -> Line
     }
 }
 
-fn write_line(text: &mut Vec<u8>, line: &Line) -> Result<(), AllocError>
+/// Puts a line and its line feed at the end. Where memory runs out, some of it may stand there.
+pub(crate) fn write_line(text: &mut Vec<u8>, line: &Line) -> Result<(), AllocError>
     ensures { OnOk result (text.new.items ≡ text.old.items ++ (line_text line.now ++ 10 ∷ [])) }
 {
     let letter = letter(line.kind);

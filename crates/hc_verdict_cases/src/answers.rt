@@ -1,8 +1,9 @@
 //! The questions of the cases.
 
 use crate::changes::{say_changed, say_cuts, say_each, say_fronts, say_replaced};
+use crate::converting::say_same;
 use crate::marking::say_mark;
-use crate::names::{say_audit_faults, say_faults, say_reasons};
+use crate::names::{say_audit_faults, say_convert_faults, say_faults, say_reasons};
 use crate::tellers::Teller;
 use crate::words::{plain_words, say_ignored, words_of};
 use crate::writing::say_written;
@@ -23,6 +24,7 @@ impl Ask for Transcripts {
             "reasons" => Ok(say_reasons(out)?),
             "faults" => Ok(say_faults(out)?),
             "audit faults" => Ok(say_audit_faults(out)?),
+            "convert faults" => Ok(say_convert_faults(out)?),
             "written" => say_written(alloc, about, out),
             _ => answer_of(alloc, question, about, out),
         }
@@ -48,6 +50,11 @@ fn answer_of(
         }
         "records" => Teller::Reader.tell(alloc, &[octets], out),
         "format" => Teller::Format.tell(alloc, &[octets], out),
+        "converted to" => say_same(alloc, octets, parts, out),
+        "converted" => {
+            let words = words_of(alloc, parts)?;
+            Teller::Converted(words.as_slice()).tell(alloc, &[octets], out)
+        }
         _ => tell(alloc, question, octets, parts, out),
     }
 }

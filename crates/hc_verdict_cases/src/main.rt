@@ -5,6 +5,7 @@
 
 mod answers;
 mod changes;
+mod converting;
 mod folder;
 mod lines;
 mod marking;

@@ -3,7 +3,7 @@
 use hc_audit::AuditFault;
 use hc_cases::show_named;
 use hc_history::Reason;
-use hc_transcript::RecordFault;
+use hc_transcript::{ConvertFault, RecordFault};
 use std::alloc::AllocError;
 use std::fmt::Write;
 
@@ -43,6 +43,18 @@ pub fn say_faults(out: &mut String) -> Result<(), AllocError> {
         RecordFault::Cause,
     ] {
         show_named(fault.number(), fault.name(), out)?;
+    }
+    Ok(())
+}
+
+/// Writes why octets aren't converted.
+pub fn say_convert_faults(out: &mut String) -> Result<(), AllocError> {
+    for fault in [
+        ConvertFault::Malformed(1, RecordFault::Line),
+        ConvertFault::Memory,
+    ] {
+        show_named(fault.number(), fault.name(), out)?;
+        write!(out, ": {fault}")?;
     }
     Ok(())
 }

@@ -1,5 +1,6 @@
 //! Who tells something of a transcript.
 
+use crate::converting::say_converted;
 use crate::program::Audited;
 use crate::records::{say_format, say_records};
 use hc_cases::Unanswered;
@@ -14,6 +15,8 @@ pub enum Teller<'a> {
     Reader,
     /// The same, of the format alone.
     Format,
+    /// The program, of what it is in the first format.
+    Converted(&'a [&'a str]),
 }
 
 impl<'a> Teller<'a> {
@@ -23,6 +26,7 @@ impl<'a> Teller<'a> {
             "audit" => Some(Teller::Program(words)),
             "records" => Some(Teller::Reader),
             "format" => Some(Teller::Format),
+            "converted" => Some(Teller::Converted(words)),
             _ => None,
         }
     }
@@ -38,11 +42,13 @@ impl<'a> Teller<'a> {
             Teller::Program(words) => say_audited(alloc, words, pieces, out),
             Teller::Reader => say_records(alloc, pieces, out),
             Teller::Format => Ok(say_format(alloc, pieces, out)?),
+            Teller::Converted(words) => say_converted(alloc, words, pieces, out),
         }
     }
 }
 
-fn say_audited(
+/// Writes what the program says of the octets that the pieces make.
+pub(crate) fn say_audited(
     alloc: Global,
     words: &[&str],
     pieces: &[&[u8]],

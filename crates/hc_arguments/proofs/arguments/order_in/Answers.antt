@@ -2,7 +2,7 @@ use Rattle.std.proofs.Common.{◌≡◌, Some, rules}
 use Rattle.std.proofs.lemmas.Result.{IfErr-weaker, IfOk-weaker}
 use Rattle.clap.specs.Words.{found_of}
 use Rattle.hc_arguments.specs.Command.{AsksBy, RefusesBy, command_named, task_of}
-use Rattle.hc_arguments.specs.Command.Command.{Audits, Replays, Serves}
+use Rattle.hc_arguments.specs.Command.Command.{Audits, Replays, Converts, Serves}
 use Rattle.hc_arguments.proofs.ArgumentLemmas.{said_in}
 use Rattle.hc_arguments.proofs.arguments.order_in.Goals as goal
 
@@ -29,6 +29,18 @@ returns-in-replay-clause-err c =
     let named : command_named c.in-Some.name.now ≡ Some Replays = search rules in
     IfErr-weaker c.replay_in.result _ _ (λ refusal refuses. said_in c.args.matches.now c.in-Some.name.now (found_of c.in-Some.found.now)
     c.in-Some.ensures.name c.in-Some.ensures.rows (λ command value. RefusesBy command value refusal) (Some Replays) named refuses) c.replay_in.ensures.err
+
+pub returns-in-convert-clause-ok : goal.returns-in-convert-clause-ok
+returns-in-convert-clause-ok c =
+    let named : command_named c.in-Some.name.now ≡ Some Converts = search rules in
+    IfOk-weaker c.convert_in.result _ _ (λ order asks. said_in c.args.matches.now c.in-Some.name.now (found_of c.in-Some.found.now)
+    c.in-Some.ensures.name c.in-Some.ensures.rows (λ command value. AsksBy command value (task_of order)) (Some Converts) named asks) c.convert_in.ensures.ok
+
+pub returns-in-convert-clause-err : goal.returns-in-convert-clause-err
+returns-in-convert-clause-err c =
+    let named : command_named c.in-Some.name.now ≡ Some Converts = search rules in
+    IfErr-weaker c.convert_in.result _ _ (λ refusal refuses. said_in c.args.matches.now c.in-Some.name.now (found_of c.in-Some.found.now)
+    c.in-Some.ensures.name c.in-Some.ensures.rows (λ command value. RefusesBy command value refusal) (Some Converts) named refuses) c.convert_in.ensures.err
 
 pub returns-in-serve-clause-ok : goal.returns-in-serve-clause-ok
 returns-in-serve-clause-ok c =

@@ -1,6 +1,6 @@
 use Rattle.std.proofs.lemmas.Result.{IfOk-weaker}
 use Rattle.hc_arguments.specs.Command.{task_of}
-use Rattle.hc_arguments.proofs.ArgumentLemmas.{audit_words, possible_from, replay_words, serve_words, words_give}
+use Rattle.hc_arguments.proofs.ArgumentLemmas.{audit_words, convert_words, possible_from, replay_words, serve_words, words_give}
 use Rattle.hc_arguments.proofs.arguments.parsed.Goals as goal
 
 pub returns-clause-audit : goal.returns-clause-audit
@@ -10,6 +10,10 @@ returns-clause-audit g c = λ name file word same.
 pub returns-clause-replay : goal.returns-clause-replay
 returns-clause-replay g c = λ name file word same.
     words_give _ _ _ c.asked.result (replay_words name file word) same c.asked.ensures.asked c.asked.ensures.refused
+
+pub returns-clause-convert : goal.returns-clause-convert
+returns-clause-convert g c = λ name file word same.
+    words_give _ _ _ c.asked.result (convert_words name file word) same c.asked.ensures.asked c.asked.ensures.refused
 
 pub returns-clause-serve : goal.returns-clause-serve
 returns-clause-serve g c = λ name listen origin number file connections counts same.

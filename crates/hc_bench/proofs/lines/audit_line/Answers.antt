@@ -10,7 +10,7 @@ returns c =
     let line_of = λ (sample : List ℕ) (records octets : ℕ).
     codes "audit " ++ (sample ++ (codes " octets=" ++ (decimal c.args.rate.now.octets
     ++ (codes " records_per_second=" ++ (decimal records ++ (codes " octets_per_second=" ++ (decimal octets ++ 10 ∷ []))))))) in
-    let sample = sample_text c.args.rate.now.count c.args.targets c.args.body in
+    let sample = sample_text c.args.format c.args.rate.now.count c.args.targets c.args.body in
     IfOk-weaker c.format.result _ _ (λ line is. is
     ∙ ap (λ (text : List ℕ). line_of text c.count_per_second-records_speed.result c.octets_per_second-octets_speed.result) c.in_ok-sample.ensures
     ∙ ap (λ (n : ℕ). line_of sample n c.octets_per_second-octets_speed.result) c.count_per_second-records_speed.ensures

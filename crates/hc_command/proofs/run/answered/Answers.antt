@@ -1,7 +1,7 @@
 use Rattle.std.proofs.Common.{ap, inl, map, subst}
 use Rattle.clap.specs.declared.error.ErrorKind.{ErrorKind}
 use Rattle.hc_arguments.specs.Command.{IsErrorStatus, command_of, task_of}
-use Rattle.hc_arguments.specs.Command.Command.{Audits, Replays, Serves}
+use Rattle.hc_arguments.specs.Command.Command.{Audits, Replays, Converts, Serves}
 use Rattle.hc_arguments.proofs.ArgumentLemmas.{asked_from, one_command}
 use Rattle.hc_command.proofs.EndLemmas.{does_as, does_ends, fails_with_3}
 use Rattle.hc_command.proofs.run.answered.Goals as goal
@@ -13,6 +13,10 @@ returns-in-Ok-clause-audit g c = λ name file word same.
 pub returns-in-Ok-clause-replay : goal.returns-in-Ok-clause-replay
 returns-in-Ok-clause-replay g c = λ name file word same.
     does_as (command_of (task_of c.in-Ok.order)) Replays _ _ _ _ _ (ap command_of (c.in-Ok.ensures.replay name file word same)) c.done.ensures
+
+pub returns-in-Ok-clause-convert : goal.returns-in-Ok-clause-convert
+returns-in-Ok-clause-convert g c = λ name file word same.
+    does_as (command_of (task_of c.in-Ok.order)) Converts _ _ _ _ _ (ap command_of (c.in-Ok.ensures.convert name file word same)) c.done.ensures
 
 pub returns-in-Ok-clause-serve : goal.returns-in-Ok-clause-serve
 returns-in-Ok-clause-serve g c = λ name listen origin number file connections counts same.
@@ -34,6 +38,10 @@ returns-in-Err-clause-audit g c = λ name file word same.
 pub returns-in-Err-clause-replay : goal.returns-in-Err-clause-replay
 returns-in-Err-clause-replay g c = λ name file word same.
     inl (subst (λ (k : ErrorKind). IsErrorStatus k c.shown.result) (c.in-Err.ensures.replay name file word same) c.shown.ensures.status)
+
+pub returns-in-Err-clause-convert : goal.returns-in-Err-clause-convert
+returns-in-Err-clause-convert g c = λ name file word same.
+    inl (subst (λ (k : ErrorKind). IsErrorStatus k c.shown.result) (c.in-Err.ensures.convert name file word same) c.shown.ensures.status)
 
 pub returns-in-Err-clause-serve : goal.returns-in-Err-clause-serve
 returns-in-Err-clause-serve g c = λ name listen origin number file connections counts same.

@@ -6,5 +6,5 @@ use Rattle.hc_index.proofs.exchanges.add_to_windows.Given as goal
 abbrev pub invariant-loop-exchange : goal.invariant-loop-exchange
 invariant-loop-exchange l =
     map watched l.exchange-items
-    ≡ map (watched_answered (forward_seen l.forward) l.response) (take l.exchange-index (map watched l.initial.exchange-items))
+    ≡ map (watched_answered (forward_seen l.forward) l.cause l.response) (take l.exchange-index (map watched l.initial.exchange-items))
     ++ drop l.exchange-index (map watched l.initial.exchange-items)

@@ -5,4 +5,4 @@ use Rattle.hc_index.proofs.finding.claim_of.Goals as goal
 pub returns : goal.returns
 returns c = λ seen h one error failure.
     rw (c.reply.ensures, c.ttl_of.ensures, c.mark.ensures, error, failure)
-    (claim_seen seen h c.args.settings.now (exchange_seen c.args.exchange.now) c.args.moment c.args.reply.now one)
+    (claim_seen c.args.format seen h c.args.settings.now (exchange_seen c.args.exchange.now) c.args.moment c.args.reply.now one)

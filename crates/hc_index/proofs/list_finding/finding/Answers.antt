@@ -9,7 +9,7 @@ returns c = λ h seen.
     let mark = c.mark-mark.result in
     let watched = c.in-Some.watched.now in
     let is : Some watched ≡ open_in c.args.number c.args.index.now.exchanges.items = rw (← c.as_slice.ensures.value) c.in-Some.ensures in
-    found_of_reply (seen_in c.args.index.now) c.args.settings.now c.args.number c.args.moment c.args.reply.now h (exchange_seen watched.exchange) mark claim
+    found_of_reply c.args.format (seen_in c.args.index.now) c.args.settings.now c.args.number c.args.moment c.args.reply.now h (exchange_seen watched.exchange) mark claim
     c.found_by.result seen (ap watched_exchange is) c.mark-mark.ensures
     (c.claim_of-claim.ensures (seen_in c.args.index.now) h seen c.position_of.ensures c.position_of-2.ensures)
     (λ lives window. c.found_by.ensures h (rw c.as_slice-3.ensures.value lives)

@@ -1,6 +1,6 @@
 use Rattle.std.proofs.Common.{ap}
-use Rattle.hc_index.specs.Maps.{answers_behind, error_kept, failure_kept, seen_in}
-use Rattle.hc_index.proofs.FindLemmas.{found_at_target, window_tells}
+use Rattle.hc_index.specs.Maps.{those_for, answers_behind, error_kept, failure_kept, seen_in}
+use Rattle.hc_index.proofs.FindLemmas.{found_at_target, window_tells, pool_tells}
 use Rattle.hc_index.proofs.map_finding.finding.Goals as goal
 
 pub returns : goal.returns
@@ -9,8 +9,9 @@ returns c = λ h seen.
     let mark = c.mark-mark.result in
     let pooled = c.in-Some.pooled.now in
     let here = c.in-Some-get.here.now in
-    found_at_target c.args.index.now c.args.settings.now c.args.number c.args.moment c.args.reply.now h pooled here mark claim c.found_by.result seen
+    found_at_target c.args.format c.args.index.now c.args.settings.now c.args.number c.args.moment c.args.reply.now h pooled here mark claim c.found_by.result seen
     c.in-Some.ensures.value c.in-Some-get.ensures.value c.mark-mark.ensures
     (c.claim_of-claim.ensures (seen_in c.args.index.now) h seen (ap error_kept c.in-Some-get.ensures.value) (ap failure_kept c.in-Some-get.ensures.value))
     (λ lives window. c.found_by.ensures h (rw c.as_slice.ensures.value lives)
-    (window_tells claim mark (answers_behind pooled.behind here.pool) h c.is_carried-carried.result window c.is_carried-carried.ensures))
+    (window_tells claim mark (those_for claim.exchange (answers_behind pooled.behind here.pool)) h c.is_carried-carried.result window
+    (pool_tells claim mark (answers_behind pooled.behind here.pool) c.is_carried-carried.result c.is_carried-carried.ensures)))

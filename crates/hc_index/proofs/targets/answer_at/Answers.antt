@@ -10,13 +10,13 @@ returns-in-Some c =
     let forward = forward_seen c.args.forward in
     on_ok_weaker c.answer.result
     (λ answers. written_back forward.target c.args.targets.now (c.get_mut.follows.lender c.answer.new.self) c.in-Some.here.now c.answer.new.self
-    (AnswersAt forward c.args.position c.args.moment c.args.response) c.in-Some.ensures.value (c.get_mut.follows.holds c.answer.new.self) answers)
+    (AnswersAt forward c.args.cause c.args.position c.args.moment c.args.response) c.in-Some.ensures.value (c.get_mut.follows.holds c.answer.new.self) answers)
     c.answer.ensures
 
 pub returns-in_ok-insert : goal.returns-in_ok-insert
 returns-in_ok-insert c =
     let forward = forward_seen c.args.forward in
-    put_in forward.target c.in_ok-target.target c.args.targets.now _ c.insert.new.self c.answer-2.new.self (AnswersAt forward c.args.position c.args.moment c.args.response)
+    put_in forward.target c.in_ok-target.target c.args.targets.now _ c.insert.new.self c.answer-2.new.self (AnswersAt forward c.args.cause c.args.position c.args.moment c.args.response)
     c.in_default.ensures.value c.get_mut.follows.holds-at-none c.in_ok-target.ensures c.in_ok-insert.ensures.updates
-    (answers_from forward c.args.position c.args.moment c.args.response None (Some c.new-here.result) (Some c.answer-2.new.self) (c.new-here.ensures forward.target)
+    (answers_from forward c.args.cause c.args.position c.args.moment c.args.response None (Some c.new-here.result) (Some c.answer-2.new.self) (c.new-here.ensures forward.target)
     c.in_ok-answer.ensures)

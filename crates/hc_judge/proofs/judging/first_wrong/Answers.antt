@@ -21,8 +21,8 @@ returns-in-Wrong c = λ all.
       earlier = history_of (take k items);
       history_is = history_at items k r c.loop-index-test.true c.index-items-index.is;
       all_right = c.loop-index.invariant all;
-      is_wrong = found_wrong c.args.settings.now (history_of (take k items)) (item_of r.item) c.in-Wrong.why open_there
-          (subst (λ (f : Finding). IsFound c.args.settings.now (history_of (take k items)) (item_of r.item) f) c.in-Wrong.is found);
+      is_wrong = found_wrong c.args.format c.args.settings.now (history_of (take k items)) (item_of r.item) c.in-Wrong.why open_there
+          (subst (λ (f : Finding). IsFound c.args.format c.args.settings.now (history_of (take k items)) (item_of r.item) f) c.in-Wrong.is found);
       position_is = position_at items k c.loop-index-test.true;
     }
 
@@ -33,8 +33,8 @@ loop-index-preserved c = λ all.
     let r = c.index-items-index.result in
     let open_there = open_in items k r c.loop-index-test.true c.index-items-index.is all in
     let found = rw (c.split_at.ensures.front, c.item.ensures.item) at c.in_ok-found_of.ensures in
-    subst (λ (h : List Item). AllRight c.args.settings.now h) (sym (history_next items k r c.loop-index-test.true c.index-items-index.is)) (
+    subst (λ (h : List Item). AllRight c.args.format c.args.settings.now h) (sym (history_next items k r c.loop-index-test.true c.index-items-index.is)) (
       c.loop-index.invariant all,
-      found_right c.args.settings.now (history_of (take k items)) (item_of r.item) open_there
-          (subst (λ (f : Finding). IsFound c.args.settings.now (history_of (take k items)) (item_of r.item) f) c.in-Right.is found),
+      found_right c.args.format c.args.settings.now (history_of (take k items)) (item_of r.item) open_there
+          (subst (λ (f : Finding). IsFound c.args.format c.args.settings.now (history_of (take k items)) (item_of r.item) f) c.in-Right.is found),
     )

@@ -6,4 +6,4 @@ use Rattle.hc_judge.proofs.judging.first_wrong.Given as goal
 
 -- the replies so far are right
 abbrev pub invariant-loop-index : goal.invariant-loop-index
-invariant-loop-index l = AllAnswerOpen (history_of l.items) → AllRight l.settings (history_of (take l.index l.items))
+invariant-loop-index l = AllAnswerOpen (history_of l.items) → AllRight l.format l.settings (history_of (take l.index l.items))

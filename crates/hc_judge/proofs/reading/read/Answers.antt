@@ -13,7 +13,16 @@ pub returns-in-Err : goal.returns-in-Err
 returns-in-Err c =
     let read = c.records.invariant in
     record {
-      are_first = first_of c.records.reader c.args.octets.now read.0 _ read.1;
+      are_first = first_of c.records.reader c.next_item.new.reader c.format_of.result c.args.octets.now read.0 _ c.in-Err.ensures.format c.format_of.ensures read.1;
       ends = fault_ends c.next_item.new.reader c.args.octets.now _ c.in-Err.fault c.position.result c.in_ok-ending-in-Err.ending c.position.ensures
           (c.in-Err.ensures.gives c.args.octets.now read.0 _ read.1) (sym c.broken.ensures ∙ c.in_ok-ending-in-Err.was);
+    }
+
+pub returns-in-Ok-None : goal.returns-in-Ok-None
+returns-in-Ok-None c =
+    let read = c.records.invariant in
+    let on = rw c.in-Ok-None.field-0-is at (c.in-Ok-None.ensures.gives c.args.octets.now read.0 _ read.1) in
+    record {
+      are_first = first_of c.next_item.new.reader c.next_item.new.reader c.format_of-format.result c.args.octets.now read.0 _ (λ told is. is) c.format_of-format.ensures on.0;
+      ends = c.in_ok-ending-in-Ok-None.ensures c.args.octets.now read.0 _ on.0 on.1;
     }

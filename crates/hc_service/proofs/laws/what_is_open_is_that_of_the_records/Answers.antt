@@ -11,8 +11,8 @@ returns-clause-told c = asked_told
 
 pub returns-clause-answered : goal.returns-clause-answered
 returns-clause-answered c = λ last other xs fs items k f moment response a is_open e t reply its.
-    asked_answered last other xs fs items k f a (OriginResponse f moment response) is_open (λ d. refl) (λ d. refl) e t reply its
+    asked_answered last other xs fs items k f a (OriginResponse f moment response) is_open (λ d. refl) (λ d. refl) (λ d. refl) e t reply its
 
 pub returns-clause-failed : goal.returns-clause-failed
 returns-clause-failed c = λ last other xs fs items k f moment a is_open e t reply its.
-    asked_answered last other xs fs items k f a (OriginFailure f moment) is_open (λ d. refl) (λ d. refl) e t reply its
+    asked_answered last other xs fs items k f a (OriginFailure f moment) is_open (λ d. refl) (λ d. refl) (λ d. refl) e t reply its

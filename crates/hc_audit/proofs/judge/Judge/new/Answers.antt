@@ -8,10 +8,10 @@ returns g c = λ seen. record {
     records = [];
     history = [];
     reads = c.new.ensures;
-    index = seen;
+    index = λ format may. seen format;
     counts = c.new-2.ensures;
     settings_are = refl;
-    right = tt;
+    right = λ format may. tt;
   };
   waits = fresh_waits c.new.result c.new.ensures;
 }

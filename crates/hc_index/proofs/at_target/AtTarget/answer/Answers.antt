@@ -18,7 +18,7 @@ returns c =
       failure = c.args.self.now.failure;
       pool = c.add.new.self;
     } in
-    subst (λ (r : Message ResponseHead). OnOk c.begin_live.result (AnswersAt forward c.args.position c.args.moment r (Some c.args.self.now) (Some new)))
+    subst (λ (r : Message ResponseHead). OnOk c.begin_live.result (AnswersAt forward c.args.cause c.args.position c.args.moment r (Some c.args.self.now) (Some new)))
     (ap (λ body. let r : Message ResponseHead = record { head = c.args.response.head; body = body } in r) c.in_ok-body.ensures)
     (on_ok_weaker c.begin_live.result
     (λ begun. record {

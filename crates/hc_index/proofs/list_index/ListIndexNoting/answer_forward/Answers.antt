@@ -15,11 +15,11 @@ returns c =
       failures = c.args.self.now.failures;
     } in
     on_ok_weaker c.begin_live.result
-    (λ begun. notes_answer c.args.self.now new c.in-Some.forward c.args.number c.args.position c.args.moment c.args.response c.answer_lives.new.lives.items (record {
+    (λ begun. notes_answer c.args.format c.args.self.now new c.in-Some.forward c.args.number c.args.position c.args.moment c.args.response c.answer_lives.new.lives.items (record {
       was_open = sym c.in-Some.ensures.value;
       forwards = λ f. search rules;
       errors = c.in_ok-keep_error.ensures;
-      exchanges = c.in_ok-add_to_windows.ensures;
+      exchanges = rw c.told_in-cause.ensures at c.in_ok-add_to_windows.ensures;
       answered = c.in_ok-answer_lives.ensures;
       begun = begun;
       failures = search rules;

@@ -9,6 +9,6 @@ use Rattle.hc_index.proofs.map_index.MapIndexIndex.note.Goals as goal
 pub returns : goal.returns
 returns c = λ h at is.
     on_ok_weaker c.note_item.result
-    (λ notes. noted (seen_in c.args.self.now) (seen_in c.note_item.new.noting) h (item_of c.args.item) is
-    (subst (λ (p : ℕ). Notes (seen_in c.args.self.now) p (item_of c.args.item) (seen_in c.note_item.new.noting)) at notes))
+    (λ notes. noted c.args.format (seen_in c.args.self.now) (seen_in c.note_item.new.noting) h (item_of c.args.item) is
+    (subst (λ (p : ℕ). Notes c.args.format (seen_in c.args.self.now) p (item_of c.args.item) (seen_in c.note_item.new.noting)) at notes))
     c.note_item.ensures

@@ -13,11 +13,11 @@ returns c =
       forwards = c.remove.new.self;
     } in
     on_ok_weaker c.answer_at.result
-    (λ changes. notes_response c.args.self.now c.in-Some.forward c.args.number c.args.position c.args.moment c.args.response new
+    (λ changes. notes_response c.args.format c.args.self.now c.in-Some.forward c.args.number c.args.position c.args.moment c.args.response new
     (record {
       was_open = sym c.in-Some.ensures.value;
       forwards = λ f. search rules;
-      targets = changes;
+      targets = rw c.told_in-cause.ensures at changes;
       exchanges = refl;
     }))
     c.answer_at.ensures

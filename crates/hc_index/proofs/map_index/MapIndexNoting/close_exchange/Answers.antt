@@ -11,7 +11,7 @@ returns-in-Some c =
       exchanges = c.remove.new.self;
       forwards = c.args.self.now.forwards;
     } in
-    λ position moment reply. notes_reply c.args.self.now c.args.number position moment reply c.in-Some.pooled.exchange.target new
+    λ format position moment reply. notes_reply format c.args.self.now c.args.number position moment reply c.in-Some.pooled.exchange.target new
     (record {
       exchanges = λ e. search rules;
       targets = c.close_at.ensures;

@@ -12,8 +12,8 @@ returns c =
       exchanges = c.args.self.now.exchanges;
       forwards = c.remove.new.self;
     } in
-    λ moment. on_ok_weaker c.fail_at.result
-    (λ changes. notes_failure c.args.self.now c.in-Some.forward c.args.number c.args.position moment new
+    λ format moment. on_ok_weaker c.fail_at.result
+    (λ changes. notes_failure format c.args.self.now c.in-Some.forward c.args.number c.args.position moment new
     (record {
       was_open = sym c.in-Some.ensures.value;
       forwards = λ f. search rules;

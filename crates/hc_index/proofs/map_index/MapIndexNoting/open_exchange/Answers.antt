@@ -16,7 +16,7 @@ returns c =
       exchanges = c.insert.new.self;
       forwards = c.args.self.now.forwards;
     } in
-    λ moment. notes_request c.args.self.now c.args.number c.args.position moment c.args.request pooled new
+    λ format moment. notes_request format c.args.self.now c.args.number c.args.position moment c.args.request pooled new
     (record {
       exchanges = λ e. search rules;
       targets = c.in_ok-behind.ensures;

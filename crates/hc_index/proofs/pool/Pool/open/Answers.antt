@@ -1,6 +1,6 @@
 use Rattle.std.proofs.Common.{◌≡◌, ◌+◌, ◌-◌, ◌≤◌, length, drop, rules, arith, ap, refl, ◌∙◌}
 use Rattle.std.specs.Prelude.{map}
-use Rattle.hc_index.specs.Lists.{answer_seen}
+use Rattle.hc_index.specs.Maps.{told_seen}
 use Rattle.hc_index.proofs.PoolLemmas.{all_within, apart, opened, none_behind}
 use Rattle.hc_index.proofs.pool.Pool.open.Goals as goal
 
@@ -21,7 +21,7 @@ returns c =
     let all : c.len.result ≡ length pool.answers.items = search rules in
     record {
       opened = opened behind c.args.number pool.windows c.insert.new.self c.in_ok-insert.ensures.updates;
-      nothing_yet = ap (λ n. map answer_seen (drop ((pool.dropped + n) - pool.dropped) pool.answers.items)) all ∙ none_behind answer_seen pool.dropped pool.answers.items;
+      nothing_yet = ap (λ n. map told_seen (drop ((pool.dropped + n) - pool.dropped) pool.answers.items)) all ∙ none_behind told_seen pool.dropped pool.answers.items;
       others = λ b n ne. c.in_ok-insert.ensures.updates.2 (b, n) (apart behind c.args.number b n ne);
       answers = λ b n is. refl;
     }

@@ -1,4 +1,4 @@
-use Rattle.std.proofs.Common.{◌≡◌, ◌++◌, false, refl, ap, ◌∙◌, subst}
+use Rattle.std.proofs.Common.{◌≡◌, ◌++◌, Some, false, refl, ap, ◌∙◌, subst}
 use Rattle.std.specs.FinMap.{insert}
 use Rattle.hc_head.specs.declared.head.RequestHead.{RequestHead}
 use Rattle.hc_head.specs.declared.head.Target.{Target}
@@ -33,5 +33,5 @@ returns g c =
           (reply_has_place c.in_ok-request.request.head c.in_ok-target.target d.numbers.moment w.number c.args.cause false forwards));
       store = refl;
       actions = c.in_ok-send_forward.ensures.actions
-          ∙ ap (λ (x : Message RequestHead). c.args.actions.now.items ++ send_actions (one_more d.numbers.forward) d.numbers.moment x) request_is;
+          ∙ ap (λ (x : Message RequestHead). c.args.actions.now.items ++ send_actions (one_more d.numbers.forward) d.numbers.moment (Some w.number) x) request_is;
     })

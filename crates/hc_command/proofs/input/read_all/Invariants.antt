@@ -1,5 +1,5 @@
 use Rattle.std.specs.Io.KnownBytes.{Consumes}
-use Rattle.hc_command.proofs.replaying.read_all.Given as goal
+use Rattle.hc_command.proofs.input.read_all.Given as goal
 
 -- the octets are what the reader gave so far
 abbrev pub invariant-pieces : goal.invariant-pieces

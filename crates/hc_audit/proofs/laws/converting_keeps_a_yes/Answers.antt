@@ -1,0 +1,5 @@
+use Rattle.hc_audit.proofs.ConversionLemmas.{converted_right}
+use Rattle.hc_audit.proofs.laws.converting_keeps_a_yes.Goals as goal
+
+pub returns : goal.returns
+returns c = converted_right
