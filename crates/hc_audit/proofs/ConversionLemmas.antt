@@ -1,5 +1,5 @@
 -- A history whose replies are right is right, too, where no causes are told.
-use Rattle.std.proofs.Common.{◌≡◌, ℕ, ◌+◌, Bool, true, false, ◌&&◌, ◌||◌, List, [], ◌∷◌, length, map, take, Option, Some, None, refl, sym, ap, subst, ◌∙◌, inl, inr, ⊎_elim}
+use Rattle.std.proofs.Common.{◌≡◌, ℕ, ◌+◌, Bool, true, false, ◌&&◌, ◌||◌, List, [], ◌∷◌, length, map, take, Option, Some, None, refl, sym, ap, subst, ◌∙◌, arith, inl, inr, ⊎_elim}
 use Rattle.std.specs.Prelude.{◌==◌, ◌⊎◌, nat_lt, if◌then◌else◌}
 use Rattle.std.specs.List.{list_all}
 use Rattle.std.specs.Option.{option_map}
@@ -26,11 +26,22 @@ use Rattle.hc_history.specs.Counting.{counts_of, marked, one_more}
 use Rattle.hc_history.specs.Filters.{filters}
 use Rattle.hc_history.specs.Forwarded.{is_carried, carries_response}
 use Rattle.hc_history.specs.Marks.{reply_mark}
-use Rattle.hc_history.specs.Reused.{Pass}
-use Rattle.hc_history.specs.Right.{IsRightBy, IsRightTo, IsRight, AllRight}
+use Rattle.hc_history.specs.Reused.{Pass, anywhere, collapsed_count, forwarded_count}
+use Rattle.hc_history.specs.Right.{IsRightBy, IsRightForwarded, IsRightTo, IsRight, AllRight, is_collapsed}
 use Rattle.hc_history.specs.States.{state_begun, begun_to, kept_answered_to, state_after, state_at}
 use Rattle.hc_history.specs.Verdicts.{IsAllRight}
 use Rattle.hc_history.specs.Windows.{some_since, is_forward_of, is_error, is_failure}
+use Rattle.hc_history.proofs.FurthestLemmas.{Pass-fewer}
+
+-- one that is later than a position is one of any
+earlier_anywhere : (n since : ℕ) (claim : Claim) (h : List Item) → Pass n since claim h → Pass n anywhere claim h
+earlier_anywhere n since claim h p = record {
+  position = p.position;
+  kept = p.kept;
+  is_later = omega (arith, p.is_later);
+  is_its_state = p.is_its_state;
+  holds = p.holds;
+}
 
 -- ---- states and windows
 
@@ -135,10 +146,17 @@ module _ (format : Format) (settings : Settings) (x : Exchange) (moment : ℕ) (
       either true b is = inl refl
       either false b is = inr is
 
+  -- a collapsed one carries an earlier response all the more
+  right_forwarded : (collapsed : Bool) (h : List Item) → IsRightForwarded collapsed (claim_of format settings x moment reply h) h
+      → IsRightForwarded false (claim_in settings x moment reply (map item_without_cause h)) (map item_without_cause h)
+  right_forwarded true h is =
+      inr (earlier_anywhere forwarded_count _ _ _ (Pass-fewer forwarded_count collapsed_count _ _ _ (omega arith) (passes _ _ h is)))
+  right_forwarded false h is = ⊎_elim (λ forwarded. inl (some_carried h h forwarded)) (λ passed. inr (passes _ _ h passed)) is
+
   right_by : (mark : Mark) (h : List Item) → IsRightBy mark (claim_of format settings x moment reply h) h
       → IsRightBy mark (claim_in settings x moment reply (map item_without_cause h)) (map item_without_cause h)
   right_by (Hit ttl) h is = passes _ _ h is
-  right_by Forwarded h is = ⊎_elim (λ forwarded. inl (some_carried h h forwarded)) (λ passed. inr (passes _ _ h passed)) is
+  right_by (Forwarded collapsed) h is = right_forwarded (is_collapsed format collapsed) h is
   right_by Both h is = is
   right_by Unmarked h is = is
 

@@ -16,7 +16,7 @@ at_most_by n (Hit ttl) c a = record {
   forwarded = omega (arith, a.forwarded);
   unmarked = omega (arith, a.unmarked);
 }
-at_most_by n Forwarded c a = record {
+at_most_by n (Forwarded collapsed) c a = record {
   records = omega (arith, a.records);
   replies = omega (arith, a.replies);
   hits = omega (arith, a.hits);

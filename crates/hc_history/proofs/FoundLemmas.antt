@@ -1,10 +1,12 @@
 -- A reply of a transcript answers what is open, so that what is found of it says whether it is right.
-use Rattle.std.proofs.Common.{◌≡◌, ℕ, Bool, true, List, Option, Some, None, is_some, refl, sym, subst}
-use Rattle.std.specs.Prelude.{IsSome}
+use Rattle.std.proofs.Common.{◌≡◌, ℕ, Bool, true, List, Option, Some, None, Ok, Err, is_some, refl, sym, subst}
+use Rattle.std.specs.Prelude.{IsSome, IfOk, Result}
+use Rattle.std.specs.declared.alloc.AllocError.{AllocError}
 use Rattle.hc_head.specs.declared.head.RequestHead.{RequestHead}
 use Rattle.hc_head.specs.declared.head.ResponseHead.{ResponseHead}
 use Rattle.hc_head.specs.declared.head.Target.{Target}
 use Rattle.hc_framing.specs.declared.message.Message.{Message}
+use Rattle.hc_status.specs.declared.marks.Mark.TheVariants.{Forwarded}
 use Rattle.hc_transcript.specs.declared.format.Format.{Format}
 use Rattle.hc_transcript.specs.declared.line.Kind.{Kind}
 use Rattle.hc_transcript.specs.declared.line.Kind.TheVariants as kind
@@ -19,9 +21,24 @@ use Rattle.hc_transcript.specs.Transcript.{IsItemOf, is_to_head, Follows}
 use Rattle.hc_transcript.proofs.CheckLemmas.{order_after}
 use Rattle.hc_history.specs.declared.reasons.Reason.{Reason}
 use Rattle.hc_history.specs.declared.settings.Settings.{Settings}
+use Rattle.hc_history.specs.declared.verdicts.Finding.{Finding}
 use Rattle.hc_history.specs.declared.verdicts.Finding.TheVariants.{Right, Wrong}
-use Rattle.hc_history.specs.Right.{IsRightTo, IsWrongTo, IsRight, IsWrong, IsFinding}
+use Rattle.hc_history.specs.Claims.{Claim}
+use Rattle.hc_history.specs.Right.{IsRightTo, IsWrongTo, IsRight, IsWrong, IsFinding, IsFoundBy, IsFoundForwarded, is_collapsed}
 use Rattle.hc_history.specs.Found.{IsFound, AnswersOpen}
+
+-- ---- what is found of a reply that went forward is found of its mark
+
+found_by_mark : (collapsed : Bool) (claim : Claim) (h : List Item) (found : Finding)
+    → IsFoundForwarded (is_collapsed claim.format collapsed) claim h found → IsFoundBy (Forwarded collapsed) claim h found
+found_by_mark collapsed claim h Right is = is
+found_by_mark collapsed claim h (Wrong why) is = is
+
+pub found_forwarded : (collapsed judged : Bool) (claim : Claim) (h : List Item) (found : Result Finding AllocError) → is_collapsed claim.format collapsed ≡ judged
+    → IfOk found (IsFoundForwarded judged claim h) → IfOk found (IsFoundBy (Forwarded collapsed) claim h)
+found_forwarded collapsed judged claim h (Ok found) is by =
+    found_by_mark collapsed claim h found (subst (λ (b : Bool). IsFoundForwarded b claim h found) (sym is) by)
+found_forwarded collapsed judged claim h (Err fault) is by = tt
 
 -- ---- what is found of a reply to what is open
 

@@ -1,5 +1,5 @@
 -- What is kept of the responses of a target tells how many filters one passes.
-use Rattle.std.proofs.Common.{◌≡◌, ℕ, zero, suc, ◌<◌, Bool, true, false, not, ◌&&◌, ◌||◌, cond, List, [], ◌∷◌, ◌++◌, length, max, ltb, Option, Some, None, refl, ap, sym, ◌∙◌, arith}
+use Rattle.std.proofs.Common.{◌≡◌, ℕ, zero, suc, ◌≤◌, Bool, true, false, not, ◌&&◌, ◌||◌, cond, List, [], ◌∷◌, ◌++◌, length, max, ltb, Option, Some, None, refl, ap, sym, subst, ◌∙◌, arith}
 use Rattle.std.specs.Prelude.{filter, codes}
 use Rattle.std.specs.List.{list_all, flat_map}
 use Rattle.std.specs.Str.{bytes_eq}
@@ -108,27 +108,87 @@ up_to_live since claim (suc n) h =
 pub furthest_is_live : (since : ℕ) (claim : Claim) (h : List Item) → furthest_live since claim (live_of claim.target h) ≡ furthest since claim h
 furthest_is_live since claim h = up_to_live since claim (length h) h
 
--- ---- each has a position
+-- ---- by rising position
 
-abbrev pub HavePositions : List Live → Type 0
-HavePositions [] = Unit {0}
-HavePositions (live ∷ lives) = (0 < live.position) × HavePositions lives
+-- each is no later than a position, and each no earlier
+abbrev pub AreBefore : ℕ → List Live → Type 0
+AreBefore n [] = Unit {0}
+AreBefore n (live ∷ lives) = (live.position ≤ n) × AreBefore n lives
 
-positions_append : (xs ys : List Live) → HavePositions xs → HavePositions ys → HavePositions (xs ++ ys)
-positions_append [] ys none there = there
-positions_append (x ∷ xs) ys here there = (here.0, positions_append xs ys here.1 there)
+abbrev AreBehind : ℕ → List Live → Type 0
+AreBehind n [] = Unit {0}
+AreBehind n (live ∷ lives) = (n ≤ live.position) × AreBehind n lives
 
-positions_at : (target : Target) (n : ℕ) (o : Option Kept) → HavePositions (live_at target (suc n) o)
-positions_at target n None = tt
-positions_at target n (Some kept) = go (same_target kept.target target)
+-- each is no later than those behind it
+abbrev AreInOrder : List Live → Type 0
+AreInOrder [] = Unit {0}
+AreInOrder (live ∷ lives) = AreBehind live.position lives × AreInOrder lives
+
+before_append : (n : ℕ) (xs ys : List Live) → AreBefore n xs → AreBefore n ys → AreBefore n (xs ++ ys)
+before_append n [] ys none are = are
+before_append n (x ∷ xs) ys here are = (here.0, before_append n xs ys here.1 are)
+
+pub before_later : (n m : ℕ) (lives : List Live) → n ≤ m → AreBefore n lives → AreBefore m lives
+before_later n m [] few are = tt
+before_later n m (live ∷ lives) few are = (omega (arith, few, are.0), before_later n m lives few are.1)
+
+behind_append : (n m : ℕ) (xs ys : List Live) → n ≤ m → AreBehind n xs → AreBehind m ys → AreBehind n (xs ++ ys)
+behind_append n m [] [] few none are = tt
+behind_append n m [] (y ∷ ys) few none are = (omega (arith, few, are.0), behind_append n m [] ys few tt are.1)
+behind_append n m (x ∷ xs) ys few here are = (here.0, behind_append n m xs ys few here.1 are)
+
+order_append : (n : ℕ) (xs ys : List Live) → AreInOrder xs → AreBefore n xs → AreInOrder ys → AreBehind n ys → AreInOrder (xs ++ ys)
+order_append n [] ys none before ordered behind = ordered
+order_append n (x ∷ xs) ys here before ordered behind =
+    (behind_append x.position n xs ys before.0 here.0 behind, order_append n xs ys here.1 before.1 ordered behind)
+
+-- what one position brings
+before_at : (target : Target) (n : ℕ) (o : Option Kept) → AreBefore n (live_at target n o)
+before_at target n None = tt
+before_at target n (Some kept) = go (same_target kept.target target)
   where
-    go : (same : Bool) → HavePositions (cond same (record { position = suc n; state = remaining kept.state } ∷ []) [])
+    go : (same : Bool) → AreBefore n (cond same (record { position = n; state = remaining kept.state } ∷ []) [])
     go true = (omega arith, tt)
     go false = tt
 
-positions_up_to : (target : Target) (n : ℕ) (h : List Item) → HavePositions (live_up_to target n h)
-positions_up_to target zero h = tt
-positions_up_to target (suc n) h = positions_append (live_up_to target n h) (live_at target (suc n) (state_at (suc n) h)) (positions_up_to target n h) (positions_at target n (state_at (suc n) h))
+behind_at : (target : Target) (n m : ℕ) (o : Option Kept) → n ≤ m → AreBehind n (live_at target m o)
+behind_at target n m None few = tt
+behind_at target n m (Some kept) few = go (same_target kept.target target)
+  where
+    go : (same : Bool) → AreBehind n (cond same (record { position = m; state = remaining kept.state } ∷ []) [])
+    go true = (few, tt)
+    go false = tt
 
-pub live_positions : (target : Target) (h : List Item) → HavePositions (live_of target h)
-live_positions target h = positions_up_to target (length h) h
+order_at : (target : Target) (n : ℕ) (o : Option Kept) → AreInOrder (live_at target n o)
+order_at target n None = tt
+order_at target n (Some kept) = go (same_target kept.target target)
+  where
+    go : (same : Bool) → AreInOrder (cond same (record { position = n; state = remaining kept.state } ∷ []) [])
+    go true = (tt, tt)
+    go false = tt
+
+before_up_to : (target : Target) (n : ℕ) (h : List Item) → AreBefore n (live_up_to target n h)
+before_up_to target zero h = tt
+before_up_to target (suc n) h =
+    before_append (suc n) (live_up_to target n h) (live_at target (suc n) (state_at (suc n) h))
+    (before_later n (suc n) (live_up_to target n h) (omega arith) (before_up_to target n h)) (before_at target (suc n) (state_at (suc n) h))
+
+order_up_to : (target : Target) (n : ℕ) (h : List Item) → AreInOrder (live_up_to target n h)
+order_up_to target zero h = tt
+order_up_to target (suc n) h =
+    order_append n (live_up_to target n h) (live_at target (suc n) (state_at (suc n) h)) (order_up_to target n h) (before_up_to target n h)
+    (order_at target (suc n) (state_at (suc n) h)) (behind_at target n (suc n) (state_at (suc n) h) (omega arith))
+
+behind_middle : (n : ℕ) (earlier : List Live) (live : Live) (later : List Live) → AreBehind n (earlier ++ live ∷ later) → n ≤ live.position
+behind_middle n [] live later are = are.0
+behind_middle n (x ∷ earlier) live later are = behind_middle n earlier live later are.1
+
+before_middle : (earlier : List Live) (live : Live) (later : List Live) → AreInOrder (earlier ++ live ∷ later) → AreBefore live.position earlier
+before_middle [] live later ordered = tt
+before_middle (x ∷ earlier) live later ordered = (behind_middle x.position earlier live later ordered.0, before_middle earlier live later ordered.1)
+
+-- those that stand before one are no later than it
+pub earlier_are_before : (target : Target) (h : List Item) (earlier : List Live) (live : Live) (later : List Live) → live_of target h ≡ earlier ++ live ∷ later
+    → AreBefore live.position earlier
+earlier_are_before target h earlier live later are =
+    before_middle earlier live later (subst AreInOrder are (order_up_to target (length h) h))

@@ -10,7 +10,7 @@ use Rattle.hc_history.specs.declared.reasons.Reason.TheVariants as reason
 use Rattle.hc_history.specs.Names.{reason_number}
 use Rattle.hc_history.specs.Claims.{Claim}
 use Rattle.hc_history.specs.Reused.{IsFirstFailed, anywhere, filter_count}
-use Rattle.hc_history.specs.Right.{IsRightBy, IsWrongBy}
+use Rattle.hc_history.specs.Right.{IsRightBy, IsWrongBy, IsRightForwarded, IsWrongForwarded, is_collapsed}
 use Rattle.hc_history.proofs.FurthestLemmas.{Pass-fewer}
 
 -- the reason of a number, so that two reasons have two numbers
@@ -27,7 +27,8 @@ reason_of n =
     else if eqb n 9 then reason.Ttl
     else if eqb n 10 then reason.NotForwarded
     else if eqb n 11 then reason.Unmarked
-    else reason.BothMarks
+    else if eqb n 12 then reason.BothMarks
+    else reason.NotCollapsible
 
 named_back : (why : Reason) → reason_of (reason_number why) ≡ why
 unfolding reason_of
@@ -43,6 +44,7 @@ named_back reason.Ttl = refl
 named_back reason.NotForwarded = refl
 named_back reason.Unmarked = refl
 named_back reason.BothMarks = refl
+named_back reason.NotCollapsible = refl
 
 one_number : (why other : Reason) → reason_number why ≡ reason_number other → why ≡ other
 one_number why other e = sym (named_back why) ∙ ap reason_of e ∙ named_back other
@@ -57,17 +59,26 @@ one_first n m claim h one other =
       | inr ge ↦ elim (cases_lt m n) [ inl lt ↦ absurd (first_below m n claim h other one lt) | inr le ↦ omega arith ]
     ]
 
+one_reason_forwarded : (judged : Bool) (claim : Claim) (h : List Item) (why other : Reason) → IsWrongForwarded judged claim h why → IsWrongForwarded judged claim h other
+    → why ≡ other
+one_reason_forwarded true claim h why other one two = one.0 ∙ sym two.0
+one_reason_forwarded false claim h why other one two = one.0 ∙ sym two.0
+
 pub one_reason : (mark : Mark) (claim : Claim) (h : List Item) (why other : Reason) → IsWrongBy mark claim h why → IsWrongBy mark claim h other → why ≡ other
 one_reason (Hit ttl) claim h why other one two = one_number why other (one_first (reason_number why) (reason_number other) claim h one two)
-one_reason Forwarded claim h why other one two = one.0 ∙ sym two.0
+one_reason (Forwarded collapsed) claim h why other one two = one_reason_forwarded (is_collapsed claim.format collapsed) claim h why other one two
 one_reason Both claim h why other one two = one ∙ sym two
 one_reason Unmarked claim h why other one two = one.0 ∙ sym two.0
 
 apart : {b : Bool} → b ≡ true → b ≡ false → ⊥
 apart yes_it no_it = cc
 
+not_both_forwarded : (judged : Bool) (claim : Claim) (h : List Item) (why : Reason) → IsRightForwarded judged claim h → ¬ (IsWrongForwarded judged claim h why)
+not_both_forwarded true claim h why right wrong = wrong.1 right
+not_both_forwarded false claim h why right wrong = elim right [ inl carried ↦ apart carried wrong.1.0 | inr pass ↦ wrong.1.1 pass ]
+
 pub not_both : (mark : Mark) (claim : Claim) (h : List Item) (why : Reason) → IsRightBy mark claim h → ¬ (IsWrongBy mark claim h why)
 not_both (Hit ttl) claim h why right wrong = wrong.leaves_nobody (Pass-fewer (reason_number why) filter_count anywhere claim h wrong.is_filter.1 right)
-not_both Forwarded claim h why right wrong = elim right [ inl carried ↦ apart carried wrong.1.0 | inr pass ↦ wrong.1.1 pass ]
+not_both (Forwarded collapsed) claim h why right wrong = not_both_forwarded (is_collapsed claim.format collapsed) claim h why right wrong
 not_both Both claim h why right wrong = right
 not_both Unmarked claim h why right wrong = apart right wrong.1

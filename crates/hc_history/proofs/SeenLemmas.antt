@@ -1,5 +1,5 @@
 -- What is seen of a history is enough to judge its replies.
-use Rattle.std.proofs.Common.{◌≡◌, ℕ, ◌≤◌, Bool, List, [], Option, Some, None, refl, sym, ap, subst, ◌∙◌, arith, ltb, inl, inr}
+use Rattle.std.proofs.Common.{◌≡◌, ℕ, ◌≤◌, Bool, true, false, List, [], Option, Some, None, refl, sym, ap, subst, ◌∙◌, arith, ltb, inl, inr}
 use Rattle.std.specs.List.{list_any}
 use Rattle.hc_head.specs.declared.head.ResponseHead.{ResponseHead}
 use Rattle.hc_head.specs.declared.head.Target.{Target}
@@ -9,15 +9,16 @@ use Rattle.hc_status.specs.declared.marks.Mark.TheVariants.{Hit, Forwarded, Both
 use Rattle.hc_transcript.specs.declared.format.Format.{Format}
 use Rattle.hc_transcript.specs.Items.{Item, Exchange}
 use Rattle.hc_transcript.specs.History.{exchange_of}
+use Rattle.hc_history.specs.declared.reasons.Reason.{Reason}
 use Rattle.hc_history.specs.declared.settings.Settings.{Settings}
 use Rattle.hc_history.specs.declared.verdicts.Finding.{Finding}
 use Rattle.hc_history.specs.declared.verdicts.Finding.TheVariants.{Right, Wrong}
 use Rattle.hc_history.specs.Marks.{reply_mark}
 use Rattle.hc_history.specs.Windows.{some_since, is_error, is_failure}
 use Rattle.hc_history.specs.Claims.{Claim, ttl_of, claim_of}
-use Rattle.hc_history.specs.Reused.{Pass, IsFirstFailed, anywhere, filter_count, forwarded_count}
+use Rattle.hc_history.specs.Reused.{Pass, IsFirstFailed, anywhere, filter_count, forwarded_count, collapsed_count}
 use Rattle.hc_history.specs.Forwarded.{carries, is_forwarded}
-use Rattle.hc_history.specs.Right.{IsFoundBy, IsFinding}
+use Rattle.hc_history.specs.Right.{IsFoundBy, IsFinding, IsRightForwarded, IsWrongForwarded, is_collapsed}
 use Rattle.hc_history.specs.Seen.{responses_since, window_responses_of, Seen, IsSeenAs}
 use Rattle.hc_history.specs.Furthest.{furthest, furthest_live}
 use Rattle.hc_history.proofs.WindowLemmas.{some_since-latest, carried}
@@ -97,18 +98,33 @@ same_forwarded claim h g same =
     ∙ ap (list_any (λ one. carries claim one.method one.status one.body)) same
     ∙ sym (carried claim g)
 
+-- a reply that went forward
+right_forwarded_alike : (format : Format) (seen : Seen) (h g : List Item) (judged : Bool) (claim : Claim) → IsSeenAs format seen h → IsSeenAs format seen g
+    → is_forwarded claim h ≡ is_forwarded claim g → IsRightForwarded judged claim h → IsRightForwarded judged claim g
+right_forwarded_alike format seen h g true claim one other window is =
+    pass_alike format seen h g collapsed_count claim.since claim one other (omega arith) (omega arith) is
+right_forwarded_alike format seen h g false claim one other window is = elim is [
+  | inl carries_it ↦ inl (sym window ∙ carries_it)
+  | inr pass ↦ inr (pass_alike format seen h g forwarded_count anywhere claim one other (omega arith) (omega arith) pass)
+]
+
+wrong_forwarded_alike : (format : Format) (seen : Seen) (h g : List Item) (judged : Bool) (claim : Claim) (why : Reason) → IsSeenAs format seen h → IsSeenAs format seen g
+    → is_forwarded claim h ≡ is_forwarded claim g → IsWrongForwarded judged claim h why → IsWrongForwarded judged claim g why
+wrong_forwarded_alike format seen h g true claim why one other window is =
+    (is.0, λ pass. is.1 (pass_alike format seen g h collapsed_count claim.since claim other one (omega arith) (omega arith) pass))
+wrong_forwarded_alike format seen h g false claim why one other window is = (
+  is.0,
+  (sym window ∙ is.1.0, λ pass. is.1.1 (pass_alike format seen g h forwarded_count anywhere claim other one (omega arith) (omega arith) pass)),
+)
+
 found_alike : (format : Format) (seen : Seen) (h g : List Item) (mark : Mark) (claim : Claim) (found : Finding) → IsSeenAs format seen h → IsSeenAs format seen g
     → is_forwarded claim h ≡ is_forwarded claim g → IsFoundBy mark claim h found → IsFoundBy mark claim g found
 found_alike format seen h g (Hit ttl) claim Right one other window is = pass_alike format seen h g filter_count anywhere claim one other (omega arith) (omega arith) is
 found_alike format seen h g (Hit ttl) claim (Wrong why) one other window is = first_alike format seen h g _ claim one other is
-found_alike format seen h g Forwarded claim Right one other window is = elim is [
-  | inl carries_it ↦ inl (sym window ∙ carries_it)
-  | inr pass ↦ inr (pass_alike format seen h g forwarded_count anywhere claim one other (omega arith) (omega arith) pass)
-]
-found_alike format seen h g Forwarded claim (Wrong why) one other window is = (
-  is.0,
-  (sym window ∙ is.1.0, λ pass. is.1.1 (pass_alike format seen g h forwarded_count anywhere claim other one (omega arith) (omega arith) pass)),
-)
+found_alike format seen h g (Forwarded collapsed) claim Right one other window is =
+    right_forwarded_alike format seen h g (is_collapsed claim.format collapsed) claim one other window is
+found_alike format seen h g (Forwarded collapsed) claim (Wrong why) one other window is =
+    wrong_forwarded_alike format seen h g (is_collapsed claim.format collapsed) claim why one other window is
 found_alike format seen h g Both claim found one other window is = both claim found is
   where
     both : (claim : Claim) (found : Finding) → IsFoundBy Both claim h found → IsFoundBy Both claim g found

@@ -15,7 +15,7 @@ one_more c = record { records = c.records + 1; replies = c.replies; hits = c.hit
 -- one reply more, by what it says of itself
 abbrev pub marked_by : Mark → Counts → Counts
 marked_by (Hit ttl) c = record { records = c.records; replies = c.replies + 1; hits = c.hits + 1; forwarded = c.forwarded; unmarked = c.unmarked }
-marked_by Forwarded c = record { records = c.records; replies = c.replies + 1; hits = c.hits; forwarded = c.forwarded + 1; unmarked = c.unmarked }
+marked_by (Forwarded collapsed) c = record { records = c.records; replies = c.replies + 1; hits = c.hits; forwarded = c.forwarded + 1; unmarked = c.unmarked }
 marked_by Both c = record { records = c.records; replies = c.replies + 1; hits = c.hits; forwarded = c.forwarded; unmarked = c.unmarked }
 marked_by Unmarked c = record { records = c.records; replies = c.replies + 1; hits = c.hits; forwarded = c.forwarded; unmarked = c.unmarked + 1 }
 

@@ -1,7 +1,7 @@
 -- The numbers and the names of the reasons against a reply.
 use Rattle.std.specs.Prelude.{ℕ, List, codes}
 use Rattle.hc_history.specs.declared.reasons.Reason.{Reason}
-use Rattle.hc_history.specs.declared.reasons.Reason.TheVariants.{NoResponse, Vary, Invalidated, NoExplicitFreshness, NotAllowed, Body, Fields, Age, Ttl, NotForwarded, Unmarked, BothMarks}
+use Rattle.hc_history.specs.declared.reasons.Reason.TheVariants.{NoResponse, Vary, Invalidated, NoExplicitFreshness, NotAllowed, Body, Fields, Age, Ttl, NotForwarded, Unmarked, BothMarks, NotCollapsible}
 
 -- the first nine are the filters, in their order
 abbrev pub reason_number : Reason → ℕ
@@ -17,6 +17,7 @@ reason_number Ttl = 9
 reason_number NotForwarded = 10
 reason_number Unmarked = 11
 reason_number BothMarks = 12
+reason_number NotCollapsible = 13
 
 abbrev pub reason_name : Reason → List ℕ
 reason_name NoResponse = codes "NoResponse"
@@ -31,3 +32,4 @@ reason_name Ttl = codes "Ttl"
 reason_name NotForwarded = codes "NotForwarded"
 reason_name Unmarked = codes "Unmarked"
 reason_name BothMarks = codes "BothMarks"
+reason_name NotCollapsible = codes "NotCollapsible"

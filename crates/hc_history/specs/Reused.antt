@@ -27,6 +27,10 @@ filter_count = 9
 abbrev pub forwarded_count : ℕ
 forwarded_count = 7
 
+-- how many of them a reply passes that was collapsed: all but the last, since it says no seconds
+abbrev pub collapsed_count : ℕ
+collapsed_count = 8
+
 -- the reply is one earlier response, reused: of one and the same response all filters hold
 abbrev pub IsReused : Claim → List Item → Type 0
 IsReused claim h = Pass filter_count anywhere claim h
@@ -36,3 +40,7 @@ pub record IsFirstFailed (n : ℕ) (claim : Claim) (h : List Item) : Type 0 wher
   pub is_filter : (1 ≤ n) × (n ≤ filter_count)
   pub leaves_nobody : Pass n anywhere claim h → ⊥
   pub earlier : (k : ℕ) → 1 ≤ k → k < n → Pass k anywhere claim h
+
+-- the reply is one response that came behind its own request, while that waited: of one and the same response of its window the filters hold
+abbrev pub IsCollapsible : Claim → List Item → Type 0
+IsCollapsible claim h = Pass collapsed_count claim.since claim h

@@ -5,6 +5,7 @@ use Rattle.hc_framing.specs.declared.message.Message.{Message}
 use Rattle.hc_status.specs.declared.marks.Mark.{Mark}
 use Rattle.hc_status.specs.declared.marks.Mark.TheVariants.{Hit, Forwarded, Both, Unmarked}
 use Rattle.hc_transcript.specs.declared.format.Format.{Format}
+use Rattle.hc_transcript.specs.declared.format.Format.TheVariants.{First, Second}
 use Rattle.hc_transcript.specs.Items.{Item, ClientReply, Exchange}
 use Rattle.hc_transcript.specs.History.{exchange_of}
 use Rattle.hc_history.specs.declared.reasons.Reason.{Reason}
@@ -17,7 +18,7 @@ use Rattle.hc_history.specs.declared.verdicts.Finding.TheVariants as finding
 use Rattle.hc_history.specs.Names.{reason_number}
 use Rattle.hc_history.specs.Marks.{reply_mark}
 use Rattle.hc_history.specs.Claims.{Claim, claim_of}
-use Rattle.hc_history.specs.Reused.{Pass, IsReused, IsFirstFailed, anywhere, forwarded_count}
+use Rattle.hc_history.specs.Reused.{Pass, IsReused, IsCollapsible, IsFirstFailed, anywhere, forwarded_count}
 use Rattle.hc_history.specs.Forwarded.{is_forwarded}
 
 -- whether a reply of that status may be unmarked
@@ -25,20 +26,40 @@ abbrev pub allows_unmarked : UnmarkedReplies → ℕ → Bool
 allows_unmarked Allow status = true
 allows_unmarked ErrorsOnly status = nat_le 400 status
 
--- a reply with that mark is right: a hit is reused; one that went forward carries what the origin answered, or a stored response in its place;
--- one without a mark is right where the settings allow it; one with both marks is never right
+-- whether a reply that says that it was collapsed is judged as such: where the transcript tells the cause of each forward, since that of another request may
+-- not be told by its own (RFC 9211 section 2.6). In the first format it is judged as any that went forward
+abbrev pub is_collapsed : Format → Bool → Bool
+is_collapsed First collapsed = false
+is_collapsed Second collapsed = collapsed
+
+-- a reply that went forward is right: a collapsed one carries a response that came while its request waited; another one what the origin answered to a forward
+-- of its own, or a stored response in its place
+abbrev pub IsRightForwarded : Bool → Claim → List Item → Type 0
+IsRightForwarded true claim h = IsCollapsible claim h
+IsRightForwarded false claim h = (is_forwarded claim h ≡ true) ⊎ Pass forwarded_count anywhere claim h
+
+abbrev pub IsWrongForwarded : Bool → Claim → List Item → Reason → Type 0
+IsWrongForwarded true claim h why = (why ≡ reason.NotCollapsible) × ¬ (IsCollapsible claim h)
+IsWrongForwarded false claim h why = (why ≡ reason.NotForwarded) × ((is_forwarded claim h ≡ false) × ¬ (Pass forwarded_count anywhere claim h))
+
+-- a reply with that mark is right: a hit is reused; one without a mark is right where the settings allow it; one with both marks is never right
 abbrev pub IsRightBy : Mark → Claim → List Item → Type 0
 IsRightBy (Hit ttl) claim h = IsReused claim h
-IsRightBy Forwarded claim h = (is_forwarded claim h ≡ true) ⊎ Pass forwarded_count anywhere claim h
+IsRightBy (Forwarded collapsed) claim h = IsRightForwarded (is_collapsed claim.format collapsed) claim h
 IsRightBy Both claim h = ⊥
 IsRightBy Unmarked claim h = allows_unmarked claim.settings.unmarked claim.reply.head.status ≡ true
 
 -- a reply with that mark is wrong by that reason: a hit by the first filter that leaves nobody
 abbrev pub IsWrongBy : Mark → Claim → List Item → Reason → Type 0
 IsWrongBy (Hit ttl) claim h why = IsFirstFailed (reason_number why) claim h
-IsWrongBy Forwarded claim h why = (why ≡ reason.NotForwarded) × ((is_forwarded claim h ≡ false) × ¬ (Pass forwarded_count anywhere claim h))
+IsWrongBy (Forwarded collapsed) claim h why = IsWrongForwarded (is_collapsed claim.format collapsed) claim h why
 IsWrongBy Both claim h why = why ≡ reason.BothMarks
 IsWrongBy Unmarked claim h why = (why ≡ reason.Unmarked) × (allows_unmarked claim.settings.unmarked claim.reply.head.status ≡ false)
+
+-- what is found of a reply that went forward
+abbrev pub IsFoundForwarded : Bool → Claim → List Item → Finding → Type 0
+IsFoundForwarded collapsed claim h finding.Right = IsRightForwarded collapsed claim h
+IsFoundForwarded collapsed claim h (finding.Wrong why) = IsWrongForwarded collapsed claim h why
 
 -- what is found of a reply with that mark
 abbrev pub IsFoundBy : Mark → Claim → List Item → Finding → Type 0

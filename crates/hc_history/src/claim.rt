@@ -70,6 +70,6 @@ pub fn ttl_of(mark: Mark) -> Option<i64>
 {
     match mark {
         Mark::Hit { ttl } => ttl,
-        Mark::Forwarded | Mark::Both | Mark::Unmarked => None,
+        Mark::Forwarded { .. } | Mark::Both | Mark::Unmarked => None,
     }
 }

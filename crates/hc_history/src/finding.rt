@@ -1,11 +1,11 @@
 //! What is found of one reply, by what is known of the history before it.
 
-ghost use Rattle.std.specs.Prelude.{◌≡◌, ℤ, List, Option, false};
+ghost use Rattle.std.specs.Prelude.{◌≡◌, ℤ, List, Option, false, true};
 ghost use Rattle.hc_transcript.specs.Items.{Item};
 ghost use Rattle.hc_history.specs.Claims.{Claim};
 ghost use Rattle.hc_history.specs.Reused.{anywhere};
 ghost use Rattle.hc_history.specs.Forwarded.{is_forwarded};
-ghost use Rattle.hc_history.specs.Right.{IsFoundBy};
+ghost use Rattle.hc_history.specs.Right.{IsFoundBy, IsFoundForwarded};
 ghost use Rattle.hc_history.specs.Furthest.{furthest, IsReasonBehind};
 
 use crate::claim::ReplyClaim;
@@ -16,6 +16,9 @@ use hc_status::Mark;
 
 /// How many filters a reply passes that went forward and carries a stored response.
 const FORWARDED_COUNT: u32 = 7;
+
+/// How many filters a reply passes that was collapsed.
+const COLLAPSED_COUNT: u32 = 8;
 
 /// The reason of the filter behind so many; none behind the last.
 pub fn reason_behind(passed: u32) -> Option<Reason>
@@ -46,16 +49,28 @@ pub fn found_of_hit(passed: u32) -> Finding
     }
 }
 
-/// What is found of a reply that went forward and carries no response of its window, where one earlier
-/// response passes so many filters at most.
+/// What is found of a reply that went forward, isn't judged as collapsed and carries no response of its
+/// window, where one earlier response passes so many filters at most.
 pub fn found_of_forwarded(passed: u32) -> Finding
     ensures { (claim : Claim) (h : List Item) → is_forwarded claim h ≡ false → passed ≡ furthest anywhere claim h
-        → IsFoundBy Mark.Forwarded claim h result }
+        → IsFoundForwarded false claim h result }
 {
     if FORWARDED_COUNT <= passed {
         Finding::Right
     } else {
         Finding::Wrong(Reason::NotForwarded)
+    }
+}
+
+/// What is found of a reply that is judged as collapsed, where one response that came behind its request
+/// passes so many filters at most.
+pub fn found_of_collapsed(passed: u32) -> Finding
+    ensures { (claim : Claim) (h : List Item) → passed ≡ furthest claim.since claim h → IsFoundForwarded true claim h result }
+{
+    if COLLAPSED_COUNT <= passed {
+        Finding::Right
+    } else {
+        Finding::Wrong(Reason::NotCollapsible)
     }
 }
 

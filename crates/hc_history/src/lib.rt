@@ -18,7 +18,9 @@ mod verdicts;
 
 pub use claim::{ReplyClaim, ttl_of};
 pub use filters::passed;
-pub use finding::{found_of_forwarded, found_of_hit, found_of_unmarked, reason_behind};
+pub use finding::{
+    found_of_collapsed, found_of_forwarded, found_of_hit, found_of_unmarked, reason_behind,
+};
 pub use forwarded::{carries, may_be_for};
 pub use hc_status::Mark;
 pub use kept::Kept;
@@ -30,7 +32,7 @@ pub use laws::{
 };
 pub use marks::{MarkedReply, reply_mark};
 pub use reasons::Reason;
-pub use right::allows_unmarked;
+pub use right::{allows_unmarked, is_collapsed};
 pub use settings::{FieldNames, Settings, UnmarkedReplies};
 pub use usable::{age_of, lifetime_of};
 pub use verdicts::{Counts, Finding, Verdict};

@@ -21,7 +21,7 @@ fn judged_mark(status: StatusCode, mark: Mark) -> Mark
                 Mark::Hit { ttl }
             }
         }
-        Mark::Forwarded => Mark::Forwarded,
+        Mark::Forwarded { collapsed } => Mark::Forwarded { collapsed },
         Mark::Both => Mark::Both,
         Mark::Unmarked => Mark::Unmarked,
     }

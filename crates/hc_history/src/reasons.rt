@@ -28,6 +28,9 @@ pub enum Reason {
     Unmarked,
     /// It is marked as a hit and as forwarded.
     BothMarks,
+    /// It is marked as forwarded together with another request, and no one response that came behind its own request
+    /// passes the filters but that of the seconds left.
+    NotCollapsible,
 }
 
 impl Reason {
@@ -51,6 +54,7 @@ impl Reason {
             Reason::NotForwarded => 10,
             Reason::Unmarked => 11,
             Reason::BothMarks => 12,
+            Reason::NotCollapsible => 13,
         }
     }
 
@@ -71,6 +75,7 @@ impl Reason {
             Reason::NotForwarded => "NotForwarded",
             Reason::Unmarked => "Unmarked",
             Reason::BothMarks => "BothMarks",
+            Reason::NotCollapsible => "NotCollapsible",
         }
     }
 }

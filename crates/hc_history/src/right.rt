@@ -1,10 +1,12 @@
-//! Which replies are right without a mark.
+//! How the marks of replies count.
 
 ghost use Rattle.std.specs.Prelude.{◌≡◌};
-ghost use Rattle.hc_history.specs.Right.{allows_unmarked};
+ghost use Rattle.hc_history.specs.Right.{allows_unmarked, is_collapsed};
 
+use crate::claim::ReplyClaim;
 use crate::settings::UnmarkedReplies;
 use hc_head::StatusCode;
+use hc_transcript::Format;
 
 /// Whether a reply of that status may be unmarked.
 pub fn allows_unmarked(unmarked: UnmarkedReplies, status: StatusCode) -> bool
@@ -13,5 +15,16 @@ pub fn allows_unmarked(unmarked: UnmarkedReplies, status: StatusCode) -> bool
     match unmarked {
         UnmarkedReplies::Allow => true,
         UnmarkedReplies::ErrorsOnly => status.as_u16() >= 400,
+    }
+}
+
+/// Whether a reply that went forward is judged as one that was collapsed, where its mark says so or doesn't:
+/// the first format tells no causes, and passes that over.
+pub fn is_collapsed(claim: &ReplyClaim<'_>, collapsed: bool) -> bool
+    ensures { result ≡ is_collapsed claim.now.format collapsed }
+{
+    match claim.format {
+        Format::First => false,
+        Format::Second => collapsed,
     }
 }

@@ -55,7 +55,7 @@ impl Counts {
         self.replies += 1;
         match mark {
             Mark::Hit { .. } => self.hits += 1,
-            Mark::Forwarded => self.forwarded += 1,
+            Mark::Forwarded { .. } => self.forwarded += 1,
             Mark::Unmarked => self.unmarked += 1,
             Mark::Both => {}
         }

@@ -1,11 +1,12 @@
 -- What the lists of an index tell of a reply.
-use Rattle.std.proofs.Common.{◌≡◌, ℕ, ◌≤◌, ◌<◌, Bool, true, false, ◌&&◌, ◌||◌, cond, List, [], ◌∷◌, ◌++◌, length, max, Option, Some, None, Ok, Err, refl, sym, ap, subst, ◌∙◌, arith, inl, inr, ltb, ltb-true, ltb-false}
-use Rattle.std.specs.Prelude.{filter, map, Result, IfOk}
+use Rattle.std.proofs.Common.{◌≡◌, ℕ, ◌≤◌, Bool, true, false, ◌&&◌, ◌||◌, cond, List, [], ◌∷◌, ◌++◌, length, max, Option, Some, None, Ok, Err, refl, sym, ap, subst, ◌∙◌, arith, append_assoc, append-nil, inl, inr, ⊎_elim, ltb, ltb-true, ltb-false, ◌⊎◌}
+use Rattle.std.specs.Prelude.{filter, map, nat_le, Result, IfOk}
 use Rattle.std.specs.declared.alloc.AllocError.{AllocError}
 use Rattle.std.specs.List.{list_any}
 use Rattle.std.specs.Ordering.{nat_cmp}
 use Rattle.std.specs.BTreeMap.{get}
-use Rattle.std.proofs.lemmas.Bool.{lt-ltb, cases_Bool}
+use Rattle.std.proofs.lemmas.Bool.{cases_Bool}
+use Rattle.std.proofs.lemmas.Bool.Decides.{nat_tests}
 use Rattle.hc_head.specs.declared.head.Target.{Target}
 use Rattle.hc_head.specs.Targets.{same_target}
 use Rattle.hc_head.specs.declared.head.ResponseHead.{ResponseHead}
@@ -24,11 +25,11 @@ use Rattle.hc_history.specs.Forwarded.{carries, is_forwarded}
 use Rattle.hc_history.specs.Furthest.{passed, passed_later, furthest, furthest_live}
 use Rattle.hc_history.specs.Reused.{anywhere, filter_count}
 use Rattle.hc_history.specs.Right.{IsFoundBy, IsFinding}
-use Rattle.hc_history.specs.Seen.{Seen, IsSeenAs, WindowResponse, live_of, responses_since, window_responses_of}
+use Rattle.hc_history.specs.Seen.{Seen, IsSeenAs, Live, WindowResponse, live_of, responses_since, window_responses_of}
 use Rattle.hc_head.proofs.SameTargetLemmas.{same_target_one}
 use Rattle.hc_history.proofs.WindowLemmas.{carried}
 use Rattle.hc_history.proofs.FurthestLemmas.{passed_few}
-use Rattle.hc_history.proofs.LiveLemmas.{passed_other, furthest_is_live, HavePositions, live_positions}
+use Rattle.hc_history.proofs.LiveLemmas.{passed_other, furthest_is_live, AreBefore, before_later, earlier_are_before}
 use Rattle.hc_index.specs.declared.kept.LiveResponse.{LiveResponse}
 use Rattle.hc_index.specs.declared.kept.WindowAnswer.{WindowAnswer}
 use Rattle.hc_index.specs.declared.kept.PooledExchange.{PooledExchange}
@@ -43,21 +44,41 @@ use Rattle.hc_index.specs.Maps.{ToldResponse, those_for, carries_told, is_open, 
 abbrev pub passed_live : Claim → LiveResponse → ℕ
 passed_live claim live = passed (filters claim (record { target = live.target; state = live.state }))
 
--- the most that one of them passes
-abbrev pub most_passed : Claim → List LiveResponse → ℕ
-most_passed claim [] = 0
-most_passed claim (live ∷ lives) = max (passed_live claim live) (most_passed claim lives)
+-- the same of one that is later than a position
+abbrev pub passed_behind : ℕ → Claim → LiveResponse → ℕ
+passed_behind since claim live = cond (ltb since live.position) (passed_live claim live) 0
 
-most_few : (claim : Claim) (lives : List LiveResponse) → most_passed claim lives ≤ filter_count
-most_few claim [] = omega arith
-most_few claim (live ∷ lives) = omega (arith, passed_few (filters claim (record { target = live.target; state = live.state })), most_few claim lives)
+-- the most that one of them passes
+abbrev pub most_passed : ℕ → Claim → List LiveResponse → ℕ
+most_passed since claim [] = 0
+most_passed since claim (live ∷ lives) = max (passed_behind since claim live) (most_passed since claim lives)
+
+few_behind : (since : ℕ) (claim : Claim) (live : LiveResponse) → passed_behind since claim live ≤ filter_count
+few_behind since claim live = go (ltb since live.position) (passed_few (filters claim (record { target = live.target; state = live.state })))
+  where
+    go : (later : Bool) → passed_live claim live ≤ filter_count → cond later (passed_live claim live) 0 ≤ filter_count
+    go true few = few
+    go false few = omega arith
+
+most_few : (since : ℕ) (claim : Claim) (lives : List LiveResponse) → most_passed since claim lives ≤ filter_count
+most_few since claim [] = omega arith
+most_few since claim (live ∷ lives) = omega (arith, few_behind since claim live, most_few since claim lives)
 
 -- one of the claim's target passes as many as what is seen of it
-passed_seen : (claim : Claim) (live : LiveResponse) → same_target live.target claim.target ≡ true → 0 < live.position
-    → passed_live claim live ≡ passed_later anywhere claim live.position (Some (record { target = claim.target; state = live.state }))
-passed_seen claim live same some =
-    ap (λ (t : Target). passed (filters claim (record { target = t; state = live.state }))) (same_target_one live.target claim.target same)
-    ∙ ap (λ (b : Bool). cond b (passed (filters claim (record { target = claim.target; state = live.state }))) 0) (sym (lt-ltb anywhere live.position some))
+passed_seen : (since : ℕ) (claim : Claim) (live : LiveResponse) → same_target live.target claim.target ≡ true
+    → passed_behind since claim live ≡ passed_later since claim live.position (Some (record { target = claim.target; state = live.state }))
+passed_seen since claim live same =
+    ap (λ (t : Target). cond (ltb since live.position) (passed (filters claim (record { target = t; state = live.state }))) 0)
+    (same_target_one live.target claim.target same)
+
+-- one of another target passes none
+none_passed : (since : ℕ) (claim : Claim) (live : LiveResponse) → same_target live.target claim.target ≡ false → passed_behind since claim live ≡ 0
+none_passed since claim live other =
+    go (ltb since live.position) (passed_other claim (record { target = live.target; state = live.state }) other)
+  where
+    go : (later : Bool) → passed_live claim live ≡ 0 → cond later (passed_live claim live) 0 ≡ 0
+    go true none = none
+    go false none = refl
 
 most_zero : (n : ℕ) → max 0 n ≡ n
 most_zero n = omega arith
@@ -65,80 +86,169 @@ most_zero n = omega arith
 others_of : Claim → List LiveResponse → List LiveResponse
 others_of claim lives = filter (λ live. same_target live.target claim.target) lives
 
-one_more : (claim : Claim) (live : LiveResponse) (lives : List LiveResponse) (same : Bool) → same_target live.target claim.target ≡ same
-    → (HavePositions (live_in claim.target lives) → most_passed claim lives ≡ furthest_live anywhere claim (live_in claim.target lives))
-    → HavePositions (map live_seen (cond same (live ∷ others_of claim lives) (others_of claim lives)))
-    → most_passed claim (live ∷ lives) ≡ furthest_live anywhere claim (map live_seen (cond same (live ∷ others_of claim lives) (others_of claim lives)))
+one_more : (since : ℕ) (claim : Claim) (live : LiveResponse) (lives : List LiveResponse) (same : Bool) → same_target live.target claim.target ≡ same
+    → most_passed since claim lives ≡ furthest_live since claim (live_in claim.target lives)
+    → most_passed since claim (live ∷ lives) ≡ furthest_live since claim (map live_seen (cond same (live ∷ others_of claim lives) (others_of claim lives)))
 unfolding others_of
-one_more claim live lives true is rest there =
-    ap (λ (n : ℕ). max n (most_passed claim lives)) (passed_seen claim live is there.0)
-    ∙ ap (max (passed_later anywhere claim live.position (Some (record { target = claim.target; state = live.state })))) (rest there.1)
-one_more claim live lives false is rest there =
-    ap (λ (n : ℕ). max n (most_passed claim lives)) (passed_other claim (record { target = live.target; state = live.state }) is)
-    ∙ most_zero (most_passed claim lives)
-    ∙ rest there
+one_more since claim live lives true is rest =
+    ap (λ (n : ℕ). max n (most_passed since claim lives)) (passed_seen since claim live is)
+    ∙ ap (max (passed_later since claim live.position (Some (record { target = claim.target; state = live.state })))) rest
+one_more since claim live lives false is rest =
+    ap (λ (n : ℕ). max n (most_passed since claim lives)) (none_passed since claim live is)
+    ∙ most_zero (most_passed since claim lives)
+    ∙ rest
 
-most_is_live : (claim : Claim) (lives : List LiveResponse) → HavePositions (live_in claim.target lives)
-    → most_passed claim lives ≡ furthest_live anywhere claim (live_in claim.target lives)
+most_is_live : (since : ℕ) (claim : Claim) (lives : List LiveResponse) → most_passed since claim lives ≡ furthest_live since claim (live_in claim.target lives)
 unfolding others_of
-most_is_live claim [] there = refl
-most_is_live claim (live ∷ lives) there = one_more claim live lives (same_target live.target claim.target) refl (most_is_live claim lives) there
+most_is_live since claim [] = refl
+most_is_live since claim (live ∷ lives) = one_more since claim live lives (same_target live.target claim.target) refl (most_is_live since claim lives)
 
-pub most_is_furthest : (claim : Claim) (lives : List LiveResponse) (h : List Item) → live_in claim.target lives ≡ live_of claim.target h
-    → most_passed claim lives ≡ furthest anywhere claim h
-most_is_furthest claim lives h are =
-    most_is_live claim lives (subst HavePositions (sym are) (live_positions claim.target h))
-    ∙ ap (furthest_live anywhere claim) are
-    ∙ furthest_is_live anywhere claim h
+pub most_is_furthest : (since : ℕ) (claim : Claim) (lives : List LiveResponse) (h : List Item) → live_in claim.target lives ≡ live_of claim.target h
+    → most_passed since claim lives ≡ furthest since claim h
+most_is_furthest since claim lives h are =
+    most_is_live since claim lives
+    ∙ ap (furthest_live since claim) are
+    ∙ furthest_is_live since claim h
 
-most_append : (claim : Claim) (xs ys : List LiveResponse) → most_passed claim (xs ++ ys) ≡ max (most_passed claim xs) (most_passed claim ys)
-most_append claim [] ys = omega arith
-most_append claim (x ∷ xs) ys = omega (arith, most_append claim xs ys)
+most_append : (since : ℕ) (claim : Claim) (xs ys : List LiveResponse) → most_passed since claim (xs ++ ys) ≡ max (most_passed since claim xs) (most_passed since claim ys)
+most_append since claim [] ys = omega arith
+most_append since claim (x ∷ xs) ys = omega (arith, most_append since claim xs ys)
 
-most_last : (claim : Claim) (earlier : List LiveResponse) (live : LiveResponse)
-    → most_passed claim (earlier ++ live ∷ []) ≡ max (most_passed claim earlier) (passed_live claim live)
-most_last claim earlier live = omega (arith, most_append claim earlier (live ∷ []))
+most_last : (since : ℕ) (claim : Claim) (earlier : List LiveResponse) (live : LiveResponse)
+    → most_passed since claim (earlier ++ live ∷ []) ≡ max (most_passed since claim earlier) (passed_behind since claim live)
+most_last since claim earlier live = omega (arith, most_append since claim earlier (live ∷ []))
 
--- the most so far and the most of what is left, of all those that are looked at
-abbrev pub IsMost : Claim → List LiveResponse → ℕ → List LiveResponse → Type 0
-IsMost claim lives most left = max most (most_passed claim left) ≡ most_passed claim lives
+-- ---- from the newest on
 
-pub most_at_first : (claim : Claim) (lives left : List LiveResponse) → left ≡ lives → IsMost claim lives 0 left
-most_at_first claim lives left is = omega (arith, ap (most_passed claim) is)
+-- the test by which a response of the target, and with it all older ones, is passed over
+abbrev pub is_before : ℕ → Claim → LiveResponse → Bool
+is_before since claim live = nat_le live.position since && same_target live.target claim.target
 
-pub most_goes_on : (claim : Claim) (lives left earlier : List LiveResponse) (most here more : ℕ) (live : LiveResponse) → IsMost claim lives most left
-    → left ≡ earlier ++ live ∷ [] → here ≡ passed_live claim live → more ≡ max most here → IsMost claim lives more earlier
-most_goes_on claim lives left earlier most here more live so_far last is greater =
-    omega (arith, so_far, ap (most_passed claim) last, most_last claim earlier live, is, greater)
+-- what isn't passed over counts by what it passes
+counted_by : (since : ℕ) (claim : Claim) (live : LiveResponse) (later : Bool) → ltb since live.position ≡ later
+    → same_target live.target claim.target ≡ false ⊎ (later ≡ true) → passed_live claim live ≡ cond later (passed_live claim live) 0
+counted_by since claim live true is which = refl
+counted_by since claim live false is (inl other) = passed_other claim (record { target = live.target; state = live.state }) other
+counted_by since claim live false is (inr later) = cc
+
+not_both : (a b : Bool) → (a && b) ≡ false → (b ≡ false) ⊎ (a ≡ false)
+not_both true b none = inl none
+not_both false b none = inr refl
+
+later_of : (n m : ℕ) → nat_le m n ≡ false → ltb n m ≡ true
+later_of n m less = grind (arith, nat_tests)
+
+counted : (since : ℕ) (claim : Claim) (live : LiveResponse) → is_before since claim live ≡ false → passed_live claim live ≡ passed_behind since claim live
+counted since claim live behind =
+    counted_by since claim live (ltb since live.position) refl
+    (⊎_elim (λ other. inl other) (λ later. inr (later_of since live.position later)) (not_both (nat_le live.position since) (same_target live.target claim.target) behind))
+
+-- of those of the target that are no later than a position, none passes any
+none_before : (since : ℕ) (claim : Claim) (lives : List LiveResponse) → AreBefore since (live_in claim.target lives) → most_passed since claim lives ≡ 0
+unfolding others_of
+none_before since claim [] before = refl
+none_before since claim (live ∷ lives) before = go (same_target live.target claim.target) refl before (λ rest. none_before since claim lives rest)
+  where
+    not_later : (n m : ℕ) → m ≤ n → ltb n m ≡ false
+    not_later n m few = grind (arith, nat_tests)
+
+    go : (same : Bool) → same_target live.target claim.target ≡ same → AreBefore since (map live_seen (cond same (live ∷ others_of claim lives) (others_of claim lives)))
+        → (AreBefore since (live_in claim.target lives) → most_passed since claim lives ≡ 0)
+        → max (passed_behind since claim live) (most_passed since claim lives) ≡ 0
+    go true is before rest =
+        let none : passed_behind since claim live ≡ 0 = ap (λ (b : Bool). cond b (passed_live claim live) 0) (not_later since live.position before.0) in
+        omega (arith, none, rest before.1)
+    go false is before rest = omega (arith, none_passed since claim live is, rest before)
+
+-- the most so far and the most of what is left, of all those that are looked at; and what is left begins them
+abbrev pub IsMost : ℕ → Claim → List LiveResponse → ℕ → List LiveResponse → Type 0
+IsMost since claim lives most left = (max most (most_passed since claim left) ≡ most_passed since claim lives) × (more : List LiveResponse) × (lives ≡ left ++ more)
+
+pub most_at_first : (since : ℕ) (claim : Claim) (lives left : List LiveResponse) → left ≡ lives → IsMost since claim lives 0 left
+most_at_first since claim lives left is = (omega (arith, ap (most_passed since claim) is), [], sym is ∙ sym (append-nil left))
+
+begins : (lives left earlier more : List LiveResponse) (live : LiveResponse) → left ≡ earlier ++ live ∷ [] → lives ≡ left ++ more → lives ≡ earlier ++ live ∷ more
+begins lives left earlier more live last are = are ∙ ap (λ (xs : List LiveResponse). xs ++ more) last ∙ append_assoc earlier (live ∷ []) more
+
+pub most_goes_on : (since : ℕ) (claim : Claim) (lives left earlier : List LiveResponse) (most here more : ℕ) (live : LiveResponse) → IsMost since claim lives most left
+    → left ≡ earlier ++ live ∷ [] → is_before since claim live ≡ false → here ≡ passed_live claim live → more ≡ max most here → IsMost since claim lives more earlier
+most_goes_on since claim lives left earlier most here more live so_far last behind is greater = (
+  omega (arith, so_far.0, ap (most_passed since claim) last, most_last since claim earlier live, is, counted since claim live behind, greater),
+  live ∷ so_far.1,
+  begins lives left earlier so_far.1 live last so_far.2,
+)
 
 -- where one passes enough, the most are no less
-pub enough_is_found : (claim : Claim) (lives left earlier : List LiveResponse) (most here enough : ℕ) (live : LiveResponse) (h : List Item) → IsMost claim lives most left
-    → left ≡ earlier ++ live ∷ [] → here ≡ passed_live claim live → enough ≤ here
-    → live_in claim.target lives ≡ live_of claim.target h → IsMostOrEnough enough here (furthest anywhere claim h)
-enough_is_found claim lives left earlier most here enough live h so_far last is full are = record {
-  at_most = omega (arith, so_far, ap (most_passed claim) last, most_last claim earlier live, is, most_is_furthest claim lives h are);
+pub enough_is_found : (since : ℕ) (claim : Claim) (lives left earlier : List LiveResponse) (most here enough : ℕ) (live : LiveResponse) (h : List Item)
+    → IsMost since claim lives most left → left ≡ earlier ++ live ∷ [] → is_before since claim live ≡ false → here ≡ passed_live claim live → enough ≤ here
+    → live_in claim.target lives ≡ live_of claim.target h → IsMostOrEnough enough here (furthest since claim h)
+enough_is_found since claim lives left earlier most here enough live h so_far last behind is full are = record {
+  at_most = omega (
+    arith,
+    so_far.0,
+    ap (most_passed since claim) last,
+    most_last since claim earlier live,
+    is,
+    counted since claim live behind,
+    most_is_furthest since claim lives h are,
+  );
   less_is_most = λ less. absurd (omega (arith, less, full));
 }
 
-none_left : (claim : Claim) (left : List LiveResponse) → length left ≡ 0 → most_passed claim left ≡ 0
-none_left claim [] none = refl
-none_left claim (live ∷ lives) none = omega (arith, none)
+most_is_enough : (most enough all : ℕ) → most ≡ all → IsMostOrEnough enough most all
+most_is_enough most enough all is = record { at_most = omega (arith, is); less_is_most = λ less. is }
+
+-- of one of the target that is no later than the position, and of all that are older, none is
+seen_append : (target : Target) (xs ys : List LiveResponse) → live_in target (xs ++ ys) ≡ live_in target xs ++ live_in target ys
+seen_append target [] ys = refl
+seen_append target (x ∷ xs) ys = go (same_target x.target target) (seen_append target xs ys)
+  where
+    go : (same : Bool) → live_in target (xs ++ ys) ≡ live_in target xs ++ live_in target ys
+        → map live_seen (cond same (x ∷ filter (λ live. same_target live.target target) (xs ++ ys)) (filter (λ live. same_target live.target target) (xs ++ ys)))
+        ≡ map live_seen (cond same (x ∷ filter (λ live. same_target live.target target) xs) (filter (λ live. same_target live.target target) xs)) ++ live_in target ys
+    go true rest = ap (λ (l : List Live). live_seen x ∷ l) rest
+    go false rest = rest
+
+seen_first : (target : Target) (x : LiveResponse) (ys : List LiveResponse) → same_target x.target target ≡ true → live_in target (x ∷ ys) ≡ live_seen x ∷ live_in target ys
+seen_first target x ys same =
+    ap (λ (b : Bool). map live_seen (cond b (x ∷ filter (λ live. same_target live.target target) ys) (filter (λ live. same_target live.target target) ys))) same
+
+before_both : (a b : Bool) → (a && b) ≡ true → (a ≡ true) × (b ≡ true)
+before_both true true both = (refl, refl)
+before_both true false both = cc
+before_both false b both = cc
+
+le_of : (n m : ℕ) → nat_le m n ≡ true → m ≤ n
+le_of n m less = grind (arith, nat_tests)
+
+pub before_is_most : (since : ℕ) (claim : Claim) (lives left earlier : List LiveResponse) (most enough : ℕ) (live : LiveResponse) (h : List Item)
+    → IsMost since claim lives most left → left ≡ earlier ++ live ∷ [] → is_before since claim live ≡ true
+    → live_in claim.target lives ≡ live_of claim.target h → IsMostOrEnough enough most (furthest since claim h)
+before_is_most since claim lives left earlier most enough live h so_far last before are =
+    let both = before_both (nat_le live.position since) (same_target live.target claim.target) before in
+    let few = le_of since live.position both.0 in
+    let later = so_far.1 in
+    let seen : live_of claim.target h ≡ live_in claim.target earlier ++ live_seen live ∷ live_in claim.target later =
+    sym are
+    ∙ ap (live_in claim.target) (begins lives left earlier later live last so_far.2)
+    ∙ seen_append claim.target earlier (live ∷ later)
+    ∙ ap (λ (l : List Live). live_in claim.target earlier ++ l) (seen_first claim.target live later both.1) in
+    let older = before_later live.position since _ few (earlier_are_before claim.target h (live_in claim.target earlier) (live_seen live) (live_in claim.target later) seen) in
+    let none = none_before since claim earlier older in
+    let not_later : ltb since live.position ≡ false = grind (arith, nat_tests) in
+    let itself : passed_behind since claim live ≡ 0 = ap (λ (b : Bool). cond b (passed_live claim live) 0) not_later in
+    most_is_enough most enough (furthest since claim h)
+    (omega (arith, so_far.0, ap (most_passed since claim) last, most_last since claim earlier live, none, itself, most_is_furthest since claim lives h are))
+
+none_left : (since : ℕ) (claim : Claim) (left : List LiveResponse) → length left ≡ 0 → most_passed since claim left ≡ 0
+none_left since claim [] none = refl
+none_left since claim (live ∷ lives) none = omega (arith, none)
 
 -- behind the last one, the most so far is the most of all
-end_is_furthest : (claim : Claim) (lives left : List LiveResponse) (most : ℕ) (h : List Item) → IsMost claim lives most left → length left ≡ 0
-    → live_in claim.target lives ≡ live_of claim.target h → most ≡ furthest anywhere claim h
-end_is_furthest claim lives left most h so_far none are =
-    let nothing_left : most ≡ most_passed claim lives = omega (arith, so_far, none_left claim left none) in
-    nothing_left ∙ most_is_furthest claim lives h are
-
-pub end_is_enough : (claim : Claim) (lives left : List LiveResponse) (most enough : ℕ) (h : List Item) → IsMost claim lives most left → length left ≡ 0
-    → live_in claim.target lives ≡ live_of claim.target h → IsMostOrEnough enough most (furthest anywhere claim h)
-end_is_enough claim lives left most enough h so_far none are =
-    let is = end_is_furthest claim lives left most h so_far none are in
-    record {
-      at_most = omega (arith, is);
-      less_is_most = λ less. is;
-    }
+pub end_is_enough : (since : ℕ) (claim : Claim) (lives left : List LiveResponse) (most enough : ℕ) (h : List Item) → IsMost since claim lives most left → length left ≡ 0
+    → live_in claim.target lives ≡ live_of claim.target h → IsMostOrEnough enough most (furthest since claim h)
+end_is_enough since claim lives left most enough h so_far none are =
+    most_is_enough most enough (furthest since claim h) (omega (arith, so_far.0, none_left since claim left none, most_is_furthest since claim lives h are))
 
 -- nobody passes more than all
 pub all_are_most : (claim : Claim) (lives : List LiveResponse) (n : ℕ) (h : List Item) → live_in claim.target lives ≡ live_of claim.target h
@@ -146,7 +256,7 @@ pub all_are_most : (claim : Claim) (lives : List LiveResponse) (n : ℕ) (h : Li
 all_are_most claim lives n h are most =
     elim (cases_Bool (ltb n filter_count)) [
       | inl less ↦ most.less_is_most (ltb-true n filter_count less)
-      | inr all ↦ omega (arith, ltb-false n filter_count all, most.at_most, most_few claim lives, most_is_furthest claim lives h are)
+      | inr all ↦ omega (arith, ltb-false n filter_count all, most.at_most, most_few anywhere claim lives, most_is_furthest anywhere claim lives h are)
     ]
 
 -- ---- what the window holds
@@ -162,16 +272,16 @@ any_seen claim (answer ∷ window) = ap (λ (b : Bool). carries_answer claim ans
 
 -- the window tells whether the reply carries a response of it
 pub window_tells : (claim : Claim) (mark : Mark) (window : List WindowResponse) (h : List Item) (b : Bool) → window ≡ responses_since claim.format claim.exchange claim.target claim.since h
-    → b ≡ carried_by mark (list_any (λ one. carries claim one.method one.status one.body) window) → carried_by mark (is_forwarded claim h) ≡ b
+    → b ≡ carried_by claim.format mark (list_any (λ one. carries claim one.method one.status one.body) window) → carried_by claim.format mark (is_forwarded claim h) ≡ b
 window_tells claim mark window h b are is =
-    ap (carried_by mark) (carried claim h ∙ ap (list_any (λ one. carries claim one.method one.status one.body)) (sym are)) ∙ sym is
+    ap (carried_by claim.format mark) (carried claim h ∙ ap (list_any (λ one. carries claim one.method one.status one.body)) (sym are)) ∙ sym is
 
 -- the answers tell what is seen of them
 pub answers_tell : (claim : Claim) (mark : Mark) (window : List WindowAnswer) (b : Bool)
-    → b ≡ carried_by mark (list_any (λ answer. carries claim answer.method answer.status answer.body) window)
-    → b ≡ carried_by mark (list_any (λ one. carries claim one.method one.status one.body) (map answer_seen window))
+    → b ≡ carried_by claim.format mark (list_any (λ answer. carries claim answer.method answer.status answer.body) window)
+    → b ≡ carried_by claim.format mark (list_any (λ one. carries claim one.method one.status one.body) (map answer_seen window))
 unfolding carries_answer
-answers_tell claim mark window b is = is ∙ ap (carried_by mark) (sym (any_seen claim window))
+answers_tell claim mark window b is = is ∙ ap (carried_by claim.format mark) (sym (any_seen claim window))
 
 -- the answers of a pool tell those of them that may be for the exchange
 any_told : (claim : Claim) (answers : List ToldResponse)
@@ -186,9 +296,9 @@ any_told claim (x ∷ answers) = go (may_be_for x.cause claim.exchange) (any_tol
     go true more = ap (λ (b : Bool). carries claim x.response.method x.response.status x.response.body || b) more
     go false more = more
 
-pub pool_tells : (claim : Claim) (mark : Mark) (answers : List ToldResponse) (b : Bool) → b ≡ carried_by mark (list_any (carries_told claim) answers)
-    → b ≡ carried_by mark (list_any (λ one. carries claim one.method one.status one.body) (those_for claim.exchange answers))
-pool_tells claim mark answers b is = is ∙ ap (carried_by mark) (sym (any_told claim answers))
+pub pool_tells : (claim : Claim) (mark : Mark) (answers : List ToldResponse) (b : Bool) → b ≡ carried_by claim.format mark (list_any (carries_told claim) answers)
+    → b ≡ carried_by claim.format mark (list_any (λ one. carries claim one.method one.status one.body) (those_for claim.exchange answers))
+pool_tells claim mark answers b is = is ∙ ap (carried_by claim.format mark) (sym (any_told claim answers))
 
 -- ---- what is found
 

@@ -1,5 +1,5 @@
 -- What plain lists are seen as.
-use Rattle.std.specs.Prelude.{◌≡◌, ◌≤◌, ◌<◌, ℕ, Bool, false, ◌==◌, ◌||◌, List, [], ◌++◌, filter, find, map, Option, Some, None, if◌then◌else◌}
+use Rattle.std.specs.Prelude.{◌≡◌, ◌≤◌, ◌<◌, ℕ, Bool, false, ◌==◌, ◌&&◌, ◌||◌, not, List, [], ◌++◌, filter, find, map, Option, Some, None, if◌then◌else◌}
 use Rattle.std.specs.Option.{option_map}
 use Rattle.std.specs.Ordering.{nat_cmp}
 use Rattle.std.specs.BTreeMap.{BTreeMap, get}
@@ -12,11 +12,13 @@ use Rattle.hc_head.specs.Statuses.{not_modified}
 use Rattle.hc_update.specs.States.{invalidates}
 use Rattle.hc_status.specs.declared.marks.Mark.{Mark}
 use Rattle.hc_status.specs.declared.marks.Mark.TheVariants.{Forwarded}
+use Rattle.hc_transcript.specs.declared.format.Format.{Format}
 use Rattle.hc_transcript.specs.declared.line.ToldCause.{ToldCause}
 use Rattle.hc_transcript.specs.Items.{Exchange, Forward}
 use Rattle.hc_framing.specs.declared.message.Message.{Message}
 use Rattle.hc_history.specs.Windows.{may_be_for}
 use Rattle.hc_history.specs.Noting.{live_answered}
+use Rattle.hc_history.specs.Right.{is_collapsed}
 use Rattle.hc_history.specs.Seen.{Live, WindowResponse, response_to, Seen}
 use Rattle.hc_index.specs.declared.kept.LiveResponse.{LiveResponse}
 use Rattle.hc_index.specs.declared.kept.WindowAnswer.{WindowAnswer}
@@ -123,10 +125,10 @@ pub record IsMostOrEnough (enough n most : ℕ) : Type 0 where
   pub at_most : n ≤ most
   pub less_is_most : n < enough → n ≡ most
 
--- whether a reply with that mark went forward and carries a response of its window
-abbrev pub carried_by : Mark → Bool → Bool
-carried_by Forwarded carried = carried
-carried_by mark carried = false
+-- whether a reply with that mark went forward, isn't judged as collapsed and carries a response of its window
+abbrev pub carried_by : Format → Mark → Bool → Bool
+carried_by format (Forwarded collapsed) carried = not (is_collapsed format collapsed) && carried
+carried_by format mark carried = false
 
 -- ---- all of them
 

@@ -13,7 +13,7 @@ use crate::finding::{Latest, carries_one, claim_of, found_by};
 use crate::kept::{WatchedExchange, WindowAnswer};
 use crate::list_index::ListIndex;
 use hc_head::Target;
-use hc_history::{Finding, Mark, MarkedReply, ReplyClaim, Settings};
+use hc_history::{Finding, Mark, MarkedReply, ReplyClaim, Settings, is_collapsed};
 use hc_transcript::Format;
 use std::alloc::AllocError;
 use std::collections::BTreeMap;
@@ -34,13 +34,14 @@ fn position_of(positions: &BTreeMap<Target, u64>, target: &Target) -> u64
     positions.get(target).copied().unwrap_or(0)
 }
 
-/// Whether the reply went forward and carries one of those answers.
+/// Whether the reply went forward, isn't judged as collapsed and carries one of those answers.
 fn is_carried(mark: Mark, claim: &ReplyClaim<'_>, window: &[WindowAnswer]) -> bool
-    ensures { result ≡ carried_by mark
+    ensures { result ≡ carried_by claim.now.format mark
         (list_any (λ answer. carries claim.now answer.method answer.status answer.body) window.now) }
 {
     match mark {
-        Mark::Forwarded => carries_one(claim, window),
+        Mark::Forwarded { collapsed } => !is_collapsed(claim, collapsed)
+            && carries_one(claim, window),
         Mark::Hit { .. } | Mark::Both | Mark::Unmarked => false,
     }
 }

@@ -12,17 +12,18 @@ ghost use Rattle.hc_index.specs.Maps.{answers_behind, carries_told, seen_in};
 use crate::finding::{Latest, claim_of, found_by};
 use crate::map_index::MapIndex;
 use crate::pool::Pool;
-use hc_history::{Finding, Mark, MarkedReply, ReplyClaim, Settings};
+use hc_history::{Finding, Mark, MarkedReply, ReplyClaim, Settings, is_collapsed};
 use hc_transcript::Format;
 use std::alloc::AllocError;
 
-/// Whether the reply went forward and carries one of the answers behind so many.
+/// Whether the reply went forward, isn't judged as collapsed and carries one of the answers behind so many.
 fn is_carried(mark: Mark, claim: &ReplyClaim<'_>, pool: &Pool, behind: usize) -> bool
-    ensures { result ≡ carried_by mark
+    ensures { result ≡ carried_by claim.now.format mark
         (list_any (carries_told claim.now) (answers_behind behind pool.now)) }
 {
     match mark {
-        Mark::Forwarded => pool.carries_one(claim, behind),
+        Mark::Forwarded { collapsed } => !is_collapsed(claim, collapsed)
+            && pool.carries_one(claim, behind),
         Mark::Hit { .. } | Mark::Both | Mark::Unmarked => false,
     }
 }

@@ -1,5 +1,5 @@
 -- What is found of one reply, and of all.
-use Rattle.std.proofs.Common.{◌≡◌, ℕ, suc, ◌+◌, ◌<◌, List, [], ◌∷◌, ◌++◌, length, take, drop, Option, refl, sym, ap, subst, ◌∙◌, arith, max, inl, inr, append_assoc, get_or}
+use Rattle.std.proofs.Common.{◌≡◌, ℕ, suc, ◌+◌, ◌<◌, List, [], ◌∷◌, ◌++◌, length, take, drop, sym, ap, subst, ◌∙◌, arith, max, inl, inr, append_assoc, get_or}
 use Rattle.std.specs.Prelude.{map, reverse}
 use Rattle.std.proofs.Math.Seq.{take-suc}
 use Rattle.std.proofs.lemmas.List.{reverse-append, map-append, take-append-drop, length-take}
@@ -9,7 +9,6 @@ use Rattle.hc_transcript.specs.Records.{record_text, records_text, opening}
 use Rattle.hc_transcript.specs.Items.{Item, item_of}
 use Rattle.hc_transcript.specs.History.{next_position}
 use Rattle.hc_transcript.specs.Transcript.{AreReadAs, Splits}
-use Rattle.hc_history.specs.declared.kept.Kept.{Kept}
 use Rattle.hc_history.specs.declared.reasons.Reason.{Reason}
 use Rattle.hc_judge.specs.declared.past.PastItem.{PastItem}
 use Rattle.hc_history.specs.declared.settings.Settings.{Settings}
@@ -20,9 +19,7 @@ use Rattle.hc_history.specs.declared.verdicts.Verdict.TheVariants.{Yes, Malforme
 use Rattle.hc_history.specs.Counting.{counts_of}
 use Rattle.hc_history.specs.Right.{AllRight}
 use Rattle.hc_history.specs.Verdicts.{IsWrongAt, IsVerdict}
-use Rattle.hc_history.specs.Furthest.{passed_by, passed_later, furthest_up_to}
-use Rattle.hc_history.specs.Reused.{anywhere}
-use Rattle.std.proofs.lemmas.Bool.{lt-ltb}
+use Rattle.hc_history.specs.Furthest.{passed_later, furthest_up_to}
 use Rattle.hc_judge.specs.Past.{history_of}
 use Rattle.hc_judge.specs.declared.reading.Ending.TheVariants.{Whole, Broken}
 use Rattle.hc_judge.specs.Reading.{AreFirstOf, EndsBy}
@@ -38,16 +35,12 @@ use Rattle.hc_judge.proofs.ReadingLemmas.{history_more}
 next : (n : ℕ) → suc n ≡ n + 1
 next n = omega arith
 
-passed_anywhere : (claim : Claim) (n : ℕ) (o : Option Kept) → passed_by claim o ≡ passed_later anywhere claim (suc n) o
-passed_anywhere claim n o = rw (lt-ltb anywhere (suc n) (omega arith)) refl
-
 -- one position more
-pub furthest_more : (claim : Claim) (h : List Item) (n most passed : ℕ) → most ≡ furthest_up_to anywhere claim n h → passed ≡ passed_by claim (state_at (n + 1) h)
-    → max most passed ≡ furthest_up_to anywhere claim (n + 1) h
-furthest_more claim h n most passed most-is passed-is =
-    subst (λ (k : ℕ). passed ≡ passed_by claim (state_at k h) → max most passed ≡ furthest_up_to anywhere claim k h) (next n)
-    (λ is. ap (λ (m : ℕ). max m passed) most-is
-    ∙ ap (max (furthest_up_to anywhere claim n h)) (is ∙ passed_anywhere claim n (state_at (suc n) h))) passed-is
+pub furthest_more : (since : ℕ) (claim : Claim) (h : List Item) (n most passed : ℕ) → most ≡ furthest_up_to since claim n h
+    → passed ≡ passed_later since claim (n + 1) (state_at (n + 1) h) → max most passed ≡ furthest_up_to since claim (n + 1) h
+furthest_more since claim h n most passed most-is passed-is =
+    subst (λ (k : ℕ). passed ≡ passed_later since claim k (state_at k h) → max most passed ≡ furthest_up_to since claim k h) (next n)
+    (λ is. ap (λ (m : ℕ). max m passed) most-is ∙ ap (max (furthest_up_to since claim n h)) is) passed-is
 
 -- ---- where an item stands
 

@@ -1,10 +1,10 @@
 //! What is found of one reply, behind items that are held.
 
-ghost use Rattle.std.specs.Prelude.{◌≡◌, ℤ, Option, IfOk};
+ghost use Rattle.std.specs.Prelude.{◌≡◌, ℤ, Option, IfOk, true, false};
 ghost use Rattle.hc_transcript.specs.History.{exchange_of};
 ghost use Rattle.hc_history.specs.Claims.{claim_of};
 ghost use Rattle.hc_history.specs.Marks.{reply_mark};
-ghost use Rattle.hc_history.specs.Right.{IsFinding, IsFoundBy};
+ghost use Rattle.hc_history.specs.Right.{IsFinding, IsFoundBy, IsFoundForwarded};
 ghost use Rattle.hc_judge.specs.Past.{history_of};
 
 use crate::forwarded::is_forwarded;
@@ -15,11 +15,14 @@ use crate::windows::{has_error, has_failure};
 use hc_framing::Message;
 use hc_head::ResponseHead;
 use hc_history::{
-    Finding, Mark, Reason, ReplyClaim, Settings, found_of_forwarded, found_of_hit,
-    found_of_unmarked, reply_mark, ttl_of,
+    Finding, Mark, Reason, ReplyClaim, Settings, found_of_collapsed, found_of_forwarded,
+    found_of_hit, found_of_unmarked, is_collapsed, reply_mark, ttl_of,
 };
 use hc_transcript::Format;
 use std::alloc::{AllocError, Global};
+
+/// The position behind which every response lies.
+const ANYWHERE: u64 = 0;
 
 /// What a reply with that mark claims, behind those items.
 fn claim_of<'a>(
@@ -57,23 +60,50 @@ fn found_of_hit_behind(
 ) -> Result<Finding, AllocError>
     ensures { (ttl : Option ℤ) → IfOk result (IsFoundBy (Mark.Hit ttl) claim.now (history_of items.now)) }
 {
-    let passed = furthest(alloc, claim, items)?;
+    let passed = furthest(alloc, claim, ANYWHERE, items)?;
     Ok(found_of_hit(passed))
 }
 
-/// What is found of a reply that went forward.
+/// What is found of a reply that is judged as collapsed.
+fn found_of_collapsed_behind(
+    alloc: Global,
+    claim: &ReplyClaim<'_>,
+    items: &[PastItem],
+) -> Result<Finding, AllocError>
+    ensures { IfOk result (IsFoundForwarded true claim.now (history_of items.now)) }
+{
+    let passed = furthest(alloc, claim, claim.since, items)?;
+    Ok(found_of_collapsed(passed))
+}
+
+/// What is found of a reply that went forward by itself.
 fn found_of_forwarded_behind(
     alloc: Global,
     claim: &ReplyClaim<'_>,
     items: &[PastItem],
 ) -> Result<Finding, AllocError>
-    ensures { IfOk result (IsFoundBy Mark.Forwarded claim.now (history_of items.now)) }
+    ensures { IfOk result (IsFoundForwarded false claim.now (history_of items.now)) }
 {
     if is_forwarded(claim, items) {
         return Ok(Finding::Right);
     }
-    let passed = furthest(alloc, claim, items)?;
+    let passed = furthest(alloc, claim, ANYWHERE, items)?;
     Ok(found_of_forwarded(passed))
+}
+
+/// What is found of a reply that went forward, whose mark says whether it was collapsed.
+fn found_of_collapsed_or_forwarded(
+    alloc: Global,
+    claim: &ReplyClaim<'_>,
+    items: &[PastItem],
+    collapsed: bool,
+) -> Result<Finding, AllocError>
+    ensures { IfOk result (IsFoundBy (Mark.Forwarded collapsed) claim.now (history_of items.now)) }
+{
+    if is_collapsed(claim, collapsed) {
+        return found_of_collapsed_behind(alloc, claim, items);
+    }
+    found_of_forwarded_behind(alloc, claim, items)
 }
 
 /// What is found of a reply with that mark, behind those items.
@@ -87,7 +117,9 @@ fn found_by(
 {
     match mark {
         Mark::Hit { .. } => found_of_hit_behind(alloc, claim, items),
-        Mark::Forwarded => found_of_forwarded_behind(alloc, claim, items),
+        Mark::Forwarded { collapsed } => {
+            found_of_collapsed_or_forwarded(alloc, claim, items, collapsed)
+        }
         Mark::Both => Ok(Finding::Wrong(Reason::BothMarks)),
         Mark::Unmarked => Ok(found_of_unmarked(claim)),
     }

@@ -24,7 +24,7 @@ use Rattle.hc_status.specs.declared.cache_status.Handling.{Handling}
 use Rattle.hc_status.specs.declared.cache_status.Handling.TheVariants as handling
 use Rattle.hc_status.specs.Classes.{is_token_start, is_token_octet}
 use Rattle.hc_status.specs.Grammar.{IsToken}
-use Rattle.hc_status.specs.Texts.{ttl_text, fwd_status_text, stored_text, handling_text, member_text, HasShortTtl, HasShortStatus}
+use Rattle.hc_status.specs.Texts.{ttl_text, fwd_status_text, stored_text, collapsed_text, handling_text, member_text, HasShortTtl, HasShortStatus}
 use Rattle.hc_replies.specs.Laws.{IsWritableStatus}
 
 -- ---- visible texts
@@ -95,20 +95,25 @@ stored_visible : (stored : Bool) → IsVisible 7 (stored_text stored)
 stored_visible true = record { visible = refl; short = omega arith }
 stored_visible false = record { visible = refl; short = omega arith }
 
-handling_visible : (name : List ℕ) (handling : Handling) → IsWritableStatus name handling → IsVisible 103 (handling_text handling)
+collapsed_visible : (collapsed : Bool) → IsVisible 10 (collapsed_text collapsed)
+collapsed_visible true = record { visible = refl; short = omega arith }
+collapsed_visible false = record { visible = refl; short = omega arith }
+
+handling_visible : (name : List ℕ) (handling : Handling) → IsWritableStatus name handling → IsVisible 113 (handling_text handling)
 handling_visible name (handling.Hit ttl) is =
     let text = join 4 21 (codes ";hit") (ttl_text ttl) (record { visible = refl; short = omega arith }) (ttl_visible ttl is.plain.handling) in
     record { visible = text.visible; short = omega (arith, text.short) }
-handling_visible name (handling.Fwd word status stored) is =
+handling_visible name (handling.Fwd word status stored collapsed) is =
     let token : IsVisible 64 word = record { visible = token_visible word is.plain.handling.0; short = is.short_word } in
-    join 96 7 (codes ";fwd=" ++ word ++ fwd_status_text status) (stored_text stored)
-    (join 69 27 (codes ";fwd=" ++ word) (fwd_status_text status)
-    (join 5 64 (codes ";fwd=") word (record { visible = refl; short = omega arith }) token) (status_visible status is.plain.handling.1))
-    (stored_visible stored)
+    let told =
+    join 69 27 (codes ";fwd=" ++ word) (fwd_status_text status)
+    (join 5 64 (codes ";fwd=") word (record { visible = refl; short = omega arith }) token) (status_visible status is.plain.handling.1) in
+    let put = join 96 7 (codes ";fwd=" ++ word ++ fwd_status_text status) (stored_text stored) told (stored_visible stored) in
+    join 103 10 (codes ";fwd=" ++ word ++ fwd_status_text status ++ stored_text stored) (collapsed_text collapsed) put (collapsed_visible collapsed)
 
-pub member_visible : (name : List ℕ) (handling : Handling) → IsWritableStatus name handling → IsVisible 135 (member_text (record { name = name; handling = handling }))
+pub member_visible : (name : List ℕ) (handling : Handling) → IsWritableStatus name handling → IsVisible 145 (member_text (record { name = name; handling = handling }))
 member_visible name handling is =
-    join 32 103 name (handling_text handling) (record { visible = token_visible name is.plain.name; short = is.short_name }) (handling_visible name handling is)
+    join 32 113 name (handling_text handling) (record { visible = token_visible name is.plain.name; short = is.short_name }) (handling_visible name handling is)
 
 -- ---- dates
 

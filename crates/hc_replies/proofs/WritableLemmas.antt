@@ -114,18 +114,18 @@ first_light f lines most weight own plain light are = record {
   light = omega (arith, light, are.light, weight_first f lines);
 }
 
-behind_light : (name : List ℕ) (handling : Handling) (closes : Bool) → IsWritableStatus name handling → AreLight (lines_behind name handling closes) 2 170
+behind_light : (name : List ℕ) (handling : Handling) (closes : Bool) → IsWritableStatus name handling → AreLight (lines_behind name handling closes) 2 180
 behind_light name handling closes is =
     let member = member_visible name handling is in
-    first_light (own_line name handling) (closing closes) 1 19 151 (and_from _ _ cache_status_plain (visible_plain (own_line name handling).value member.visible))
+    first_light (own_line name handling) (closing closes) 1 19 161 (and_from _ _ cache_status_plain (visible_plain (own_line name handling).value member.visible))
     (omega (arith, member.short)) (closing_light closes)
 
 aged_light : (times : Times) (moment : ℕ) (name : List ℕ) (handling : Handling) (closes : Bool) → IsWritableStatus name handling
-    → AreLight (age_line (current_age times moment) ∷ lines_behind name handling closes) 3 187
+    → AreLight (age_line (current_age times moment) ∷ lines_behind name handling closes) 3 197
 aged_light times moment name handling closes is =
     let age = current_age times moment in
     let few = length-decimal-le 10 age (lit< tt) (omega arith) (omega arith) in
-    first_light (age_line age) (lines_behind name handling closes) 2 170 17 (and_from _ _ age_plain (number_plain age)) (omega (arith, few))
+    first_light (age_line age) (lines_behind name handling closes) 2 180 17 (and_from _ _ age_plain (number_plain age)) (omega (arith, few))
     (behind_light name handling closes is)
 
 dated_light : (moment : ℕ) (lines : List Field) (most weight : ℕ) → moment < 253402300800 → AreLight lines most weight
@@ -134,7 +134,7 @@ dated_light moment lines most weight early are =
     let text = date_text_plain moment early in
     first_light (date_line moment) lines most weight 37 (and_from _ _ date_plain text.plain) (omega (arith, text.short)) are
 
-own_lines : (lines : List Field) → AreLight lines 3 207 → has_framing lines ≡ false → AreOwnLines lines
+own_lines : (lines : List Field) → AreLight lines 3 217 → has_framing lines ≡ false → AreOwnLines lines
 own_lines lines are none = record { plain = are.plain; no_framing = none; few = omega (arith, are.few); light = omega (arith, are.light) }
 
 more_light : (lines : List Field) (most weight more_most more : ℕ) → most ≤ more_most → weight ≤ more → AreLight lines most weight → AreLight lines more_most more
@@ -151,19 +151,19 @@ statuses_kept fields are = go (has_member (cache_status fields))
 
 -- lines with one Date, and those of the cache's own behind them
 dated_writable : (status moment : ℕ) (fields behind : List Field) → 100 ≤ status → status < 1000 → moment < 253402300800 → AreKeptLines fields → has_framing fields ≡ false
-    → AreLight behind 2 170 → has_framing behind ≡ false
+    → AreLight behind 2 180 → has_framing behind ≡ false
     → IsWritableResponse (record { status = status; version = Http11; fields = dated moment fields ++ behind }) RECORDED
 dated_writable status moment fields behind least greatest early are none own no_own = go (date_stated fields)
   where
     go : (stated : Option ℕ) → IsWritableResponse (record { status = status; version = Http11; fields = dated_by stated moment fields ++ behind }) RECORDED
-    go (Some date) = passed_response status Http11 fields [] behind least greatest are none (own_lines behind (more_light behind 2 170 3 207 (omega arith) (omega arith) own) no_own)
+    go (Some date) = passed_response status Http11 fields [] behind least greatest are none (own_lines behind (more_light behind 2 180 3 217 (omega arith) (omega arith) own) no_own)
     go None =
         let kept = without (codes "date") fields in
         subst (λ (all : List Field). IsWritableResponse (record { status = status; version = Http11; fields = all }) RECORDED)
         (sym (append_assoc kept (date_line moment ∷ []) behind))
         (passed_response status Http11 kept [] (date_line moment ∷ behind) least greatest (kept_fewer (λ f. not (bytes_eq f.name (codes "date"))) fields are)
         (no_framing_fewer (λ f. not (bytes_eq f.name (codes "date"))) fields none)
-        (own_lines (date_line moment ∷ behind) (dated_light moment behind 2 170 early own) (no_framing_both (date_line moment ∷ []) behind refl no_own)))
+        (own_lines (date_line moment ∷ behind) (dated_light moment behind 2 180 early own) (no_framing_both (date_line moment ∷ []) behind refl no_own)))
 
 pub forwarded_writable : (name : List ℕ) (handling : Handling) (closes : Bool) (moment : ℕ) (response : Message ResponseHead) → IsWritableStatus name handling
     → moment < 253402300800 → IsPlainResponse response.head → AreKeptLines response.head.fields → has_framing response.head.fields ≡ false
@@ -180,7 +180,7 @@ pub stored_writable : (name : List ℕ) (handling : Handling) (closes : Bool) (m
 stored_writable name handling closes moment to_head state is least greatest are none =
     let behind = age_line (current_age state.times moment) ∷ lines_behind name handling closes in
     passed_response state.status Http11 (kept_statuses state.fields) [] behind least greatest (statuses_kept state.fields are) (statuses_no_framing state.fields none)
-    (own_lines behind (more_light behind 3 187 3 207 (omega arith) (omega arith) (aged_light state.times moment name handling closes is))
+    (own_lines behind (more_light behind 3 197 3 217 (omega arith) (omega arith) (aged_light state.times moment name handling closes is))
     (aged_no_framing (current_age state.times moment) name handling closes))
 
 pub not_modified_writable : (name : List ℕ) (handling : Handling) (closes : Bool) (moment : ℕ) (state : Stored) → IsWritableStatus name handling
@@ -189,7 +189,7 @@ not_modified_writable name handling closes moment state is are =
     let behind = age_line (current_age state.times moment) ∷ lines_behind name handling closes in
     passed_response not_modified Http11 (repeated state.fields) [] behind (omega arith) (omega arith) (kept_fewer (λ f. is_repeated f.name) state.fields are)
     (repeated_no_framing state.fields)
-    (own_lines behind (more_light behind 3 187 3 207 (omega arith) (omega arith) (aged_light state.times moment name handling closes is))
+    (own_lines behind (more_light behind 3 197 3 217 (omega arith) (omega arith) (aged_light state.times moment name handling closes is))
     (aged_no_framing (current_age state.times moment) name handling closes))
 
 pub generated_writable : (status moment : ℕ) (closes : Bool) → 100 ≤ status → status < 1000 → moment < 253402300800
@@ -197,5 +197,5 @@ pub generated_writable : (status moment : ℕ) (closes : Bool) → 100 ≤ statu
 generated_writable status moment closes least greatest early =
     let lines = date_line moment ∷ closing closes in
     passed_response status Http11 [] [] lines least greatest (record { plain = refl; few = omega arith; light = omega arith }) refl
-    (own_lines lines (more_light lines 2 56 3 207 (omega arith) (omega arith) (dated_light moment (closing closes) 1 19 early (closing_light closes)))
+    (own_lines lines (more_light lines 2 56 3 217 (omega arith) (omega arith) (dated_light moment (closing closes) 1 19 early (closing_light closes)))
     (generated_no_framing status moment closes))

@@ -26,7 +26,7 @@ IsPlainStatus name handling = IsPlain (record { name = name; handling = handling
 -- the word has at most 64 octets
 abbrev pub HasShortWord : Handling → Type 0
 HasShortWord (handling.Hit ttl) = Unit {0}
-HasShortWord (handling.Fwd word status stored) = length word ≤ 64
+HasShortWord (handling.Fwd word status stored collapsed) = length word ≤ 64
 
 -- so is what can be written, and the name has at most 32 octets
 pub record IsWritableStatus (name : List ℕ) (handling : Handling) : Type 0 where

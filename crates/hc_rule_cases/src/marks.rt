@@ -137,7 +137,8 @@ fn marked(alloc: Global, fields: &Fields, out: &mut String) -> Result<(), AllocE
     match mark(alloc, fields) {
         Ok(Mark::Hit { ttl: Some(ttl) }) => write!(out, "hit with ttl {ttl}"),
         Ok(Mark::Hit { ttl: None }) => out.push_str("hit"),
-        Ok(Mark::Forwarded) => out.push_str("forwarded"),
+        Ok(Mark::Forwarded { collapsed: true }) => out.push_str("forwarded collapsed"),
+        Ok(Mark::Forwarded { collapsed: false }) => out.push_str("forwarded"),
         Ok(Mark::Both) => out.push_str("both"),
         Ok(Mark::Unmarked) => out.push_str("unmarked"),
         Err(MarkFault::Memory) => Err(AllocError),
@@ -169,7 +170,7 @@ fn signed(sign: &[u8], count: &[u8]) -> Result<i64, Unanswered> {
 }
 
 // Writes the member of a reply that was forwarded: NAME, WORD, a STATUS or `none`, and `stored` where
-// the response was.
+// the response was, `collapsed` where the request waited for another one.
 fn forward(case: &Case<'_>, out: &mut String) -> Result<(), Unanswered> {
     let [name, word, status, others @ ..] = case.about else {
         return Err(Unanswered::Unknown);
@@ -177,9 +178,14 @@ fn forward(case: &Case<'_>, out: &mut String) -> Result<(), Unanswered> {
     let handling = Handling::Fwd {
         word: Octets::from_slice(case.alloc, word)?,
         fwd_status: decimal(status).and_then(|status| u16::try_from(status).ok()),
-        stored: !others.is_empty(),
+        stored: has(others, b"stored"),
+        collapsed: has(others, b"collapsed"),
     };
     Ok(member(case.alloc, name, handling, out)?)
+}
+
+fn has(words: &[&[u8]], word: &[u8]) -> bool {
+    words.iter().any(|one| *one == word)
 }
 
 // Writes the text of a member, and its mark where its line is the only one.

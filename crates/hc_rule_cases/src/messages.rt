@@ -151,6 +151,7 @@ fn stored_miss(alloc: Global) -> Result<CacheStatus, AllocError> {
         word,
         fwd_status: None,
         stored: true,
+        collapsed: false,
     };
     Ok(CacheStatus { name, handling })
 }

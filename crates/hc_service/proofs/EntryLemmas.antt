@@ -276,14 +276,14 @@ hit_fit wanted stored name can = entry_fit wanted (Hit (Some (ttl_at stored want
 pub replacing_fit : (wanted : Wanted) (why : Cause) (told : Option ℕ) (stored : Stored) → is_name wanted.name ≡ true → IsToldStatus told → CanReply stored
     → IsFit (is_head wanted.asked.method) (replacing_reply wanted why told stored)
 replacing_fit wanted why told stored name small can =
-    entry_fit wanted (Fwd (word_of why) (status_told told (entry_status wanted stored)) false) stored (replacing_writable wanted.name why told (entry_status wanted stored) name small) can
+    entry_fit wanted (Fwd (word_of why) (status_told told (entry_status wanted stored)) false false) stored (replacing_writable wanted.name why told (entry_status wanted stored) name small) can
 
 pub passed_fit : (wanted : Wanted) (why : Cause) (stored : Bool) (to_head : Bool) (response : Message ResponseHead) → is_name wanted.name ≡ true → wanted.moment < 253402300800
     → IsReceivedAnswer to_head response → IsFit to_head (passed_reply wanted why stored response)
 passed_fit wanted why stored to_head response name early r = record {
   writable = record {
     readable = record {
-      head = forwarded_writable wanted.name (Fwd (word_of why) None stored) wanted.closes wanted.moment response (forward_writable wanted.name why stored name) early r.plain r.lines r.no_framing;
+      head = forwarded_writable wanted.name (Fwd (word_of why) None stored false) wanted.closes wanted.moment response (forward_writable wanted.name why stored name) early r.plain r.lines r.no_framing;
       short = r.short;
       bare = r.bare;
     };

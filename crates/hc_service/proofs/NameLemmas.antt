@@ -100,7 +100,7 @@ hit_writable name stored moment is =
       short_word = tt;
     }
 
-pub forward_writable : (name : List ℕ) (cause : Cause) (stored : Bool) → is_name name ≡ true → IsWritableStatus name (Fwd (word_of cause) None stored)
+pub forward_writable : (name : List ℕ) (cause : Cause) (stored : Bool) → is_name name ≡ true → IsWritableStatus name (Fwd (word_of cause) None stored false)
 forward_writable name cause stored is =
     let token = name_is_token name is in
     record {
@@ -119,7 +119,7 @@ status_in_mark (Some origin) status small = go (origin == status)
     go false = omega (arith, small)
 
 pub replacing_writable : (name : List ℕ) (cause : Cause) (told : Option ℕ) (status : ℕ) → is_name name ≡ true → IsToldStatus told
-    → IsWritableStatus name (Fwd (word_of cause) (status_told told status) false)
+    → IsWritableStatus name (Fwd (word_of cause) (status_told told status) false false)
 replacing_writable name cause told status is small =
     let token = name_is_token name is in
     record {

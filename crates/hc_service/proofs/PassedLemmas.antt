@@ -76,12 +76,12 @@ module _ (items : List Item) (f moment : ℕ) (response : Message ResponseHead) 
   is_for_it cause = subst (λ (o : Option ℕ). may_be_for (told o) x.number ≡ true) (sym cause) (eq-eqb x.number x.number refl)
 
   pub passed_right : forward_of f items ≡ Some (recorded_forward forward) → cause_of f items ≡ Some x.number → exchange_of x.number items ≡ Some x → forward.request.method ≡ x.request.method
-      → forward.target ≡ x.target → (is_head x.request.method ≡ true → response.body ≡ []) → IsPlainStatus wanted.name (Fwd (word_of why) None stored)
+      → forward.target ≡ x.target → (is_head x.request.method ≡ true → response.body ≡ []) → IsPlainStatus wanted.name (Fwd (word_of why) None stored false)
       → IsRight recorded_format strict (OriginResponse f moment response ∷ items) (ClientReply x.number wanted.moment the_reply)
   passed_right is_open cause waits method target bare plain =
       let place = exchange_place x.number items x waits in
-      let marked : reply_mark the_reply ≡ mark.Forwarded =
-      ap (judged_mark response.head.status) (forwarded_marked wanted.name (Fwd (word_of why) None stored) wanted.closes wanted.moment response plain) in
+      let marked : reply_mark the_reply ≡ mark.Forwarded false =
+      ap (judged_mark response.head.status) (forwarded_marked wanted.name (Fwd (word_of why) None stored false) wanted.closes wanted.moment response plain) in
       subst (λ (o : Option Exchange). IsRightTo recorded_format strict o wanted.moment the_reply (OriginResponse f moment response ∷ items)) (sym waits)
       (subst (λ (m : Mark). IsRightBy m the_claim (OriginResponse f moment response ∷ items)) (sym marked)
       (inl (or_left _ _ (and_from _ _ (lt-ltb x.position (next_position items) (omega (arith, place))) (and_from _ _ (is_for_it cause) (is_its is_open method target bare))))))

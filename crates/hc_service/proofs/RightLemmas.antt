@@ -252,13 +252,13 @@ module _ (items : List Item) (x : Exchange) (moment : ℕ) (name : List ℕ) (cl
           ap (judged_mark reply.head.status) carries.marked ∙ ap (λ (b : Bool). cond b mark.Unmarked (mark.Hit (Some (ttl_at stored moment)))) carries.is_whole
 
   -- so is what stands in the place of what the origin answered, where it may be used
-  pub entry_right : (word : List ℕ) (told : Option ℕ) (put : Bool) → IsPlainStatus name (Fwd word told put)
-      → is_usable (claim_of recorded_format strict x moment (entry_reply (record { name = name; moment = moment; asked = x.request; closes = closes }) (Fwd word told put) stored) items) stored ≡ true
-      → IsRight recorded_format strict items (ClientReply x.number moment (entry_reply (record { name = name; moment = moment; asked = x.request; closes = closes }) (Fwd word told put) stored))
+  pub entry_right : (word : List ℕ) (told : Option ℕ) (put : Bool) → IsPlainStatus name (Fwd word told put false)
+      → is_usable (claim_of recorded_format strict x moment (entry_reply (record { name = name; moment = moment; asked = x.request; closes = closes }) (Fwd word told put false) stored) items) stored ≡ true
+      → IsRight recorded_format strict items (ClientReply x.number moment (entry_reply (record { name = name; moment = moment; asked = x.request; closes = closes }) (Fwd word told put false) stored))
   entry_right word told put plain usable =
-      let reply = entry_reply (record { name = name; moment = moment; asked = x.request; closes = closes }) (Fwd word told put) stored in
-      let carries = entry_carries items x moment name closes (Fwd word told put) stored can plain in
-      let marked : reply_mark reply ≡ mark.Forwarded = ap (judged_mark reply.head.status) carries.marked in
+      let reply = entry_reply (record { name = name; moment = moment; asked = x.request; closes = closes }) (Fwd word told put false) stored in
+      let carries = entry_carries items x moment name closes (Fwd word told put false) stored can plain in
+      let marked : reply_mark reply ≡ mark.Forwarded false = ap (judged_mark reply.head.status) carries.marked in
       subst (λ (o : Option Exchange). IsRightTo recorded_format strict o moment reply items) (sym is_open)
       (subst (λ (m : Mark). IsRightBy m (claim_of recorded_format strict x moment reply items) items) (sym marked)
-      (inr (passes_seven items x moment name closes (Fwd word told put) stored source can method selected reply carries usable)))
+      (inr (passes_seven items x moment name closes (Fwd word told put false) stored source can method selected reply carries usable)))

@@ -58,12 +58,12 @@ status_told (Some origin) status = if origin == status then None else Some origi
 -- a stored response, once it is validated, or in place of an error or a failure
 abbrev pub replacing_reply : Wanted → Cause → Option ℕ → Stored → Message ResponseHead
 replacing_reply wanted cause origin stored =
-    entry_reply wanted (Fwd (word_of cause) (status_told origin (entry_status wanted stored)) false) stored
+    entry_reply wanted (Fwd (word_of cause) (status_told origin (entry_status wanted stored)) false false) stored
 
 -- ---- what the origin answered, which was stored or wasn't (RFC 9211 sections 2.2 and 2.5)
 abbrev pub passed_reply : Wanted → Cause → Bool → Message ResponseHead → Message ResponseHead
 passed_reply wanted cause stored response =
-    forwarded_reply wanted.name (Fwd (word_of cause) None stored) wanted.closes wanted.moment response
+    forwarded_reply wanted.name (Fwd (word_of cause) None stored false) wanted.closes wanted.moment response
 
 -- ---- a failure
 

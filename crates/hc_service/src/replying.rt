@@ -129,6 +129,7 @@ pub fn replacing_reply(
         word: Octets::from_slice(alloc, cause.word().as_bytes())?,
         fwd_status: status_told(origin, entry_status(wanted, stored)),
         stored: false,
+        collapsed: false,
     };
     entry_reply(alloc, wanted, handling, stored)
 }
@@ -150,6 +151,7 @@ pub fn passed_reply(
             word: Octets::from_slice(alloc, cause.word().as_bytes())?,
             fwd_status: None,
             stored,
+            collapsed: false,
         },
     };
     forwarded_reply(alloc, &status, wanted.closes, wanted.moment, response)

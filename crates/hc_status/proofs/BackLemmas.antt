@@ -28,7 +28,7 @@ use Rattle.hc_status.specs.Classes.{is_space, is_blank, is_key_start, is_key_oct
 use Rattle.hc_status.specs.Grammar.{IsDigits, IsInteger, IsBare, IsKey, IsParameter, AreParameters, IsMember, IsComma, HaveCommas, AreMembers, IsList, with_parameter, parameters_of}
 use Rattle.hc_status.specs.Marks.{list_of_text, cache_status, mark_of_list, mark_of_last, mark_of_member, mark_of}
 use Rattle.hc_status.specs.Reading.{list_of}
-use Rattle.hc_status.specs.Texts.{flag, ttl_params, status_params, stored_params, handling_params, written_member, ttl_text, fwd_status_text, stored_text, handling_text, member_text, HasShortTtl, HasShortStatus, IsPlainHandling, IsPlain, written_mark}
+use Rattle.hc_status.specs.Texts.{flag, ttl_params, status_params, stored_params, collapsed_params, handling_params, written_member, ttl_text, fwd_status_text, stored_text, collapsed_text, handling_text, member_text, HasShortTtl, HasShortStatus, IsPlainHandling, IsPlain, written_mark}
 use Rattle.hc_status.proofs.RunLemmas.{pass_none, pass_more, true_or_false}
 use Rattle.hc_status.proofs.ListLemmas.{list_is_read, list_sound}
 use Rattle.hc_status.proofs.MarkLemmas.{last_pushed}
@@ -128,26 +128,40 @@ unfolding stored_params
 stored_are true = one_parameter _ _ (flag_is (codes "stored") (key_of_octets 115 (codes "tored") refl refl))
 stored_are false = refl
 
+collapsed_are : (collapsed : Bool) → AreParameters (collapsed_params collapsed) (collapsed_text collapsed)
+unfolding collapsed_params
+collapsed_are true = one_parameter _ _ (flag_is (codes "collapsed") (key_of_octets 99 (codes "ollapsed") refl refl))
+collapsed_are false = refl
+
 handling_are : (h : Handling) → IsPlainHandling h → AreParameters (handling_params h) (handling_text h)
 unfolding handling_params
 handling_are (handling.Hit ttl) short =
     parameters_join (flag (codes "hit") ∷ []) (ttl_params ttl) (codes ";hit") (ttl_text ttl)
     (one_parameter _ _ (flag_is (codes "hit") (key_of_octets 104 (codes "it") refl refl))) (ttl_are ttl short)
-handling_are (handling.Fwd word status stored) short =
+handling_are (handling.Fwd word status stored collapsed) short =
     let first : List Parameter = record { key = codes "fwd"; value = Token word } ∷ [] in
     let forward = one_parameter _ _ (valued_is (codes "fwd") (Token word) word (key_of_octets 102 (codes "wd") refl refl) (refl, short.0)) in
+    let told =
+    parameters_join first (status_params status) (codes ";fwd=" ++ word) (fwd_status_text status) forward (status_are status short.1) in
+    let put =
     parameters_join (first ++ status_params status) (stored_params stored) (codes ";fwd=" ++ word ++ fwd_status_text status) (stored_text stored)
-    (parameters_join first (status_params status) (codes ";fwd=" ++ word) (fwd_status_text status) forward (status_are status short.1)) (stored_are stored)
+    told (stored_are stored) in
+    parameters_join ((first ++ status_params status) ++ stored_params stored) (collapsed_params collapsed)
+    (codes ";fwd=" ++ word ++ fwd_status_text status ++ stored_text stored) (collapsed_text collapsed) put (collapsed_are collapsed)
 
 -- no key stands twice
 params_apart : (h : Handling) → parameters_of (handling_params h) ≡ handling_params h
-unfolding handling_params ttl_params status_params stored_params flag with_parameter
+unfolding handling_params ttl_params status_params stored_params collapsed_params flag with_parameter
 params_apart (handling.Hit None) = refl
 params_apart (handling.Hit (Some ttl)) = refl
-params_apart (handling.Fwd word None true) = refl
-params_apart (handling.Fwd word None false) = refl
-params_apart (handling.Fwd word (Some status) true) = refl
-params_apart (handling.Fwd word (Some status) false) = refl
+params_apart (handling.Fwd word None true true) = refl
+params_apart (handling.Fwd word None true false) = refl
+params_apart (handling.Fwd word None false true) = refl
+params_apart (handling.Fwd word None false false) = refl
+params_apart (handling.Fwd word (Some status) true true) = refl
+params_apart (handling.Fwd word (Some status) true false) = refl
+params_apart (handling.Fwd word (Some status) false true) = refl
+params_apart (handling.Fwd word (Some status) false false) = refl
 
 member_is : (status : CacheStatus) → IsPlain status → IsMember (written_member status) (member_text status)
 unfolding written_member
@@ -162,13 +176,17 @@ member_is status plain = record {
 }
 
 mark_by_params : (name : List ℕ) (h : Handling) → mark_of_member (record { item = Token name; params = handling_params h }) ≡ written_mark h
-unfolding handling_params ttl_params status_params stored_params flag
+unfolding handling_params ttl_params status_params stored_params collapsed_params flag
 mark_by_params name (handling.Hit None) = refl
 mark_by_params name (handling.Hit (Some ttl)) = refl
-mark_by_params name (handling.Fwd word None true) = refl
-mark_by_params name (handling.Fwd word None false) = refl
-mark_by_params name (handling.Fwd word (Some status) true) = refl
-mark_by_params name (handling.Fwd word (Some status) false) = refl
+mark_by_params name (handling.Fwd word None true true) = refl
+mark_by_params name (handling.Fwd word None true false) = refl
+mark_by_params name (handling.Fwd word None false true) = refl
+mark_by_params name (handling.Fwd word None false false) = refl
+mark_by_params name (handling.Fwd word (Some status) true true) = refl
+mark_by_params name (handling.Fwd word (Some status) true false) = refl
+mark_by_params name (handling.Fwd word (Some status) false true) = refl
+mark_by_params name (handling.Fwd word (Some status) false false) = refl
 
 mark_is : (status : CacheStatus) → mark_of_member (written_member status) ≡ written_mark status.handling
 unfolding written_member

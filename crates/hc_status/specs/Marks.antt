@@ -33,17 +33,20 @@ names_cache (Str name) = true
 names_cache (Token name) = true
 names_cache _ = false
 
--- the mark, by whether the request was a hit (RFC 9211 section 2.1) and went forward (section 2.2), and by the seconds left
-abbrev pub mark_by : Bool → Bool → Option ℤ → Mark
-mark_by true true ttl = Both
-mark_by true false ttl = Hit ttl
-mark_by false true ttl = Forwarded
-mark_by false false ttl = Unmarked
+-- the mark, by whether the request was a hit (RFC 9211 section 2.1) and went forward (section 2.2), by the seconds left, and by whether it went forward together
+-- with another one (section 2.6)
+abbrev pub mark_by : Bool → Bool → Option ℤ → Bool → Mark
+mark_by true true ttl collapsed = Both
+mark_by true false ttl collapsed = Hit ttl
+mark_by false true ttl collapsed = Forwarded collapsed
+mark_by false false ttl collapsed = Unmarked
 
--- the mark of a member: `hit` counts where it is true, `fwd` whatever its value (this project's own choice)
+-- the mark of a member: `hit` and `collapsed` count where they are true, `fwd` whatever its value (this project's own choice)
 abbrev pub mark_of_member : Member → Mark
 mark_of_member m =
-    if names_cache m.item then mark_by (is_true (value_of (codes "hit") m.params)) (is_some (value_of (codes "fwd") m.params)) (seconds_of (value_of (codes "ttl") m.params))
+    if names_cache m.item
+    then mark_by (is_true (value_of (codes "hit") m.params)) (is_some (value_of (codes "fwd") m.params)) (seconds_of (value_of (codes "ttl") m.params))
+    (is_true (value_of (codes "collapsed") m.params))
     else Unmarked
 
 -- the mark by the last member, if there is one

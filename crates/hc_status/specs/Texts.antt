@@ -25,10 +25,15 @@ fwd_status_text (Some status) = codes ";fwd-status=" ++ decimal status
 abbrev pub stored_text : Bool → List ℕ
 stored_text stored = if stored then codes ";stored" else []
 
+-- whether the request went forward together with another one (RFC 9211 section 2.6)
+abbrev pub collapsed_text : Bool → List ℕ
+collapsed_text collapsed = if collapsed then codes ";collapsed" else []
+
 -- how the request was handled
 abbrev pub handling_text : Handling → List ℕ
 handling_text (handling.Hit ttl) = codes ";hit" ++ ttl_text ttl
-handling_text (handling.Fwd word status stored) = codes ";fwd=" ++ word ++ fwd_status_text status ++ stored_text stored
+handling_text (handling.Fwd word status stored collapsed) =
+    codes ";fwd=" ++ word ++ fwd_status_text status ++ stored_text stored ++ collapsed_text collapsed
 
 -- the cache's name, and how it handled the request
 abbrev pub member_text : CacheStatus → List ℕ
@@ -49,7 +54,7 @@ HasShortStatus (Some status) = status < 10 ^ 15
 -- numbers have at most fifteen digits, and the word is a Token
 abbrev pub IsPlainHandling : Handling → Type 0
 IsPlainHandling (handling.Hit ttl) = HasShortTtl ttl
-IsPlainHandling (handling.Fwd word status stored) = IsToken word × HasShortStatus status
+IsPlainHandling (handling.Fwd word status stored collapsed) = IsToken word × HasShortStatus status
 
 -- name and word are Tokens, and numbers have at most fifteen digits
 pub record IsPlain (status : CacheStatus) : Type 0 where
@@ -59,7 +64,7 @@ pub record IsPlain (status : CacheStatus) : Type 0 where
 -- the mark that the member is written for
 abbrev pub written_mark : Handling → Mark
 written_mark (handling.Hit ttl) = mark.Hit ttl
-written_mark (handling.Fwd word status stored) = mark.Forwarded
+written_mark (handling.Fwd word status stored collapsed) = mark.Forwarded collapsed
 
 -- a parameter that stands alone
 unfoldable pub flag : List ℕ → Parameter
@@ -78,10 +83,14 @@ unfoldable pub stored_params : Bool → List Parameter
 stored_params true = flag (codes "stored") ∷ []
 stored_params false = []
 
+unfoldable pub collapsed_params : Bool → List Parameter
+collapsed_params true = flag (codes "collapsed") ∷ []
+collapsed_params false = []
+
 unfoldable pub handling_params : Handling → List Parameter
 handling_params (handling.Hit ttl) = (flag (codes "hit") ∷ []) ++ ttl_params ttl
-handling_params (handling.Fwd word status stored) =
-    ((record { key = codes "fwd"; value = Token word } ∷ []) ++ status_params status) ++ stored_params stored
+handling_params (handling.Fwd word status stored collapsed) =
+    (((record { key = codes "fwd"; value = Token word } ∷ []) ++ status_params status) ++ stored_params stored) ++ collapsed_params collapsed
 
 -- the member that is written
 unfoldable pub written_member : CacheStatus → Member

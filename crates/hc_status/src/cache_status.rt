@@ -18,6 +18,9 @@ pub enum Handling {
         fwd_status: Option<u16>,
         /// Whether the response was stored (RFC 9211 section 2.5).
         stored: bool,
+        /// Whether it waited for the forward of another request, in place of a forward of its own (RFC 9211 section
+        /// 2.6).
+        collapsed: bool,
     },
 }
 

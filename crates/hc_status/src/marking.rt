@@ -51,13 +51,13 @@ fn seconds_of(value: Option<&Bare>) -> Option<i64>
     }
 }
 
-fn mark_by(hit: bool, forwarded: bool, ttl: Option<i64>) -> Mark
-    ensures { result ≡ mark_by hit forwarded ttl }
+fn mark_by(hit: bool, forwarded: bool, ttl: Option<i64>, collapsed: bool) -> Mark
+    ensures { result ≡ mark_by hit forwarded ttl collapsed }
 {
     match (hit, forwarded) {
         (true, true) => Mark::Both,
         (true, false) => Mark::Hit { ttl },
-        (false, true) => Mark::Forwarded,
+        (false, true) => Mark::Forwarded { collapsed },
         (false, false) => Mark::Unmarked,
     }
 }
@@ -71,7 +71,8 @@ fn mark_of_member(member: &Member) -> Mark
     let hit = is_true(member.params.get(b"hit"));
     let forwarded = member.params.get(b"fwd").is_some();
     let ttl = seconds_of(member.params.get(b"ttl"));
-    mark_by(hit, forwarded, ttl)
+    let collapsed = is_true(member.params.get(b"collapsed"));
+    mark_by(hit, forwarded, ttl, collapsed)
 }
 
 fn mark_of_last(members: &[Member]) -> Mark

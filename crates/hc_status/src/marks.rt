@@ -9,7 +9,11 @@ pub enum Mark {
         ttl: Option<i64>,
     },
     /// The request went forward (RFC 9211 section 2.2).
-    Forwarded,
+    Forwarded {
+        /// Whether it did together with another one: it waited for the forward of that one, in place of a forward of
+        /// its own (RFC 9211 section 2.6).
+        collapsed: bool,
+    },
     /// Both are said, which contradict each other.
     Both,
     /// Nothing is said, or nothing that can be read.

@@ -1,7 +1,7 @@
 //! Writing Cache-Status.
 
 ghost use Rattle.std.specs.Prelude.{◌≡◌, ◌++◌, IfOk, OnOk};
-ghost use Rattle.hc_status.specs.Texts.{fwd_status_text, handling_text, member_text, stored_text, ttl_text};
+ghost use Rattle.hc_status.specs.Texts.{fwd_status_text, handling_text, member_text, stored_text, collapsed_text, ttl_text};
 
 use crate::cache_status::{CacheStatus, Handling};
 use hc_fields::Octets;
@@ -36,6 +36,16 @@ fn write_stored(text: &mut Vec<u8>, stored: bool) -> Result<(), AllocError>
     }
 }
 
+fn write_collapsed(text: &mut Vec<u8>, collapsed: bool) -> Result<(), AllocError>
+    ensures { OnOk result (text.new.items ≡ text.old.items ++ collapsed_text collapsed) }
+{
+    if collapsed {
+        text.extend_from_slice(b";collapsed")
+    } else {
+        Ok(())
+    }
+}
+
 fn write_handling(text: &mut Vec<u8>, handling: &Handling) -> Result<(), AllocError>
     ensures { OnOk result (text.new.items ≡ text.old.items ++ handling_text handling.now) }
 {
@@ -48,11 +58,13 @@ fn write_handling(text: &mut Vec<u8>, handling: &Handling) -> Result<(), AllocEr
             word,
             fwd_status,
             stored,
+            collapsed,
         } => {
             text.extend_from_slice(b";fwd=")?;
             text.extend_from_slice(word.as_slice())?;
             write_fwd_status(text, *fwd_status)?;
-            write_stored(text, *stored)
+            write_stored(text, *stored)?;
+            write_collapsed(text, *collapsed)
         }
     }
 }

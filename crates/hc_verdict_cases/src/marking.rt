@@ -26,7 +26,8 @@ fn write_mark(mark: Mark, out: &mut String) -> Result<(), AllocError> {
     match mark {
         Mark::Hit { ttl: None } => out.push_str("hit"),
         Mark::Hit { ttl: Some(seconds) } => write!(out, "hit ttl={seconds}"),
-        Mark::Forwarded => out.push_str("forwarded"),
+        Mark::Forwarded { collapsed: true } => out.push_str("forwarded collapsed"),
+        Mark::Forwarded { collapsed: false } => out.push_str("forwarded"),
         Mark::Both => out.push_str("both"),
         Mark::Unmarked => out.push_str("unmarked"),
     }

@@ -22,6 +22,7 @@ pub fn say_reasons(out: &mut String) -> Result<(), AllocError> {
         Reason::NotForwarded,
         Reason::Unmarked,
         Reason::BothMarks,
+        Reason::NotCollapsible,
     ] {
         show_named(reason.number(), reason.name(), out)?;
     }
