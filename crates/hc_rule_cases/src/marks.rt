@@ -184,8 +184,8 @@ fn forward(case: &Case<'_>, out: &mut String) -> Result<(), Unanswered> {
     Ok(member(case.alloc, name, handling, out)?)
 }
 
-fn has(words: &[&[u8]], word: &[u8]) -> bool {
-    words.iter().any(|one| *one == word)
+fn has(words: &[Vec<u8>], word: &[u8]) -> bool {
+    words.iter().any(|one| one.as_slice() == word)
 }
 
 // Writes the text of a member, and its mark where its line is the only one.
