@@ -1,8 +1,8 @@
 //! Whether a stored response may be used for a reply (RFC 9111 section 4).
 
-ghost use Rattle.std.specs.Prelude.{◌≡◌, codes};
+ghost use Rattle.std.specs.Prelude.{◌≡◌, ◌&&◌, ◌||◌, codes};
 ghost use Rattle.hc_fresh.specs.Lifetimes.{says, seconds_said};
-ghost use Rattle.hc_history.specs.Usable.{age_of, by_request, is_fresh_enough, is_usable, lifetime_of, max_stale_permits, on_error, permits, permits_stale, staleness_of, validated_since, while_revalidating};
+ghost use Rattle.hc_history.specs.Usable.{age_of, is_fresh_within, is_usable, lifetime_of, max_stale_permits, permits, permits_by_request, permits_meanwhile, permits_on_error, permits_stale, staleness_at, validated_since};
 
 use crate::claim::ReplyClaim;
 use hc_directives::Seconds;
@@ -26,14 +26,14 @@ pub fn age_of(claim: &ReplyClaim<'_>, state: &Stored) -> u32
 
 /// By how many seconds it is stale then, 0 where it is fresh.
 fn staleness_of(claim: &ReplyClaim<'_>, state: &Stored) -> u32
-    ensures { result ≡ staleness_of claim.now state.now }
+    ensures { result ≡ staleness_at state.now claim.now.moment }
 {
     staleness(lifetime_of(state), age_of(claim, state))
 }
 
 /// Whether a directive of those seconds permits that staleness, give or take the slack.
 fn permits(claim: &ReplyClaim<'_>, staleness: u32, seconds: Seconds) -> bool
-    ensures { result ≡ permits claim.now staleness seconds }
+    ensures { result ≡ permits claim.now.settings.slack staleness seconds }
 {
     match seconds {
         Seconds::Value(seconds) => {
@@ -46,7 +46,7 @@ fn permits(claim: &ReplyClaim<'_>, staleness: u32, seconds: Seconds) -> bool
 /// Whether a max-stale of those seconds permits that staleness; a bare one permits any (RFC 9111
 /// section 5.2.1.2).
 fn max_stale_permits(claim: &ReplyClaim<'_>, staleness: u32, seconds: Seconds) -> bool
-    ensures { result ≡ max_stale_permits claim.now staleness seconds }
+    ensures { result ≡ max_stale_permits claim.now.settings.slack staleness seconds }
 {
     match seconds {
         Seconds::Bare => true,
@@ -57,7 +57,7 @@ fn max_stale_permits(claim: &ReplyClaim<'_>, staleness: u32, seconds: Seconds) -
 
 /// Whether the request's max-stale permits how stale it is.
 fn by_request(claim: &ReplyClaim<'_>, state: &Stored) -> bool
-    ensures { result ≡ by_request claim.now state.now }
+    ensures { result ≡ permits_by_request claim.now.settings.slack claim.now.request.fields state.now claim.now.moment }
 {
     let seconds = seconds_said(b"max-stale", &claim.request.fields);
     max_stale_permits(claim, staleness_of(claim, state), seconds)
@@ -65,7 +65,7 @@ fn by_request(claim: &ReplyClaim<'_>, state: &Stored) -> bool
 
 /// Whether its stale-while-revalidate permits how stale it is (RFC 5861 section 3).
 fn while_revalidating(claim: &ReplyClaim<'_>, state: &Stored) -> bool
-    ensures { result ≡ while_revalidating claim.now state.now }
+    ensures { result ≡ permits_meanwhile claim.now.settings.slack state.now claim.now.moment }
 {
     let seconds = seconds_said(b"stale-while-revalidate", &state.fields);
     permits(claim, staleness_of(claim, state), seconds)
@@ -73,7 +73,7 @@ fn while_revalidating(claim: &ReplyClaim<'_>, state: &Stored) -> bool
 
 /// Whether a stale-if-error of those fields permits how stale it is.
 fn if_error(claim: &ReplyClaim<'_>, state: &Stored, fields: &Fields) -> bool
-    ensures { result ≡ permits claim.now (staleness_of claim.now state.now) (seconds_said (codes "stale-if-error") fields.now) }
+    ensures { result ≡ permits claim.now.settings.slack (staleness_at state.now claim.now.moment) (seconds_said (codes "stale-if-error") fields.now) }
 {
     let seconds = seconds_said(b"stale-if-error", fields);
     permits(claim, staleness_of(claim, state), seconds)
@@ -82,7 +82,8 @@ fn if_error(claim: &ReplyClaim<'_>, state: &Stored, fields: &Fields) -> bool
 /// Whether an error or a failure stands in the window, and stale-if-error permits how stale it is
 /// (RFC 5861 section 4).
 fn on_error(claim: &ReplyClaim<'_>, state: &Stored) -> bool
-    ensures { result ≡ on_error claim.now state.now }
+    ensures { result ≡ ((claim.now.has_error || claim.now.has_failure)
+        && permits_on_error claim.now.settings.slack claim.now.request.fields state.now claim.now.moment) }
 {
     (claim.has_error || claim.has_failure)
         && (if_error(claim, state, &state.fields) || if_error(claim, state, &claim.request.fields))
@@ -111,7 +112,7 @@ fn validated_since(since: u64, validated_at: Option<u64>) -> bool
 
 /// Whether it is fresh, give or take the slack.
 fn is_fresh_enough(claim: &ReplyClaim<'_>, state: &Stored) -> bool
-    ensures { result ≡ is_fresh_enough claim.now state.now }
+    ensures { result ≡ is_fresh_within claim.now.settings.slack state.now claim.now.moment }
 {
     u64::from(age_of(claim, state))
         < u64::from(lifetime_of(state)) + u64::from(claim.settings.slack)

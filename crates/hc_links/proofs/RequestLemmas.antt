@@ -27,7 +27,7 @@ use Rattle.hc_links.specs.declared.arrival.Arrival.TheVariants as arrivals
 use Rattle.hc_links.specs.declared.requests.RequestReader.{RequestReader}
 use Rattle.hc_links.specs.Arrivals.{is_more, refusal_of}
 use Rattle.hc_links.specs.Requests.{HasHead, IsServed, IsRefused, IsUnfinished, IsGivenUp, PassesTests, fault_status}
-use Rattle.hc_links.specs.RequestReading.{Agrees, GivesEnd, GivesNext, HasPassed, HasRead, TakesRequest}
+use Rattle.hc_links.specs.RequestReading.{WasGiven, GivesEnd, GivesNext, HasPassed, HasRead, TakesRequest}
 use Rattle.hc_links.specs.HeadParts.{last_status}
 use Rattle.hc_links.specs.RequestParts.{MayPass, PassesWith, FailsWith, GivesTest, HasMet, HasGoneOn, HasEnded}
 
@@ -124,7 +124,7 @@ goes_on r s octets on none tested =
           passed = subst (λ (m : MessageReader RequestHead). HasPassed m.head s.target) (sym tested.0.reader_is) passed;
           all = sym (append-nil octets) ∙ ap (λ (o : List ℕ). octets ++ o) (sym waits);
         };
-        none_waits = waits;
+        none_unread = waits;
       },
     )
 
@@ -168,24 +168,24 @@ takes r q s used octets reader message target ends tested reader-is target-is ta
           passed = subst (λ (x : Option RequestHead × Option Target). HasPassed x.0 x.1) (λ i. (sym no-head i, sym no-target i)) tt;
           all = sym left;
         };
-        all_wait = left;
+        all_unread = left;
       };
     }
 
 -- ---- what a piece gives
 
 -- a piece is all that waits
-fed_all : (r : RequestReader) (piece octets : List ℕ) (a : Agrees r octets) → piece ≡ r.waits → a.read ++ piece ≡ octets
+fed_all : (r : RequestReader) (piece octets : List ℕ) (a : WasGiven r octets) → piece ≡ r.waits → a.read ++ piece ≡ octets
 fed_all r piece octets a is = ap (λ (o : List ℕ). a.read ++ o) is ∙ sym a.all
 
-pub went_on : (r : RequestReader) (m : MessageReader RequestHead) (piece octets : List ℕ) (a : Agrees r octets) → piece ≡ r.waits → (IsSome r.reader.head → m.head ≡ r.reader.head)
+pub went_on : (r : RequestReader) (m : MessageReader RequestHead) (piece octets : List ℕ) (a : WasGiven r octets) → piece ≡ r.waits → (IsSome r.reader.head → m.head ≡ r.reader.head)
     → framing.Agrees request_form Request RECEIVED m (a.read ++ piece) → HasGoneOn (record r { reader = m }) octets
 went_on r m piece octets a is keeps reads = record {
   reads = subst (framing.Agrees request_form Request RECEIVED m) (fed_all r piece octets a is) reads;
   may_pass = may_pass r.reader.head m.head r.target a.passed keeps;
 }
 
-pub has_met : (r : RequestReader) (m : MessageReader RequestHead) (fault : FrameFault) (piece octets : List ℕ) (a : Agrees r octets) → piece ≡ r.waits → (IsSome r.reader.head → m.head ≡ r.reader.head)
+pub has_met : (r : RequestReader) (m : MessageReader RequestHead) (fault : FrameFault) (piece octets : List ℕ) (a : WasGiven r octets) → piece ≡ r.waits → (IsSome r.reader.head → m.head ≡ r.reader.head)
     → StandsIn request_form Request fault (a.read ++ piece) RECEIVED → framing.ShowsHeadAfter request_form (Err fault) Request RECEIVED (a.read ++ piece) m.head
     → HasMet (record r { reader = m }) fault octets
 has_met r m fault piece octets a is keeps stands shows = record {
@@ -194,7 +194,7 @@ has_met r m fault piece octets a is keeps stands shows = record {
   may_pass = may_pass r.reader.head m.head r.target a.passed keeps;
 }
 
-pub has_ended : (r : RequestReader) (m : MessageReader RequestHead) (used : ℕ) (piece octets : List ℕ) (a : Agrees r octets) → piece ≡ r.waits → (IsSome r.reader.head → m.head ≡ r.reader.head)
+pub has_ended : (r : RequestReader) (m : MessageReader RequestHead) (used : ℕ) (piece octets : List ℕ) (a : WasGiven r octets) → piece ≡ r.waits → (IsSome r.reader.head → m.head ≡ r.reader.head)
     → framing.EndsAfter request_form Request RECEIVED m a.read piece used → HasEnded (record r { reader = m }) used octets
 has_ended r m used piece octets a is keeps ends = record {
   read = a.read;
@@ -208,7 +208,7 @@ has_ended r m used piece octets a is keeps ends = record {
 -- the octets of a reader that has read them all
 all_read : (r : RequestReader) (octets : List ℕ) (h : HasRead r octets) → framing.Agrees request_form Request RECEIVED r.reader octets
 all_read r octets h =
-    subst (framing.Agrees request_form Request RECEIVED r.reader) (sym (h.agrees.all ∙ ap (λ (o : List ℕ). h.agrees.read ++ o) h.none_waits ∙ append-nil h.agrees.read)) h.agrees.reads
+    subst (framing.Agrees request_form Request RECEIVED r.reader) (sym (h.agrees.all ∙ ap (λ (o : List ℕ). h.agrees.read ++ o) h.none_unread ∙ append-nil h.agrees.read)) h.agrees.reads
 
 -- what has begun is cut off, where its body hasn't ended
 cut_in_body : (octets : List ℕ) (m : MessageReader RequestHead) → IsUnfinished octets → framing.EndsHere request_form Request RECEIVED m octets → IsGivenUp octets

@@ -20,7 +20,7 @@ use Rattle.hc_links.proofs.ResponseLemmas.{leaves_on}
 use Rattle.hc_links.specs.declared.arrival.Heard.{Heard}
 use Rattle.hc_links.specs.declared.arrival.Heard.TheVariants as hears
 use Rattle.hc_links.specs.declared.responses.ResponseReader.{ResponseReader}
-use Rattle.hc_links.specs.Responses.{Begins, BeginsInterim, AreInterimThen, IsResponse, IsFaulty, Switches, HasTooMany, HasFailed, IsUnfinished, IsResponseAtEnd, HasFailedAtEnd}
+use Rattle.hc_links.specs.Responses.{Begins, BeginsInterim, AreInterimThen, IsResponse, IsFaulty, Switches, HasTooMany, IsFailure, IsUnfinished, IsResponseAtEnd, IsFailureAtEnd}
 use Rattle.hc_links.specs.ResponseReading.{FindsResponse, GivesHeard}
 
 -- a status is interim or final
@@ -93,7 +93,7 @@ module _ (to_head : Bool) where
   pub one_response : (octets more : List ℕ) (message other : Message ResponseHead) → IsResponse to_head octets message → IsResponse to_head (octets ++ more) other → message ≡ other
   one_response octets more message other p q = same_response (octets ++ more) message other (response_goes_on octets more message p) q
 
-  pub response_not_failed : (octets : List ℕ) (message : Message ResponseHead) → IsResponse to_head octets message → HasFailed to_head octets → ⊥
+  pub response_not_failed : (octets : List ℕ) (message : Message ResponseHead) → IsResponse to_head octets message → IsFailure to_head octets → ⊥
   response_not_failed octets message p f = go f.fails
     where
       stops : Stops p.rest
@@ -175,7 +175,7 @@ module _ (to_head : Bool) where
       let rest = same_rest p.count q.count octets p.rest q.rest p.leaves.are q.leaves.are (whole_stops p.rest message p.is_whole p.final) (whole_stops q.rest other q.is_whole q.final) in
       finds_whole response_form response_laws (Response to_head) q.rest RECEIVED (Ok message) other (subst (λ (o : List ℕ). IsWholeResponse to_head o RECEIVED message) rest p.is_whole) q.is_whole
 
-  pub response_not_failed_at_end : (octets : List ℕ) (message : Message ResponseHead) → IsResponseAtEnd to_head octets message → HasFailedAtEnd to_head octets → ⊥
+  pub response_not_failed_at_end : (octets : List ℕ) (message : Message ResponseHead) → IsResponseAtEnd to_head octets message → IsFailureAtEnd to_head octets → ⊥
   response_not_failed_at_end octets message p f =
       let rest = same_rest p.count f.count octets p.rest f.rest p.leaves.are f.leaves.are (whole_stops p.rest message p.is_whole p.final) (at_end_stops f.fault f.rest f.not_memory f.stands) in
       f.not_memory (finds_whole response_form response_laws (Response to_head) f.rest RECEIVED (Err f.fault) message (at_end_in_whole f.fault f.rest f.stands)

@@ -27,8 +27,8 @@ use Rattle.hc_framing.specs.Reader as framing
 use Rattle.hc_framing.proofs.ReaderLemmas.{agreeing_has_none, agreeing_in_time}
 use Rattle.hc_links.proofs.BeginningLemmas.{begins_on, begins_within, takes_some}
 use Rattle.hc_links.specs.declared.responses.ResponseReader.{ResponseReader}
-use Rattle.hc_links.specs.Responses.{most_interim, switching_protocols, Begins, BeginsInterim, AreInterimThen, Leaves, IsResponse, HasFailed, IsUnfinished, IsResponseAtEnd, HasFailedAtEnd}
-use Rattle.hc_links.specs.ResponseReading.{Agrees}
+use Rattle.hc_links.specs.Responses.{most_interim, switching_protocols, Begins, BeginsInterim, AreInterimThen, Leaves, IsResponse, IsFailure, IsUnfinished, IsResponseAtEnd, IsFailureAtEnd}
+use Rattle.hc_links.specs.ResponseReading.{WasGiven}
 use Rattle.hc_links.specs.declared.responses.Part.{Part}
 use Rattle.hc_links.specs.declared.responses.Part.TheVariants.{Interim, Last}
 use Rattle.hc_links.specs.ResponseParts.{BeginsNext, HasEnded, IsDropped, TakesSome, TakesThose}
@@ -66,8 +66,8 @@ leaves_on to_head octets count rest more leaves = record { are = are_on to_head 
 
 -- ---- what a piece gives
 
-pub fails : (to_head : Bool) (r : ResponseReader) (octets piece : List ℕ) (fault : FrameFault) (a : Agrees to_head r octets) → fault ≢ faults.Memory
-    → StandsIn response_form (Response to_head) fault (a.rest ++ piece) RECEIVED → HasFailed to_head (octets ++ piece)
+pub fails : (to_head : Bool) (r : ResponseReader) (octets piece : List ℕ) (fault : FrameFault) (a : WasGiven to_head r octets) → fault ≢ faults.Memory
+    → StandsIn response_form (Response to_head) fault (a.rest ++ piece) RECEIVED → IsFailure to_head (octets ++ piece)
 fails to_head r octets piece fault a not stands = record {
   count = r.interim;
   rest = a.rest ++ piece;
@@ -75,9 +75,9 @@ fails to_head r octets piece fault a not stands = record {
   fails = inl (record { fault = fault; not_memory = not; stands = stands });
 }
 
-pub goes_on : (to_head : Bool) (r : ResponseReader) (m : MessageReader ResponseHead) (octets piece : List ℕ) (a : Agrees to_head r octets)
+pub goes_on : (to_head : Bool) (r : ResponseReader) (m : MessageReader ResponseHead) (octets piece : List ℕ) (a : WasGiven to_head r octets)
     → framing.Agrees response_form (Response to_head) RECEIVED m (a.rest ++ piece)
-    → IsUnfinished to_head (octets ++ piece) × Agrees to_head (record r { reader = m }) (octets ++ piece)
+    → IsUnfinished to_head (octets ++ piece) × WasGiven to_head (record r { reader = m }) (octets ++ piece)
 goes_on to_head r m octets piece a reads =
     let leaves = leaves_on to_head octets r.interim a.rest piece a.leaves in (
       record { count = r.interim; rest = a.rest ++ piece; leaves = leaves; in_time = agreeing_in_time response_form response_laws (Response to_head) RECEIVED m (a.rest ++ piece) reads },
@@ -88,7 +88,7 @@ pub takes_those : (part : Part) (used : ℕ) (piece : List ℕ) → (0 < used) �
 takes_those (Interim taken) used piece some same = (omega (arith, same, some.0), omega (arith, same, some.1))
 takes_those (Last heard) used piece some same = tt
 
-pub has_ended : (to_head : Bool) (r : ResponseReader) (m : MessageReader ResponseHead) (octets piece : List ℕ) (used : ℕ) (a : Agrees to_head r octets)
+pub has_ended : (to_head : Bool) (r : ResponseReader) (m : MessageReader ResponseHead) (octets piece : List ℕ) (used : ℕ) (a : WasGiven to_head r octets)
     → framing.EndsAfter response_form (Response to_head) RECEIVED m a.rest piece used → HasEnded to_head (record r { reader = m }) octets piece used
 has_ended to_head r m octets piece used a ends = record {
   to_head_is = a.to_head_is;
@@ -130,7 +130,7 @@ is_response to_head r octets piece used message e taken not =
     }
 
 pub switches : (to_head : Bool) (r : ResponseReader) (octets piece : List ℕ) (used : ℕ) (message : Message ResponseHead) → HasEnded to_head r octets piece used
-    → ((m : Message ResponseHead) → framing.Holds r.reader m → message ≡ m) → message.head.status ≡ switching_protocols → HasFailed to_head (octets ++ piece)
+    → ((m : Message ResponseHead) → framing.Holds r.reader m → message ≡ m) → message.head.status ≡ switching_protocols → IsFailure to_head (octets ++ piece)
 switches to_head r octets piece used message e taken is = record {
   count = r.interim;
   rest = e.rest ++ piece;
@@ -140,7 +140,7 @@ switches to_head r octets piece used message e taken is = record {
 
 pub too_many : (to_head : Bool) (r : ResponseReader) (octets piece : List ℕ) (used : ℕ) (message : Message ResponseHead) → HasEnded to_head r octets piece used
     → ((m : Message ResponseHead) → framing.Holds r.reader m → message ≡ m) → is_interim message.head.status ≡ true → message.head.status ≢ switching_protocols → most_interim ≤ r.interim
-    → HasFailed to_head (octets ++ piece)
+    → IsFailure to_head (octets ++ piece)
 too_many to_head r octets piece used message e taken interim not most = record {
   count = r.interim;
   rest = e.rest ++ piece;
@@ -188,7 +188,7 @@ interim_frame true status version fields frame interim framed = search (rules, f
 interim_frame false status version fields frame interim framed = search (rules, interim, framed)
 
 -- so none ends with the octets
-never_interim : (to_head : Bool) (r : ResponseReader) (octets : List ℕ) (message : Message ResponseHead) (a : Agrees to_head r octets) → IsWholeResponse to_head a.rest RECEIVED message
+never_interim : (to_head : Bool) (r : ResponseReader) (octets : List ℕ) (message : Message ResponseHead) (a : WasGiven to_head r octets) → IsWholeResponse to_head a.rest RECEIVED message
     → is_interim message.head.status ≡ true → ⊥
 never_interim to_head r octets message a whole interim =
     let w = whole.is in
@@ -210,7 +210,7 @@ never_interim to_head r octets message a whole interim =
     as_framing : Framing → Result Framing FrameFault
     as_framing f = Ok f
 
-pub ends_with : (to_head : Bool) (r : ResponseReader) (m : MessageReader ResponseHead) (octets : List ℕ) (progress : Progress) (message : Message ResponseHead) → Agrees to_head r octets
+pub ends_with : (to_head : Bool) (r : ResponseReader) (m : MessageReader ResponseHead) (octets : List ℕ) (progress : Progress) (message : Message ResponseHead) → WasGiven to_head r octets
     → ((kind : Kind) (room : Room) (o : List ℕ) → framing.Agrees response_form kind room r.reader o → framing.EndGives response_form (Ok progress) kind room m o)
     → ((found : Message ResponseHead) → framing.Holds m found → message ≡ found) → IsResponseAtEnd to_head octets message
 ends_with to_head r m octets progress message a gives taken = go progress (gives (Response to_head) RECEIVED a.rest a.reads)
@@ -226,9 +226,9 @@ ends_with to_head r m octets progress message a gives taken = go progress (gives
         let whole : IsWholeResponse to_head a.rest RECEIVED message = subst (IsWholeResponse to_head a.rest RECEIVED) (sym (taken g.1.message g.1.holds)) g.1.is in
         record { count = r.interim; rest = a.rest; leaves = a.leaves; is_whole = whole; final = final whole (is_interim message.head.status) refl }
 
-pub fails_at_end : (to_head : Bool) (r : ResponseReader) (m : MessageReader ResponseHead) (octets : List ℕ) (fault : FrameFault) → Agrees to_head r octets → fault ≢ faults.Memory
+pub fails_at_end : (to_head : Bool) (r : ResponseReader) (m : MessageReader ResponseHead) (octets : List ℕ) (fault : FrameFault) → WasGiven to_head r octets → fault ≢ faults.Memory
     → ((kind : Kind) (room : Room) (o : List ℕ) → framing.Agrees response_form kind room r.reader o → framing.EndGives response_form (Err fault) kind room m o)
-    → HasFailedAtEnd to_head octets
+    → IsFailureAtEnd to_head octets
 fails_at_end to_head r m octets fault a not gives = record {
   count = r.interim;
   rest = a.rest;

@@ -21,15 +21,15 @@ HasPassed (Some head) None = ⊥
 HasPassed (Some head) (Some target) = IsServed head target
 
 -- the octets that wait to be read
-abbrev pub waiting : RequestReader → List ℕ
-waiting r = r.waits
+abbrev pub unread : RequestReader → List ℕ
+unread r = r.waits
 
 -- the reader was given these octets behind the last whole request, in whatever pieces, and has read them but for those that wait
-pub record Agrees (r : RequestReader) (octets : List ℕ) : Type 0 where
+pub record WasGiven (r : RequestReader) (octets : List ℕ) : Type 0 where
   pub read : List ℕ
   pub reads : framing.Agrees request_form kinds.Request RECEIVED r.reader read
   pub passed : HasPassed r.reader.head r.target
-  pub all : octets ≡ read ++ waiting r
+  pub all : octets ≡ read ++ unread r
 
 -- it can read on: it hasn't refused what it was given
 abbrev pub CanRead : RequestReader → Type 0
@@ -37,13 +37,13 @@ CanRead r = framing.CanFeed request_form r.reader
 
 -- it has read all of them
 pub record HasRead (r : RequestReader) (octets : List ℕ) : Type 0 where
-  pub agrees : Agrees r octets
-  pub none_waits : waiting r ≡ []
+  pub agrees : WasGiven r octets
+  pub none_unread : unread r ≡ []
 
 -- it has read none of them, and all wait
 pub record HasUnread (r : RequestReader) (octets : List ℕ) : Type 0 where
-  pub agrees : Agrees r octets
-  pub all_wait : waiting r ≡ octets
+  pub agrees : WasGiven r octets
+  pub all_unread : unread r ≡ octets
 
 -- the request begins the octets, and what is behind it waits
 pub record TakesRequest (r : RequestReader) (octets : List ℕ) (message : Message RequestHead) (target : Target) : Type 0 where
@@ -74,7 +74,7 @@ ReadsOn (Err e) r = Unit {0}
 
 -- a request takes some of the octets that wait
 abbrev pub TakesSome : Result Arrival AllocError → RequestReader → RequestReader → Type 0
-TakesSome (Ok (Request message target)) r s = length (waiting s) < length (waiting r)
+TakesSome (Ok (Request message target)) r s = length (unread s) < length (unread r)
 TakesSome (Ok (Refused status)) r s = Unit {0}
 TakesSome (Ok More) r s = Unit {0}
 TakesSome (Err e) r s = Unit {0}

@@ -9,7 +9,7 @@ use Rattle.hc_links.specs.Responses.{Leaves}
 use Rattle.hc_links.specs.declared.responses.Part.{Part}
 use Rattle.hc_links.specs.declared.responses.Part.TheVariants.{Interim, Last}
 use Rattle.hc_links.specs.declared.responses.ResponseReader.{ResponseReader}
-use Rattle.hc_links.specs.ResponseReading.{CanRead, Agrees, GivesHeard, ReadsOn}
+use Rattle.hc_links.specs.ResponseReading.{CanRead, WasGiven, GivesHeard, ReadsOn}
 
 -- a response has ended with so many octets of the piece
 pub record HasEnded (to_head : Bool) (r : ResponseReader) (octets piece : List ℕ) (used : ℕ) : Type 0 where
@@ -29,7 +29,7 @@ pub record BeginsNext (r s : ResponseReader) : Type 0 where
 pub record IsDropped (to_head : Bool) (r : ResponseReader) (octets piece : List ℕ) (used : ℕ) : Type 0 where
   pub some : 0 < used
   pub within : used ≤ length piece
-  pub agrees : Agrees to_head r (octets ++ take used piece)
+  pub agrees : WasGiven to_head r (octets ++ take used piece)
 
 -- each answer on one response stands only where this says so
 abbrev pub GivesPart : Result Part AllocError → Bool → ResponseReader → List ℕ → List ℕ → Type 0

@@ -10,14 +10,14 @@ use Rattle.hc_framing.specs.Reader as framing
 use Rattle.hc_links.specs.declared.arrival.Heard.{Heard}
 use Rattle.hc_links.specs.declared.arrival.Heard.TheVariants.{Response, Failed, More}
 use Rattle.hc_links.specs.declared.responses.ResponseReader.{ResponseReader}
-use Rattle.hc_links.specs.Responses.{Leaves, IsResponse, HasFailed, IsUnfinished, IsResponseAtEnd, HasFailedAtEnd}
+use Rattle.hc_links.specs.Responses.{Leaves, IsResponse, IsFailure, IsUnfinished, IsResponseAtEnd, IsFailureAtEnd}
 
 -- it can be given more: it has found neither a response nor a failure
 abbrev pub CanRead : ResponseReader → Type 0
 CanRead r = framing.CanFeed response_form r.reader
 
 -- the reader of a response, to HEAD or another method, was given these octets, in whatever pieces
-pub record Agrees (to_head : Bool) (r : ResponseReader) (octets : List ℕ) : Type 0 where
+pub record WasGiven (to_head : Bool) (r : ResponseReader) (octets : List ℕ) : Type 0 where
   pub to_head_is : r.to_head ≡ to_head
   pub rest : List ℕ
   pub leaves : Leaves to_head octets r.interim rest
@@ -26,8 +26,8 @@ pub record Agrees (to_head : Bool) (r : ResponseReader) (octets : List ℕ) : Ty
 -- each answer on the octets stands only where this says so
 abbrev pub GivesHeard : Result Heard AllocError → Bool → ResponseReader → List ℕ → Type 0
 GivesHeard (Ok (Response message)) to_head r octets = IsResponse to_head octets message
-GivesHeard (Ok Failed) to_head r octets = HasFailed to_head octets
-GivesHeard (Ok More) to_head r octets = IsUnfinished to_head octets × Agrees to_head r octets
+GivesHeard (Ok Failed) to_head r octets = IsFailure to_head octets
+GivesHeard (Ok More) to_head r octets = IsUnfinished to_head octets × WasGiven to_head r octets
 GivesHeard (Err e) to_head r octets = Unit {0}
 
 -- the reader can read on, where nothing was found yet
@@ -47,5 +47,5 @@ FindsResponse (Err e) message = Unit {0}
 -- each answer at the origin's end stands only where this says so: the response, or that there is none
 abbrev pub GivesEnd : Result (Option (Message ResponseHead)) AllocError → Bool → List ℕ → Type 0
 GivesEnd (Ok (Some message)) to_head octets = IsResponseAtEnd to_head octets message
-GivesEnd (Ok None) to_head octets = HasFailedAtEnd to_head octets
+GivesEnd (Ok None) to_head octets = IsFailureAtEnd to_head octets
 GivesEnd (Err e) to_head octets = Unit {0}

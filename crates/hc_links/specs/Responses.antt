@@ -72,7 +72,7 @@ module _ (to_head : Bool) where
     pub too_many : count ≡ most_interim
 
   -- the forward has failed, whatever follows the octets
-  pub record HasFailed (octets : List ℕ) : Type 0 where
+  pub record IsFailure (octets : List ℕ) : Type 0 where
     pub count : ℕ
     pub rest : List ℕ
     pub leaves : Leaves octets count rest
@@ -96,7 +96,7 @@ module _ (to_head : Bool) where
     pub final : 200 ≤ message.head.status
 
   -- the octets that have ended are no response: they are cut off, or broken
-  pub record HasFailedAtEnd (octets : List ℕ) : Type 0 where
+  pub record IsFailureAtEnd (octets : List ℕ) : Type 0 where
     pub count : ℕ
     pub rest : List ℕ
     pub leaves : Leaves octets count rest

@@ -6,7 +6,7 @@ ghost use Rattle.hc_head.specs.declared.head.ResponseHead.{ResponseHead};
 ghost use Rattle.hc_head.specs.declared.head.Target.{Target};
 ghost use Rattle.hc_framing.specs.declared.message.Message.{Message};
 ghost use Rattle.hc_links.specs.Requests.{FailsTest, IsRefused, IsRequest, IsUnfinished};
-ghost use Rattle.hc_links.specs.Responses.{HasFailed, HasFailedAtEnd, IsResponse, IsResponseAtEnd, IsUnfinished as IsUnfinishedResponse};
+ghost use Rattle.hc_links.specs.Responses.{IsFailure, IsFailureAtEnd, IsResponse, IsResponseAtEnd, IsUnfinished as IsUnfinishedResponse};
 
 /// Octets of a client connection begin with one whole request at most, and what follows doesn't change
 /// it. They are neither refused nor unfinished then; nor do octets wait whose head fails a test.
@@ -31,12 +31,12 @@ pub fn one_response_arrives()
     ensures goes_on { (to_head : Bool) (octets more : List ℕ) (message : Message ResponseHead)
         → IsResponse to_head octets message → IsResponse to_head (octets ++ more) message }
     ensures unfailed { (to_head : Bool) (octets : List ℕ) (message : Message ResponseHead)
-        → IsResponse to_head octets message → ¬ (HasFailed to_head octets) }
+        → IsResponse to_head octets message → ¬ (IsFailure to_head octets) }
     ensures finished { (to_head : Bool) (octets : List ℕ) (message : Message ResponseHead)
         → IsResponse to_head octets message → ¬ (IsUnfinishedResponse to_head octets) }
     // So it is at the origin's end.
     ensures one_at_end { (to_head : Bool) (octets : List ℕ) (message other : Message ResponseHead)
         → IsResponseAtEnd to_head octets message → IsResponseAtEnd to_head octets other → message ≡ other }
     ensures unfailed_at_end { (to_head : Bool) (octets : List ℕ) (message : Message ResponseHead)
-        → IsResponseAtEnd to_head octets message → ¬ (HasFailedAtEnd to_head octets) }
+        → IsResponseAtEnd to_head octets message → ¬ (IsFailureAtEnd to_head octets) }
 {}

@@ -44,7 +44,7 @@ impl RequestReader {
     ghost use Rattle.hc_head.specs.declared.head.Target.{Target};
     ghost use Rattle.hc_framing.specs.declared.message.Message.{Message};
     ghost use Rattle.hc_links.specs.Requests.{IsRequest, IsUnfinished};
-    ghost use Rattle.hc_links.specs.RequestReading.{Agrees, CanRead, FindsRequest, GivesEnd, GivesNext, HasRead, HasUnread, ReadsOn, TakesSome, waiting};
+    ghost use Rattle.hc_links.specs.RequestReading.{WasGiven, CanRead, FindsRequest, GivesEnd, GivesNext, HasRead, HasUnread, ReadsOn, TakesSome, unread};
     ghost use Rattle.hc_links.specs.RequestParts.{GivesTest, HasEnded, HasGoneOn, HasMet};
 
     /// A reader of a connection that has just opened.
@@ -62,9 +62,9 @@ impl RequestReader {
 
     /// Takes in the next octets, which wait until they are read.
     pub fn hear(&mut self, piece: &[u8]) -> Result<(), AllocError>
-        ensures agrees { (octets : List ℕ) → Agrees self.old octets
-            → OnOk result (Agrees self.new (octets ++ piece.now)) }
-        ensures waiting { OnOk result (waiting self.new ≡ waiting self.old ++ piece.now) }
+        ensures agrees { (octets : List ℕ) → WasGiven self.old octets
+            → OnOk result (WasGiven self.new (octets ++ piece.now)) }
+        ensures unread { OnOk result (unread self.new ≡ unread self.old ++ piece.now) }
         ensures can { CanRead self.old → CanRead self.new }
         ensures err { OnErr result (self.new ≡ self.old) }
     {
@@ -72,16 +72,16 @@ impl RequestReader {
     }
 
     /// How many octets were heard and not yet read.
-    pub fn waiting(&self) -> usize
-        ensures { result ≡ length (waiting self.now) }
+    pub fn unread(&self) -> usize
+        ensures { result ≡ length (unread self.now) }
     {
         self.waits.as_slice().len()
     }
 
     /// Drops the octets that wait.
-    pub fn drop_waiting(&mut self)
+    pub fn drop_unread(&mut self)
         ensures agrees { (octets : List ℕ) → HasUnread self.old octets → HasUnread self.new [] }
-        ensures waiting { waiting self.new ≡ [] }
+        ensures unread { unread self.new ≡ [] }
         ensures can { CanRead self.old → CanRead self.new }
     {
         self.waits.clear();
@@ -92,10 +92,10 @@ impl RequestReader {
     pub fn next(&mut self) -> Result<Arrival, AllocError>
         requires { CanRead self.old }
         // Each answer stands only where it says so, whatever the pieces before were.
-        ensures gives { (octets : List ℕ) → Agrees self.old octets → GivesNext result self.new octets }
+        ensures gives { (octets : List ℕ) → WasGiven self.old octets → GivesNext result self.new octets }
         // A whole request that is there is found, unless memory runs out.
         ensures found { (octets : List ℕ) (message : Message RequestHead) (target : Target) (len : ℕ)
-            → Agrees self.old octets → IsRequest octets message target len → FindsRequest result message target }
+            → WasGiven self.old octets → IsRequest octets message target len → FindsRequest result message target }
         // A request takes some of the octets that wait.
         ensures shrinks { TakesSome result self.old self.new }
         // It can be asked again, unless it refused the octets or memory ran out.
@@ -159,7 +159,7 @@ impl RequestReader {
     fn take_request(&mut self, used: usize) -> Result<Arrival, AllocError>
         requires has { HasMessage self.old.reader }
         requires some { 0 < used }
-        requires within { used ≤ length (waiting self.old) }
+        requires within { used ≤ length (unread self.old) }
         ensures gives { (octets : List ℕ) → HasEnded self.old used octets → GivesNext result self.new octets }
         ensures shrinks { TakesSome result self.old self.new }
         ensures can { ReadsOn result self.new }
@@ -181,7 +181,7 @@ impl RequestReader {
     pub fn end(&mut self) -> Result<Option<StatusCode>, AllocError>
         requires { CanRead self.old }
         // Each answer stands only where it says so.
-        ensures gives { (octets : List ℕ) → Agrees self.old octets → GivesEnd result octets }
+        ensures gives { (octets : List ℕ) → WasGiven self.old octets → GivesEnd result octets }
     {
         let arrival = self.next()?;
         if arrival.is_more() {

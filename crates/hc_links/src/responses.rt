@@ -58,13 +58,13 @@ impl ResponseReader {
     ghost use Rattle.hc_head.specs.declared.head.ResponseHead.{ResponseHead};
     ghost use Rattle.hc_framing.specs.declared.message.Message.{Message};
     ghost use Rattle.hc_links.specs.Responses.{IsResponse};
-    ghost use Rattle.hc_links.specs.ResponseReading.{Agrees, CanRead, FindsResponse, GivesEnd, GivesHeard, ReadsOn};
+    ghost use Rattle.hc_links.specs.ResponseReading.{WasGiven, CanRead, FindsResponse, GivesEnd, GivesHeard, ReadsOn};
     ghost use Rattle.hc_links.specs.ResponseParts.{BeginsNext, GivesPart, HasEnded, PartReadsOn, TakesSome, TakesThose};
 
     /// A reader of a connection that has just opened; `to_head` tells whether the forward's method is
     /// HEAD.
     pub fn new(alloc: Global, to_head: bool) -> Self
-        ensures agrees { Agrees to_head result [] }
+        ensures agrees { WasGiven to_head result [] }
         ensures can { CanRead result }
     {
         ResponseReader {
@@ -79,10 +79,10 @@ impl ResponseReader {
     pub fn hear(&mut self, piece: &[u8]) -> Result<Heard, AllocError>
         requires { CanRead self.old }
         // Each answer stands only where it says so, whatever the pieces before were.
-        ensures gives { (to_head : Bool) (octets : List ℕ) → Agrees to_head self.old octets
+        ensures gives { (to_head : Bool) (octets : List ℕ) → WasGiven to_head self.old octets
             → GivesHeard result to_head self.new (octets ++ piece.now) }
         // A response that is there is found, unless memory runs out.
-        ensures found { (to_head : Bool) (octets : List ℕ) (message : Message ResponseHead) → Agrees to_head self.old octets
+        ensures found { (to_head : Bool) (octets : List ℕ) (message : Message ResponseHead) → WasGiven to_head self.old octets
             → IsResponse to_head (octets ++ piece.now) message → FindsResponse result message }
         // It takes octets until it has found a response or a failure.
         ensures can { ReadsOn result self.new }
@@ -100,7 +100,7 @@ impl ResponseReader {
     /// Reads one response.
     fn read(&mut self, piece: &[u8]) -> Result<Part, AllocError>
         requires { CanRead self.old }
-        ensures gives { (to_head : Bool) (octets : List ℕ) → Agrees to_head self.old octets
+        ensures gives { (to_head : Bool) (octets : List ℕ) → WasGiven to_head self.old octets
             → GivesPart result to_head self.new octets piece.now }
         ensures some { TakesSome result piece.now }
         ensures can { PartReadsOn result self.new }
@@ -153,7 +153,7 @@ impl ResponseReader {
     pub fn end(&mut self) -> Result<Option<Message<ResponseHead>>, AllocError>
         requires { CanRead self.old }
         // Each answer stands only where it says so.
-        ensures gives { (to_head : Bool) (octets : List ℕ) → Agrees to_head self.old octets
+        ensures gives { (to_head : Bool) (octets : List ℕ) → WasGiven to_head self.old octets
             → GivesEnd result to_head octets }
     {
         match self.reader.end() {

@@ -12,8 +12,6 @@ use Rattle.hc_rules.specs.Forwards.{conditional_request}
 use Rattle.hc_update.specs.declared.stored.Stored.{Stored}
 use Rattle.hc_store.specs.Entries.{Holdings, knows}
 use Rattle.hc_service.specs.declared.action.Action.{Action}
-use Rattle.hc_service.specs.declared.cases.Case.{Case}
-use Rattle.hc_service.specs.declared.cases.Case.TheVariants as case
 use Rattle.hc_service.specs.declared.cases.Cause.{Cause}
 use Rattle.hc_service.specs.declared.numbers.Numbers.{Numbers}
 use Rattle.hc_service.specs.declared.open.OpenExchange.{OpenExchange}
@@ -21,7 +19,8 @@ use Rattle.hc_service.specs.declared.open.Purpose.TheVariants as purpose
 use Rattle.hc_service.specs.declared.settings.CoreSettings.{CoreSettings}
 use Rattle.hc_service.specs.Asking.{ends_connection}
 use Rattle.hc_service.specs.Numbers.{asked, noted, one_more, sent}
-use Rattle.hc_service.specs.Cases.{case_before_store, case_by_store}
+use Rattle.hc_service.specs.Cases.{Case, case_before_store, case_by_store}
+use Rattle.hc_service.specs.Cases.Case.{Hit, Forward}
 use Rattle.hc_service.specs.Reactions.{Reaction, Reacts, ReactsBy, bare, chosen_reaction, forward_reaction, is_background, is_validated_behind, most_background, stored_forward}
 use Rattle.hc_service.specs.Reactions.Reaction.{Replies, Sends}
 use Rattle.hc_service.specs.Replying.{Wanted, hit_reply}
@@ -29,16 +28,17 @@ use Rattle.hc_service.specs.Sending.{ask_actions, reply_actions, send_actions}
 use Rattle.hc_service.specs.Serves.Turn.{Asking}
 use Rattle.hc_service.specs.Serving.{is_fresh, while_revalidating}
 use Rattle.hc_service.specs.State.{State, Table, Connection, Awaited}
-use Rattle.hc_service.specs.Turns.{after_reply, after_request, closes_behind, replied, sent_forward, wanted_now}
+use Rattle.hc_service.specs.Turns.{after_reply, after_request, closes_behind, replied, sent_forward, wanted_now, whole_request}
 use Rattle.hc_reactions.specs.declared.reacting.Reaction.{Reaction as GivenReaction}
 use Rattle.hc_reactions.specs.declared.reacting.OpenBehind.{OpenBehind}
 use Rattle.hc_reactions.specs.Reacting.{IsOpenBehind, owed_reaction}
 use Rattle.hc_machine.specs.declared.desk.Desk.{Desk}
 use Rattle.hc_open.specs.declared.links.Client.{Client}
 use Rattle.hc_open.specs.declared.open_links.OpenLinks.{OpenLinks}
-use Rattle.hc_open.specs.Links.{AreClients, AreExchanges, AreLinks, is_behind}
-use Rattle.hc_machine.specs.Reading.{GivesForward, GivesReplies, GivesReplyAtOnce, GivesReplyThenBehind, IsAsked, SendsBehind, opens_behind}
-use Rattle.hc_machine.specs.Standing.{GivesTurn, Stands, without_connection}
+use Rattle.hc_machine.specs.declared.answering.HeldExchange.{HeldExchange}
+use Rattle.hc_open.specs.Links.{AreClients, AreExchanges, AreLinks, HasPlace, is_behind}
+use Rattle.hc_machine.specs.Reading.{SendsForward, SendsReplies, SendsReply, SendsReplyThenBehind, IsAsked, SendsBehind, opens_behind}
+use Rattle.hc_machine.specs.Standing.{GivesTurn, DeskStandsFor, without_connection, from_state, at_desk, Reached}
 use Rattle.hc_open.proofs.BehindLemmas.{reply_has_place}
 use Rattle.hc_open.proofs.TableLemmas.{put_back}
 
@@ -47,12 +47,12 @@ abbrev pub wanted_by : List ℕ → ℕ → RequestHead → Bool → Wanted
 wanted_by name moment request closes = record { name = name; moment = moment; asked = request; closes = closes }
 
 -- a reaction of the code, and the same where it is known which it is; by what it was told of the forwards for the store alone
-pub reacts_as : (wanted : Wanted) (target : Target) (request : Message RequestHead) (old new : Holdings) (links : OpenLinks) (told : OpenBehind) (given known : GivenReaction) → given ≡ known
-    → ((forwards : Table Awaited) → AreLinks links forwards → IsOpenBehind target forwards told)
-    → ((forwards : Table Awaited) → IsOpenBehind target forwards told → Reacts wanted target request forwards old (owed_reaction given) new)
-    → (forwards : Table Awaited) → AreLinks links forwards → Reacts wanted target request forwards old (owed_reaction known) new
-reacts_as wanted target request old new links told given known is tells reacts forwards are =
-    subst (λ (r : GivenReaction). Reacts wanted target request forwards old (owed_reaction r) new) is (reacts forwards (tells forwards are))
+pub reacts_as : (wanted : Wanted) (target : Target) (request : Message RequestHead) (old new : Holdings) (links : OpenLinks) (open_behind : OpenBehind) (given known : GivenReaction) → given ≡ known
+    → ((forwards : Table Awaited) → AreLinks links forwards → IsOpenBehind target forwards open_behind)
+    → ((forwards : Table Awaited) → IsOpenBehind target forwards open_behind → Reacts (record { request = request; target = target; wanted = wanted }) forwards old (owed_reaction given) new)
+    → (forwards : Table Awaited) → AreLinks links forwards → Reacts (record { request = request; target = target; wanted = wanted }) forwards old (owed_reaction known) new
+reacts_as wanted target request old new links open_behind given known is counts reacts forwards are =
+    subst (λ (r : GivenReaction). Reacts (record { request = request; target = target; wanted = wanted }) forwards old (owed_reaction r) new) is (reacts forwards (counts forwards are))
 
 -- ---- a validation behind a reply is sent only where it has place
 
@@ -102,15 +102,13 @@ module _ (wanted : Wanted) (target : Target) (request : Message RequestHead) (fo
   chosen_place : (chosen : Option Stored) (which : Case) → validates (chosen_reaction wanted target request forwards chosen which) ≡ true
       → list_any (is_behind target) (values forwards) ≡ false
   unfolding validates
-  chosen_place (Some stored) case.Hit does =
+  chosen_place chosen (Hit stored) does =
       none_of_three (not (is_fresh stored wanted.moment)) (while_revalidating stored wanted.moment) (nat_lt (count_by is_background (values forwards)) most_background)
       (list_any (is_behind target) (values forwards))
       (by_test (is_validated_behind stored wanted.moment target forwards) (hit_reply wanted stored) (bare (conditional_request wanted.name target wanted.asked stored.fields)) does)
-  chosen_place None case.Hit does = absurd (false_true does)
-  chosen_place (Some stored) (case.Forward why) does = absurd (never _ (forwards_alone why (Some stored)) does)
-  chosen_place None (case.Forward why) does = absurd (never _ (forwards_alone why None) does)
+  chosen_place chosen (Forward why) does = absurd (never _ (forwards_alone why chosen) does)
 
-  place_by : (why : Option Cause) (old new : Holdings) (reaction : Reaction) → ReactsBy why wanted target request forwards old reaction new → validates reaction ≡ true
+  place_by : (why : Option Cause) (old new : Holdings) (reaction : Reaction) → ReactsBy why (record { request = request; target = target; wanted = wanted }) forwards old reaction new → validates reaction ≡ true
       → list_any (is_behind target) (values forwards) ≡ false
   place_by (Some why) old new reaction reacts does =
       absurd (never _ (forwards_alone why None) (sym (ap validates reacts.0) ∙ does))
@@ -119,7 +117,7 @@ module _ (wanted : Wanted) (target : Target) (request : Message RequestHead) (fo
 
   -- none is open for the target
   pub validated_in_place : (old new : Holdings) (reply : Message ResponseHead) (validation : Message RequestHead)
-      → Reacts wanted target request forwards old (Replies reply (Some validation)) new → list_any (is_behind target) (values forwards) ≡ false
+      → Reacts (record { request = request; target = target; wanted = wanted }) forwards old (Replies reply (Some validation)) new → list_any (is_behind target) (values forwards) ≡ false
   unfolding validates
   validated_in_place old new reply validation reacts = place_by (case_before_store request) old new (Replies reply (Some validation)) reacts refl
 
@@ -131,10 +129,10 @@ module _ (S H : Type 0) (settings : CoreSettings) (d : Desk S H) (s : State) (c 
     pub numbers_are : numbers ≡ asked d.numbers
     pub actions_are : after ≡ before ++ ask_actions (one_more d.numbers.exchange) d.numbers.moment request
     pub reacts : (forwards : Table Awaited) → AreLinks d.links forwards
-        → Reacts (wanted_by d.name numbers.moment request.head closes) target request forwards d.store reaction store
+        → Reacts (record { request = request; target = target; wanted = wanted_by d.name numbers.moment request.head closes }) forwards d.store reaction store
 
   module _ (closes : Bool) (exchange : ℕ) (numbers : Numbers) (before mid : List Action) (reaction : Reaction) (store : Holdings)
-      (stands : Stands {S = S} {H = H} settings d (without_connection c s)) (there : get s.connections c ≡ Some k) (is : IsAsked client k request target size)
+      (stands : DeskStandsFor {S = S} {H = H} settings d (without_connection c s)) (there : get s.connections c ≡ Some k) (is : IsAsked client k request target size)
       (has : HasReaction closes exchange numbers before mid reaction store) where
     exchange_now : exchange ≡ one_more s.numbers.exchange
     exchange_now = has.exchange_is ∙ ap (λ (n : Numbers). one_more n.exchange) stands.numbers
@@ -157,8 +155,8 @@ module _ (S H : Type 0) (settings : CoreSettings) (d : Desk S H) (s : State) (c 
     wanted_is : wanted_by d.name numbers.moment request.head closes ≡ wanted_now settings s request.head k
     wanted_is = λ i. wanted_by (stands.name i) (moment_now i) request.head (closes_now i)
 
-    reacts_now : Reacts (wanted_now settings s request.head k) target request s.forwards s.store reaction store
-    reacts_now = subst (λ (w : Wanted × Holdings). Reacts w.0 target request s.forwards w.1 reaction store) (λ i. (wanted_is i, stands.store i)) (has.reacts s.forwards stands.links)
+    reacts_now : Reacts (whole_request settings s request target k) s.forwards s.store reaction store
+    reacts_now = subst (λ (w : Wanted × Holdings). Reacts (record { request = request; target = target; wanted = w.0 }) s.forwards w.1 reaction store) (λ i. (wanted_is i, stands.store i)) (has.reacts s.forwards stands.links)
 
     -- actions behind the record
     behind_asked : (after : List Action) (more more' : List Action) → after ≡ mid ++ more → more ≡ more'
@@ -168,11 +166,10 @@ module _ (S H : Type 0) (settings : CoreSettings) (d : Desk S H) (s : State) (c 
         ∙ ap (λ (l : List Action). before ++ (ask_actions (one_more s.numbers.exchange) s.numbers.moment request ++ l)) same
 
   pub asks_reply : (closes : Bool) (exchange : ℕ) (n : Numbers) (before mid after : List Action) (reply : Message ResponseHead) (store : Holdings) (new : Desk S H)
-      → Stands {S = S} {H = H} settings d (without_connection c s) → get s.connections c ≡ Some k → IsAsked client k request target size
+      → DeskStandsFor {S = S} {H = H} settings d (without_connection c s) → get s.connections c ≡ Some k → IsAsked client k request target size
       → HasReaction closes exchange n before mid (Replies reply None) store
-      → GivesReplyAtOnce {S = S} {H = H} exchange (record { connection = c; request = request.head; target = target }) client closes reply mid after
-      (record { alloc = d.alloc; name = d.name; numbers = n; clients = d.clients; exchanges = d.exchanges; links = d.links; store = store }) new
-      → GivesTurn {S = S} {H = H} settings (Asking c) s before after new
+      → SendsReply {S = S} {H = H} (record { number = exchange; exchange = record { connection = c; request = request.head; target = target }; client = client }) closes reply (at_desk mid (record { alloc = d.alloc; name = d.name; numbers = n; clients = d.clients; exchanges = d.exchanges; links = d.links; store = store })) (at_desk after new)
+      → GivesTurn {S = S} {H = H} (from_state settings s before) (Asking c) (at_desk after new)
   asks_reply closes exchange n before mid after reply store new stands there is has gives =
       let e = exchange_now closes exchange n before mid (Replies reply None) store stands there is has in
       let t = moment_now closes exchange n before mid (Replies reply None) store stands there is has in
@@ -188,18 +185,18 @@ module _ (S H : Type 0) (settings : CoreSettings) (d : Desk S H) (s : State) (c 
           store = store;
         };
         stands = record {
-          name = gives.name ∙ stands.name;
-          numbers = gives.numbers ∙ ap noted (numbers_now closes exchange n before mid (Replies reply None) store stands there is has);
+          name = gives.replies.keeps.name ∙ stands.name;
+          numbers = gives.replies.numbers ∙ ap noted (numbers_now closes exchange n before mid (Replies reply None) store stands there is has);
           clients = subst (AreClients new.clients) (λ i. cond (b i) (remove s.connections c) (put_back s.connections c (after_reply behind k) i))
-              (gives.clients (remove s.connections c) (after_reply behind k) stands.clients (record { reads = is.behind.agrees; exchange = refl; leaves = is.leaves }));
-          exchanges = subst (λ (m : BTreeMap ℕ OpenExchange). AreExchanges m s.exchanges) (sym gives.exchanges) stands.exchanges;
-          links = subst (λ (m : OpenLinks). AreLinks m s.forwards) (sym gives.links) stands.links;
+              (gives.replies.clients (remove s.connections c) (after_reply behind k) stands.clients (record { reads = is.behind.agrees; exchange = refl; leaves = is.leaves }));
+          exchanges = subst (λ (m : BTreeMap ℕ OpenExchange). AreExchanges m s.exchanges) (sym gives.replies.keeps.exchanges) stands.exchanges;
+          links = subst (λ (m : OpenLinks). AreLinks m s.forwards) (sym gives.replies.keeps.links) stands.links;
           store = gives.store;
           in_time = stands.in_time;
         };
         takes = (
           ask_actions (one_more s.numbers.exchange) s.numbers.moment request ++ answer,
-          behind_asked closes exchange n before mid (Replies reply None) store stands there is has after (reply_actions exchange n.moment (is_head request.head.method) c closes reply) answer gives.actions
+          behind_asked closes exchange n before mid (Replies reply None) store stands there is has after (reply_actions exchange n.moment (is_head request.head.method) c closes reply) answer gives.replies.actions
               (λ i. reply_actions (e i) (t i) (is_head request.head.method) c (b i) reply),
           record {
             connection = k;
@@ -211,17 +208,16 @@ module _ (S H : Type 0) (settings : CoreSettings) (d : Desk S H) (s : State) (c 
             arrives = is.arrives;
             reaction = Replies reply None;
             reacts = reacts_now closes exchange n before mid (Replies reply None) store stands there is has;
-            does = record { numbers = refl; connections = refl; exchanges = refl; forwards = refl; actions_are = refl };
+            does = record { numbers = refl; connections = refl; keeps = record { exchanges = refl; forwards = refl }; actions_are = refl };
           },
         );
       }
 
   pub asks_validation : (closes : Bool) (exchange : ℕ) (n : Numbers) (before mid after : List Action) (reply : Message ResponseHead) (validation : Message RequestHead) (store : Holdings) (new : Desk S H)
-      → Stands {S = S} {H = H} settings d (without_connection c s) → get s.connections c ≡ Some k → IsAsked client k request target size
+      → DeskStandsFor {S = S} {H = H} settings d (without_connection c s) → get s.connections c ≡ Some k → IsAsked client k request target size
       → HasReaction closes exchange n before mid (Replies reply (Some validation)) store
-      → GivesReplyThenBehind {S = S} {H = H} exchange (record { connection = c; request = request.head; target = target }) client closes reply validation mid after
-      (record { alloc = d.alloc; name = d.name; numbers = n; clients = d.clients; exchanges = d.exchanges; links = d.links; store = store }) new
-      → GivesTurn {S = S} {H = H} settings (Asking c) s before after new
+      → SendsReplyThenBehind {S = S} {H = H} (record { number = exchange; exchange = record { connection = c; request = request.head; target = target }; client = client }) closes reply validation (at_desk mid (record { alloc = d.alloc; name = d.name; numbers = n; clients = d.clients; exchanges = d.exchanges; links = d.links; store = store })) (at_desk after new)
+      → GivesTurn {S = S} {H = H} (from_state settings s before) (Asking c) (at_desk after new)
   asks_validation closes exchange n before mid after reply validation store new stands there is has gives =
       let e = exchange_now closes exchange n before mid (Replies reply (Some validation)) store stands there is has in
       let t = moment_now closes exchange n before mid (Replies reply (Some validation)) store stands there is has in
@@ -240,7 +236,7 @@ module _ (S H : Type 0) (settings : CoreSettings) (d : Desk S H) (s : State) (c 
           store = store;
         };
         stands = record {
-          name = gives.name ∙ stands.name;
+          name = gives.keeps.name ∙ stands.name;
           numbers = gives.numbers ∙ ap (λ (m : Numbers). sent (noted m)) (numbers_now closes exchange n before mid (Replies reply (Some validation)) store stands there is has);
           clients = subst (AreClients new.clients) (λ i. cond (b i) (remove s.connections c) (put_back s.connections c (after_reply behind k) i))
               (gives.clients (remove s.connections c) (after_reply behind k) stands.clients (record { reads = is.behind.agrees; exchange = refl; leaves = is.leaves }));
@@ -248,7 +244,7 @@ module _ (S H : Type 0) (settings : CoreSettings) (d : Desk S H) (s : State) (c 
           links = subst (AreLinks new.links) (λ i. insert s.forwards (f i) (sent_forward validation.head target (t i) purpose.Background))
               (gives.links s.forwards stands.links
               (λ for_store. validated_in_place (wanted_now settings s request.head k) target request s.forwards s.store store reply validation reacts));
-          store = gives.store;
+          store = gives.keeps.store;
           in_time = stands.in_time;
         };
         takes = (
@@ -271,11 +267,10 @@ module _ (S H : Type 0) (settings : CoreSettings) (d : Desk S H) (s : State) (c 
       }
 
   pub asks_forward : (closes : Bool) (exchange : ℕ) (n : Numbers) (before mid after : List Action) (forward : Message RequestHead) (why : Cause) (conditional : Bool) (store : Holdings) (new : Desk S H)
-      → Stands {S = S} {H = H} settings d (without_connection c s) → get s.connections c ≡ Some k → IsAsked client k request target size
+      → DeskStandsFor {S = S} {H = H} settings d (without_connection c s) → get s.connections c ≡ Some k → IsAsked client k request target size
       → HasReaction closes exchange n before mid (Sends forward why conditional) store
-      → GivesForward {S = S} {H = H} exchange (record { connection = c; request = request.head; target = target }) client forward (purpose.Reply exchange why conditional) mid after
-      (record { alloc = d.alloc; name = d.name; numbers = n; clients = d.clients; exchanges = d.exchanges; links = d.links; store = store }) new
-      → GivesTurn {S = S} {H = H} settings (Asking c) s before after new
+      → SendsForward {S = S} {H = H} (record { number = exchange; exchange = record { connection = c; request = request.head; target = target }; client = client }) forward (purpose.Reply exchange why conditional) (at_desk mid (record { alloc = d.alloc; name = d.name; numbers = n; clients = d.clients; exchanges = d.exchanges; links = d.links; store = store })) (at_desk after new)
+      → GivesTurn {S = S} {H = H} (from_state settings s before) (Asking c) (at_desk after new)
   asks_forward closes exchange n before mid after forward why conditional store new stands there is has gives =
       let e = exchange_now closes exchange n before mid (Sends forward why conditional) store stands there is has in
       let t = moment_now closes exchange n before mid (Sends forward why conditional) store stands there is has in
@@ -292,7 +287,7 @@ module _ (S H : Type 0) (settings : CoreSettings) (d : Desk S H) (s : State) (c 
           store = store;
         };
         stands = record {
-          name = gives.name ∙ stands.name;
+          name = gives.keeps.name ∙ stands.name;
           numbers = gives.numbers ∙ ap sent (numbers_now closes exchange n before mid (Sends forward why conditional) store stands there is has);
           clients = subst (AreClients new.clients) (put_back s.connections c (after_request exchange behind k)
               ∙ ap (λ (x : ℕ). insert s.connections c (after_request x behind k)) e)
@@ -301,7 +296,7 @@ module _ (S H : Type 0) (settings : CoreSettings) (d : Desk S H) (s : State) (c 
               (gives.exchanges s.exchanges stands.exchanges);
           links = subst (AreLinks new.links) (λ i. insert s.forwards (f i) (sent_forward forward.head target (t i) (purpose.Reply (e i) why conditional)))
               (gives.links s.forwards stands.links (reply_has_place forward.head target n.moment exchange why conditional s.forwards));
-          store = gives.store;
+          store = gives.keeps.store;
           in_time = stands.in_time;
         };
         takes = (
@@ -327,49 +322,45 @@ module _ (S H : Type 0) (settings : CoreSettings) (d : Desk S H) (s : State) (c 
 module _ (S H : Type 0) (settings : CoreSettings) (d : Desk S H) (s : State) (c : ℕ) (k : Connection) (client : Client) (request : Message RequestHead) (target : Target) (size : ℕ) where
   pub asks_replies : {A E : Type 0} (closes : Bool) (exchange : ℕ) (n : Numbers) (before mid after : List Action) (reply : Message ResponseHead) (behind : Option (Message RequestHead)) (store : Holdings)
       (result : Result A E) (new : Desk S H)
-      → Stands {S = S} {H = H} settings d (without_connection c s) → get s.connections c ≡ Some k → IsAsked client k request target size
+      → DeskStandsFor {S = S} {H = H} settings d (without_connection c s) → get s.connections c ≡ Some k → IsAsked client k request target size
       → HasReaction S H settings d s c k client request target size closes exchange n before mid (Replies reply behind) store
-      → OnOk result (GivesReplies {S = S} {H = H} exchange (record { connection = c; request = request.head; target = target }) client closes reply behind mid after
-      (record { alloc = d.alloc; name = d.name; numbers = n; clients = d.clients; exchanges = d.exchanges; links = d.links; store = store }) new)
-      → OnOk result (GivesTurn {S = S} {H = H} settings (Asking c) s before after new)
+      → OnOk result (SendsReplies {S = S} {H = H} (record { number = exchange; exchange = record { connection = c; request = request.head; target = target }; client = client }) closes reply behind (at_desk mid (record { alloc = d.alloc; name = d.name; numbers = n; clients = d.clients; exchanges = d.exchanges; links = d.links; store = store })) (at_desk after new))
+      → OnOk result (GivesTurn {S = S} {H = H} (from_state settings s before) (Asking c) (at_desk after new))
   asks_replies closes exchange n before mid after reply None store (Ok x) new stands there is has gives =
       asks_reply S H settings d s c k client request target size closes exchange n before mid after reply store new stands there is has gives
   asks_replies closes exchange n before mid after reply (Some validation) store (Ok x) new stands there is has gives =
       asks_validation S H settings d s c k client request target size closes exchange n before mid after reply validation store new stands there is has gives
   asks_replies closes exchange n before mid after reply behind store (Err e) new stands there is has gives = tt
 
--- a reply, and behind it a request for the store alone
-pub reply_then_behind : (S H : Type 0) (number : ℕ) (exchange : OpenExchange) (client : Client) (closes : Bool) (reply : Message ResponseHead) (validation : Message RequestHead)
-    (before between after : List Action) (old mid new : Desk S H) → GivesReplyAtOnce {S = S} {H = H} number exchange client closes reply before between old mid
-    → SendsBehind {S = S} {H = H} exchange.target validation between after mid new
-    → GivesReplyThenBehind {S = S} {H = H} number exchange client closes reply validation before after old new
-reply_then_behind S H number exchange client closes reply validation before between after old mid new replies sends = record {
-  name = sends.name ∙ replies.name;
-  numbers = sends.numbers ∙ ap sent replies.numbers;
-  clients = λ connections k are is.
-      subst (λ (m : BTreeMap ℕ Client). AreClients m (cond closes connections (insert connections exchange.connection k))) (sym sends.clients) (replies.clients connections k are is);
-  exchanges = sends.exchanges ∙ replies.exchanges;
-  links = λ forwards are place.
-      subst (λ (n : Numbers). AreLinks new.links (insert forwards (one_more n.forward) (opens_behind exchange.target validation n))) replies.numbers
-      (sends.links forwards (subst (λ (l : OpenLinks). AreLinks l forwards) (sym replies.links) are) place);
-  store = sends.store ∙ replies.store;
-  actions = sends.actions ∙ ap (λ (l : List Action). l ++ send_actions (one_more mid.numbers.forward) mid.numbers.moment None validation) replies.actions
-      ∙ append_assoc before _ _
-      ∙ ap (λ (n : Numbers). before ++ (reply_actions number old.numbers.moment (is_head exchange.request.method) exchange.connection closes reply ++ send_actions (one_more n.forward) n.moment None validation)) replies.numbers;
-}
+module _ (S H : Type 0) (held : HeldExchange) (closes : Bool) (reply : Message ResponseHead) where
+  -- a reply, and behind it a request for the store alone
+  reply_then_behind : (validation : Message RequestHead) (old mid new : Reached S H) → SendsReply {S = S} {H = H} held closes reply old mid
+      → SendsBehind {S = S} {H = H} held.exchange.target validation mid new → SendsReplyThenBehind {S = S} {H = H} held closes reply validation old new
+  reply_then_behind validation old mid new first sends =
+      let replies = first.replies in
+      record {
+        numbers = sends.numbers ∙ ap sent replies.numbers;
+        clients = λ connections k are is.
+            subst (λ (m : BTreeMap ℕ Client). AreClients m (cond closes connections (insert connections held.exchange.connection k))) (sym sends.keeps.clients) (replies.clients connections k are is);
+        links = λ forwards are place.
+            subst (λ (n : Numbers). AreLinks new.desk.links (insert forwards (one_more n.forward) (opens_behind held.exchange.target validation n))) replies.numbers
+            (sends.links forwards (subst (λ (l : OpenLinks). AreLinks l forwards) (sym replies.keeps.links) are)
+            (subst (λ (n : Numbers). HasPlace (opens_behind held.exchange.target validation n) forwards) (sym replies.numbers) place));
+        exchanges = sends.keeps.exchanges ∙ replies.keeps.exchanges;
+        keeps = record { name = sends.keeps.name ∙ replies.keeps.name; store = sends.keeps.store ∙ first.store };
+        actions = sends.actions ∙ ap (λ (l : List Action). l ++ send_actions (one_more mid.desk.numbers.forward) mid.desk.numbers.moment None validation) replies.actions
+            ∙ append_assoc old.actions _ _
+            ∙ ap (λ (n : Numbers). old.actions ++ (reply_actions held.number old.desk.numbers.moment (is_head held.exchange.request.method) held.exchange.connection closes reply ++ send_actions (one_more n.forward) n.moment None validation)) replies.numbers;
+      }
 
--- what is behind it may be nothing
-pub replies_alone : (S H : Type 0) (number : ℕ) (exchange : OpenExchange) (client : Client) (closes : Bool) (reply : Message ResponseHead) (behind : Option (Message RequestHead))
-    (before after : List Action) (old new : Desk S H) → behind ≡ None → GivesReplyAtOnce {S = S} {H = H} number exchange client closes reply before after old new
-    → GivesReplies {S = S} {H = H} number exchange client closes reply behind before after old new
-replies_alone S H number exchange client closes reply behind before after old new is replies =
-    subst (λ (o : Option (Message RequestHead)). GivesReplies {S = S} {H = H} number exchange client closes reply o before after old new) (sym is) replies
+  -- what is behind it may be nothing
+  pub replies_alone : (behind : Option (Message RequestHead)) (old new : Reached S H) → behind ≡ None → SendsReply {S = S} {H = H} held closes reply old new
+      → SendsReplies {S = S} {H = H} held closes reply behind old new
+  replies_alone behind old new is replies = subst (λ (o : Option (Message RequestHead)). SendsReplies {S = S} {H = H} held closes reply o old new) (sym is) replies
 
-pub replies_then : (S H : Type 0) (number : ℕ) (exchange : OpenExchange) (client : Client) (closes : Bool) (reply : Message ResponseHead) (behind : Option (Message RequestHead))
-    (validation : Message RequestHead) (before between after : List Action) (old mid new : Desk S H) → behind ≡ Some validation
-    → GivesReplyAtOnce {S = S} {H = H} number exchange client closes reply before between old mid
-    → SendsBehind {S = S} {H = H} exchange.target validation between after mid new
-    → GivesReplies {S = S} {H = H} number exchange client closes reply behind before after old new
-replies_then S H number exchange client closes reply behind validation before between after old mid new is replies sends =
-    subst (λ (o : Option (Message RequestHead)). GivesReplies {S = S} {H = H} number exchange client closes reply o before after old new) (sym is)
-    (reply_then_behind S H number exchange client closes reply validation before between after old mid new replies sends)
+  pub replies_then : (behind : Option (Message RequestHead)) (validation : Message RequestHead) (old mid new : Reached S H) → behind ≡ Some validation
+      → SendsReply {S = S} {H = H} held closes reply old mid → SendsBehind {S = S} {H = H} held.exchange.target validation mid new
+      → SendsReplies {S = S} {H = H} held closes reply behind old new
+  replies_then behind validation old mid new is replies sends =
+      subst (λ (o : Option (Message RequestHead)). SendsReplies {S = S} {H = H} held closes reply o old new) (sym is)
+      (reply_then_behind validation old mid new replies sends)

@@ -18,14 +18,14 @@ use Rattle.hc_machine.specs.declared.desk.Desk.{Desk}
 use Rattle.hc_open.specs.declared.links.Client.{Client}
 use Rattle.hc_open.specs.declared.links.Link.{Link}
 use Rattle.hc_open.specs.Links.{IsClient, IsLink}
-use Rattle.hc_machine.specs.Standing.{CanServe, GivesEnding, GivesReading, GivesTelling, GivesTurn}
+use Rattle.hc_machine.specs.Standing.{CanServe, GivesEnding, GivesReading, GivesReceiving, GivesTurn, from_state, at_desk}
 use Rattle.hc_open.proofs.TableLemmas.{found}
 
 -- a reader that agrees with some octets can read on
-pub request_can_read : (r : RequestReader) (octets : List ℕ) → requests.Agrees r octets → requests.CanRead r
+pub request_can_read : (r : RequestReader) (octets : List ℕ) → requests.WasGiven r octets → requests.CanRead r
 request_can_read r octets agrees = inl (record { kind = Request; room = RECEIVED; octets = agrees.read; agrees = agrees.reads })
 
-pub response_can_read : (to_head : Bool) (r : ResponseReader) (octets : List ℕ) → responses.Agrees to_head r octets → responses.CanRead r
+pub response_can_read : (to_head : Bool) (r : ResponseReader) (octets : List ℕ) → responses.WasGiven to_head r octets → responses.CanRead r
 response_can_read to_head r octets agrees = inl (record { kind = Response to_head; room = RECEIVED; octets = agrees.rest; agrees = agrees.reads })
 
 module _ (S H : Type 0) (d : Desk S H) where
@@ -40,19 +40,19 @@ module _ (S H : Type 0) (d : Desk S H) where
 
   pub can_read_link : (f : ℕ) (link : Link) → CanServe {S = S} {H = H} d → Some link ≡ kept_at nat_cmp d.links.by_number f → responses.CanRead link.reader
   can_read_link f link can is =
-      let a = found IsLink _ _ link (can.stands.links.by_number.at f) (sym is) in response_can_read _ link.reader a.0.heard a.2.reads
+      let a = found IsLink _ _ link (can.stands.links.by_number.at f) (sym is) in response_can_read _ link.reader a.0.received a.2.reads
 
   -- behind turns
-  pub can_behind_turn : (settings : CoreSettings) (turn : Turn) (s : State) (a z : List Action) → GivesTurn {S = S} {H = H} settings turn s a z d → CanServe {S = S} {H = H} d
+  pub can_behind_turn : (settings : CoreSettings) (turn : Turn) (s : State) (a z : List Action) → GivesTurn {S = S} {H = H} (from_state settings s a) turn (at_desk z d) → CanServe {S = S} {H = H} d
   can_behind_turn settings turn s a z gives = record { settings = settings; state = gives.state; stands = gives.stands }
 
-  pub can_behind_reading : (settings : CoreSettings) (c : ℕ) (more : Bool) (s : State) (a z : List Action) → GivesReading {S = S} {H = H} settings c more s a z d → CanServe {S = S} {H = H} d
+  pub can_behind_reading : (settings : CoreSettings) (c : ℕ) (more : Bool) (s : State) (a z : List Action) → GivesReading {S = S} {H = H} (from_state settings s a) c more (at_desk z d) → CanServe {S = S} {H = H} d
   can_behind_reading settings c more s a z gives = record { settings = settings; state = gives.state; stands = gives.stands }
 
-  pub can_behind_ending : (settings : CoreSettings) (turn : Turn) (f : ℕ) (client : Option ℕ) (s : State) (a z : List Action) → GivesEnding {S = S} {H = H} settings turn f client s a z d
+  pub can_behind_ending : (settings : CoreSettings) (turn : Turn) (f : ℕ) (client : Option ℕ) (s : State) (a z : List Action) → GivesEnding {S = S} {H = H} (from_state settings s a) turn f client (at_desk z d)
       → CanServe {S = S} {H = H} d
   can_behind_ending settings turn f client s a z gives = record { settings = settings; state = gives.state; stands = gives.stands }
 
-  pub can_behind_telling : (settings : CoreSettings) (f : ℕ) (octets : List ℕ) (client : Option ℕ) (s : State) (a z : List Action) → GivesTelling {S = S} {H = H} settings f octets client s a z d
+  pub can_behind_receiving : (settings : CoreSettings) (f : ℕ) (octets : List ℕ) (client : Option ℕ) (s : State) (a z : List Action) → GivesReceiving {S = S} {H = H} (from_state settings s a) f octets client (at_desk z d)
       → CanServe {S = S} {H = H} d
-  can_behind_telling settings f octets client s a z gives = record { settings = settings; state = gives.state; stands = gives.stands }
+  can_behind_receiving settings f octets client s a z gives = record { settings = settings; state = gives.state; stands = gives.stands }

@@ -5,13 +5,13 @@ use Rattle.std.specs.FinMap.{get, insert, len}
 use Rattle.hc_service.specs.declared.numbers.Numbers.{Numbers}
 use Rattle.hc_service.specs.declared.settings.CoreSettings.{CoreSettings}
 use Rattle.hc_service.specs.Numbers.{after_opening, is_later}
-use Rattle.hc_service.specs.Serves.Turn.{Opening, Hearing}
+use Rattle.hc_service.specs.Serves.Turn.{Opening, ClientSending}
 use Rattle.hc_service.specs.State.{State, Table, Connection, new_connection}
-use Rattle.hc_service.specs.Turns.{after_octets, most_connections}
+use Rattle.hc_service.specs.Turns.{after_client_octets, most_connections}
 use Rattle.hc_machine.specs.declared.desk.Desk.{Desk}
 use Rattle.hc_open.specs.declared.links.Client.{Client}
 use Rattle.hc_open.specs.Links.{AreClients}
-use Rattle.hc_machine.specs.Standing.{GivesTurn, Stands}
+use Rattle.hc_machine.specs.Standing.{GivesTurn, DeskStandsFor, from_state, at_desk}
 
 module _ (S H : Type 0) (settings : CoreSettings) (d : Desk S H) (s : State) where
   -- the state with other connections
@@ -25,8 +25,8 @@ module _ (S H : Type 0) (settings : CoreSettings) (d : Desk S H) (s : State) whe
   }
 
   -- what is kept with other connections is that of the state with them
-  pub stands_connected : (clients : BTreeMap ℕ Client) (connections : Table Connection) → Stands {S = S} {H = H} settings d s → AreClients clients connections
-      → Stands {S = S} {H = H} settings (record { alloc = d.alloc; name = d.name; numbers = d.numbers; clients = clients; exchanges = d.exchanges; links = d.links; store = d.store }) (connected connections)
+  pub stands_connected : (clients : BTreeMap ℕ Client) (connections : Table Connection) → DeskStandsFor {S = S} {H = H} settings d s → AreClients clients connections
+      → DeskStandsFor {S = S} {H = H} settings (record { alloc = d.alloc; name = d.name; numbers = d.numbers; clients = clients; exchanges = d.exchanges; links = d.links; store = d.store }) (connected connections)
   stands_connected clients connections stands are = record {
     name = stands.name;
     numbers = stands.numbers;
@@ -37,9 +37,9 @@ module _ (S H : Type 0) (settings : CoreSettings) (d : Desk S H) (s : State) whe
     in_time = stands.in_time;
   }
 
-  pub opened : (c : ℕ) (numbers : Numbers) (clients : BTreeMap ℕ Client) → Stands {S = S} {H = H} settings d s → is_later c s.numbers.connection ≡ true → len s.connections < most_connections
+  pub opened : (c : ℕ) (numbers : Numbers) (clients : BTreeMap ℕ Client) → DeskStandsFor {S = S} {H = H} settings d s → is_later c s.numbers.connection ≡ true → len s.connections < most_connections
       → numbers ≡ after_opening c d.numbers → AreClients clients (insert s.connections c new_connection)
-      → GivesTurn {S = S} {H = H} settings (Opening c) s [] [] (record { alloc = d.alloc; name = d.name; numbers = numbers; clients = clients; exchanges = d.exchanges; links = d.links; store = d.store })
+      → GivesTurn {S = S} {H = H} (from_state settings s []) (Opening c) (at_desk [] (record { alloc = d.alloc; name = d.name; numbers = numbers; clients = clients; exchanges = d.exchanges; links = d.links; store = d.store }))
   opened c numbers clients stands later place is are = record {
     state = record {
       numbers = after_opening c s.numbers;
@@ -65,19 +65,18 @@ module _ (S H : Type 0) (settings : CoreSettings) (d : Desk S H) (s : State) whe
         has_place = place;
         numbers = refl;
         connections = refl;
-        exchanges = refl;
-        forwards = refl;
+        keeps = record { exchanges = refl; forwards = refl };
         store = refl;
         actions_are = refl;
       },
     );
   }
 
-  pub heard : (c : ℕ) (octets : List ℕ) (k : Connection) (clients : BTreeMap ℕ Client) → Stands {S = S} {H = H} settings d s → get s.connections c ≡ Some k
-      → AreClients clients (insert s.connections c (after_octets octets k))
-      → GivesTurn {S = S} {H = H} settings (Hearing c octets) s [] [] (record { alloc = d.alloc; name = d.name; numbers = d.numbers; clients = clients; exchanges = d.exchanges; links = d.links; store = d.store })
+  pub heard : (c : ℕ) (octets : List ℕ) (k : Connection) (clients : BTreeMap ℕ Client) → DeskStandsFor {S = S} {H = H} settings d s → get s.connections c ≡ Some k
+      → AreClients clients (insert s.connections c (after_client_octets octets k))
+      → GivesTurn {S = S} {H = H} (from_state settings s []) (ClientSending c octets) (at_desk [] (record { alloc = d.alloc; name = d.name; numbers = d.numbers; clients = clients; exchanges = d.exchanges; links = d.links; store = d.store }))
   heard c octets k clients stands there are = record {
-    state = connected (insert s.connections c (after_octets octets k));
+    state = connected (insert s.connections c (after_client_octets octets k));
     stands = stands_connected clients _ stands are;
     takes = (
       [],
@@ -85,11 +84,8 @@ module _ (S H : Type 0) (settings : CoreSettings) (d : Desk S H) (s : State) whe
       record {
         connection = k;
         is_open = there;
-        numbers = refl;
         connections = refl;
-        exchanges = refl;
-        forwards = refl;
-        store = refl;
+        keeps = record { numbers = refl; exchanges = refl; forwards = refl; store = refl };
         actions_are = refl;
       },
     );

@@ -18,7 +18,7 @@ use Rattle.hc_service.specs.State.{State}
 use Rattle.hc_transcript.specs.Limits.{greatest_moment}
 use Rattle.hc_machine.specs.declared.desk.Desk.{Desk}
 use Rattle.hc_machine.specs.Happenings.{CanTake, GivesDoing, TakesOn}
-use Rattle.hc_machine.specs.Standing.{CanServe, GivesService, IsKept, Stands}
+use Rattle.hc_machine.specs.Standing.{CanServe, GivesService, IsKept, DeskStandsFor}
 use Rattle.hc_machine.specs.Steps.{Cache, CanStep, GivesStep, IsOfTest, StandsFor, TellsFirst, cache_of}
 
 -- ---- tests
@@ -45,7 +45,7 @@ can_step failed d (inl has) hasnt = absurd (cc)
 can_step failed d (inr can) hasnt = can
 
 -- a cache that stands for a state keeps what that state has
-pub keeps : {S H : Type 0} (settings : CoreSettings) (s : State) (failed : Bool) (d : Desk S H) (cache : Cache) → cache_of failed d ≡ cache → StandsFor settings cache s → Stands settings d s
+pub keeps : {S H : Type 0} (settings : CoreSettings) (s : State) (failed : Bool) (d : Desk S H) (cache : Cache) → cache_of failed d ≡ cache → StandsFor settings cache s → DeskStandsFor settings d s
 keeps settings s failed d cache is stands = subst (λ (x : Cache). IsKept settings x.kept s) (sym is) stands.stands
 
 -- what a test tells is what a step answers
@@ -94,9 +94,9 @@ place_then moment s (OriginFailed f) place = place
 
 module _ (S H : Type 0) where
   -- the moment has come
-  pub passed : (settings : CoreSettings) (moment : ℕ) (d : Desk S H) (s : State) (numbers : Numbers) → Stands {S = S} {H = H} settings d s → moment < end_of_moments
+  pub passed : (settings : CoreSettings) (moment : ℕ) (d : Desk S H) (s : State) (numbers : Numbers) → DeskStandsFor {S = S} {H = H} settings d s → moment < end_of_moments
       → numbers ≡ at_moment moment d.numbers
-      → Stands {S = S} {H = H} settings
+      → DeskStandsFor {S = S} {H = H} settings
       (record { alloc = d.alloc; name = d.name; numbers = numbers; clients = d.clients; exchanges = d.exchanges; links = d.links; store = d.store }) (passed_to moment s)
   passed settings moment d s numbers stands in-time is = record {
     name = stands.name;
@@ -147,7 +147,7 @@ module _ (S H : Type 0) where
 
   -- it is served by what is owed for what happens
   pub served : (settings : CoreSettings) (event : Event) (s : State) (result : Result (Vec Action Global) AllocError) (mid d : Desk S H) → first_fault event s ≡ None
-      → Stands {S = S} {H = H} settings mid (passed_to event.moment s) → TakesOn {S = S} {H = H} event.of mid result d
+      → DeskStandsFor {S = S} {H = H} settings mid (passed_to event.moment s) → TakesOn {S = S} {H = H} event.of mid result d
       → IfOk result (λ (actions : Vec Action Global). GivesService {S = S} {H = H} settings event s actions.items d)
   served settings event s result mid d none stands takes =
       let tests = passes_tests event s none in

@@ -18,7 +18,7 @@ use Rattle.hc_service.specs.Turns.{after_leaving}
 use Rattle.hc_machine.specs.declared.desk.Desk.{Desk}
 use Rattle.hc_open.specs.declared.links.Client.{Client}
 use Rattle.hc_open.specs.Links.{AreClients}
-use Rattle.hc_machine.specs.Standing.{GivesEnd, Stands, without_connection}
+use Rattle.hc_machine.specs.Standing.{GivesEnd, DeskStandsFor, without_connection, from_state, at_desk}
 use Rattle.hc_open.proofs.TableLemmas.{put_back, put_same}
 
 -- what holds where it succeeds
@@ -30,7 +30,7 @@ on_ok (Err e) f p = tt
 pub refused_at_end : (answer : Option ℕ) (status : ℕ) (octets : List ℕ) → answer ≡ Some status → requests.GivesEnd (Ok answer) octets → IsRefused octets status
 refused_at_end answer status octets is gives = subst (λ (o : Option ℕ). requests.GivesEnd (Ok o) octets) is gives
 
--- no whole request waits where none had come, so it is cut off
+-- no whole request is there where none had come, so it is cut off
 pub cut_off_at_end : (answer : Option ℕ) (octets : List ℕ) → answer ≡ None → requests.GivesEnd (Ok answer) octets → IsUnfinished octets → IsCutOff octets
 cut_off_at_end answer octets is gives unfinished = go (subst (λ (o : Option ℕ). requests.GivesEnd (Ok o) octets) is gives)
   where
@@ -40,8 +40,8 @@ cut_off_at_end answer octets is gives unfinished = go (subst (λ (o : Option ℕ
 
 module _ (S H : Type 0) (settings : CoreSettings) (c : ℕ) where
   -- a client that is taken out leaves what the state without it has
-  pub left_without : (d : Desk S H) (s : State) (clients : BTreeMap ℕ Client) → Stands {S = S} {H = H} settings d s → AreClients clients (remove s.connections c)
-      → Stands {S = S} {H = H} settings (record { alloc = d.alloc; name = d.name; numbers = d.numbers; clients = clients; exchanges = d.exchanges; links = d.links; store = d.store })
+  pub left_without : (d : Desk S H) (s : State) (clients : BTreeMap ℕ Client) → DeskStandsFor {S = S} {H = H} settings d s → AreClients clients (remove s.connections c)
+      → DeskStandsFor {S = S} {H = H} settings (record { alloc = d.alloc; name = d.name; numbers = d.numbers; clients = clients; exchanges = d.exchanges; links = d.links; store = d.store })
       (without_connection c s)
   left_without d s clients stands are = record {
     name = stands.name;
@@ -53,7 +53,7 @@ module _ (S H : Type 0) (settings : CoreSettings) (c : ℕ) where
     in_time = stands.in_time;
   }
 
-  module _ (d : Desk S H) (s : State) (k : Connection) (stands : Stands {S = S} {H = H} settings d (without_connection c s)) (there : get s.connections c ≡ Some k) where
+  module _ (d : Desk S H) (s : State) (k : Connection) (stands : DeskStandsFor {S = S} {H = H} settings d (without_connection c s)) (there : get s.connections c ≡ Some k) where
     -- the state with that connection
     abbrev with_connection : Connection → State
     with_connection q = record {
@@ -69,7 +69,7 @@ module _ (S H : Type 0) (settings : CoreSettings) (c : ℕ) where
     with_clients clients = record { alloc = d.alloc; name = d.name; numbers = d.numbers; clients = clients; exchanges = d.exchanges; links = d.links; store = d.store }
 
     stands_with : (clients : BTreeMap ℕ Client) (connections : Table Connection) → AreClients clients connections
-        → Stands {S = S} {H = H} settings (with_clients clients)
+        → DeskStandsFor {S = S} {H = H} settings (with_clients clients)
         (record { numbers = s.numbers; connections = connections; exchanges = s.exchanges; forwards = s.forwards; store = s.store })
     stands_with clients connections are = record {
       name = stands.name;
@@ -83,8 +83,7 @@ module _ (S H : Type 0) (settings : CoreSettings) (c : ℕ) where
 
     -- nothing more was read of it: it is put back as it was
     pub ends_unread : (clients : BTreeMap ℕ Client) (items : List Action) → k.leaves ≡ true → AreClients clients (insert (remove s.connections c) c k)
-        → GivesEnd {S = S} {H = H} settings c k s items items
-        (record { alloc = d.alloc; name = d.name; numbers = d.numbers; clients = clients; exchanges = d.exchanges; links = d.links; store = d.store })
+        → GivesEnd {S = S} {H = H} (from_state settings s items) c k (at_desk items (record { alloc = d.alloc; name = d.name; numbers = d.numbers; clients = clients; exchanges = d.exchanges; links = d.links; store = d.store }))
     ends_unread clients items leaves are = record {
       state = s;
       stands = stands_with clients s.connections (subst (AreClients clients) (put_back s.connections c k ∙ put_same s.connections c k there) are);
@@ -100,16 +99,15 @@ module _ (S H : Type 0) (settings : CoreSettings) (c : ℕ) where
     alone : (turn : Turn) (actions : List Action) (s' : State) → Takes settings turn s actions s' → Run settings (turn ∷ []) s actions s'
     alone turn actions s' takes = (s', actions, [], takes, sym (append-nil actions), (refl, refl))
 
-    -- what waits behind the request is given up
-    pub ends_waiting : (clients : BTreeMap ℕ Client) (items : List Action) (exchange : ℕ) → k.leaves ≡ false → k.exchange ≡ Some exchange
+    -- what is unread behind the request is given up
+    pub ends_busy : (clients : BTreeMap ℕ Client) (items : List Action) (exchange : ℕ) → k.leaves ≡ false → k.exchange ≡ Some exchange
         → AreClients clients (insert (remove s.connections c) c (after_leaving k))
-        → GivesEnd {S = S} {H = H} settings c k s items items
-        (record { alloc = d.alloc; name = d.name; numbers = d.numbers; clients = clients; exchanges = d.exchanges; links = d.links; store = d.store })
-    ends_waiting clients items exchange stays waits are = record {
+        → GivesEnd {S = S} {H = H} (from_state settings s items) c k (at_desk items (record { alloc = d.alloc; name = d.name; numbers = d.numbers; clients = clients; exchanges = d.exchanges; links = d.links; store = d.store }))
+    ends_busy clients items exchange stays awaits are = record {
       state = with_connection (after_leaving k);
       stands = stands_with clients (insert s.connections c (after_leaving k)) (subst (AreClients clients) (put_back s.connections c (after_leaving k)) are);
       turns = Leaving c ∷ [];
-      owes = owed (Some exchange) (Leaving c ∷ []) stays waits refl;
+      owes = owed (Some exchange) (Leaving c ∷ []) stays awaits refl;
       runs = (
         [],
         sym (append-nil items),
@@ -117,12 +115,9 @@ module _ (S H : Type 0) (settings : CoreSettings) (c : ℕ) where
           connection = k;
           is_open = there;
           exchange = exchange;
-          waits = waits;
-          numbers = refl;
+          awaits = awaits;
           connections = refl;
-          exchanges = refl;
-          forwards = refl;
-          store = refl;
+          keeps = record { numbers = refl; exchanges = refl; forwards = refl; store = refl };
           actions_are = refl;
         }),
       );
@@ -130,7 +125,7 @@ module _ (S H : Type 0) (settings : CoreSettings) (c : ℕ) where
 
     -- the connection closes
     pub ends_closing : (before after : List Action) → k.leaves ≡ false → k.exchange ≡ None → (IsUnfinished k.unread → IsCutOff k.unread) → after ≡ before ++ CloseClient c ∷ []
-        → GivesEnd {S = S} {H = H} settings c k s before after d
+        → GivesEnd {S = S} {H = H} (from_state settings s before) c k (at_desk after d)
     ends_closing before after stays idle cut-off are = record {
       state = without_connection c s;
       stands = stands;
@@ -144,11 +139,8 @@ module _ (S H : Type 0) (settings : CoreSettings) (c : ℕ) where
           is_open = there;
           idle = idle;
           cut_off = cut-off;
-          numbers = refl;
           connections = refl;
-          exchanges = refl;
-          forwards = refl;
-          store = refl;
+          keeps = record { numbers = refl; exchanges = refl; forwards = refl; store = refl };
           actions_are = refl;
         }),
       );
@@ -157,7 +149,7 @@ module _ (S H : Type 0) (settings : CoreSettings) (c : ℕ) where
     -- what came is refused
     pub ends_refused : (status : ℕ) (before after : List Action) → k.leaves ≡ false → k.exchange ≡ None → IsRefused k.unread status
         → after ≡ before ++ refusal_actions c (generated_reply status d.numbers.moment true)
-        → GivesEnd {S = S} {H = H} settings c k s before after d
+        → GivesEnd {S = S} {H = H} (from_state settings s before) c k (at_desk after d)
     ends_refused status before after stays idle refused are = record {
       state = without_connection c s;
       stands = stands;
@@ -171,11 +163,8 @@ module _ (S H : Type 0) (settings : CoreSettings) (c : ℕ) where
           is_open = there;
           idle = idle;
           refused = refused;
-          numbers = refl;
           connections = refl;
-          exchanges = refl;
-          forwards = refl;
-          store = refl;
+          keeps = record { numbers = refl; exchanges = refl; forwards = refl; store = refl };
           actions_are = refl;
         }),
       );

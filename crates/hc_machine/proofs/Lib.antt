@@ -5,9 +5,9 @@ pub mod TakenLemmas
 pub mod SendLemmas
 pub mod EndLemmas
 pub mod OutcomeLemmas
-pub mod HeardLemmas
+pub mod UnreadLemmas
 pub mod CanLemmas
-pub mod TellLemmas
+pub mod ReceiveLemmas
 pub mod EventLemmas
 pub mod LeaveLemmas
 pub mod ServeLemmas

@@ -20,12 +20,12 @@ use Rattle.hc_service.specs.Sending.{refusal_actions}
 use Rattle.hc_service.specs.Serves.{IsQuietAt, IsQuietBy, Reads, Run, Turn}
 use Rattle.hc_service.specs.Serves.Turn.{Asking, Dropping, Refusal}
 use Rattle.hc_service.specs.State.{State, Connection}
-use Rattle.hc_service.specs.Turns.{after_leaving, most_waiting}
+use Rattle.hc_service.specs.Turns.{after_leaving, most_unread}
 use Rattle.hc_machine.specs.declared.desk.Desk.{Desk}
 use Rattle.hc_open.specs.declared.links.Client.{Client}
-use Rattle.hc_open.specs.Links.{AreClients, IsClient, IsTrimmed, WaitsWhole}
+use Rattle.hc_open.specs.Links.{AreClients, IsClient, IsTrimmed, IsUntouched}
 use Rattle.hc_machine.specs.Reading.{IsAsked}
-use Rattle.hc_machine.specs.Standing.{GivesReading, GivesTurn, Stands, without_connection}
+use Rattle.hc_machine.specs.Standing.{GivesReading, GivesTurn, DeskStandsFor, without_connection, from_state, at_desk}
 use Rattle.hc_open.proofs.TableLemmas.{alike_taken, found, get_gone, get_put, gone_same, put_back, put_same}
 
 some_one : {X : Type 0} (a b : X) → Some a ≡ Some b → a ≡ b
@@ -41,7 +41,7 @@ pub still_idle : (client : Client) (reader : RequestReader) (k : Connection) →
     → IsClient (record { reader = reader; exchange = client.exchange; leaves = client.leaves }) k
 still_idle client reader k is idle read = record {
   reads = read.agrees;
-  waits = subst (λ (e : Option ℕ). WaitsWhole e reader k.unread) (sym idle) tt;
+  untouched = subst (λ (e : Option ℕ). IsUntouched e reader k.unread) (sym idle) tt;
   exchange = is.exchange;
   leaves = is.leaves;
 }
@@ -67,8 +67,8 @@ all_on c (turn ∷ turns) more all on = (all.0, all_on c turns more all.1 on)
 
 module _ (S H : Type 0) (settings : CoreSettings) (c : ℕ) where
   -- what is read from here on is read behind what was read so far
-  pub reads_on : (d e : Desk S H) (so_far more : Bool) (s : State) (a b z : List Action) (first : GivesReading {S = S} {H = H} settings c so_far s a b d)
-      → GivesReading {S = S} {H = H} settings c more first.state b z e → GivesReading {S = S} {H = H} settings c more s a z e
+  pub reads_on : (d e : Desk S H) (so_far more : Bool) (s : State) (a b z : List Action) (first : GivesReading {S = S} {H = H} (from_state settings s a) c so_far (at_desk b d))
+      → GivesReading {S = S} {H = H} (from_state settings first.state b) c more (at_desk z e) → GivesReading {S = S} {H = H} (from_state settings s a) c more (at_desk z e)
   reads_on d e so_far more s a b z first next = record {
     state = next.state;
     stands = next.stands;
@@ -83,12 +83,12 @@ module _ (S H : Type 0) (settings : CoreSettings) (c : ℕ) where
   }
 
   -- where it is known whether there may be more
-  pub reads_as : (d : Desk S H) (given known : Bool) (s : State) (a z : List Action) → given ≡ known → GivesReading {S = S} {H = H} settings c given s a z d
-      → GivesReading {S = S} {H = H} settings c known s a z d
-  reads_as d given known s a z is gives = subst (λ (b : Bool). GivesReading {S = S} {H = H} settings c b s a z d) is gives
+  pub reads_as : (d : Desk S H) (given known : Bool) (s : State) (a z : List Action) → given ≡ known → GivesReading {S = S} {H = H} (from_state settings s a) c given (at_desk z d)
+      → GivesReading {S = S} {H = H} (from_state settings s a) c known (at_desk z d)
+  reads_as d given known s a z is gives = subst (λ (b : Bool). GivesReading {S = S} {H = H} (from_state settings s a) c b (at_desk z d)) is gives
 
   -- nothing was read yet
-  pub reads_none : (d : Desk S H) (s : State) (items : List Action) → Stands {S = S} {H = H} settings d s → GivesReading {S = S} {H = H} settings c true s items items d
+  pub reads_none : (d : Desk S H) (s : State) (items : List Action) → DeskStandsFor {S = S} {H = H} settings d s → GivesReading {S = S} {H = H} (from_state settings s items) c true (at_desk items d)
   reads_none d s items stands = record {
     state = s;
     stands = stands;
@@ -99,8 +99,8 @@ module _ (S H : Type 0) (settings : CoreSettings) (c : ℕ) where
   }
 
   -- one turn reads
-  pub reads_one : (d : Desk S H) (turn : Turn) (more : Bool) (s : State) (a z : List Action) (gives : GivesTurn {S = S} {H = H} settings turn s a z d) → Reads c turn
-      → (more ≡ false → IsQuietAt c gives.state) → GivesReading {S = S} {H = H} settings c more s a z d
+  pub reads_one : (d : Desk S H) (turn : Turn) (more : Bool) (s : State) (a z : List Action) (gives : GivesTurn {S = S} {H = H} (from_state settings s a) turn (at_desk z d)) → Reads c turn
+      → (more ≡ false → IsQuietAt c gives.state) → GivesReading {S = S} {H = H} (from_state settings s a) c more (at_desk z d)
   reads_one d turn more s a z gives reads quiet = record {
     state = gives.state;
     stands = gives.stands;
@@ -111,14 +111,13 @@ module _ (S H : Type 0) (settings : CoreSettings) (c : ℕ) where
   }
 
   -- a whole request was read, and there may be more
-  pub reads_asking : (d : Desk S H) (s : State) (a z : List Action) → GivesTurn {S = S} {H = H} settings (Asking c) s a z d → GivesReading {S = S} {H = H} settings c true s a z d
+  pub reads_asking : (d : Desk S H) (s : State) (a z : List Action) → GivesTurn {S = S} {H = H} (from_state settings s a) (Asking c) (at_desk z d) → GivesReading {S = S} {H = H} (from_state settings s a) c true (at_desk z d)
   reads_asking d s a z gives = reads_one d (Asking c) true s a z gives refl (λ not. absurd (cc))
 
-  module _ (d : Desk S H) (s : State) (k : Connection) (stands : Stands {S = S} {H = H} settings d (without_connection c s)) (there : get s.connections c ≡ Some k) where
+  module _ (d : Desk S H) (s : State) (k : Connection) (stands : DeskStandsFor {S = S} {H = H} settings d (without_connection c s)) (there : get s.connections c ≡ Some k) where
     -- a connection that is put back as it was
     pub reads_nothing : (clients : BTreeMap ℕ Client) (items : List Action) → AreClients clients (insert (remove s.connections c) c k) → IsQuietBy k.exchange k.unread
-        → GivesReading {S = S} {H = H} settings c false s items items
-        (record { alloc = d.alloc; name = d.name; numbers = d.numbers; clients = clients; exchanges = d.exchanges; links = d.links; store = d.store })
+        → GivesReading {S = S} {H = H} (from_state settings s items) c false (at_desk items (record { alloc = d.alloc; name = d.name; numbers = d.numbers; clients = clients; exchanges = d.exchanges; links = d.links; store = d.store }))
     reads_nothing clients items are quiet = record {
       state = s;
       stands = record {
@@ -138,17 +137,15 @@ module _ (S H : Type 0) (settings : CoreSettings) (c : ℕ) where
 
     -- what came is no whole request yet
     pub reads_unfinished : (clients : BTreeMap ℕ Client) (items : List Action) → AreClients clients (insert (remove s.connections c) c k) → k.exchange ≡ None → IsUnfinished k.unread
-        → GivesReading {S = S} {H = H} settings c false s items items
-        (record { alloc = d.alloc; name = d.name; numbers = d.numbers; clients = clients; exchanges = d.exchanges; links = d.links; store = d.store })
+        → GivesReading {S = S} {H = H} (from_state settings s items) c false (at_desk items (record { alloc = d.alloc; name = d.name; numbers = d.numbers; clients = clients; exchanges = d.exchanges; links = d.links; store = d.store }))
     reads_unfinished clients items are idle unfinished =
         reads_nothing clients items are (subst (λ (e : Option ℕ). IsQuietBy e k.unread) (sym idle) unfinished)
 
-    -- octets that waited are dropped
+    -- unread octets are dropped
     pub reads_dropping : (clients : BTreeMap ℕ Client) (items : List Action) (exchange : ℕ) → AreClients clients (insert (remove s.connections c) c (after_leaving k))
-        → k.exchange ≡ Some exchange → most_waiting < length k.unread
-        → GivesReading {S = S} {H = H} settings c false s items items
-        (record { alloc = d.alloc; name = d.name; numbers = d.numbers; clients = clients; exchanges = d.exchanges; links = d.links; store = d.store })
-    reads_dropping clients items exchange are waits over =
+        → k.exchange ≡ Some exchange → most_unread < length k.unread
+        → GivesReading {S = S} {H = H} (from_state settings s items) c false (at_desk items (record { alloc = d.alloc; name = d.name; numbers = d.numbers; clients = clients; exchanges = d.exchanges; links = d.links; store = d.store }))
+    reads_dropping clients items exchange are awaits over =
         let left : State = record {
           numbers = s.numbers;
           connections = insert s.connections c (after_leaving k);
@@ -174,24 +171,21 @@ module _ (S H : Type 0) (settings : CoreSettings) (c : ℕ) where
               connection = k;
               is_open = there;
               exchange = exchange;
-              waits = waits;
+              awaits = awaits;
               too_many = over;
-              numbers = refl;
               connections = refl;
-              exchanges = refl;
-              forwards = refl;
-              store = refl;
+              keeps = record { numbers = refl; exchanges = refl; forwards = refl; store = refl };
               actions_are = refl;
             },
           );
         }) refl
         (λ _ q is. subst (λ (x : Connection). IsQuietBy x.exchange x.unread) (some_one (after_leaving k) q (sym (get_put s.connections c (after_leaving k)) ∙ is))
-        (subst (λ (e : Option ℕ). IsQuietBy e []) (sym waits) (omega arith)))
+        (subst (λ (e : Option ℕ). IsQuietBy e []) (sym awaits) (omega arith)))
 
     -- what came is refused
     pub reads_refusal : (status : ℕ) (a z : List Action) → k.exchange ≡ None → IsRefused k.unread status
         → z ≡ a ++ refusal_actions c (generated_reply status d.numbers.moment true)
-        → GivesReading {S = S} {H = H} settings c false s a z d
+        → GivesReading {S = S} {H = H} (from_state settings s a) c false (at_desk z d)
     reads_refusal status a z idle refused actions =
         reads_one d (Refusal c status) false s a z (record {
           state = without_connection c s;
@@ -204,11 +198,8 @@ module _ (S H : Type 0) (settings : CoreSettings) (c : ℕ) where
               is_open = there;
               idle = idle;
               refused = refused;
-              numbers = refl;
               connections = refl;
-              exchanges = refl;
-              forwards = refl;
-              store = refl;
+              keeps = record { numbers = refl; exchanges = refl; forwards = refl; store = refl };
               actions_are = refl;
             },
           );
@@ -219,10 +210,9 @@ module _ (S H : Type 0) (settings : CoreSettings) (c : ℕ) where
         none_some q e = cc
 
   -- no such connection is open
-  pub reads_absent : (d : Desk S H) (s : State) (clients : BTreeMap ℕ Client) (items : List Action) → Stands {S = S} {H = H} settings d s → get s.connections c ≡ None
+  pub reads_absent : (d : Desk S H) (s : State) (clients : BTreeMap ℕ Client) (items : List Action) → DeskStandsFor {S = S} {H = H} settings d s → get s.connections c ≡ None
       → AreClients clients (remove s.connections c)
-      → GivesReading {S = S} {H = H} settings c false s items items
-      (record { alloc = d.alloc; name = d.name; numbers = d.numbers; clients = clients; exchanges = d.exchanges; links = d.links; store = d.store })
+      → GivesReading {S = S} {H = H} (from_state settings s items) c false (at_desk items (record { alloc = d.alloc; name = d.name; numbers = d.numbers; clients = clients; exchanges = d.exchanges; links = d.links; store = d.store }))
   reads_absent d s clients items stands none are = record {
     state = s;
     stands = record {
@@ -244,8 +234,8 @@ module _ (S H : Type 0) (settings : CoreSettings) (c : ℕ) where
       no_one q e = cc
 
   -- a client that is taken out leaves what the state without it has
-  pub taken_out : (d : Desk S H) (s : State) (clients : BTreeMap ℕ Client) → Stands {S = S} {H = H} settings d s → AreClients clients (remove s.connections c)
-      → Stands {S = S} {H = H} settings (record { alloc = d.alloc; name = d.name; numbers = d.numbers; clients = clients; exchanges = d.exchanges; links = d.links; store = d.store })
+  pub taken_out : (d : Desk S H) (s : State) (clients : BTreeMap ℕ Client) → DeskStandsFor {S = S} {H = H} settings d s → AreClients clients (remove s.connections c)
+      → DeskStandsFor {S = S} {H = H} settings (record { alloc = d.alloc; name = d.name; numbers = d.numbers; clients = clients; exchanges = d.exchanges; links = d.links; store = d.store })
       (without_connection c s)
   taken_out d s clients stands are = record {
     name = stands.name;
@@ -258,10 +248,10 @@ module _ (S H : Type 0) (settings : CoreSettings) (c : ℕ) where
   }
 
   -- a client that was there is that of a connection
-  pub taken_with : (d : Desk S H) (s : State) (client : Client) (clients : BTreeMap ℕ Client) → Stands {S = S} {H = H} settings d s
+  pub taken_with : (d : Desk S H) (s : State) (client : Client) (clients : BTreeMap ℕ Client) → DeskStandsFor {S = S} {H = H} settings d s
       → Updates nat_cmp d.clients clients c None → Some client ≡ kept_at nat_cmp d.clients c → btree_map_len clients + 1 ≡ btree_map_len d.clients
       → (k : Connection) × (get s.connections c ≡ Some k) × IsClient client k
-      × Stands {S = S} {H = H} settings (record { alloc = d.alloc; name = d.name; numbers = d.numbers; clients = clients; exchanges = d.exchanges; links = d.links; store = d.store })
+      × DeskStandsFor {S = S} {H = H} settings (record { alloc = d.alloc; name = d.name; numbers = d.numbers; clients = clients; exchanges = d.exchanges; links = d.links; store = d.store })
       (without_connection c s)
   taken_with d s client clients stands updates value many =
       let seen = found IsClient (kept_at nat_cmp d.clients c) (get s.connections c) client (stands.clients.at c) (sym value) in
@@ -269,13 +259,12 @@ module _ (S H : Type 0) (settings : CoreSettings) (c : ℕ) where
 
   -- what a connection that was trimmed gives
   pub reads_trimmed : (d : Desk S H) (s : State) (k : Connection) (client : Client) (clients : BTreeMap ℕ Client) (items : List Action) (exchange : ℕ) (over : Bool)
-      → Stands {S = S} {H = H} settings d (without_connection c s) → get s.connections c ≡ Some k → k.exchange ≡ Some exchange
-      → nat_lt most_waiting (length k.unread) ≡ over → IsTrimmed over client k
+      → DeskStandsFor {S = S} {H = H} settings d (without_connection c s) → get s.connections c ≡ Some k → k.exchange ≡ Some exchange
+      → nat_lt most_unread (length k.unread) ≡ over → IsTrimmed over client k
       → ((q : Connection) → IsClient client q → AreClients clients (insert (remove s.connections c) c q))
-      → GivesReading {S = S} {H = H} settings c false s items items
-      (record { alloc = d.alloc; name = d.name; numbers = d.numbers; clients = clients; exchanges = d.exchanges; links = d.links; store = d.store })
-  reads_trimmed d s k client clients items exchange true stands there waits over is put =
-      reads_dropping d s k stands there clients items exchange (put (after_leaving k) is) waits (ltb-true most_waiting (length k.unread) over)
-  reads_trimmed d s k client clients items exchange false stands there waits over is put =
+      → GivesReading {S = S} {H = H} (from_state settings s items) c false (at_desk items (record { alloc = d.alloc; name = d.name; numbers = d.numbers; clients = clients; exchanges = d.exchanges; links = d.links; store = d.store }))
+  reads_trimmed d s k client clients items exchange true stands there awaits over is put =
+      reads_dropping d s k stands there clients items exchange (put (after_leaving k) is) awaits (ltb-true most_unread (length k.unread) over)
+  reads_trimmed d s k client clients items exchange false stands there awaits over is put =
       reads_nothing d s k stands there clients items (put k is)
-      (subst (λ (e : Option ℕ). IsQuietBy e k.unread) (sym waits) (ltb-false most_waiting (length k.unread) over))
+      (subst (λ (e : Option ℕ). IsQuietBy e k.unread) (sym awaits) (ltb-false most_unread (length k.unread) over))

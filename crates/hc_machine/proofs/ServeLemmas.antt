@@ -8,12 +8,12 @@ use Rattle.hc_service.specs.declared.action.Action.{Action}
 use Rattle.hc_service.specs.declared.settings.CoreSettings.{CoreSettings}
 use Rattle.hc_service.specs.Agreement.{IsReady}
 use Rattle.hc_service.specs.Serves.{AwaitsStill, ReadsOn, Run, Turn, client_of}
-use Rattle.hc_service.specs.Serves.Turn.{Opening, Hearing, Answering, Failing, Telling}
+use Rattle.hc_service.specs.Serves.Turn.{Opening, ClientSending, Answering, Failing, OriginSending}
 use Rattle.hc_service.specs.State.{State, Connection}
 use Rattle.hc_service.specs.Turns.Failure.{IsBroken, IsCutOff, IsLost}
 use Rattle.hc_machine.specs.declared.desk.Desk.{Desk}
 use Rattle.hc_machine.specs.Happenings.{Does, GivesDoing}
-use Rattle.hc_machine.specs.Standing.{CanServe, DoesTelling, GivesEnd, GivesEnding, GivesReading, GivesReadingBehind, GivesTelling, GivesTurn, Stands}
+use Rattle.hc_machine.specs.Standing.{CanServe, DoesReceiving, GivesEnd, GivesEnding, GivesReading, GivesReadingBehind, GivesReceiving, GivesTurn, DeskStandsFor, from_state, at_desk}
 
 -- something is there
 pub there : {X : Type 0} (o : Option X) → is_some o ≡ true → (x : X) × (o ≡ Some x)
@@ -35,8 +35,8 @@ run_then settings (turn ∷ turns) more s mid s' first rest run on =
 module _ (S H : Type 0) (settings : CoreSettings) (s : State) where
   -- ---- reading a connection behind a reply
 
-  pub reads_no_client : (d : Desk S H) (client : Option ℕ) (items : List Action) → client ≡ None → Stands {S = S} {H = H} settings d s
-      → GivesReadingBehind {S = S} {H = H} settings client s items items d
+  pub reads_no_client : (d : Desk S H) (client : Option ℕ) (items : List Action) → client ≡ None → DeskStandsFor {S = S} {H = H} settings d s
+      → GivesReadingBehind {S = S} {H = H} (from_state settings s items) client (at_desk items d)
   reads_no_client d client items is stands = record {
     state = s;
     stands = stands;
@@ -45,8 +45,8 @@ module _ (S H : Type 0) (settings : CoreSettings) (s : State) where
     runs = ([], sym (append-nil items), (refl, refl));
   }
 
-  pub reads_client : (d : Desk S H) (client : Option ℕ) (c : ℕ) (before after : List Action) → client ≡ Some c → GivesReading {S = S} {H = H} settings c false s before after d
-      → GivesReadingBehind {S = S} {H = H} settings client s before after d
+  pub reads_client : (d : Desk S H) (client : Option ℕ) (c : ℕ) (before after : List Action) → client ≡ Some c → GivesReading {S = S} {H = H} (from_state settings s before) c false (at_desk after d)
+      → GivesReadingBehind {S = S} {H = H} (from_state settings s before) client (at_desk after d)
   reads_client d client c before after is gives = record {
     state = gives.state;
     stands = gives.stands;
@@ -57,7 +57,7 @@ module _ (S H : Type 0) (settings : CoreSettings) (s : State) where
 
 -- behind the end of what the origin sends the cache is that of a state
 pub can_behind_end_of_origin : (S H : Type 0) (settings : CoreSettings) (s : State) (f : ℕ) (client : Option ℕ) (a z : List Action) (d : Desk S H)
-    → GivesEnding {S = S} {H = H} settings (Answering f true) f client s a z d ⊎ GivesEnding {S = S} {H = H} settings (Failing f IsCutOff) f client s a z d
+    → GivesEnding {S = S} {H = H} (from_state settings s a) (Answering f true) f client (at_desk z d) ⊎ GivesEnding {S = S} {H = H} (from_state settings s a) (Failing f IsCutOff) f client (at_desk z d)
     → CanServe {S = S} {H = H} d
 can_behind_end_of_origin S H settings s f client a z d (inl gives) = record { settings = settings; state = gives.state; stands = gives.stands }
 can_behind_end_of_origin S H settings s f client a z d (inr gives) = record { settings = settings; state = gives.state; stands = gives.stands }
@@ -66,7 +66,7 @@ can_behind_end_of_origin S H settings s f client a z d (inr gives) = record { se
 module _ (S H : Type 0) (settings : CoreSettings) (s : State) (start : List Action) (none : start ≡ []) where
   -- ---- clients
 
-  pub does_opening : (c : ℕ) (d : Desk S H) → GivesTurn {S = S} {H = H} settings (Opening c) s [] [] d → GivesDoing {S = S} {H = H} settings (ClientOpened c) s start d
+  pub does_opening : (c : ℕ) (d : Desk S H) → GivesTurn {S = S} {H = H} (from_state settings s []) (Opening c) (at_desk [] d) → GivesDoing {S = S} {H = H} settings (ClientOpened c) s start d
   does_opening c d gives = record {
     state = gives.state;
     stands = gives.stands;
@@ -77,21 +77,21 @@ module _ (S H : Type 0) (settings : CoreSettings) (s : State) (start : List Acti
     };
   }
 
-  pub does_hearing : (c : ℕ) (octets : List ℕ) (mid d : Desk S H) (actions : List Action)
-      → (first : GivesTurn {S = S} {H = H} settings (Hearing c octets) s [] [] mid) → GivesReading {S = S} {H = H} settings c false first.state start actions d
+  pub does_client_sending : (c : ℕ) (octets : List ℕ) (mid d : Desk S H) (actions : List Action)
+      → (first : GivesTurn {S = S} {H = H} (from_state settings s []) (ClientSending c octets) (at_desk [] mid)) → GivesReading {S = S} {H = H} (from_state settings first.state start) c false (at_desk actions d)
       → GivesDoing {S = S} {H = H} settings (ClientBytes c octets) s actions d
-  does_hearing c octets mid d actions first next = record {
+  does_client_sending c octets mid d actions first next = record {
     state = next.state;
     stands = next.stands;
     does = λ ready. record {
-      turns = Hearing c octets ∷ next.turns;
+      turns = ClientSending c octets ∷ next.turns;
       owes = (next.turns, refl, (next.reads, next.quiet refl));
       run = (first.state, first.takes.0, next.runs.0, first.takes.2, next.runs.1 ∙ ap (λ (l : List Action). l ++ next.runs.0) (none ∙ first.takes.1), next.runs.2);
     };
   }
 
   pub does_end : (c : ℕ) (k : Connection) (d : Desk S H) (actions : List Action) → get s.connections c ≡ Some k
-      → GivesEnd {S = S} {H = H} settings c k s start actions d → GivesDoing {S = S} {H = H} settings (ClientEnd c) s actions d
+      → GivesEnd {S = S} {H = H} (from_state settings s start) c k (at_desk actions d) → GivesDoing {S = S} {H = H} settings (ClientEnd c) s actions d
   does_end c k d actions is gives = record {
     state = gives.state;
     stands = gives.stands;
@@ -105,8 +105,8 @@ module _ (S H : Type 0) (settings : CoreSettings) (s : State) (start : List Acti
   -- ---- the origin
 
   -- a forward ends by one turn, and behind it a connection is read on
-  ends_then : (turn : Turn) (f : ℕ) (client : Option ℕ) (mid d : Desk S H) (a z : List Action) (first : GivesEnding {S = S} {H = H} settings turn f client s start a mid)
-      → (next : GivesReadingBehind {S = S} {H = H} settings client first.state a z d) → IsReady s
+  ends_then : (turn : Turn) (f : ℕ) (client : Option ℕ) (mid d : Desk S H) (a z : List Action) (first : GivesEnding {S = S} {H = H} (from_state settings s start) turn f client (at_desk a mid))
+      → (next : GivesReadingBehind {S = S} {H = H} (from_state settings first.state a) client (at_desk z d)) → IsReady s
       → Run settings (turn ∷ next.turns) s z next.state × ReadsOn (client_of f s) next.turns next.state
   ends_then turn f client mid d a z first next ready =
       let t = first.takes ready in (
@@ -115,7 +115,7 @@ module _ (S H : Type 0) (settings : CoreSettings) (s : State) (start : List Acti
       )
 
   does_answer_at_end : (f : ℕ) (client : Option ℕ) (mid d : Desk S H) (a z : List Action)
-      → (first : GivesEnding {S = S} {H = H} settings (Answering f true) f client s start a mid) → GivesReadingBehind {S = S} {H = H} settings client first.state a z d
+      → (first : GivesEnding {S = S} {H = H} (from_state settings s start) (Answering f true) f client (at_desk a mid)) → GivesReadingBehind {S = S} {H = H} (from_state settings first.state a) client (at_desk z d)
       → GivesDoing {S = S} {H = H} settings (OriginEnd f) s z d
   does_answer_at_end f client mid d a z first next = record {
     state = next.state;
@@ -128,7 +128,7 @@ module _ (S H : Type 0) (settings : CoreSettings) (s : State) (start : List Acti
   }
 
   does_failure_at_end : (f : ℕ) (client : Option ℕ) (mid d : Desk S H) (a z : List Action)
-      → (first : GivesEnding {S = S} {H = H} settings (Failing f IsCutOff) f client s start a mid) → GivesReadingBehind {S = S} {H = H} settings client first.state a z d
+      → (first : GivesEnding {S = S} {H = H} (from_state settings s start) (Failing f IsCutOff) f client (at_desk a mid)) → GivesReadingBehind {S = S} {H = H} (from_state settings first.state a) client (at_desk z d)
       → GivesDoing {S = S} {H = H} settings (OriginEnd f) s z d
   does_failure_at_end f client mid d a z first next = record {
     state = next.state;
@@ -142,14 +142,14 @@ module _ (S H : Type 0) (settings : CoreSettings) (s : State) (start : List Acti
 
   -- the origin sends no more: a response has come by then, or the forward fails
   pub does_end_of_origin : (f : ℕ) (client : Option ℕ) (mid d : Desk S H) (a z : List Action)
-      → GivesEnding {S = S} {H = H} settings (Answering f true) f client s start a mid ⊎ GivesEnding {S = S} {H = H} settings (Failing f IsCutOff) f client s start a mid
-      → ((q : State) → Stands {S = S} {H = H} settings mid q → GivesReadingBehind {S = S} {H = H} settings client q a z d)
+      → GivesEnding {S = S} {H = H} (from_state settings s start) (Answering f true) f client (at_desk a mid) ⊎ GivesEnding {S = S} {H = H} (from_state settings s start) (Failing f IsCutOff) f client (at_desk a mid)
+      → ((q : State) → DeskStandsFor {S = S} {H = H} settings mid q → GivesReadingBehind {S = S} {H = H} (from_state settings q a) client (at_desk z d))
       → GivesDoing {S = S} {H = H} settings (OriginEnd f) s z d
   does_end_of_origin f client mid d a z (inl first) next = does_answer_at_end f client mid d a z first (next first.state first.stands)
   does_end_of_origin f client mid d a z (inr first) next = does_failure_at_end f client mid d a z first (next first.state first.stands)
 
   pub does_loss : (f : ℕ) (client : Option ℕ) (mid d : Desk S H) (a z : List Action)
-      → (first : GivesEnding {S = S} {H = H} settings (Failing f IsLost) f client s start a mid) → GivesReadingBehind {S = S} {H = H} settings client first.state a z d
+      → (first : GivesEnding {S = S} {H = H} (from_state settings s start) (Failing f IsLost) f client (at_desk a mid)) → GivesReadingBehind {S = S} {H = H} (from_state settings first.state a) client (at_desk z d)
       → GivesDoing {S = S} {H = H} settings (OriginFailed f) s z d
   does_loss f client mid d a z first next = record {
     state = next.state;
@@ -164,42 +164,42 @@ module _ (S H : Type 0) (settings : CoreSettings) (s : State) (start : List Acti
   module _ (f : ℕ) (octets : List ℕ) (client : Option ℕ) (s' : State) (turns : List Turn) (mid : State) (added rest z : List Action) (all : z ≡ added ++ rest) (reads : ReadsOn client turns s')
       (run : Run settings turns mid rest s') where
     -- the turn that ends the forward, and what is read behind it
-    told_then : (turn : Turn) → Run settings (Telling f octets ∷ turn ∷ []) s added mid → Run settings (Telling f octets ∷ turn ∷ turns) s z s'
-    told_then turn first = subst (λ (l : List Action). Run settings (Telling f octets ∷ turn ∷ turns) s l s') (sym all)
-        (run_then settings (Telling f octets ∷ turn ∷ []) turns s mid s' added rest first run)
+    received_then : (turn : Turn) → Run settings (OriginSending f octets ∷ turn ∷ []) s added mid → Run settings (OriginSending f octets ∷ turn ∷ turns) s z s'
+    received_then turn first = subst (λ (l : List Action). Run settings (OriginSending f octets ∷ turn ∷ turns) s l s') (sym all)
+        (run_then settings (OriginSending f octets ∷ turn ∷ []) turns s mid s' added rest first run)
 
     reads_then : client ≡ client_of f s → ReadsOn (client_of f s) turns s'
     reads_then is = subst (λ (x : Option ℕ). ReadsOn x turns s') is reads
 
-    does_telling_by : DoesTelling settings f octets client s added mid → Does settings (OriginBytes f octets) s z s'
-    does_telling_by (inl none) =
+    does_origin_sending_by : DoesReceiving settings f octets client s added mid → Does settings (OriginBytes f octets) s z s'
+    does_origin_sending_by (inl none) =
         let no-turns : turns ≡ [] = subst (λ (x : Option ℕ). ReadsOn x turns s') none.1 reads in
         let rest-none : (rest ≡ []) × (s' ≡ mid) = subst (λ (t : List Turn). Run settings t mid rest s') no-turns run in
         record {
-          turns = Telling f octets ∷ [];
+          turns = OriginSending f octets ∷ [];
           owes = ([], refl, inl (refl, subst (AwaitsStill f) (sym rest-none.1) none.2));
-          run = subst (λ (x : List Action × State). Run settings (Telling f octets ∷ []) s x.0 x.1)
+          run = subst (λ (x : List Action × State). Run settings (OriginSending f octets ∷ []) s x.0 x.1)
               (λ i. (sym (all ∙ ap (λ (l : List Action). added ++ l) rest-none.0 ∙ append-nil added) i, sym rest-none.1 i)) none.0;
         }
-    does_telling_by (inr (inl answer)) = record {
-      turns = Telling f octets ∷ Answering f false ∷ turns;
+    does_origin_sending_by (inr (inl answer)) = record {
+      turns = OriginSending f octets ∷ Answering f false ∷ turns;
       owes = (Answering f false ∷ turns, refl, inr (inl (turns, refl, reads_then answer.1)));
-      run = told_then (Answering f false) answer.0;
+      run = received_then (Answering f false) answer.0;
     }
-    does_telling_by (inr (inr failure)) = record {
-      turns = Telling f octets ∷ Failing f IsBroken ∷ turns;
+    does_origin_sending_by (inr (inr failure)) = record {
+      turns = OriginSending f octets ∷ Failing f IsBroken ∷ turns;
       owes = (Failing f IsBroken ∷ turns, refl, inr (inr (turns, refl, reads_then failure.1)));
-      run = told_then (Failing f IsBroken) failure.0;
+      run = received_then (Failing f IsBroken) failure.0;
     }
 
-  -- octets of the origin, and behind them the connection of the request that waits for it
-  pub does_telling : (f : ℕ) (octets : List ℕ) (client : Option ℕ) (mid d : Desk S H) (a z : List Action)
-      → (first : GivesTelling {S = S} {H = H} settings f octets client s start a mid) → GivesReadingBehind {S = S} {H = H} settings client first.state a z d
+  -- octets of the origin, and behind them the connection of the exchange that it was for
+  pub does_origin_sending : (f : ℕ) (octets : List ℕ) (client : Option ℕ) (mid d : Desk S H) (a z : List Action)
+      → (first : GivesReceiving {S = S} {H = H} (from_state settings s start) f octets client (at_desk a mid)) → GivesReadingBehind {S = S} {H = H} (from_state settings first.state a) client (at_desk z d)
       → GivesDoing {S = S} {H = H} settings (OriginBytes f octets) s z d
-  does_telling f octets client mid d a z first next = record {
+  does_origin_sending f octets client mid d a z first next = record {
     state = next.state;
     stands = next.stands;
     does = λ ready.
         let does = first.does ready in
-        does_telling_by f octets client next.state next.turns first.state does.0 next.runs.0 z (next.runs.1 ∙ ap (λ (l : List Action). l ++ next.runs.0) (does.1 ∙ ap (λ (l : List Action). l ++ does.0) none)) next.reads next.runs.2 does.2;
+        does_origin_sending_by f octets client next.state next.turns first.state does.0 next.runs.0 z (next.runs.1 ∙ ap (λ (l : List Action). l ++ next.runs.0) (does.1 ∙ ap (λ (l : List Action). l ++ does.0) none)) next.reads next.runs.2 does.2;
   }

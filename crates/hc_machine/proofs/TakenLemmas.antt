@@ -1,4 +1,4 @@
--- A request that waits for a reply is taken out with its connection, or one of both isn't there.
+-- An exchange that awaits its reply is taken out with its connection, or one of both isn't there.
 use Rattle.std.proofs.Common.{◌≡◌, ℕ, Option, Some, None, refl, sym, ap, ◌∙◌}
 use Rattle.std.specs.BTreeMap.{BTreeMap, get as kept_at}
 use Rattle.std.specs.FinMap.{get, remove}
@@ -14,41 +14,41 @@ use Rattle.hc_open.proofs.TableLemmas.{found, found_for, found_none}
 none_or_some : (o : Option OpenExchange) (x : OpenExchange) → o ≡ None → o ≡ Some x → ⊥
 none_or_some o x none some = cc
 
-module _ (number : ℕ) (waiting : Table OpenExchange) (connections : Table Connection) (xs ys : BTreeMap ℕ OpenExchange) (cs ds : BTreeMap ℕ Client)
-    (are_exchanges : AreExchanges xs waiting) (are_clients : AreClients cs connections) where
+module _ (number : ℕ) (table : Table OpenExchange) (connections : Table Connection) (xs ys : BTreeMap ℕ OpenExchange) (cs ds : BTreeMap ℕ Client)
+    (are_exchanges : AreExchanges xs table) (are_clients : AreClients cs connections) where
   pub takes_both : (x : OpenExchange) (client : Client) → kept_at nat_cmp xs number ≡ Some x → kept_at nat_cmp cs x.connection ≡ Some client
-      → AreExchanges ys (remove waiting number) → AreClients ds (remove connections x.connection)
-      → IsTaken number (record { number = number; exchange = x; client = client }) waiting connections ys ds
+      → AreExchanges ys (remove table number) → AreClients ds (remove connections x.connection)
+      → IsTaken number (record { number = number; exchange = x; client = client }) table connections ys ds
   takes_both x client there kept exchanges_left clients_left =
       let y = found IsSame _ _ x (are_exchanges.at number) there in
       let k = found IsClient _ _ client (are_clients.at x.connection) kept in
       record {
         number_is = refl;
         connection = k.0;
-        waits = y.1 ∙ ap (λ (z : OpenExchange). Some z) (sym y.2);
+        is_open = y.1 ∙ ap (λ (z : OpenExchange). Some z) (sym y.2);
         there = k.1;
         is_client = k.2;
         are_exchanges = exchanges_left;
         are_clients = clients_left;
       }
 
-  pub misses_exchange : kept_at nat_cmp xs number ≡ None → AreExchanges ys (remove waiting number) → IsMissing number waiting connections ys cs
+  pub misses_exchange : kept_at nat_cmp xs number ≡ None → AreExchanges ys (remove table number) → IsMissing number table connections ys cs
   misses_exchange none exchanges_left = record {
-    no_connection = λ x is. absurd (none_or_some (get waiting number) x (found_none IsSame _ _ (are_exchanges.at number) none) is);
-    waiting_left = remove waiting number;
+    no_connection = λ x is. absurd (none_or_some (get table number) x (found_none IsSame _ _ (are_exchanges.at number) none) is);
+    exchanges_left = remove table number;
     connections_left = connections;
     are_exchanges = exchanges_left;
     are_clients = are_clients;
   }
 
   pub misses_connection : (x : OpenExchange) → kept_at nat_cmp xs number ≡ Some x → kept_at nat_cmp cs x.connection ≡ None
-      → AreExchanges ys (remove waiting number) → AreClients ds (remove connections x.connection)
-      → IsMissing number waiting connections ys ds
+      → AreExchanges ys (remove table number) → AreClients ds (remove connections x.connection)
+      → IsMissing number table connections ys ds
   misses_connection x there none exchanges_left clients_left = record {
     no_connection = λ y is.
         ap (λ (z : OpenExchange). get connections z.connection) (sym (found_for IsSame _ _ x y (are_exchanges.at number) there is))
         ∙ found_none IsClient _ _ (are_clients.at x.connection) none;
-    waiting_left = remove waiting number;
+    exchanges_left = remove table number;
     connections_left = remove connections x.connection;
     are_exchanges = exchanges_left;
     are_clients = clients_left;

@@ -10,13 +10,13 @@ use Rattle.hc_service.specs.Agreement.{IsReady}
 use Rattle.hc_service.specs.Serves.{Owes, Run, Turn, is_full, is_known}
 use Rattle.hc_service.specs.State.{State}
 use Rattle.hc_machine.specs.declared.desk.Desk.{Desk}
-use Rattle.hc_machine.specs.Standing.{Stands}
+use Rattle.hc_machine.specs.Standing.{DeskStandsFor}
 
 -- it is that of some state in which it may happen
 pub record CanTake {S H : Type 0} (of : Happening) (desk : Desk S H) : Type 0 where
   pub settings : CoreSettings
   pub state : State
-  pub stands : Stands settings desk state
+  pub stands : DeskStandsFor settings desk state
   pub known : is_known of state ≡ true
   pub has_place : is_full of state ≡ false
 
@@ -29,11 +29,11 @@ pub record Does (settings : CoreSettings) (of : Happening) (s : State) (actions 
 -- what is owed for it leads to a state of the cache, where each forward can end
 pub record GivesDoing {S H : Type 0} (settings : CoreSettings) (of : Happening) (s : State) (actions : List Action) (desk : Desk S H) : Type 0 where
   pub state : State
-  pub stands : Stands settings desk state
+  pub stands : DeskStandsFor settings desk state
   pub does : IsReady s → Does settings of s actions state
 
 -- what is owed for it is done of each state that the cache stands for and in which it may happen
 abbrev pub TakesOn : {S H : Type 0} → Happening → Desk S H → Result (Vec Action Global) AllocError → Desk S H → Type 0
 TakesOn of old result new =
-    (settings : CoreSettings) (s : State) → Stands settings old s → is_known of s ≡ true → is_full of s ≡ false
+    (settings : CoreSettings) (s : State) → DeskStandsFor settings old s → is_known of s ≡ true → is_full of s ≡ false
     → IfOk result (λ actions. GivesDoing settings of s actions.items new)

@@ -13,7 +13,7 @@ use Rattle.hc_service.specs.Agreement.{IsReady}
 use Rattle.hc_service.specs.State.{State, Connection}
 use Rattle.hc_events.specs.declared.Event.{Event}
 use Rattle.hc_service.specs.Serves.{Turn, Takes, Run, Reads, Serves, IsQuietAt, AwaitsStill, OwesEnd, ReadsOn, client_of}
-use Rattle.hc_service.specs.Serves.Turn.{Telling, Answering, Failing}
+use Rattle.hc_service.specs.Serves.Turn.{OriginSending, Answering, Failing}
 use Rattle.hc_service.specs.Turns.Failure.{IsBroken}
 use Rattle.hc_machine.specs.declared.desk.Desk.{Desk}
 use Rattle.hc_open.specs.declared.links.Client.{Client}
@@ -51,14 +51,14 @@ pub record IsKept (settings : CoreSettings) (kept : Kept) (s : State) : Type 0 w
   pub store : kept.store ≡ s.store
   pub in_time : s.numbers.moment < end_of_moments
 
-abbrev pub Stands : {S H : Type 0} → CoreSettings → Desk S H → State → Type 0
-Stands settings desk s = IsKept settings (kept_of desk) s
+abbrev pub DeskStandsFor : {S H : Type 0} → CoreSettings → Desk S H → State → Type 0
+DeskStandsFor settings desk s = IsKept settings (kept_of desk) s
 
 -- it is that of some state
 pub record CanServe {S H : Type 0} (desk : Desk S H) : Type 0 where
   pub settings : CoreSettings
   pub state : State
-  pub stands : Stands settings desk state
+  pub stands : DeskStandsFor settings desk state
 
 -- ---- parts that are taken out while they change
 
@@ -80,66 +80,107 @@ without_forward f s = record {
   store = s.store;
 }
 
--- ---- turns
+-- ---- what is done
+
+-- where it starts: the settings, the state, and the actions that were given before
+pub record Start : Type 0 where
+  pub settings : CoreSettings
+  pub state : State
+  pub actions : List Action
+
+abbrev pub from_state : CoreSettings → State → List Action → Start
+from_state settings s before = record { settings = settings; state = s; actions = before }
+
+-- where it has got: what is kept, and the actions that were given by then
+pub record Reached (S H : Type 0) : Type 0 where
+  pub actions : List Action
+  pub desk : Desk S H
+
+abbrev pub at_desk : {S H : Type 0} → List Action → Desk S H → Reached S H
+at_desk actions desk = record { actions = actions; desk = desk }
 
 -- actions stand behind those before, and do what is said
 abbrev pub Adds : List Action → List Action → (List Action → Type 0) → Type 0
 Adds before after Does = (added : List Action) × (after ≡ before ++ added) × Does added
 
+-- ---- turns
+
 -- the turn leads from the state to one of the cache
-pub record GivesTurn {S H : Type 0} (settings : CoreSettings) (turn : Turn) (s : State) (before after : List Action) (desk : Desk S H) : Type 0 where
+pub record GivesTurn {S H : Type 0} (start : Start) (turn : Turn) (reached : Reached S H) : Type 0 where
   pub state : State
-  pub stands : Stands settings desk state
-  pub takes : Adds before after (λ added. Takes settings turn s added state)
+  pub stands : DeskStandsFor start.settings reached.desk state
+  pub takes : Adds start.actions reached.actions (λ added. Takes start.settings turn start.state added state)
 
 -- turns that read the connection do, and nothing more can be read, unless there may be more
-pub record GivesReading {S H : Type 0} (settings : CoreSettings) (c : ℕ) (more : Bool) (s : State) (before after : List Action) (desk : Desk S H) : Type 0 where
+pub record GivesReading {S H : Type 0} (start : Start) (c : ℕ) (more : Bool) (reached : Reached S H) : Type 0 where
   pub state : State
-  pub stands : Stands settings desk state
+  pub stands : DeskStandsFor start.settings reached.desk state
   pub turns : List Turn
   pub reads : AllByRecursion (Reads c) turns
-  pub runs : Adds before after (λ added. Run settings turns s added state)
+  pub runs : Adds start.actions reached.actions (λ added. Run start.settings turns start.state added state)
   pub quiet : more ≡ false → IsQuietAt c state
 
 -- the same on a connection if there is one, until nothing more can be read
-pub record GivesReadingBehind {S H : Type 0} (settings : CoreSettings) (client : Option ℕ) (s : State) (before after : List Action) (desk : Desk S H) : Type 0 where
+pub record GivesReadingBehind {S H : Type 0} (start : Start) (client : Option ℕ) (reached : Reached S H) : Type 0 where
   pub state : State
-  pub stands : Stands settings desk state
+  pub stands : DeskStandsFor start.settings reached.desk state
   pub turns : List Turn
   pub reads : ReadsOn client turns state
-  pub runs : Adds before after (λ added. Run settings turns s added state)
+  pub runs : Adds start.actions reached.actions (λ added. Run start.settings turns start.state added state)
 
 -- what the client's end owes
-pub record GivesEnd {S H : Type 0} (settings : CoreSettings) (c : ℕ) (k : Connection) (s : State) (before after : List Action) (desk : Desk S H) : Type 0 where
+pub record GivesEnd {S H : Type 0} (start : Start) (c : ℕ) (k : Connection) (reached : Reached S H) : Type 0 where
   pub state : State
-  pub stands : Stands settings desk state
+  pub stands : DeskStandsFor start.settings reached.desk state
   pub turns : List Turn
   pub owes : OwesEnd c k.leaves k.exchange turns
-  pub runs : Adds before after (λ added. Run settings turns s added state)
+  pub runs : Adds start.actions reached.actions (λ added. Run start.settings turns start.state added state)
 
--- the turn, which ends the forward, leads to a state of the cache where the forward can end, and the client is that of the request that waits for it
-pub record GivesEnding {S H : Type 0} (settings : CoreSettings) (turn : Turn) (f : ℕ) (client : Option ℕ) (s : State) (before after : List Action) (desk : Desk S H) : Type 0 where
+-- the turn, which ends the forward, leads to a state of the cache where the forward can end, and the client is that of the exchange that it was for
+pub record GivesEnding {S H : Type 0} (start : Start) (turn : Turn) (f : ℕ) (client : Option ℕ) (reached : Reached S H) : Type 0 where
   pub state : State
-  pub stands : Stands settings desk state
-  pub takes : IsReady s → Adds before after (λ added. Takes settings turn s added state) × (client ≡ client_of f s)
+  pub stands : DeskStandsFor start.settings reached.desk state
+  pub takes : IsReady start.state
+      → Adds start.actions reached.actions (λ added. Takes start.settings turn start.state added state) × (client ≡ client_of f start.state)
 
 -- octets come on a forward: nothing more yet, or they end it with a response or by a fault
-abbrev pub DoesTelling : CoreSettings → ℕ → List ℕ → Option ℕ → State → List Action → State → Type 0
-DoesTelling settings f octets client s added s' =
-    (Run settings (Telling f octets ∷ []) s added s' × (client ≡ None) × AwaitsStill f s')
-    ⊎ (Run settings (Telling f octets ∷ Answering f false ∷ []) s added s' × (client ≡ client_of f s))
-    ⊎ (Run settings (Telling f octets ∷ Failing f IsBroken ∷ []) s added s' × (client ≡ client_of f s))
+abbrev pub DoesReceiving : CoreSettings → ℕ → List ℕ → Option ℕ → State → List Action → State → Type 0
+DoesReceiving settings f octets client s added s' =
+    (Run settings (OriginSending f octets ∷ []) s added s' × (client ≡ None) × AwaitsStill f s')
+    ⊎ (Run settings (OriginSending f octets ∷ Answering f false ∷ []) s added s' × (client ≡ client_of f s))
+    ⊎ (Run settings (OriginSending f octets ∷ Failing f IsBroken ∷ []) s added s' × (client ≡ client_of f s))
 
 -- what came on a forward leads to a state of the cache where the forward can end
-pub record GivesTelling {S H : Type 0} (settings : CoreSettings) (f : ℕ) (octets : List ℕ) (client : Option ℕ) (s : State) (before after : List Action) (desk : Desk S H) : Type 0 where
+pub record GivesReceiving {S H : Type 0} (start : Start) (f : ℕ) (octets : List ℕ) (client : Option ℕ) (reached : Reached S H) : Type 0 where
   pub state : State
-  pub stands : Stands settings desk state
-  pub does : IsReady s → Adds before after (λ added. DoesTelling settings f octets client s added state)
+  pub stands : DeskStandsFor start.settings reached.desk state
+  pub does : IsReady start.state
+      → Adds start.actions reached.actions (λ added. DoesReceiving start.settings f octets client start.state added state)
 
 -- ---- events
 
 -- the event is served, and leads to a state of the cache, where each forward can end
 pub record GivesService {S H : Type 0} (settings : CoreSettings) (event : Event) (s : State) (actions : List Action) (desk : Desk S H) : Type 0 where
   pub state : State
-  pub stands : Stands settings desk state
+  pub stands : DeskStandsFor settings desk state
   pub serves : IsReady s → Serves settings event s actions state
+
+-- ---- what stays of what is kept
+
+-- what is stored; and the name, as always
+pub record DeskKeepsStore {S H : Type 0} (old new : Desk S H) : Type 0 where
+  pub name : new.name ≡ old.name
+  pub store : new.store ≡ old.store
+
+-- the exchanges and the forwards that are open
+pub record DeskKeepsOpen {S H : Type 0} (old new : Desk S H) : Type 0 where
+  pub name : new.name ≡ old.name
+  pub exchanges : new.exchanges ≡ old.exchanges
+  pub links : new.links ≡ old.links
+
+-- all but the numbers and the forwards
+pub record DeskKeepsClients {S H : Type 0} (old new : Desk S H) : Type 0 where
+  pub name : new.name ≡ old.name
+  pub clients : new.clients ≡ old.clients
+  pub exchanges : new.exchanges ≡ old.exchanges
+  pub store : new.store ≡ old.store

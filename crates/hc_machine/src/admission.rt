@@ -28,12 +28,12 @@ impl<S: BuildHasher> Desk<S> {
     ghost use Rattle.hc_service.specs.declared.settings.CoreSettings.{CoreSettings};
     ghost use Rattle.hc_service.specs.State.{State};
     ghost use Rattle.hc_service.specs.Serves.{first_fault, is_full, is_known};
-    ghost use Rattle.hc_machine.specs.Standing.{Stands};
+    ghost use Rattle.hc_machine.specs.Standing.{DeskStandsFor};
     ghost use Rattle.hc_machine.specs.Steps.{IsOfTest};
 
     /// Whether what the event is about is open, or has a number that may be opened.
     fn is_known(&self, of: &Happening) -> bool
-        ensures { (settings : CoreSettings) (s : State) → Stands settings self.now s → result ≡ is_known of.now s }
+        ensures { (settings : CoreSettings) (s : State) → DeskStandsFor settings self.now s → result ≡ is_known of.now s }
     {
         match of {
             Happening::ClientOpened(c) => is_later(*c, self.numbers.connection),
@@ -47,7 +47,7 @@ impl<S: BuildHasher> Desk<S> {
 
     /// Whether the event opens a connection, and as many are open as may be.
     fn is_full(&self, of: &Happening) -> bool
-        ensures { (settings : CoreSettings) (s : State) → Stands settings self.now s → result ≡ is_full of.now s }
+        ensures { (settings : CoreSettings) (s : State) → DeskStandsFor settings self.now s → result ≡ is_full of.now s }
     {
         match of {
             Happening::ClientOpened(_) => MOST_CONNECTIONS <= self.clients.len(),
@@ -61,7 +61,7 @@ impl<S: BuildHasher> Desk<S> {
 
     /// The first test that the event fails, before memory is asked for.
     pub(crate) fn first_fault(&self, event: &Event) -> Option<StepFault>
-        ensures tests { (settings : CoreSettings) (s : State) → Stands settings self.now s → result ≡ first_fault event.now s }
+        ensures tests { (settings : CoreSettings) (s : State) → DeskStandsFor settings self.now s → result ≡ first_fault event.now s }
         ensures kind { IfSome result IsOfTest }
         ensures in_time { result ≡ None → event.now.moment < end_of_moments }
     {

@@ -1,10 +1,10 @@
-//! A request that waits for a reply, once the forward has ended that was sent for it.
+//! An exchange that awaits its reply, once the forward has ended that was sent for it.
 
 ghost use Rattle.std.specs.Prelude.{◌≡◌, OnOk};
 ghost use Rattle.std.specs.FinMap.{insert};
 ghost use Rattle.hc_service.specs.declared.open.OpenExchange.{OpenExchange};
 ghost use Rattle.hc_service.specs.State.{Connection, Table};
-ghost use Rattle.hc_machine.specs.Ending.{TakesWaiting, addressee_of};
+ghost use Rattle.hc_machine.specs.Ending.{TakesExchange, addressee_of};
 ghost use Rattle.hc_open.specs.Links.{AreClients, AreExchanges, IsClient};
 
 use crate::desk::Desk;
@@ -19,9 +19,9 @@ use std::alloc::AllocError;
 use std::collections::BTreeMap;
 use std::hash::BuildHasher;
 
-/// A request that waits for a reply, taken out with its connection.
+/// An exchange that awaits its reply, taken out with its connection.
 #[derive(Drop)]
-pub(crate) struct Waiting {
+pub(crate) struct HeldExchange {
     /// The number of its exchange.
     pub(crate) number: u64,
     /// What is open for it.
@@ -31,17 +31,17 @@ pub(crate) struct Waiting {
 }
 
 /// Takes out the exchange of that number, with its connection.
-pub(crate) fn take_waiting(
+pub(crate) fn take_exchange(
     exchanges: &mut BTreeMap<u64, OpenExchange>,
     clients: &mut BTreeMap<u64, Client>,
     number: u64,
-) -> Option<Waiting>
-    ensures { (waiting : Table OpenExchange) (connections : Table Connection) → AreExchanges exchanges.old waiting
-        → AreClients clients.old connections → TakesWaiting number result waiting connections exchanges.new clients.new }
+) -> Option<HeldExchange>
+    ensures { (table : Table OpenExchange) (connections : Table Connection) → AreExchanges exchanges.old table
+        → AreClients clients.old connections → TakesExchange number result table connections exchanges.new clients.new }
 {
     let exchange = exchanges.remove(&number)?;
     let client = clients.remove(&exchange.connection)?;
-    Some(Waiting {
+    Some(HeldExchange {
         number,
         exchange,
         client,
@@ -49,30 +49,30 @@ pub(crate) fn take_waiting(
 }
 
 /// Puts back what was taken out.
-fn put_waiting(
+fn put_exchange(
     exchanges: &mut BTreeMap<u64, OpenExchange>,
     clients: &mut BTreeMap<u64, Client>,
-    waiting: Waiting,
+    held: HeldExchange,
 ) -> Result<(), AllocError>
     ensures exchanges { (table : Table OpenExchange) → AreExchanges exchanges.old table
-        → OnOk result (AreExchanges exchanges.new (insert table waiting.number waiting.exchange)) }
+        → OnOk result (AreExchanges exchanges.new (insert table held.number held.exchange)) }
     ensures clients { (connections : Table Connection) (k : Connection) → AreClients clients.old connections
-        → IsClient waiting.client k → OnOk result (AreClients clients.new (insert connections waiting.exchange.connection k)) }
+        → IsClient held.client k → OnOk result (AreClients clients.new (insert connections held.exchange.connection k)) }
 {
-    let connection = waiting.exchange.connection;
-    exchanges.insert(waiting.number, waiting.exchange)?;
-    clients.insert(connection, waiting.client)?;
+    let connection = held.exchange.connection;
+    exchanges.insert(held.number, held.exchange)?;
+    clients.insert(connection, held.client)?;
     Ok(())
 }
 
-/// To whom the reply to a request that waited goes.
-fn addressee(waiting: &Waiting, closes: bool) -> Addressee
-    ensures { result ≡ addressee_of waiting.now closes }
+/// To whom the reply of an exchange goes.
+fn addressee(held: &HeldExchange, closes: bool) -> Addressee
+    ensures { result ≡ addressee_of held.now closes }
 {
     Addressee {
-        exchange: waiting.number,
-        to_head: is_head(&waiting.exchange.request.method),
-        connection: waiting.exchange.connection,
+        exchange: held.number,
+        to_head: is_head(&held.exchange.request.method),
+        connection: held.exchange.connection,
         closes,
     }
 }
@@ -80,14 +80,16 @@ fn addressee(waiting: &Waiting, closes: bool) -> Addressee
 impl<S: BuildHasher> Desk<S> {
     ghost use Rattle.std.specs.Prelude.{OnOk, ◌<◌};
     ghost use Rattle.hc_fields.specs.Numbers.{end_of_moments};
-    ghost use Rattle.hc_service.specs.Answers.{Fails, Responds};
+    ghost use Rattle.hc_service.specs.Answers.{Fails, Responds, rule_of};
     ghost use Rattle.hc_service.specs.Answers.Outcome.{Replies};
-    ghost use Rattle.hc_machine.specs.Ending.{GivesOutcome, GivesReply, SendsAnew, SendsReply, wanted_of};
+    ghost use Rattle.hc_machine.specs.Ending.{GivesOutcome, GivesReply, SendsAnew, wanted_of};
+    ghost use Rattle.hc_machine.specs.Reading.{SendsReply};
+    ghost use Rattle.hc_machine.specs.Standing.{at_desk};
 
-    /// A response is what a request waits for that was taken out; the last record is that of the response.
+    /// A response has come for an exchange that was taken out; the last record is that of the response.
     pub(crate) fn respond(
         &mut self,
-        waiting: Waiting,
+        held: HeldExchange,
         forward: OpenForward,
         cause: Cause,
         conditional: bool,
@@ -95,15 +97,17 @@ impl<S: BuildHasher> Desk<S> {
         actions: &mut Vec<Action>,
     ) -> Result<(), AllocError>
         requires { self.old.numbers.moment < end_of_moments }
-        ensures { OnOk result (GivesOutcome waiting cause
-            (λ outcome old new. Responds (wanted_of self.old waiting) forward cause conditional self.old.numbers.records response old outcome new)
-            actions.old.items actions.new.items self.old self.new) }
+        ensures { OnOk result (GivesOutcome held cause
+            (λ outcome old new. Responds (rule_of cause conditional forward.request response.head)
+            (record { wanted = wanted_of self.old held; forward = forward; cause = cause; response = response })
+            self.old.numbers.records old outcome new)
+            (at_desk actions.old.items self.old) (at_desk actions.new.items self.new)) }
     {
-        let closes = closes_behind(&waiting.exchange.request, waiting.client.leaves);
+        let closes = closes_behind(&held.exchange.request, held.client.leaves);
         let wanted = WantedReply {
             name: &self.name,
             moment: self.numbers.moment,
-            asked: &waiting.exchange.request,
+            asked: &held.exchange.request,
             closes,
         };
         let outcome = respond(
@@ -117,25 +121,26 @@ impl<S: BuildHasher> Desk<S> {
             response,
         )?;
         match outcome {
-            Outcome::Replies(reply) => self.reply_to(waiting, closes, &reply, actions),
-            Outcome::GoesAnew => self.go_anew(waiting, cause, actions),
+            Outcome::Replies(reply) => self.reply_to(held, closes, &reply, actions),
+            Outcome::GoesAnew => self.go_anew(held, cause, actions),
         }
     }
 
-    /// A request that waited goes to the origin anew, for the same cause, and waits on.
+    /// The request of an exchange that was taken out goes to the origin anew, for the same cause, and the exchange
+    /// stays open.
     fn go_anew(
         &mut self,
-        waiting: Waiting,
+        held: HeldExchange,
         cause: Cause,
         actions: &mut Vec<Action>,
     ) -> Result<(), AllocError>
-        ensures { OnOk result (SendsAnew waiting cause actions.old.items actions.new.items self.old self.new) }
+        ensures { OnOk result (SendsAnew held cause (at_desk actions.old.items self.old) (at_desk actions.new.items self.new)) }
     {
-        let target = waiting.exchange.target.copy(self.alloc)?;
+        let target = held.exchange.target.copy(self.alloc)?;
         let name = self.name.as_slice();
-        let request = forward_anew(self.alloc, name, &target, &waiting.exchange.request)?;
+        let request = forward_anew(self.alloc, name, &target, &held.exchange.request)?;
         let purpose = Purpose::Reply {
-            exchange: waiting.number,
+            exchange: held.number,
             cause,
             conditional: false,
         };
@@ -148,50 +153,50 @@ impl<S: BuildHasher> Desk<S> {
             purpose,
             actions,
         )?;
-        put_waiting(&mut self.exchanges, &mut self.clients, waiting)
+        put_exchange(&mut self.exchanges, &mut self.clients, held)
     }
 
-    /// A forward failed for which a request waits that was taken out.
+    /// A forward failed that was for an exchange that was taken out.
     pub(crate) fn fail(
         &mut self,
-        waiting: Waiting,
+        held: HeldExchange,
         forward: OpenForward,
         cause: Cause,
         actions: &mut Vec<Action>,
     ) -> Result<(), AllocError>
         requires { self.old.numbers.moment < end_of_moments }
-        ensures { OnOk result (GivesReply waiting
-            (λ reply old new. Fails (wanted_of self.old waiting) forward cause old (Replies reply) new)
-            actions.old.items actions.new.items self.old self.new) }
+        ensures { OnOk result (GivesReply held
+            (λ reply old new. Fails (wanted_of self.old held) forward.target cause old (Replies reply) new)
+            (at_desk actions.old.items self.old) (at_desk actions.new.items self.new)) }
     {
-        let closes = closes_behind(&waiting.exchange.request, waiting.client.leaves);
+        let closes = closes_behind(&held.exchange.request, held.client.leaves);
         let wanted = WantedReply {
             name: &self.name,
             moment: self.numbers.moment,
-            asked: &waiting.exchange.request,
+            asked: &held.exchange.request,
             closes,
         };
         let reply = fail(self.alloc, &mut self.store, &wanted, &forward, cause)?;
-        self.reply_to(waiting, closes, &reply, actions)
+        self.reply_to(held, closes, &reply, actions)
     }
 
-    /// Sends the reply to a request that waited, whose connection goes on unless it closes.
+    /// Sends the reply of an exchange, whose connection goes on unless it closes.
     fn reply_to(
         &mut self,
-        waiting: Waiting,
+        held: HeldExchange,
         closes: bool,
         reply: &Message<ResponseHead>,
         actions: &mut Vec<Action>,
     ) -> Result<(), AllocError>
-        ensures { OnOk result (SendsReply waiting closes reply.now actions.old.items actions.new.items self.old self.new) }
+        ensures { OnOk result (SendsReply held closes reply.now (at_desk actions.old.items self.old) (at_desk actions.new.items self.new)) }
     {
-        let to = addressee(&waiting, closes);
+        let to = addressee(&held, closes);
         reply_on(
             self.alloc,
             &mut self.numbers,
             &mut self.clients,
             to,
-            waiting.client,
+            held.client,
             reply,
             actions,
         )

@@ -13,15 +13,15 @@ impl<S: BuildHasher> Desk<S> {
     ghost use Rattle.hc_service.specs.declared.settings.CoreSettings.{CoreSettings};
     ghost use Rattle.hc_service.specs.Numbers.{is_later};
     ghost use Rattle.hc_service.specs.State.{State, Connection};
-    ghost use Rattle.hc_service.specs.Serves.Turn.{Opening, Hearing};
+    ghost use Rattle.hc_service.specs.Serves.Turn.{Opening, ClientSending};
     ghost use Rattle.hc_service.specs.Turns.{most_connections};
-    ghost use Rattle.hc_machine.specs.Standing.{GivesTurn, Stands};
+    ghost use Rattle.hc_machine.specs.Standing.{GivesTurn, DeskStandsFor, from_state, at_desk};
 
     /// A connection opens, of a number greater than all before.
     pub(crate) fn open(&mut self, c: u64) -> Result<(), AllocError>
-        ensures { (settings : CoreSettings) (s : State) → Stands settings self.old s
+        ensures { (settings : CoreSettings) (s : State) → DeskStandsFor settings self.old s
             → is_later c s.numbers.connection ≡ true → len s.connections < most_connections
-            → OnOk result (GivesTurn settings (Opening c) s [] [] self.new) }
+            → OnOk result (GivesTurn (from_state settings s []) (Opening c) (at_desk [] self.new)) }
     {
         self.clients.insert(c, Client::new(self.alloc))?;
         self.numbers.open(c);
@@ -29,9 +29,10 @@ impl<S: BuildHasher> Desk<S> {
     }
 
     /// Octets come from the client of an open connection.
-    pub(crate) fn hear(&mut self, c: u64, octets: &[u8]) -> Result<(), AllocError>
-        ensures { (settings : CoreSettings) (s : State) (k : Connection) → Stands settings self.old s
-            → get s.connections c ≡ Some k → OnOk result (GivesTurn settings (Hearing c octets.now) s [] [] self.new) }
+    pub(crate) fn receive_client(&mut self, c: u64, octets: &[u8]) -> Result<(), AllocError>
+        ensures { (settings : CoreSettings) (s : State) (k : Connection) → DeskStandsFor settings self.old s
+            → get s.connections c ≡ Some k
+            → OnOk result (GivesTurn (from_state settings s []) (ClientSending c octets.now) (at_desk [] self.new)) }
     {
         let Some(mut client) = self.clients.remove(&c) else {
             return Ok(());

@@ -28,12 +28,12 @@ impl<S: BuildHasher> Desk<S> {
     ghost use Rattle.std.specs.FinMap.{len};
     ghost use Rattle.hc_service.specs.declared.settings.CoreSettings.{CoreSettings};
     ghost use Rattle.hc_service.specs.State.{State, new_state};
-    ghost use Rattle.hc_machine.specs.Standing.{Stands};
+    ghost use Rattle.hc_machine.specs.Standing.{DeskStandsFor};
 
     /// That of a cache to which nothing has happened, with an empty store.
     pub(crate) fn new(alloc: Global, name: Octets, store: Store<S>) -> Self
         ensures { (settings : CoreSettings) → name ≡ settings.name → store ≡ (new_state settings).store
-            → Stands settings result (new_state settings) }
+            → DeskStandsFor settings result (new_state settings) }
     {
         Desk {
             alloc,
@@ -48,7 +48,7 @@ impl<S: BuildHasher> Desk<S> {
 
     /// Whether no connection or forward is open.
     pub(crate) fn is_idle(&self) -> bool
-        ensures { (settings : CoreSettings) (s : State) → Stands settings self.now s
+        ensures { (settings : CoreSettings) (s : State) → DeskStandsFor settings self.now s
             → result ≡ (len s.connections == 0 && len s.forwards == 0) }
     {
         self.clients.len() == 0 && self.links.len() == 0

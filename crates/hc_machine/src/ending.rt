@@ -3,7 +3,7 @@
 ghost use Rattle.std.specs.Prelude.{◌≡◌};
 ghost use Rattle.hc_head.specs.Methods.{is_head};
 
-use crate::answering::take_waiting;
+use crate::answering::take_exchange;
 use crate::desk::Desk;
 use hc_framing::Message;
 use hc_head::{ResponseHead, is_head};
@@ -20,7 +20,7 @@ impl<S: BuildHasher> Desk<S> {
     ghost use Rattle.hc_service.specs.State.{Awaited, State};
     ghost use Rattle.hc_service.specs.Serves.Turn.{Answering, Failing};
     ghost use Rattle.hc_service.specs.Turns.{Failure, HasFailure, IsAnswer, is_closed};
-    ghost use Rattle.hc_machine.specs.Standing.{GivesEnding, Stands, without_forward};
+    ghost use Rattle.hc_machine.specs.Standing.{GivesEnding, DeskStandsFor, without_forward, from_state, at_desk};
 
     /// A whole response has come on a forward, which was taken out. Answers the connection that may be
     /// read on.
@@ -33,10 +33,11 @@ impl<S: BuildHasher> Desk<S> {
     ) -> Result<Option<u64>, AllocError>
         requires { self.old.numbers.moment < end_of_moments }
         ensures { (settings : CoreSettings) (s : State) (awaited : Awaited) (ended : Bool)
-            → Stands settings self.old (without_forward f s)
+            → DeskStandsFor settings self.old (without_forward f s)
             → get s.forwards f ≡ Some awaited → awaited.forward ≡ forward
-            → IsAnswer ended (is_head forward.request.method) awaited.heard response
-            → IfOk result (λ client. GivesEnding settings (Answering f ended) f client s actions.old.items actions.new.items self.new) }
+            → IsAnswer ended (is_head forward.request.method) awaited.received response
+            → IfOk result (λ client. GivesEnding (from_state settings s actions.old.items) (Answering f ended) f client
+            (at_desk actions.new.items self.new)) }
     {
         let to_head = is_head(&forward.request.method);
         record_response(
@@ -60,12 +61,12 @@ impl<S: BuildHasher> Desk<S> {
                 cause,
                 conditional,
             } => {
-                let Some(waiting) = take_waiting(&mut self.exchanges, &mut self.clients, exchange)
+                let Some(held) = take_exchange(&mut self.exchanges, &mut self.clients, exchange)
                 else {
                     return Ok(None);
                 };
-                let client = waiting.exchange.connection;
-                self.respond(waiting, forward, cause, conditional, response, actions)?;
+                let client = held.exchange.connection;
+                self.respond(held, forward, cause, conditional, response, actions)?;
                 Ok(Some(client))
             }
         }
@@ -82,10 +83,11 @@ impl<S: BuildHasher> Desk<S> {
     ) -> Result<Option<u64>, AllocError>
         requires { self.old.numbers.moment < end_of_moments }
         ensures { (settings : CoreSettings) (s : State) (awaited : Awaited) (how : Failure)
-            → Stands settings self.old (without_forward f s)
+            → DeskStandsFor settings self.old (without_forward f s)
             → get s.forwards f ≡ Some awaited → awaited.forward ≡ forward → is_closed how ≡ closes
-            → HasFailure how (is_head forward.request.method) awaited.heard
-            → IfOk result (λ client. GivesEnding settings (Failing f how) f client s actions.old.items actions.new.items self.new) }
+            → HasFailure how (is_head forward.request.method) awaited.received
+            → IfOk result (λ client. GivesEnding (from_state settings s actions.old.items) (Failing f how) f client
+            (at_desk actions.new.items self.new)) }
     {
         record_failure(&mut self.numbers, f, closes, actions)?;
         match forward.purpose {
@@ -95,12 +97,12 @@ impl<S: BuildHasher> Desk<S> {
                 cause,
                 ..
             } => {
-                let Some(waiting) = take_waiting(&mut self.exchanges, &mut self.clients, exchange)
+                let Some(held) = take_exchange(&mut self.exchanges, &mut self.clients, exchange)
                 else {
                     return Ok(None);
                 };
-                let client = waiting.exchange.connection;
-                self.fail(waiting, forward, cause, actions)?;
+                let client = held.exchange.connection;
+                self.fail(held, forward, cause, actions)?;
                 Ok(Some(client))
             }
         }

@@ -16,14 +16,14 @@ impl<S: BuildHasher> Desk<S> {
     ghost use Rattle.hc_service.specs.declared.settings.CoreSettings.{CoreSettings};
     ghost use Rattle.hc_service.specs.State.{Connection, State};
     ghost use Rattle.hc_open.specs.Links.{IsClient};
-    ghost use Rattle.hc_machine.specs.Standing.{CanServe, GivesEnd, Stands, without_connection};
+    ghost use Rattle.hc_machine.specs.Standing.{CanServe, GivesEnd, DeskStandsFor, without_connection, from_state, at_desk};
 
     /// The client of an open connection sends no more.
     pub(crate) fn end_client(&mut self, c: u64, actions: &mut Vec<Action>) -> Result<(), AllocError>
         requires { CanServe self.old }
-        ensures { (settings : CoreSettings) (s : State) (k : Connection) → Stands settings self.old s
+        ensures { (settings : CoreSettings) (s : State) (k : Connection) → DeskStandsFor settings self.old s
             → get s.connections c ≡ Some k
-            → OnOk result (GivesEnd settings c k s actions.old.items actions.new.items self.new) }
+            → OnOk result (GivesEnd (from_state settings s actions.old.items) c k (at_desk actions.new.items self.new)) }
     {
         let Some(client) = self.clients.remove(&c) else {
             return Ok(());
@@ -32,7 +32,7 @@ impl<S: BuildHasher> Desk<S> {
             return self.put_back(c, client);
         }
         match client.exchange {
-            Some(_) => self.leave_waiting(c, client),
+            Some(_) => self.leave_busy(c, client),
             None => self.end_idle(c, client, actions),
         }
     }
@@ -40,21 +40,21 @@ impl<S: BuildHasher> Desk<S> {
     /// Nothing more is read of a connection, which was taken out: its client's end is no news.
     fn put_back(&mut self, c: u64, client: Client) -> Result<(), AllocError>
         ensures { (settings : CoreSettings) (s : State) (k : Connection) (items : List Action)
-            → Stands settings self.old (without_connection c s)
+            → DeskStandsFor settings self.old (without_connection c s)
             → get s.connections c ≡ Some k → IsClient client k → k.leaves ≡ true
-            → OnOk result (GivesEnd settings c k s items items self.new) }
+            → OnOk result (GivesEnd (from_state settings s items) c k (at_desk items self.new)) }
     {
         self.clients.insert(c, client)?;
         Ok(())
     }
 
-    /// The client ends while a request waits for its reply, on a connection which was taken out: what waits
+    /// The client ends while an exchange awaits its reply, on a connection which was taken out: what is unread
     /// behind the request is given up.
-    fn leave_waiting(&mut self, c: u64, mut client: Client) -> Result<(), AllocError>
+    fn leave_busy(&mut self, c: u64, mut client: Client) -> Result<(), AllocError>
         ensures { (settings : CoreSettings) (s : State) (k : Connection) (exchange : ℕ) (items : List Action)
-            → Stands settings self.old (without_connection c s)
+            → DeskStandsFor settings self.old (without_connection c s)
             → get s.connections c ≡ Some k → IsClient client k → k.exchange ≡ Some exchange → k.leaves ≡ false
-            → OnOk result (GivesEnd settings c k s items items self.new) }
+            → OnOk result (GivesEnd (from_state settings s items) c k (at_desk items self.new)) }
     {
         client.leave();
         self.clients.insert(c, client)?;
@@ -71,9 +71,9 @@ impl<S: BuildHasher> Desk<S> {
         requires in_time { self.old.numbers.moment < end_of_moments }
         requires can { CanRead client.reader }
         ensures { (settings : CoreSettings) (s : State) (k : Connection)
-            → Stands settings self.old (without_connection c s)
+            → DeskStandsFor settings self.old (without_connection c s)
             → get s.connections c ≡ Some k → IsClient client k → k.exchange ≡ None → k.leaves ≡ false
-            → OnOk result (GivesEnd settings c k s actions.old.items actions.new.items self.new) }
+            → OnOk result (GivesEnd (from_state settings s actions.old.items) c k (at_desk actions.new.items self.new)) }
     {
         match client.reader.end()? {
             Some(status) => refuse(self.alloc, self.numbers.moment, c, status, actions),

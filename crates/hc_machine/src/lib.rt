@@ -11,8 +11,8 @@ mod leaving;
 mod machine;
 mod moving;
 mod reading;
+mod receiving;
 mod serving;
-mod telling;
 
 pub use hc_service::CoreFault;
 pub use machine::Core;

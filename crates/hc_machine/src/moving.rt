@@ -10,9 +10,9 @@ ghost use Rattle.hc_service.specs.Sending.{reply_actions, send_actions};
 ghost use Rattle.hc_service.specs.declared.open.OpenExchange.{OpenExchange};
 ghost use Rattle.hc_service.specs.State.{Awaited, Connection, Table};
 ghost use Rattle.hc_service.specs.Turns.{sent_forward};
-ghost use Rattle.hc_links.specs.RequestReading.{waiting};
-ghost use Rattle.hc_machine.specs.Reading.{waiting_at};
-ghost use Rattle.hc_open.specs.Links.{AreClients, AreExchanges, AreLinks, HasPlace, IsIdle, WillWait};
+ghost use Rattle.hc_links.specs.RequestReading.{unread};
+ghost use Rattle.hc_machine.specs.Reading.{unread_at};
+ghost use Rattle.hc_open.specs.Links.{AreClients, AreExchanges, AreLinks, HasPlace, IsIdle, WillAwait};
 
 use hc_framing::Message;
 use hc_head::{RequestHead, ResponseHead, Target, is_head};
@@ -36,8 +36,8 @@ pub(crate) fn reply_on(
     ensures numbers { OnOk result (numbers.new ≡ noted numbers.old) }
     ensures clients { (connections : Table Connection) (k : Connection) → AreClients clients.old connections → IsIdle client k
         → OnOk result (AreClients clients.new (if to.closes then connections else insert connections to.connection k)) }
-    ensures waits { kept_at nat_cmp clients.old to.connection ≡ None
-        → OnOk result (waiting_at to.connection clients.new ≤ length (waiting client.reader)) }
+    ensures unread { kept_at nat_cmp clients.old to.connection ≡ None
+        → OnOk result (unread_at to.connection clients.new ≤ length (unread client.reader)) }
     ensures actions { OnOk result (actions.new.items ≡ actions.old.items
         ++ reply_actions to.exchange numbers.old.moment to.to_head to.connection to.closes reply.now) }
 {
@@ -53,8 +53,8 @@ fn go_on(
 ) -> Result<(), AllocError>
     ensures clients { (connections : Table Connection) (k : Connection) → AreClients clients.old connections → IsIdle client k
         → OnOk result (AreClients clients.new (if to.closes then connections else insert connections to.connection k)) }
-    ensures waits { kept_at nat_cmp clients.old to.connection ≡ None
-        → OnOk result (waiting_at to.connection clients.new ≤ length (waiting client.reader)) }
+    ensures unread { kept_at nat_cmp clients.old to.connection ≡ None
+        → OnOk result (unread_at to.connection clients.new ≤ length (unread client.reader)) }
 {
     if to.closes {
         return Ok(());
@@ -68,7 +68,7 @@ fn go_on(
     Ok(())
 }
 
-/// Sends a request to the origin for a target, and waits for its response. Where it is for the store alone, no
+/// Sends a request to the origin for a target, and awaits its response. Where it is for the store alone, no
 /// such one may be open for the target.
 pub(crate) fn send_forward(
     alloc: Global,
@@ -102,7 +102,7 @@ pub(crate) fn send_forward(
     links.put(alloc, number, link)
 }
 
-/// A request waits for its reply on a connection that was taken out.
+/// A request awaits its reply on a connection that was taken out.
 pub(crate) fn await_reply(
     exchanges: &mut BTreeMap<u64, OpenExchange>,
     clients: &mut BTreeMap<u64, Client>,
@@ -113,16 +113,16 @@ pub(crate) fn await_reply(
     ensures exchanges { (table : Table OpenExchange) → AreExchanges exchanges.old table
         → OnOk result (AreExchanges exchanges.new (insert table number exchange)) }
     ensures clients { (connections : Table Connection) (k : Connection) → AreClients clients.old connections
-        → WillWait client number k → OnOk result (AreClients clients.new (insert connections exchange.connection k)) }
-    ensures waits { OnOk result (waiting_at exchange.connection clients.new ≤ length (waiting client.reader)) }
+        → WillAwait client number k → OnOk result (AreClients clients.new (insert connections exchange.connection k)) }
+    ensures unread { OnOk result (unread_at exchange.connection clients.new ≤ length (unread client.reader)) }
 {
     let connection = exchange.connection;
     exchanges.insert(number, exchange)?;
-    let waiting = Client {
+    let busy = Client {
         reader: client.reader,
         exchange: Some(number),
         leaves: client.leaves,
     };
-    clients.insert(connection, waiting)?;
+    clients.insert(connection, busy)?;
     Ok(())
 }

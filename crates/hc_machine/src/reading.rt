@@ -31,16 +31,16 @@ impl<S: BuildHasher> Desk<S> {
     ghost use Rattle.hc_service.specs.declared.settings.CoreSettings.{CoreSettings};
     ghost use Rattle.hc_service.specs.State.{Connection, State};
     ghost use Rattle.hc_service.specs.Serves.Turn.{Asking};
-    ghost use Rattle.hc_links.specs.RequestReading.{CanRead, waiting};
+    ghost use Rattle.hc_links.specs.RequestReading.{CanRead, unread};
     ghost use Rattle.hc_open.specs.Links.{IsClient};
-    ghost use Rattle.hc_machine.specs.Reading.{GivesForward, GivesReplies, GivesReplyAtOnce, IsAsked, SendsBehind, waiting_at};
-    ghost use Rattle.hc_machine.specs.Standing.{CanServe, GivesReading, GivesTurn, Stands, without_connection};
+    ghost use Rattle.hc_machine.specs.Reading.{SendsForward, SendsReplies, SendsReply, IsAsked, SendsBehind, unread_at};
+    ghost use Rattle.hc_machine.specs.Standing.{CanServe, GivesReading, GivesTurn, DeskStandsFor, without_connection, from_state, at_desk};
 
     /// Reads a connection until nothing more can be read.
     pub(crate) fn read_on(&mut self, c: u64, actions: &mut Vec<Action>) -> Result<(), AllocError>
         requires { CanServe self.old }
-        ensures { (settings : CoreSettings) (s : State) → Stands settings self.old s
-            → OnOk result (GivesReading settings c false s actions.old.items actions.new.items self.new) }
+        ensures { (settings : CoreSettings) (s : State) → DeskStandsFor settings self.old s
+            → OnOk result (GivesReading (from_state settings s actions.old.items) c false (at_desk actions.new.items self.new)) }
     {
         loop {
             if !self.read_one(c, actions)? {
@@ -52,16 +52,16 @@ impl<S: BuildHasher> Desk<S> {
     /// Reads a request, if one is there, and tells whether more may be read.
     fn read_one(&mut self, c: u64, actions: &mut Vec<Action>) -> Result<bool, AllocError>
         requires { CanServe self.old }
-        ensures reading { (settings : CoreSettings) (s : State) → Stands settings self.old s
-            → IfOk result (λ more. GivesReading settings c more s actions.old.items actions.new.items self.new) }
-        ensures fewer { IfOk result (λ more. more ≡ true → waiting_at c self.new.clients < waiting_at c self.old.clients) }
+        ensures reading { (settings : CoreSettings) (s : State) → DeskStandsFor settings self.old s
+            → IfOk result (λ more. GivesReading (from_state settings s actions.old.items) c more (at_desk actions.new.items self.new)) }
+        ensures fewer { IfOk result (λ more. more ≡ true → unread_at c self.new.clients < unread_at c self.old.clients) }
     {
         let Some(client) = self.clients.remove(&c) else {
             return Ok(false);
         };
         match client.exchange {
             Some(_) => {
-                self.wait(c, client)?;
+                self.trim(c, client)?;
                 Ok(false)
             }
             None => {
@@ -71,20 +71,20 @@ impl<S: BuildHasher> Desk<S> {
         }
     }
 
-    /// A request waits for its reply on a connection, which was taken out: of the octets behind it no
-    /// more wait than may.
-    fn wait(&mut self, c: u64, mut client: Client) -> Result<(), AllocError>
+    /// An exchange awaits its reply on a connection, which was taken out: of the octets behind it no
+    /// more stay unread than may.
+    fn trim(&mut self, c: u64, mut client: Client) -> Result<(), AllocError>
         ensures { (settings : CoreSettings) (s : State) (k : Connection) (exchange : ℕ) (items : List Action)
-            → Stands settings self.old (without_connection c s)
+            → DeskStandsFor settings self.old (without_connection c s)
             → get s.connections c ≡ Some k → IsClient client k → k.exchange ≡ Some exchange
-            → OnOk result (GivesReading settings c false s items items self.new) }
+            → OnOk result (GivesReading (from_state settings s items) c false (at_desk items self.new)) }
     {
         client.trim();
         self.clients.insert(c, client)?;
         Ok(())
     }
 
-    /// Reads a request of a connection, which was taken out, and on which none waits for its reply.
+    /// Reads a request of a connection, which was taken out, and on which no exchange awaits its reply.
     fn read_idle(
         &mut self,
         c: u64,
@@ -94,11 +94,11 @@ impl<S: BuildHasher> Desk<S> {
         requires in_time { self.old.numbers.moment < end_of_moments }
         requires can { CanRead client.reader }
         ensures reading { (settings : CoreSettings) (s : State) (k : Connection)
-            → Stands settings self.old (without_connection c s)
+            → DeskStandsFor settings self.old (without_connection c s)
             → get s.connections c ≡ Some k → IsClient client k → k.exchange ≡ None
-            → IfOk result (λ more. GivesReading settings c more s actions.old.items actions.new.items self.new) }
+            → IfOk result (λ more. GivesReading (from_state settings s actions.old.items) c more (at_desk actions.new.items self.new)) }
         ensures fewer { kept_at nat_cmp self.old.clients c ≡ None
-            → IfOk result (λ more. more ≡ true → waiting_at c self.new.clients < length (waiting client.reader)) }
+            → IfOk result (λ more. more ≡ true → unread_at c self.new.clients < length (unread client.reader)) }
     {
         match client.reader.next()? {
             Arrival::More => {
@@ -127,11 +127,11 @@ impl<S: BuildHasher> Desk<S> {
     ) -> Result<(), AllocError>
         requires { self.old.numbers.moment < end_of_moments }
         ensures turn { (settings : CoreSettings) (s : State) (k : Connection) (size : ℕ)
-            → Stands settings self.old (without_connection c s)
+            → DeskStandsFor settings self.old (without_connection c s)
             → get s.connections c ≡ Some k → IsAsked client k request target size
-            → OnOk result (GivesTurn settings (Asking c) s actions.old.items actions.new.items self.new) }
-        ensures waits { kept_at nat_cmp self.old.clients c ≡ None
-            → OnOk result (waiting_at c self.new.clients ≤ length (waiting client.reader)) }
+            → OnOk result (GivesTurn (from_state settings s actions.old.items) (Asking c) (at_desk actions.new.items self.new)) }
+        ensures unread { kept_at nat_cmp self.old.clients c ≡ None
+            → OnOk result (unread_at c self.new.clients ≤ length (unread client.reader)) }
     {
         let closes = closes_behind(&request.head, client.leaves);
         let number = record_request(self.alloc, &mut self.numbers, &request, actions)?;
@@ -141,14 +141,14 @@ impl<S: BuildHasher> Desk<S> {
             asked: &request.head,
             closes,
         };
-        let told = self.links.open_behind(&target);
+        let open_behind = self.links.open_behind(&target);
         let reaction = react(
             self.alloc,
             &mut self.store,
             &wanted,
             &target,
             &request,
-            told,
+            open_behind,
         )?;
         let exchange = OpenExchange {
             connection: c,
@@ -186,9 +186,10 @@ impl<S: BuildHasher> Desk<S> {
         behind: Option<Message<RequestHead>>,
         actions: &mut Vec<Action>,
     ) -> Result<(), AllocError>
-        ensures replies { OnOk result (GivesReplies number exchange client closes reply.now behind actions.old.items actions.new.items self.old self.new) }
-        ensures waits { kept_at nat_cmp self.old.clients exchange.connection ≡ None
-            → OnOk result (waiting_at exchange.connection self.new.clients ≤ length (waiting client.reader)) }
+        ensures replies { OnOk result (SendsReplies (record { number = number; exchange = exchange; client = client }) closes
+            reply.now behind (at_desk actions.old.items self.old) (at_desk actions.new.items self.new)) }
+        ensures unread { kept_at nat_cmp self.old.clients exchange.connection ≡ None
+            → OnOk result (unread_at exchange.connection self.new.clients ≤ length (unread client.reader)) }
     {
         self.reply_at_once(number, &exchange, client, closes, reply, actions)?;
         match behind {
@@ -204,7 +205,7 @@ impl<S: BuildHasher> Desk<S> {
         validation: Message<RequestHead>,
         actions: &mut Vec<Action>,
     ) -> Result<(), AllocError>
-        ensures sends { OnOk result (SendsBehind target validation actions.old.items actions.new.items self.old self.new) }
+        ensures sends { OnOk result (SendsBehind target validation (at_desk actions.old.items self.old) (at_desk actions.new.items self.new)) }
         ensures clients { self.new.clients ≡ self.old.clients }
     {
         send_forward(
@@ -228,9 +229,10 @@ impl<S: BuildHasher> Desk<S> {
         reply: &Message<ResponseHead>,
         actions: &mut Vec<Action>,
     ) -> Result<(), AllocError>
-        ensures replies { OnOk result (GivesReplyAtOnce number exchange.now client closes reply.now actions.old.items actions.new.items self.old self.new) }
-        ensures waits { kept_at nat_cmp self.old.clients exchange.now.connection ≡ None
-            → OnOk result (waiting_at exchange.now.connection self.new.clients ≤ length (waiting client.reader)) }
+        ensures replies { OnOk result (SendsReply (record { number = number; exchange = exchange.now; client = client }) closes
+            reply.now (at_desk actions.old.items self.old) (at_desk actions.new.items self.new)) }
+        ensures unread { kept_at nat_cmp self.old.clients exchange.now.connection ≡ None
+            → OnOk result (unread_at exchange.now.connection self.new.clients ≤ length (unread client.reader)) }
     {
         let to = Addressee {
             exchange: number,
@@ -250,7 +252,7 @@ impl<S: BuildHasher> Desk<S> {
         Ok(())
     }
 
-    /// A request that was read of a connection, which was taken out, goes to the origin, and waits for
+    /// A request that was read of a connection, which was taken out, goes to the origin, and awaits
     /// its reply.
     fn go_forward(
         &mut self,
@@ -261,8 +263,9 @@ impl<S: BuildHasher> Desk<S> {
         purpose: Purpose,
         actions: &mut Vec<Action>,
     ) -> Result<(), AllocError>
-        ensures goes { OnOk result (GivesForward number exchange client forward purpose actions.old.items actions.new.items self.old self.new) }
-        ensures waits { OnOk result (waiting_at exchange.connection self.new.clients ≤ length (waiting client.reader)) }
+        ensures goes { OnOk result (SendsForward (record { number = number; exchange = exchange; client = client }) forward
+            purpose (at_desk actions.old.items self.old) (at_desk actions.new.items self.new)) }
+        ensures unread { OnOk result (unread_at exchange.connection self.new.clients ≤ length (unread client.reader)) }
     {
         let target = exchange.target.copy(self.alloc)?;
         send_forward(

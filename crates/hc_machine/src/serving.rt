@@ -13,14 +13,14 @@ impl<S: BuildHasher> Desk<S> {
     ghost use Rattle.hc_service.specs.declared.settings.CoreSettings.{CoreSettings};
     ghost use Rattle.hc_service.specs.State.{State};
     ghost use Rattle.hc_service.specs.Serves.{first_fault};
-    ghost use Rattle.hc_machine.specs.Standing.{CanServe, GivesReadingBehind, GivesService, Stands};
+    ghost use Rattle.hc_machine.specs.Standing.{CanServe, GivesReadingBehind, GivesService, DeskStandsFor, from_state, at_desk};
     ghost use Rattle.hc_machine.specs.Happenings.{CanTake, TakesOn};
 
     /// Does what an event owes that fails no test.
     pub(crate) fn serve(&mut self, event: Event) -> Result<Vec<Action>, AllocError>
         requires can { CanTake event.of self.old }
         requires in_time { event.moment < end_of_moments }
-        ensures { (settings : CoreSettings) (s : State) → Stands settings self.old s → first_fault event s ≡ None
+        ensures { (settings : CoreSettings) (s : State) → DeskStandsFor settings self.old s → first_fault event s ≡ None
             → IfOk result (λ actions. GivesService settings event s actions.items self.new) }
     {
         self.numbers.pass_to(event.moment);
@@ -34,9 +34,9 @@ impl<S: BuildHasher> Desk<S> {
     {
         match of {
             Happening::ClientOpened(c) => self.client_opened(c),
-            Happening::ClientBytes(c, octets) => self.client_heard(c, octets.as_slice()),
+            Happening::ClientBytes(c, octets) => self.client_sent(c, octets.as_slice()),
             Happening::ClientEnd(c) => self.client_ended(c),
-            Happening::OriginBytes(f, octets) => self.origin_heard(f, octets.as_slice()),
+            Happening::OriginBytes(f, octets) => self.origin_sent(f, octets.as_slice()),
             Happening::OriginEnd(f) => self.origin_ended(f),
             Happening::OriginFailed(f) => self.origin_lost(f),
         }
@@ -51,11 +51,11 @@ impl<S: BuildHasher> Desk<S> {
     }
 
     /// Octets come from the client of an open connection, which is read as far as can be.
-    fn client_heard(&mut self, c: u64, octets: &[u8]) -> Result<Vec<Action>, AllocError>
+    fn client_sent(&mut self, c: u64, octets: &[u8]) -> Result<Vec<Action>, AllocError>
         requires { CanTake (ClientBytes c octets.now) self.old }
         ensures { TakesOn (ClientBytes c octets.now) self.old result self.new }
     {
-        self.hear(c, octets)?;
+        self.receive_client(c, octets)?;
         let mut actions = Vec::new(self.alloc);
         self.read_on(c, &mut actions)?;
         Ok(actions)
@@ -72,12 +72,12 @@ impl<S: BuildHasher> Desk<S> {
     }
 
     /// Octets come from the origin on an open forward.
-    fn origin_heard(&mut self, f: u64, octets: &[u8]) -> Result<Vec<Action>, AllocError>
+    fn origin_sent(&mut self, f: u64, octets: &[u8]) -> Result<Vec<Action>, AllocError>
         requires { CanTake (OriginBytes f octets.now) self.old }
         ensures { TakesOn (OriginBytes f octets.now) self.old result self.new }
     {
         let mut actions = Vec::new(self.alloc);
-        let client = self.tell(f, octets, &mut actions)?;
+        let client = self.receive_origin(f, octets, &mut actions)?;
         self.read_behind(client, &mut actions)?;
         Ok(actions)
     }
@@ -111,8 +111,8 @@ impl<S: BuildHasher> Desk<S> {
         actions: &mut Vec<Action>,
     ) -> Result<(), AllocError>
         requires { CanServe self.old }
-        ensures { (settings : CoreSettings) (s : State) → Stands settings self.old s
-            → OnOk result (GivesReadingBehind settings client s actions.old.items actions.new.items self.new) }
+        ensures { (settings : CoreSettings) (s : State) → DeskStandsFor settings self.old s
+            → OnOk result (GivesReadingBehind (from_state settings s actions.old.items) client (at_desk actions.new.items self.new)) }
     {
         match client {
             None => Ok(()),

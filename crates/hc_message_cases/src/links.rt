@@ -124,9 +124,9 @@ fn show_waiting(reader: &mut RequestReader, out: &mut String) -> Result<(), Allo
     requires { CanRead reader.old }
 {
     drop(reader.next()?);
-    let before = reader.waiting();
-    reader.drop_waiting();
-    let after = reader.waiting();
+    let before = reader.unread();
+    reader.drop_unread();
+    let after = reader.unread();
     write!(out, "{before} octets wait, then {after}")
 }
 

@@ -171,14 +171,14 @@ module _ (forwards : Table Awaited) (f : ℕ) (a : Awaited) (forward : OpenForwa
         }
 
 -- another of the same purpose and target in its place
-pub heard_behind : (m : BTreeMap Target ℕ) (forwards : Table Awaited) (f : ℕ) (a b : Awaited) → AreBehind m forwards → get forwards f ≡ Some a → b.forward ≡ a.forward
+pub received_behind : (m : BTreeMap Target ℕ) (forwards : Table Awaited) (f : ℕ) (a b : Awaited) → AreBehind m forwards → get forwards f ≡ Some a → b.forward ≡ a.forward
     → AreBehind m (insert forwards f b)
-heard_behind m forwards f a b are there same = record {
+received_behind m forwards f a b are there same = record {
   at = λ t. count_same (is_behind t) forwards f a b there (ap (λ (x : OpenForward). is_for_store x.purpose && same_target x.target t) same) ∙ are.at t;
   many = count_same is_background forwards f a b there (ap (λ (x : OpenForward). is_for_store x.purpose) same) ∙ are.many;
 }
 
--- one that a request waits for has place
+-- one that is for an exchange has place
 pub reply_has_place : (request : RequestHead) (target : Target) (moment e : ℕ) (why : Cause) (conditional : Bool) (forwards : Table Awaited)
     → HasPlace (sent_forward request target moment (purpose.Reply e why conditional)) forwards
 reply_has_place request target moment e why conditional forwards for_store = absurd (no_such for_store)

@@ -20,21 +20,21 @@ use Rattle.hc_open.specs.declared.links.Link.{Link}
 use Rattle.hc_open.specs.declared.open_links.OpenLinks.{OpenLinks}
 use Rattle.hc_open.specs.Tables.{AreAlike, IsSame}
 
--- while a request waits for its reply, none of what is unread has been looked at
-abbrev pub WaitsWhole : Option ℕ → RequestReader → List ℕ → Type 0
-WaitsWhole (Some exchange) reader unread = requests.waiting reader ≡ unread
-WaitsWhole None reader unread = Unit {0}
+-- while an exchange awaits its reply, none of what is unread has been looked at
+abbrev pub IsUntouched : Option ℕ → RequestReader → List ℕ → Type 0
+IsUntouched (Some exchange) reader unread = requests.unread reader ≡ unread
+IsUntouched None reader unread = Unit {0}
 
 -- a client's connection: its reader was given what is unread
 pub record IsClient (client : Client) (k : Connection) : Type 0 where
-  pub reads : requests.Agrees client.reader k.unread
-  pub waits : WaitsWhole k.exchange client.reader k.unread
+  pub reads : requests.WasGiven client.reader k.unread
+  pub untouched : IsUntouched k.exchange client.reader k.unread
   pub exchange : client.exchange ≡ k.exchange
   pub leaves : client.leaves ≡ k.leaves
 
--- a forward's connection to the origin: its reader was given what was heard
+-- a forward's connection to the origin: its reader was given what has come
 pub record IsLink (link : Link) (a : Awaited) : Type 0 where
-  pub reads : responses.Agrees (is_head a.forward.request.method) link.reader a.heard
+  pub reads : responses.WasGiven (is_head a.forward.request.method) link.reader a.received
   pub forward : link.forward ≡ a.forward
 
 abbrev pub AreClients : BTreeMap ℕ Client → Table Connection → Type 0
@@ -75,17 +75,17 @@ TakesLink f (Some link) forwards links = (a : Awaited) × (get forwards f ≡ So
 
 -- a client's connection, but for the exchange, of which none is open
 pub record IsIdle (client : Client) (k : Connection) : Type 0 where
-  pub reads : requests.Agrees client.reader k.unread
+  pub reads : requests.WasGiven client.reader k.unread
   pub exchange : k.exchange ≡ None
   pub leaves : client.leaves ≡ k.leaves
 
 -- a client's connection, but for the exchange, which opens: nothing behind its request has been looked at
-pub record WillWait (client : Client) (exchange : ℕ) (k : Connection) : Type 0 where
+pub record WillAwait (client : Client) (exchange : ℕ) (k : Connection) : Type 0 where
   pub reads : requests.HasUnread client.reader k.unread
   pub exchange_is : k.exchange ≡ Some exchange
   pub leaves : client.leaves ≡ k.leaves
 
--- it is the connection, of whose octets those that wait were dropped where they were too many
+-- it is the connection, of which the unread octets were dropped where they were too many
 abbrev pub IsTrimmed : Bool → Client → Connection → Type 0
 IsTrimmed true client k = IsClient client (after_leaving k)
 IsTrimmed false client k = IsClient client k

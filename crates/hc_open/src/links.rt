@@ -6,15 +6,15 @@ use hc_links::{RequestReader, ResponseReader};
 use hc_service::OpenForward;
 use std::alloc::{AllocError, Global};
 
-/// The most octets that wait while a request waits for its reply.
-const MOST_WAITING: usize = 65_536;
+/// The most octets that stay unread while an exchange awaits its reply.
+const MOST_UNREAD: usize = 65_536;
 
 /// A client connection that is open.
 #[derive(Drop)]
 pub struct Client {
     /// Reads its requests.
     pub reader: RequestReader,
-    /// The number of the exchange of the request that waits for its reply, if one does.
+    /// The number of the exchange that awaits its reply, if one does.
     pub exchange: Option<u64>,
     /// Whether nothing more is read, so that it closes behind the reply.
     pub leaves: bool,
@@ -32,7 +32,7 @@ pub struct Link {
 impl Client {
     ghost use Rattle.std.specs.Prelude.{◌≡◌, ℕ, OnOk, Some, length, nat_lt};
     ghost use Rattle.hc_service.specs.State.{Connection, new_connection};
-    ghost use Rattle.hc_service.specs.Turns.{after_leaving, after_octets, most_waiting};
+    ghost use Rattle.hc_service.specs.Turns.{after_leaving, after_client_octets, most_unread};
     ghost use Rattle.hc_open.specs.Links.{IsClient, IsTrimmed};
 
     /// A connection that has just opened.
@@ -48,7 +48,7 @@ impl Client {
 
     /// Takes in octets, which are dropped where nothing more is read.
     pub fn hear(&mut self, octets: &[u8]) -> Result<(), AllocError>
-        ensures { (k : Connection) → IsClient self.old k → OnOk result (IsClient self.new (after_octets octets.now k)) }
+        ensures { (k : Connection) → IsClient self.old k → OnOk result (IsClient self.new (after_client_octets octets.now k)) }
     {
         if self.leaves {
             return Ok(());
@@ -56,27 +56,27 @@ impl Client {
         self.reader.hear(octets)
     }
 
-    /// Drops what waits, while a request waits for its reply: nothing more is read.
+    /// Drops what is unread, while an exchange awaits its reply: nothing more is read.
     pub fn leave(&mut self)
         ensures { (k : Connection) (exchange : ℕ) → IsClient self.old k → k.exchange ≡ Some exchange
             → IsClient self.new (after_leaving k) }
     {
-        self.reader.drop_waiting();
+        self.reader.drop_unread();
         self.leaves = true;
     }
 
-    /// Whether more octets wait than may while a request waits for its reply.
+    /// Whether more octets are unread than may be while an exchange awaits its reply.
     fn is_over(&self) -> bool
         ensures { (k : Connection) (exchange : ℕ) → IsClient self.now k → k.exchange ≡ Some exchange
-            → result ≡ nat_lt most_waiting (length k.unread) }
+            → result ≡ nat_lt most_unread (length k.unread) }
     {
-        MOST_WAITING < self.reader.waiting()
+        MOST_UNREAD < self.reader.unread()
     }
 
-    /// Drops what waits where that is more than may, while a request waits for its reply.
+    /// Drops what is unread where that is more than may be, while an exchange awaits its reply.
     pub fn trim(&mut self)
         ensures { (k : Connection) (exchange : ℕ) → IsClient self.old k → k.exchange ≡ Some exchange
-            → IsTrimmed (nat_lt most_waiting (length k.unread)) self.new k }
+            → IsTrimmed (nat_lt most_unread (length k.unread)) self.new k }
     {
         if !self.is_over() {
             return;

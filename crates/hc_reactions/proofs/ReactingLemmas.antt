@@ -5,9 +5,9 @@ use Rattle.hc_head.specs.declared.head.Target.{Target}
 use Rattle.hc_framing.specs.declared.message.Message.{Message}
 use Rattle.hc_update.specs.declared.stored.Stored.{Stored}
 use Rattle.hc_store.specs.Entries.{Holdings, knows}
-use Rattle.hc_service.specs.declared.cases.Case.{Case}
+use Rattle.hc_service.specs.declared.cases.Case.{Case as GivenCase}
 use Rattle.hc_service.specs.declared.cases.Cause.{Cause}
-use Rattle.hc_service.specs.Cases.{case_before_store, case_by_store}
+use Rattle.hc_service.specs.Cases.{Case, case_before_store, case_by_store, case_of}
 use Rattle.hc_service.specs.Choices.{Finds}
 use Rattle.hc_service.specs.Reactions.{Reacts, ReactsBy, ReactsByStore, chosen_reaction, forward_reaction}
 use Rattle.hc_service.specs.Replying.{Wanted}
@@ -15,14 +15,14 @@ use Rattle.hc_service.specs.State.{Awaited, Table}
 use Rattle.hc_reactions.specs.declared.reacting.Reaction.{Reaction}
 use Rattle.hc_reactions.specs.Reacting.{owed_reaction}
 
--- a hit, as what the case makes of the request
+-- a case of the code, where it is known which it is
 pub chosen_by_case : {E : Type 0} (wanted : Wanted) (target : Target) (request : Message RequestHead) (forwards : Table Awaited) (chosen : Option Stored)
-    (case other : Case) (answer : Result Reaction E)
-    → case ≡ other
-    → IfOk answer (λ reaction. owed_reaction reaction ≡ chosen_reaction wanted target request forwards chosen other)
-    → IfOk answer (λ reaction. owed_reaction reaction ≡ chosen_reaction wanted target request forwards chosen case)
-chosen_by_case wanted target request forwards chosen case other answer is gives =
-    subst (λ (k : Case). IfOk answer (λ reaction. owed_reaction reaction ≡ chosen_reaction wanted target request forwards chosen k)) (sym is) gives
+    (given known : GivenCase) (answer : Result Reaction E)
+    → given ≡ known
+    → IfOk answer (λ reaction. owed_reaction reaction ≡ chosen_reaction wanted target request forwards chosen (case_of known))
+    → IfOk answer (λ reaction. owed_reaction reaction ≡ chosen_reaction wanted target request forwards chosen (case_of given))
+chosen_by_case wanted target request forwards chosen given known answer is gives =
+    subst (λ (k : GivenCase). IfOk answer (λ reaction. owed_reaction reaction ≡ chosen_reaction wanted target request forwards chosen (case_of k))) (sym is) gives
 
 -- by what is stored: the store's answer decides the case, and the case what the request gets
 pub reacts_by_store : {E : Type 0} (wanted : Wanted) (target : Target) (request : Message RequestHead) (forwards : Table Awaited) (old new : Holdings)
@@ -32,7 +32,7 @@ pub reacts_by_store : {E : Type 0} (wanted : Wanted) (target : Target) (request 
     → moment ≡ wanted.moment
     → case ≡ case_by_store request.head.fields known chosen moment
     → IfOk answer (λ reaction. owed_reaction reaction ≡ chosen_reaction wanted target request forwards chosen case)
-    → IfOk answer (λ reaction. ReactsByStore wanted target request forwards old (owed_reaction reaction) new)
+    → IfOk answer (λ reaction. ReactsByStore (record { request = request; target = target; wanted = wanted }) forwards old (owed_reaction reaction) new)
 reacts_by_store wanted target request forwards old new chosen known moment case (Ok reaction) finds is this decides gives = record {
   chosen = chosen;
   finds = finds;
@@ -50,17 +50,17 @@ pub reacts_before : {E : Type 0} (wanted : Wanted) (target : Target) (request : 
     → Some why ≡ case_before_store request
     → new ≡ old
     → IfOk answer (λ reaction. owed_reaction reaction ≡ forward_reaction wanted target request None why)
-    → IfOk answer (λ reaction. Reacts wanted target request forwards old (owed_reaction reaction) new)
+    → IfOk answer (λ reaction. Reacts (record { request = request; target = target; wanted = wanted }) forwards old (owed_reaction reaction) new)
 reacts_before wanted target request forwards old new why (Ok reaction) is same gives =
-    subst (λ (case : Option Cause). ReactsBy case wanted target request forwards old (owed_reaction reaction) new) is (gives, same)
+    subst (λ (case : Option Cause). ReactsBy case (record { request = request; target = target; wanted = wanted }) forwards old (owed_reaction reaction) new) is (gives, same)
 reacts_before wanted target request forwards old new why (Err e) is same gives = gives
 
 -- none does, so the store is asked
 pub reacts_asking : {E : Type 0} (wanted : Wanted) (target : Target) (request : Message RequestHead) (forwards : Table Awaited) (old new : Holdings)
     (answer : Result Reaction E)
     → None ≡ case_before_store request
-    → IfOk answer (λ reaction. ReactsByStore wanted target request forwards old (owed_reaction reaction) new)
-    → IfOk answer (λ reaction. Reacts wanted target request forwards old (owed_reaction reaction) new)
+    → IfOk answer (λ reaction. ReactsByStore (record { request = request; target = target; wanted = wanted }) forwards old (owed_reaction reaction) new)
+    → IfOk answer (λ reaction. Reacts (record { request = request; target = target; wanted = wanted }) forwards old (owed_reaction reaction) new)
 reacts_asking wanted target request forwards old new (Ok reaction) is gives =
-    subst (λ (case : Option Cause). ReactsBy case wanted target request forwards old (owed_reaction reaction) new) is gives
+    subst (λ (case : Option Cause). ReactsBy case (record { request = request; target = target; wanted = wanted }) forwards old (owed_reaction reaction) new) is gives
 reacts_asking wanted target request forwards old new (Err e) is gives = gives

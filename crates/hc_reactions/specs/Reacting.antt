@@ -15,7 +15,7 @@ abbrev pub owed_reaction : Reaction → OwedReaction
 owed_reaction (Replies reply behind) = OwesReply reply behind
 owed_reaction (Sends request cause conditional) = OwesForward request cause conditional
 
--- what is told of the forwards for the store alone is what is open
-pub record IsOpenBehind (target : Target) (forwards : Table Awaited) (told : OpenBehind) : Type 0 where
-  pub count_is : told.count ≡ count_by is_background (values forwards)
-  pub for_target_is : told.for_target ≡ list_any (λ awaited. is_background awaited && same_target awaited.forward.target target) (values forwards)
+-- these are the forwards for the store alone that are open, as far as a reaction asks
+pub record IsOpenBehind (target : Target) (forwards : Table Awaited) (open_behind : OpenBehind) : Type 0 where
+  pub count_is : open_behind.count ≡ count_by is_background (values forwards)
+  pub for_target_is : open_behind.for_target ≡ list_any (λ awaited. is_background awaited && same_target awaited.forward.target target) (values forwards)

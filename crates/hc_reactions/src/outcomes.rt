@@ -1,17 +1,14 @@
-//! What a request that waits for a forward gets once the forward ends, and what the store is told.
+//! What an open exchange gets once its forward ends, and what the store is told.
 
 ghost use Rattle.std.specs.Prelude.{◌≡◌, ◌<◌, false, IfOk, OnOk};
 ghost use Rattle.std.specs.Option.{option_copied};
 ghost use Rattle.hc_fields.specs.Numbers.{end_of_moments};
-ghost use Rattle.hc_service.specs.declared.cases.Cause.{Cause};
-ghost use Rattle.hc_service.specs.declared.open.OpenForward.{OpenForward};
-ghost use Rattle.hc_service.specs.Replying.{Wanted};
 ghost use Rattle.hc_service.specs.Choices.{OnTest, Stores, is_put, may_update};
 ghost use Rattle.hc_service.specs.Cases.{asks_store};
-ghost use Rattle.hc_service.specs.Answers.{Fails, FailsByStore, Passes, Renews, Replaces, Responds, StoresBehind, failed_outcome, has_condition, is_news, is_replaceable, is_unasked, is_validation, standing_in, validated_outcome};
+ghost use Rattle.hc_service.specs.Answers.{Fails, FailsByStore, Passes, Renews, Replaces, Responds, StoresBehind, failed_outcome, has_condition, is_news, is_replaceable, is_unasked, is_validation, replacement, rule_of, validated_outcome};
 ghost use Rattle.hc_service.specs.Answers.Outcome.{Replies};
 ghost use Rattle.hc_service.specs.Choices.{validated_by};
-ghost use Rattle.hc_reactions.specs.Outcomes.{Answered, GivesStandIn, owed_outcome, replacing};
+ghost use Rattle.hc_reactions.specs.Outcomes.{Answered, GivesReplacement, owed_outcome, replacing};
 
 use hc_framing::Message;
 use hc_head::{RequestHead, ResponseHead, StatusCode, is_error_status, is_get, is_get_or_head};
@@ -25,7 +22,7 @@ use hc_update::{Stored, initial, invalidates};
 use std::alloc::{AllocError, Global};
 use std::hash::BuildHasher;
 
-/// What a request that waits for a forward gets once the origin has answered.
+/// What an open exchange gets once the origin has answered its forward.
 #[derive(Drop)]
 pub enum Outcome {
     /// Its reply.
@@ -139,14 +136,14 @@ pub fn store_behind<S: BuildHasher>(
 
 /// Whether a forward asked whether something still holds.
 fn has_condition(sent: &RequestHead) -> bool
-    ensures { (wanted : Wanted) (forward : OpenForward) (cause : Cause) → result ≡ has_condition wanted forward cause sent.now }
+    ensures { result ≡ has_condition sent.now }
 {
     sent.fields.contains(b"if-none-match") || sent.fields.contains(b"if-modified-since")
 }
 
 /// Whether a response is a 304 that the forward didn't ask for.
 fn is_unasked(forward: &OpenForward, response: &ResponseHead) -> bool
-    ensures { (wanted : Wanted) (cause : Cause) → result ≡ is_unasked wanted forward.now cause response.now }
+    ensures { result ≡ is_unasked forward.now.request response.now }
 {
     if response.status != StatusCode::NOT_MODIFIED {
         return false;
@@ -186,7 +183,8 @@ fn pass<S: BuildHasher>(
     response: Message<ResponseHead>,
 ) -> Result<Message<ResponseHead>, AllocError>
     requires { wanted.now.moment < end_of_moments }
-    ensures { IfOk result (λ reply. Passes wanted.now forward cause wanted.now.moment response store.old (Replies reply) store.new) }
+    ensures { IfOk result (λ reply. Passes (record { wanted = wanted.now; forward = forward; cause = cause; response = response })
+        store.old (Replies reply) store.new) }
 {
     let stored = store_asked(alloc, store, forward, cause, wanted.moment, &response)?;
     passed_reply(alloc, wanted, cause, stored, response)
@@ -194,7 +192,7 @@ fn pass<S: BuildHasher>(
 
 /// Whether a response answers the cache's own condition: that what is stored still holds.
 fn is_validation(conditional: bool, response: &ResponseHead) -> bool
-    ensures { (wanted : Wanted) (forward : OpenForward) (cause : Cause) → result ≡ is_validation wanted forward cause conditional response.now }
+    ensures { result ≡ is_validation conditional response.now }
 {
     conditional && response.status == StatusCode::NOT_MODIFIED
 }
@@ -209,7 +207,7 @@ fn validated_outcome<S: BuildHasher>(
     cause: Cause,
     position: u64,
 ) -> Result<Outcome, AllocError>
-    ensures { IfOk result (λ outcome. owed_outcome outcome ≡ validated_outcome wanted.now forward.now cause
+    ensures { IfOk result (λ outcome. owed_outcome outcome ≡ validated_outcome wanted.now cause
         (validated_by forward.now.target wanted.now.asked.fields position store.now)) }
 {
     match store.choose_validated(&forward.target, &wanted.asked.fields, position)? {
@@ -226,15 +224,14 @@ fn validated_outcome<S: BuildHasher>(
 
 /// The stored response that the store chose as the reply, where it may take the place of an error of that
 /// status, or of a failure.
-fn stand_in(
+fn replacement(
     alloc: Global,
     wanted: &WantedReply<'_>,
     cause: Cause,
     origin: Option<StatusCode>,
     chosen: Option<&Stored>,
 ) -> Result<Option<Message<ResponseHead>>, AllocError>
-    ensures { (forward : OpenForward) → IfOk result (λ reply. reply
-        ≡ replacing wanted.now cause origin (standing_in wanted.now forward cause (option_copied chosen.entry))) }
+    ensures { IfOk result (λ reply. reply ≡ replacing wanted.now cause origin (replacement wanted.now (option_copied chosen.entry))) }
 {
     let Some(stored) = chosen else {
         return Ok(None);
@@ -247,24 +244,25 @@ fn stand_in(
 
 /// Whether a response is an error, in whose place what is stored may be the reply.
 fn is_replaceable(cause: Cause, response: &ResponseHead) -> bool
-    ensures { (wanted : Wanted) (forward : OpenForward) → result ≡ is_replaceable wanted forward cause response.now }
+    ensures { result ≡ is_replaceable cause response.now }
 {
     cause.asks_store() && is_error_status(response.status)
 }
 
 /// What the store chooses now as the reply, where it may take the place of that error.
-fn stand_in_by_store<S: BuildHasher>(
+fn replace_by_store<S: BuildHasher>(
     alloc: Global,
     store: &mut Store<S>,
     wanted: &WantedReply<'_>,
     forward: &OpenForward,
     cause: Cause,
-    response: &ResponseHead,
+    response: &Message<ResponseHead>,
 ) -> Result<Option<Message<ResponseHead>>, AllocError>
-    ensures { IfOk result (λ reply. GivesStandIn wanted.now forward.now cause response.now.status store.old reply store.new) }
+    ensures { IfOk result (λ reply. GivesReplacement (record { wanted = wanted.now; forward = forward.now; cause = cause; response = response.now })
+        store.old reply store.new) }
 {
     let chosen = store.choose(&forward.target, &wanted.asked.fields)?;
-    stand_in(alloc, wanted, cause, Some(response.status), chosen)
+    replacement(alloc, wanted, cause, Some(response.head.status), chosen)
 }
 
 /// The reply in place of an error: what the store chooses, where it may be; else the error.
@@ -277,10 +275,10 @@ fn replace<S: BuildHasher>(
     response: Message<ResponseHead>,
 ) -> Result<Message<ResponseHead>, AllocError>
     requires { wanted.now.moment < end_of_moments }
-    ensures { IfOk result (λ reply. Replaces wanted.now forward cause wanted.now.moment response store.old (Replies reply) store.new) }
+    ensures { IfOk result (λ reply. Replaces (record { wanted = wanted.now; forward = forward; cause = cause; response = response })
+        store.old (Replies reply) store.new) }
 {
-    let head = &response.head;
-    if let Some(reply) = stand_in_by_store(alloc, store, wanted, &forward, cause, head)? {
+    if let Some(reply) = replace_by_store(alloc, store, wanted, &forward, cause, &response)? {
         return Ok(reply);
     }
     pass(alloc, store, wanted, forward, cause, response)
@@ -296,7 +294,8 @@ fn answered<S: BuildHasher>(
     response: Message<ResponseHead>,
 ) -> Result<Message<ResponseHead>, AllocError>
     requires { wanted.now.moment < end_of_moments }
-    ensures { IfOk result (λ reply. Answered wanted.now forward cause response store.old (Replies reply) store.new) }
+    ensures { IfOk result (λ reply. Answered (record { wanted = wanted.now; forward = forward; cause = cause; response = response })
+        store.old (Replies reply) store.new) }
 {
     if is_unasked(&forward, &response.head) {
         return made_reply(alloc, wanted, StatusCode::BAD_GATEWAY);
@@ -307,7 +306,7 @@ fn answered<S: BuildHasher>(
     pass(alloc, store, wanted, forward, cause, response)
 }
 
-/// What the request that waits for a forward gets by the response to it, which the store was told of
+/// What an open exchange gets by the response to its forward, which the store was told of
 /// (`renew`), and whose record stands at that position. The first that holds decides:
 ///
 /// - A 304 that answers the cache's own condition (`conditional`): the stored response that it
@@ -330,7 +329,9 @@ pub fn respond<S: BuildHasher>(
     response: Message<ResponseHead>,
 ) -> Result<Outcome, AllocError>
     requires { wanted.now.moment < end_of_moments }
-    ensures { IfOk result (λ outcome. Responds wanted.now forward cause conditional position response store.old (owed_outcome outcome) store.new) }
+    ensures { IfOk result (λ outcome. Responds (rule_of cause conditional forward.request response.head)
+        (record { wanted = wanted.now; forward = forward; cause = cause; response = response })
+        position store.old (owed_outcome outcome) store.new) }
 {
     if is_validation(conditional, &response.head) {
         return validated_outcome(alloc, store, wanted, &forward, cause, position);
@@ -346,11 +347,11 @@ fn failed_reply(
     chosen: Option<&Stored>,
 ) -> Result<Message<ResponseHead>, AllocError>
     requires { wanted.now.moment < end_of_moments }
-    ensures { (forward : OpenForward) → IfOk result (λ reply. Replies reply ≡ failed_outcome wanted.now forward cause (option_copied chosen.entry)
-        (standing_in wanted.now forward cause (option_copied chosen.entry))) }
+    ensures { IfOk result (λ reply. Replies reply ≡ failed_outcome wanted.now cause (option_copied chosen.entry)
+        (replacement wanted.now (option_copied chosen.entry))) }
 {
-    let stands = stand_in(alloc, wanted, cause, None, chosen)?;
-    match stands {
+    let replaced = replacement(alloc, wanted, cause, None, chosen)?;
+    match replaced {
         Some(reply) => Ok(reply),
         None => made_reply(alloc, wanted, failure_status(chosen)),
     }
@@ -365,7 +366,7 @@ fn fail_by_store<S: BuildHasher>(
     cause: Cause,
 ) -> Result<Message<ResponseHead>, AllocError>
     requires { wanted.now.moment < end_of_moments }
-    ensures { IfOk result (λ reply. FailsByStore wanted.now forward.now cause store.old (Replies reply) store.new) }
+    ensures { IfOk result (λ reply. FailsByStore wanted.now forward.now.target cause store.old (Replies reply) store.new) }
 {
     let chosen = store.choose(&forward.target, &wanted.asked.fields)?;
     failed_reply(alloc, wanted, cause, chosen)
@@ -383,7 +384,7 @@ pub fn fail<S: BuildHasher>(
     cause: Cause,
 ) -> Result<Message<ResponseHead>, AllocError>
     requires { wanted.now.moment < end_of_moments }
-    ensures { IfOk result (λ reply. Fails wanted.now forward.now cause store.old (Replies reply) store.new) }
+    ensures { IfOk result (λ reply. Fails wanted.now forward.now.target cause store.old (Replies reply) store.new) }
 {
     if !cause.asks_store() {
         return made_reply(alloc, wanted, StatusCode::BAD_GATEWAY);

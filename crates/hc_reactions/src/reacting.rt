@@ -5,11 +5,10 @@ ghost use Rattle.std.specs.Option.{option_copied};
 ghost use Rattle.hc_fields.specs.Numbers.{end_of_moments};
 ghost use Rattle.hc_head.specs.declared.head.RequestHead.{RequestHead};
 ghost use Rattle.hc_head.specs.declared.head.Target.{Target};
-ghost use Rattle.hc_framing.specs.declared.message.Message.{Message};
 ghost use Rattle.hc_service.specs.State.{Awaited, Table};
 ghost use Rattle.hc_service.specs.Reactions.{Reacts, ReactsByStore, bare, chosen_reaction, forward_anew, forward_reaction, hit_reaction, is_validated_behind, most_background, plain_forward, stored_forward};
 ghost use Rattle.hc_service.specs.Reactions.Reaction.{Sends};
-ghost use Rattle.hc_service.specs.declared.cases.Case.TheVariants.{Hit};
+ghost use Rattle.hc_service.specs.Cases.{case_of};
 ghost use Rattle.hc_rules.specs.Forwards.{conditional_request};
 ghost use Rattle.hc_reactions.specs.Reacting.{IsOpenBehind, owed_reaction};
 
@@ -219,27 +218,6 @@ fn forward_reaction(
     stored_forward(alloc, wanted, target, request, chosen, cause)
 }
 
-/// A hit by what the store chose.
-fn chosen_hit(
-    alloc: Global,
-    wanted: &WantedReply<'_>,
-    target: &Target,
-    open_behind: OpenBehind,
-    chosen: Option<&Stored>,
-) -> Result<Reaction, AllocError>
-    requires { wanted.now.moment < end_of_moments }
-    ensures { (request : Message RequestHead) (forwards : Table Awaited) → IsOpenBehind target.now forwards open_behind → IfOk result
-        (λ reaction. owed_reaction reaction ≡ chosen_reaction wanted.now target.now request forwards (option_copied chosen.entry) Hit) }
-{
-    let Some(stored) = chosen else {
-        return Ok(Reaction::Replies {
-            reply: made_reply(alloc, wanted, StatusCode::GATEWAY_TIMEOUT)?,
-            behind: None,
-        });
-    };
-    hit_reaction(alloc, wanted, target, open_behind, stored)
-}
-
 /// What the case makes of a request, with what the store chose.
 fn chosen_reaction(
     alloc: Global,
@@ -248,15 +226,16 @@ fn chosen_reaction(
     request: &Message<RequestHead>,
     open_behind: OpenBehind,
     chosen: Option<&Stored>,
-    case: Case,
+    case: Case<'_>,
 ) -> Result<Reaction, AllocError>
     requires { wanted.now.moment < end_of_moments }
     ensures { (forwards : Table Awaited) → IsOpenBehind target.now forwards open_behind → IfOk result
-        (λ reaction. owed_reaction reaction ≡ chosen_reaction wanted.now target.now request.now forwards (option_copied chosen.entry) case) }
+        (λ reaction. owed_reaction reaction
+        ≡ chosen_reaction wanted.now target.now request.now forwards (option_copied chosen.entry) (case_of case.entry)) }
 {
     match case {
+        Case::Hit(stored) => hit_reaction(alloc, wanted, target, open_behind, stored),
         Case::Forward(cause) => forward_reaction(alloc, wanted, target, request, chosen, cause),
-        Case::Hit => chosen_hit(alloc, wanted, target, open_behind, chosen),
     }
 }
 
@@ -271,7 +250,8 @@ fn react_by_store<S: BuildHasher>(
 ) -> Result<Reaction, AllocError>
     requires { wanted.now.moment < end_of_moments }
     ensures { (forwards : Table Awaited) → IsOpenBehind target.now forwards open_behind → IfOk result
-        (λ reaction. ReactsByStore wanted.now target.now request.now forwards store.old (owed_reaction reaction) store.new) }
+        (λ reaction. ReactsByStore (record { request = request.now; target = target.now; wanted = wanted.now }) forwards
+        store.old (owed_reaction reaction) store.new) }
 {
     let known = store.knows(target);
     let chosen = store.choose(target, &request.head.fields)?;
@@ -293,7 +273,8 @@ pub fn react<S: BuildHasher>(
 ) -> Result<Reaction, AllocError>
     requires { wanted.now.moment < end_of_moments }
     ensures { (forwards : Table Awaited) → IsOpenBehind target.now forwards open_behind → IfOk result
-        (λ reaction. Reacts wanted.now target.now request.now forwards store.old (owed_reaction reaction) store.new) }
+        (λ reaction. Reacts (record { request = request.now; target = target.now; wanted = wanted.now }) forwards
+        store.old (owed_reaction reaction) store.new) }
 {
     match case_before_store(request) {
         Some(cause) => forward_reaction(alloc, wanted, target, request, None, cause),

@@ -29,9 +29,9 @@ use Rattle.hc_serve.specs.declared.fault.ServingFault.{ServingFault}
 use Rattle.hc_serve.specs.declared.fault.ServingFault.TheVariants as fault
 use Rattle.hc_serve.specs.Carrying.{carried, texts_in}
 use Rattle.hc_serve.specs.Clients.{BreaksBefore, BreaksNext, ComeSince, Connections, CountsServing, EndsBefore, GivesNext, GivesServing, GivesTranscript, HoldsBeginning, HoldsTranscript, IsConnection, IsOwn, KeepsIdle, LeftSince, Serving, ServesNext, log_of, unserved}
-use Rattle.hc_serve.specs.Drives.{AreServed, AreTurns, BreakOff, EndStands, GivesUp, IsLeftIdle, LeadsTo, Leads, answers_by, events_by, passed, texts_given}
-use Rattle.hc_serve.specs.Turns.{Break, IsToldBy, StopsAt}
-use Rattle.hc_serve.specs.Turns.Break.{AtAnswer, Before as BeforeAll, Carrying}
+use Rattle.hc_serve.specs.Drives.{AreServed, AreRounds, BreakOff, EndStands, GivesUp, IsLeftIdle, LeadsTo, Leads, answers_by, events_by, passed, texts_given}
+use Rattle.hc_serve.specs.Rounds.{Break, IsToldBy, StopsAt}
+use Rattle.hc_serve.specs.Rounds.Break.{AtAnswer, Before as BeforeAll, Carrying}
 use Rattle.hc_serve.proofs.CarryLemmas.{texts_append}
 use Rattle.hc_serve.proofs.DriveLemmas.{fewer, given_append, served_append, texts_given_append, texts_of_one}
 
@@ -39,7 +39,7 @@ use Rattle.hc_serve.proofs.DriveLemmas.{fewer, given_append, served_append, text
 
 abbrev pub RunsGoOn : Type 0
 RunsGoOn = (settings : CoreSettings) (events : List Event) (results : List StepResult) (s mid : State) (h : History) (records : List Record)
-    → Runs settings s h events results records (Some mid) → RunsOn settings s h events results records mid
+    → Runs settings s h events results records (Some mid) → RunsOn settings s h (record { events = events; results = results; records = records }) mid
 
 abbrev pub RunsAreCounted : Type 0
 RunsAreCounted = (settings : CoreSettings) (events : List Event) (results : List StepResult) (s mid : State) (h : History) (records : List Record)
@@ -162,11 +162,11 @@ module _ (T T' : List Move → Type 0) (H : List ℕ → Type 0) (still : (log :
     held = stops.held;
   }
 
-  gives_up_still : (break : Break) (why : DriveFault) (rests : Type 0) (new : Cache) (turns : ℕ) → IsToldBy break why ⊎ GivesUp break why new rests turns
-      → IsToldBy break why ⊎ GivesUp break why new (Unit {0}) turns
-  gives_up_still break why rests new turns (inl told) = inl told
-  gives_up_still break why rests new turns (inr (before, is, inl all)) = inr (before, is, inl all)
-  gives_up_still break why rests new turns (inr (before, is, inr (busy, rest))) = inr (before, is, inr (busy, tt))
+  gives_up_still : (break : Break) (why : DriveFault) (rests : Type 0) (new : Cache) (rounds : ℕ) → IsToldBy break why ⊎ GivesUp break why new rests rounds
+      → IsToldBy break why ⊎ GivesUp break why new (Unit {0}) rounds
+  gives_up_still break why rests new rounds (inl told) = inl told
+  gives_up_still break why rests new rounds (inr (before, is, inl all)) = inr (before, is, inl all)
+  gives_up_still break why rests new rounds (inr (before, is, inr (busy, rest))) = inr (before, is, inr (busy, tt))
 
   breaks_still : (why : DriveFault) (rests : Type 0) (old new : Cache) (log : List Move) (text : List ℕ) → BreakOff why T H rests old new log text → BreakOff why T' H (Unit {0}) old new log text
   breaks_still why rests old new log text b = record {
@@ -243,19 +243,19 @@ module _ {C L : Type 0} (client_gave client_got : C → List ℕ → Type 0) (wa
   PassesAt log = HasPassed client_gave client_got was_read count origin_gave origin_got may_tell opened side links log
 
   -- it was served, and its link was handed back
-  pub serves_next : AreTurns PassesAt H old new (unserved n) text → opened ≡ true → (link : C) → link ≡ side.link → ((n misses : ℕ) → MC n misses → AC n misses)
+  pub serves_next : AreRounds PassesAt H old new (unserved n) text → opened ≡ true → (link : C) → link ≡ side.link → ((n misses : ℕ) → MC n misses → AC n misses)
       → HandsBack client_gave client_got count link ML AL → ServesNext may n (ComeSince BC AC) (LeftSince BL AL) H old new text
-  serves_next turns was_opened link same stay back =
+  serves_next rounds was_opened link same stay back =
       let hands = subst (λ (link : C). HandsBack client_gave client_got count link ML AL) same back in record {
-        events = turns.events;
-        results = turns.results;
-        link = record { given = given_in (log_of n turns.events turns.results); got = turns.told.0.got; failures = count side.link };
-        is_connection = is_connection client_gave client_got was_read count origin_gave origin_got may_tell n side opened links turns.events turns.results turns.told may still was_opened;
-        served = turns.served;
-        leads = turns.leads;
+        events = rounds.events;
+        results = rounds.results;
+        link = record { given = given_in (log_of n rounds.events rounds.results); got = rounds.told.0.got; failures = count side.link };
+        is_connection = is_connection client_gave client_got was_read count origin_gave origin_got may_tell n side opened links rounds.events rounds.results rounds.told may still was_opened;
+        served = rounds.served;
+        leads = rounds.leads;
         come_one = one_came BC MC AC comes stay;
-        left_one = λ earlier had. hands earlier (given_in (log_of n turns.events turns.results)) turns.told.0.got turns.told.0.given turns.told.0.has_it (stays earlier had);
-        held = turns.held;
+        left_one = λ earlier had. hands earlier (given_in (log_of n rounds.events rounds.results)) rounds.told.0.got rounds.told.0.given rounds.told.0.has_it (stays earlier had);
+        held = rounds.held;
       }
 
   -- it broke off

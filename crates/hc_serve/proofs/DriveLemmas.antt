@@ -1,4 +1,4 @@
--- Turns, one after another, and what they come to.
+-- Rounds, one after another, and what they come to.
 use Rattle.std.proofs.Common.{◌≡◌, ◌≢◌, ◌⊎◌, ◌∙◌, ℕ, ◌+◌, ◌≤◌, List, [], ◌∷◌, ◌++◌, ◌==◌, ◌&&◌, Bool, true, false, length, Option, Some, None, Ok, Err, ap, append_assoc, append-nil, arith, length-append, inl, inr, refl, rules, subst, sym}
 use Rattle.std.proofs.lemmas.Grind.{flat_map-append}
 use Rattle.std.specs.FinMap.{len}
@@ -24,9 +24,9 @@ use Rattle.hc_connection.specs.Moves.{Move}
 use Rattle.hc_serve.specs.declared.fault.DriveFault.{DriveFault}
 use Rattle.hc_serve.specs.declared.fault.DriveFault.TheVariants as fault
 use Rattle.hc_serve.specs.Carrying.{CountsRecorder, texts_in}
-use Rattle.hc_serve.specs.Drives.{AreServed, AreTurns, BreakOff, EndStands, GivesDrive, GivesUp, IsBusy, Leads, answers_by, events_by, most_turns, passed, texts_given}
-use Rattle.hc_serve.specs.Turns.{Answers, AnswersBy, Break, IsToldBy, IsTurn, StopsAt}
-use Rattle.hc_serve.specs.Turns.Break.{AtAnswer, Before, Carrying}
+use Rattle.hc_serve.specs.Drives.{AreServed, AreRounds, BreakOff, EndStands, GivesDrive, GivesUp, IsBusy, Leads, answers_by, events_by, most_rounds, passed, texts_given}
+use Rattle.hc_serve.specs.Rounds.{Answers, AnswersBy, Break, IsToldBy, IsRound, StopsAt}
+use Rattle.hc_serve.specs.Rounds.Break.{AtAnswer, Before, Carrying}
 
 -- ---- what laws say
 
@@ -90,12 +90,12 @@ abbrev pub Leading : Cache → Cache → List Event → List StepResult → Type
 Leading old new events results = (settings : CoreSettings) (s : State) (h : History) → AreGood settings → StandsFor settings old s → Agrees s h
     → s.numbers.records + length (records_given results) ≤ greatest_number → IsLed settings s new events results
 
--- the turns so far
-pub record SoFar (T : List Move → Type 0) (H : List ℕ → Type 0) (old new : Cache) (log : List Move) (text : List ℕ) (turns : ℕ) : Type 0 where
+-- the rounds so far
+pub record SoFar (T : List Move → Type 0) (H : List ℕ → Type 0) (old new : Cache) (log : List Move) (text : List ℕ) (rounds : ℕ) : Type 0 where
   pub events : List Event
   pub results : List StepResult
   pub leading : Leading old new events results
-  pub many : length events ≡ turns
+  pub many : length events ≡ rounds
   pub paired : length events ≡ length results
   pub served : AreServed results
   pub told : T (passed events results log)
@@ -178,9 +178,9 @@ module _ (runs : StepsAreRuns) (keeps : RunsKeepAgreement) (is_ready : Agreement
         runs = runs settings good events results s h (Some led.state) agrees led.steps few;
       }
 
-  module _ (T T' : List Move → Type 0) (H H' : List ℕ → Type 0) (old mid new : Cache) (log : List Move) (text : List ℕ) (turns : ℕ)
-      (f : SoFar T H old mid log text turns) where
-    pub goes_on : IsTurn T' H' mid new (passed f.events f.results log) (text ++ texts_given f.results) → SoFar T' H' old new log text (turns + 1)
+  module _ (T T' : List Move → Type 0) (H H' : List ℕ → Type 0) (old mid new : Cache) (log : List Move) (text : List ℕ) (rounds : ℕ)
+      (f : SoFar T H old mid log text rounds) where
+    pub goes_on : IsRound T' H' mid new (passed f.events f.results log) (text ++ texts_given f.results) → SoFar T' H' old new log text (rounds + 1)
     goes_on t = record {
       events = f.events ++ t.event ∷ [];
       results = f.results ++ Ok t.actions ∷ [];
@@ -197,7 +197,7 @@ module _ (runs : StepsAreRuns) (keeps : RunsKeepAgreement) (is_ready : Agreement
         unit : Unit {0}
         unit = search rules
 
-    pub ended : new ≡ mid → T' (passed f.events f.results log) → H' (text ++ texts_given f.results) → AreTurns T' H' old new log text
+    pub ended : new ≡ mid → T' (passed f.events f.results log) → H' (text ++ texts_given f.results) → AreRounds T' H' old new log text
     ended same told held = record {
       events = f.events;
       results = f.results;
@@ -228,14 +228,14 @@ module _ (runs : StepsAreRuns) (keeps : RunsKeepAgreement) (is_ready : Agreement
       stops = stops;
     }
 
--- so many turns were made, and no more are
-pub made_all : (T : List Move → Type 0) (H : List ℕ → Type 0) (rests : Type 0) (old new : Cache) (log : List Move) (text : List ℕ) (turns : ℕ) (f : SoFar T H old new log text turns) → turns ≡ most_turns
+-- so many rounds were made, and no more are
+pub made_all : (T : List Move → Type 0) (H : List ℕ → Type 0) (rests : Type 0) (old new : Cache) (log : List Move) (text : List ℕ) (rounds : ℕ) (f : SoFar T H old new log text rounds) → rounds ≡ most_rounds
     → IsToldBy Before (fault.Core Failed) ⊎ GivesUp Before (fault.Core Failed) new rests (length f.events)
-made_all T H rests old new log text turns f all = inr (refl, refl, inl (f.many ∙ all))
+made_all T H rests old new log text rounds f all = inr (refl, refl, inl (f.many ∙ all))
 
--- turns that went well, and then no more is done, though the cache isn't idle
+-- rounds that went well, and then no more is done, though the cache isn't idle
 pub as_broken : (T : List Move → Type 0) (H : List ℕ → Type 0) (rests : Type 0) (old new : Cache) (log : List Move) (text : List ℕ) → IsBusy new → rests
-    → AreTurns T H old new log text → BreakOff (fault.Core Failed) T H rests old new log text
+    → AreRounds T H old new log text → BreakOff (fault.Core Failed) T H rests old new log text
 as_broken T H rests old new log text busy rest t = record {
   events = t.events;
   results = t.results;
@@ -260,7 +260,7 @@ pub is_busy : (idle : Bool) (cache : Cache) → idle ≡ false
     → ((settings : CoreSettings) (s : State) → StandsFor settings cache s → idle ≡ (len s.connections == 0 && len s.forwards == 0)) → IsBusy cache
 is_busy idle cache none is settings s stands i = true_false (sym (none_open _ _ i.0 i.1) ∙ sym (is settings s stands) ∙ none)
 
--- a fault behind which turns broke off
+-- a fault behind which rounds broke off
 pub breaks : (T U : Type 0) (why : DriveFault) (tells : List Move → Type 0) (holds : List ℕ → Type 0) (rests : Type 0) (old new : Cache) (log : List Move) (text : List ℕ) (before after : ℕ)
     → CountsRecorder {T = T} (Err why) before after → BreakOff why tells holds rests old new log text → GivesDrive {T = U} tells holds rests (Err why) old new log text
 breaks T U fault.Client tells holds rests old new log text before after counted b = absurd counted

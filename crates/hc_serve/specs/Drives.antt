@@ -1,4 +1,4 @@
--- Turns, one after another.
+-- Rounds, one after another.
 use Rattle.std.specs.Prelude.{◌≡◌, ◌⊎◌, ℕ, ◌+◌, ◌-◌, ◌^◌, ◌≤◌, Bool, true, false, List, [], ◌∷◌, ◌++◌, length, Option, Some, None, Result, Ok, Err}
 use Rattle.std.specs.FinMap.{len}
 use Rattle.std.specs.List.{flat_map}
@@ -19,8 +19,8 @@ use Rattle.hc_connection.specs.Moves.Move.{Heard}
 use Rattle.hc_serve.specs.declared.fault.DriveFault.{DriveFault}
 use Rattle.hc_serve.specs.declared.fault.DriveFault.TheVariants as fault
 use Rattle.hc_serve.specs.Carrying.{carried}
-use Rattle.hc_serve.specs.Turns.{Break, IsToldBy, StopsAt}
-use Rattle.hc_serve.specs.Turns.Break.{Before, AtAnswer, Carrying}
+use Rattle.hc_serve.specs.Rounds.{Break, IsToldBy, StopsAt}
+use Rattle.hc_serve.specs.Rounds.Break.{Before, AtAnswer, Carrying}
 
 -- ---- what the cache was handed and answered
 
@@ -59,10 +59,10 @@ passed [] results log = log
 abbrev pub texts_given : List StepResult → List ℕ
 texts_given results = flat_map (record_text recorded_format) (records_given results)
 
--- ---- whole turns
+-- ---- whole rounds
 
 -- the events were served by these answers, and all that the cache did was carried out; the texts of its records stand behind the text
-pub record AreTurns (tells : List Move → Type 0) (holds : List ℕ → Type 0) (old new : Cache) (log : List Move) (text : List ℕ) : Type 0 where
+pub record AreRounds (tells : List Move → Type 0) (holds : List ℕ → Type 0) (old new : Cache) (log : List Move) (text : List ℕ) : Type 0 where
   pub events : List Event
   pub results : List StepResult
   pub leads : Leads old new events results
@@ -70,7 +70,7 @@ pub record AreTurns (tells : List Move → Type 0) (holds : List ℕ → Type 0)
   pub told : tells (passed events results log)
   pub held : holds (text ++ texts_given results)
 
--- ---- turns of which the last broke off
+-- ---- rounds of which the last broke off
 
 abbrev pub events_by : Break → List Event
 events_by Before = []
@@ -94,13 +94,13 @@ IsBusy cache = (settings : CoreSettings) (s : State) → StandsFor settings cach
 
 -- ---- why they broke off
 
--- the most turns that a driver makes
-abbrev pub most_turns : ℕ
-most_turns = 2 ^ 64 - 1
+-- the most rounds that a driver makes
+abbrev pub most_rounds : ℕ
+most_rounds = 2 ^ 64 - 1
 
--- the driver gave up between turns: it had made as many as it makes, or the links rest, so that nothing more will happen, and the cache isn't idle
+-- the driver gave up between rounds: it had made as many as it makes, or the links rest, so that nothing more will happen, and the cache isn't idle
 abbrev pub GivesUp : Break → DriveFault → Cache → Type 0 → ℕ → Type 0
-GivesUp break why cache rests turns = (break ≡ Before) × (why ≡ fault.Core Failed) × ((turns ≡ most_turns) ⊎ (IsBusy cache × rests))
+GivesUp break why cache rests rounds = (break ≡ Before) × (why ≡ fault.Core Failed) × ((rounds ≡ most_rounds) ⊎ (IsBusy cache × rests))
 
 pub record BreakOff (why : DriveFault) (tells : List Move → Type 0) (holds : List ℕ → Type 0) (rests : Type 0) (old new : Cache) (log : List Move) (text : List ℕ) : Type 0 where
   pub events : List Event
@@ -112,8 +112,8 @@ pub record BreakOff (why : DriveFault) (tells : List Move → Type 0) (holds : L
   pub stops : StopsAt break tells holds (passed events results log) (text ++ texts_given results)
 
 abbrev pub GivesDrive : {T : Type 0} → (List Move → Type 0) → (List ℕ → Type 0) → Type 0 → Result T DriveFault → Cache → Cache → List Move → List ℕ → Type 0
-GivesDrive tells holds rests (Ok done) old new log text = AreTurns tells holds old new log text
-GivesDrive tells holds rests (Err fault.Client) old new log text = AreTurns tells holds old new log text
+GivesDrive tells holds rests (Ok done) old new log text = AreRounds tells holds old new log text
+GivesDrive tells holds rests (Err fault.Client) old new log text = AreRounds tells holds old new log text
 GivesDrive tells holds rests (Err fault.Recorder) old new log text = BreakOff fault.Recorder tells holds rests old new log text
 GivesDrive tells holds rests (Err (fault.Core step)) old new log text = BreakOff (fault.Core step) tells holds rests old new log text
 

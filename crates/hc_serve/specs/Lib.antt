@@ -2,4 +2,4 @@ pub mod Carrying
 pub mod Clients
 pub mod Drives
 pub mod FaultNames
-pub mod Turns
+pub mod Rounds

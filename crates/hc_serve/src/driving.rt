@@ -1,4 +1,4 @@
-//! Turns, as long as something happens.
+//! Rounds, as long as something happens.
 
 ghost use Rattle.std.specs.Prelude.{◌≡◌, ℕ, List, IfOk};
 ghost use Rattle.hc_connection.specs.Moves.{Move};
@@ -6,7 +6,7 @@ ghost use Rattle.hc_serve.specs.Carrying.{CountsRecorder};
 ghost use Rattle.hc_serve.specs.Drives.{GivesDrive};
 
 use crate::fault::DriveFault;
-use crate::turning::turn;
+use crate::rounds::round;
 use hc_connection::{Link, Links};
 use hc_machine::Core;
 use hc_service::{StepFault, agreement_is_ready, runs_keep_agreement, steps_are_runs};
@@ -14,7 +14,7 @@ use std::alloc::Global;
 use std::hash::BuildHasher;
 
 /// Hands the cache what happens at the links, carries out what it does, and writes its records to the recorder, until
-/// nothing more happens. It counts its turns, and gives up behind 2^64 - 1 of them.
+/// nothing more happens. It counts its rounds, and gives up behind 2^64 - 1 of them.
 pub fn drive<S: BuildHasher, L: Links, R: Link>(
     alloc: Global,
     core: &mut Core<S>,
@@ -32,8 +32,8 @@ pub fn drive<S: BuildHasher, L: Links, R: Link>(
     steps_are_runs();
     runs_keep_agreement();
     agreement_is_ready();
-    'turns: for _ in 0..u64::MAX {
-        if !turn(alloc, core, links, recorder)? {
+    'rounds: for _ in 0..u64::MAX {
+        if !round(alloc, core, links, recorder)? {
             return Ok(());
         }
     }

@@ -7,8 +7,8 @@ mod clients;
 mod driving;
 mod fault;
 mod recorder;
+mod rounds;
 mod serving;
-mod turning;
 
 pub use clients::serve_clients;
 pub use driving::drive;

@@ -16,7 +16,7 @@ use Rattle.hc_service.specs.declared.open.OpenForward.{OpenForward}
 use Rattle.hc_service.specs.declared.open.Purpose.{Purpose}
 use Rattle.hc_service.specs.declared.open.Purpose.TheVariants as purpose
 use Rattle.hc_service.specs.State.{Table, Awaited}
-use Rattle.hc_service.specs.Turns.{sent_forward, after_hearing}
+use Rattle.hc_service.specs.Turns.{sent_forward, after_origin_octets}
 use Rattle.hc_service.specs.Agreement.{IsSeenExchange, AsksFor, KeepsPurpose, exchange_for, AreAsked, seen_forward}
 use Rattle.hc_service.proofs.TableLemmas.{get_same, get_other, get_out, get_gone, get_left, was_put, was_left}
 use Rattle.hc_service.proofs.LinkLemmas.{none_some}
@@ -32,17 +32,17 @@ none_left t n m none = get_out t n m ∙ either (nat_eq n m) (get t m) none
     either true o none = refl
     either false o none = none
 
--- the request that a forward is for waits
-for_waits : (xs : Table OpenExchange) (forward : OpenForward) (e : ℕ) (p : Purpose) → KeepsPurpose xs p forward → exchange_for p ≡ Some e → (x : OpenExchange) × (get xs e ≡ Some x)
-for_waits xs forward e purpose.Background keeps is = absurd (cc)
-for_waits xs forward e (purpose.Reply d why conditional) keeps is =
-    let same : d ≡ e = cc in (keeps.exchange, subst (λ (n : ℕ). get xs n ≡ Some keeps.exchange) same keeps.waits)
+-- the exchange that a forward is for is open
+for_open : (xs : Table OpenExchange) (forward : OpenForward) (e : ℕ) (p : Purpose) → KeepsPurpose xs p forward → exchange_for p ≡ Some e → (x : OpenExchange) × (get xs e ≡ Some x)
+for_open xs forward e purpose.Background keeps is = absurd (cc)
+for_open xs forward e (purpose.Reply d why conditional) keeps is =
+    let same : d ≡ e = cc in (keeps.exchange, subst (λ (n : ℕ). get xs n ≡ Some keeps.exchange) same keeps.is_open)
 
 keeps_more : (xs : Table OpenExchange) (e : ℕ) (x : OpenExchange) → get xs e ≡ None → (forward : OpenForward) (p : Purpose) → KeepsPurpose xs p forward → KeepsPurpose (insert xs e x) p forward
 keeps_more xs e x fresh forward purpose.Background keeps = keeps
 keeps_more xs e x fresh forward (purpose.Reply d why conditional) keeps = record {
   exchange = keeps.exchange;
-  waits = get_other xs e x d (λ same. none_some (get xs e) keeps.exchange fresh (ap (get xs) same ∙ keeps.waits)) ∙ keeps.waits;
+  is_open = get_other xs e x d (λ same. none_some (get xs e) keeps.exchange fresh (ap (get xs) same ∙ keeps.is_open)) ∙ keeps.is_open;
   asks_for = keeps.asks_for;
 }
 
@@ -50,7 +50,7 @@ keeps_less : (xs : Table OpenExchange) (e : ℕ) (forward : OpenForward) (p : Pu
 keeps_less xs e forward purpose.Background other keeps = keeps
 keeps_less xs e forward (purpose.Reply d why conditional) other keeps = record {
   exchange = keeps.exchange;
-  waits = get_left xs e d (λ same. other (ap Some (sym same))) ∙ keeps.waits;
+  is_open = get_left xs e d (λ same. other (ap Some (sym same))) ∙ keeps.is_open;
   asks_for = keeps.asks_for;
 }
 
@@ -85,7 +85,7 @@ module _ (E F : ℕ) (xs : Table OpenExchange) (fs : Table Awaited) (items : Lis
     no_forward = k.no_forward;
   }
 
-  -- a request goes to the origin, and waits
+  -- a request goes to the origin, and awaits its reply
   module _ (c e f t : ℕ) (q m : Message RequestHead) (g : Target) (why : Cause) (conditional : Bool) (newer : E < e) (further : F < f)
       (asks : AsksFor (record { connection = c; request = q.head; target = g }) why conditional (sent_forward m.head g t (purpose.Reply e why conditional)).forward) where
     abbrev x : OpenExchange
@@ -114,7 +114,7 @@ module _ (E F : ℕ) (xs : Table OpenExchange) (fs : Table Awaited) (items : Lis
           (cases_eq f d);
       purposes = λ d b is.
           ⊎_elim
-          (λ (p : (f ≡ d) × (a ≡ b)). subst (λ (b : Awaited). KeepsPurpose (insert xs e x) b.forward.purpose b.forward) p.1 (record { exchange = x; waits = get_same xs e x; asks_for = asks }))
+          (λ (p : (f ≡ d) × (a ≡ b)). subst (λ (b : Awaited). KeepsPurpose (insert xs e x) b.forward.purpose b.forward) p.1 (record { exchange = x; is_open = get_same xs e x; asks_for = asks }))
           (λ (p : (f ≡ d → ⊥) × (get fs d ≡ Some b)). keeps_more xs e x fresh b.forward b.forward.purpose (k.purposes d b p.1))
           (was_put fs f a d b is);
       causes = λ d b is. cause_put f (Some e) t m g fs a (ClientRequest e t q g ∷ items) k.causes refl d b is;
@@ -138,8 +138,8 @@ module _ (E F : ℕ) (xs : Table OpenExchange) (fs : Table Awaited) (items : Lis
         -- no forward was for the new exchange
         taken : (z : Awaited) (h : ℕ) → get fs h ≡ Some z → exchange_for z.forward.purpose ≡ Some e → ⊥
         taken z h is for_e =
-            let waits = for_waits xs z.forward e z.forward.purpose (k.purposes h z is) for_e in
-            none_some (get xs e) waits.0 fresh waits.1
+            let awaits = for_open xs z.forward e z.forward.purpose (k.purposes h z is) for_e in
+            none_some (get xs e) awaits.0 fresh awaits.1
 
         sym_new : (n : ℕ) (b : Awaited) → a ≡ b → exchange_for b.forward.purpose ≡ Some n → Some n ≡ Some e
         sym_new n b same is = sym (ap (λ (b : Awaited). exchange_for b.forward.purpose) same ∙ is)
@@ -185,14 +185,14 @@ module _ (E F : ℕ) (xs : Table OpenExchange) (fs : Table Awaited) (items : Lis
       of_new n b same is = ap (λ (b : Awaited). exchange_for b.forward.purpose) same ∙ is
 
   -- octets come on a forward
-  pub asked_told : (f : ℕ) (octets : List ℕ) (a : Awaited) → get fs f ≡ Some a → AreAsked E F xs (insert fs f (after_hearing octets a)) items
-  asked_told f octets a is_open = record {
+  pub asked_received : (f : ℕ) (octets : List ℕ) (a : Awaited) → get fs f ≡ Some a → AreAsked E F xs (insert fs f (after_origin_octets octets a)) items
+  asked_received f octets a is_open = record {
     exchanges_are = k.exchanges_are;
     forwards_are = λ d.
         ⊎_elim
         (λ (same : f ≡ d). k.forwards_are d ∙ ap (option_map seen_forward) (ap (get fs) (sym same) ∙ is_open)
-        ∙ sym (ap (option_map seen_forward) (ap (get (insert fs f (after_hearing octets a))) (sym same) ∙ get_same fs f (after_hearing octets a))))
-        (λ (other : f ≡ d → ⊥). k.forwards_are d ∙ sym (ap (option_map seen_forward) (get_other fs f (after_hearing octets a) d other)))
+        ∙ sym (ap (option_map seen_forward) (ap (get (insert fs f (after_origin_octets octets a))) (sym same) ∙ get_same fs f (after_origin_octets octets a))))
+        (λ (other : f ≡ d → ⊥). k.forwards_are d ∙ sym (ap (option_map seen_forward) (get_other fs f (after_origin_octets octets a) d other)))
         (cases_eq f d);
     purposes = λ d b is. let w = was d b is in subst (λ (o : OpenForward). KeepsPurpose xs o.purpose o) w.2 (k.purposes d w.0 w.1);
     causes = λ d b is. let w = was d b is in k.causes d w.0 w.1 ∙ ap (λ (o : OpenForward). exchange_for o.purpose) w.2;
@@ -201,18 +201,18 @@ module _ (E F : ℕ) (xs : Table OpenExchange) (fs : Table Awaited) (items : Lis
         let v = was h z is_z in
         k.alone d h n w.0 v.0 w.1 v.1 (ap (λ (o : OpenForward). exchange_for o.purpose) w.2 ∙ for_b) (ap (λ (o : OpenForward). exchange_for o.purpose) v.2 ∙ for_z);
     later_exchanges = k.later_exchanges;
-    later_forwards = λ d is. get_other fs f (after_hearing octets a) d (λ same. none_some (get fs f) a (ap (get fs) same ∙ k.later_forwards d is) is_open) ∙ k.later_forwards d is;
+    later_forwards = λ d is. get_other fs f (after_origin_octets octets a) d (λ same. none_some (get fs f) a (ap (get fs) same ∙ k.later_forwards d is) is_open) ∙ k.later_forwards d is;
     no_exchange = k.no_exchange;
-    no_forward = get_other fs f (after_hearing octets a) 0 (λ same. none_some (get fs f) a (ap (get fs) same ∙ k.no_forward) is_open) ∙ k.no_forward;
+    no_forward = get_other fs f (after_origin_octets octets a) 0 (λ same. none_some (get fs f) a (ap (get fs) same ∙ k.no_forward) is_open) ∙ k.no_forward;
   }
     where
       -- each forward was there with the same request
-      was : (d : ℕ) (b : Awaited) → get (insert fs f (after_hearing octets a)) d ≡ Some b → (z : Awaited) × (get fs d ≡ Some z) × (z.forward ≡ b.forward)
+      was : (d : ℕ) (b : Awaited) → get (insert fs f (after_origin_octets octets a)) d ≡ Some b → (z : Awaited) × (get fs d ≡ Some z) × (z.forward ≡ b.forward)
       was d b is =
           ⊎_elim
-          (λ (p : (f ≡ d) × (after_hearing octets a ≡ b)). (a, ap (get fs) (sym p.0) ∙ is_open, ap (λ (b : Awaited). b.forward) p.1))
+          (λ (p : (f ≡ d) × (after_origin_octets octets a ≡ b)). (a, ap (get fs) (sym p.0) ∙ is_open, ap (λ (b : Awaited). b.forward) p.1))
           (λ (p : (f ≡ d → ⊥) × (get fs d ≡ Some b)). (b, p.1, refl))
-          (was_put fs f (after_hearing octets a) d b is)
+          (was_put fs f (after_origin_octets octets a) d b is)
 
   -- a forward ends, with a record that opens and closes nothing else
   module _ (f : ℕ) (a : Awaited) (item : Item) (is_open : get fs f ≡ Some a) (opens_none : (e : ℕ) → exchange_of e (item ∷ items) ≡ exchange_of e items)
@@ -246,7 +246,7 @@ module _ (E F : ℕ) (xs : Table OpenExchange) (fs : Table Awaited) (items : Lis
       no_forward = none_left fs f 0 k.no_forward;
     }
 
-    -- the request that waited for it has its reply
+    -- the exchange that it was for has its reply
     pub asked_answered : (e t : ℕ) (reply : Message ResponseHead) → exchange_for a.forward.purpose ≡ Some e → AreAsked E F (remove xs e) (remove fs f) (ClientReply e t reply ∷ item ∷ items)
     asked_answered e t reply its = record {
       exchanges_are = λ d.
@@ -279,15 +279,15 @@ asked_validated E F xs fs items k e f t u v q m g reply later further get_method
     none_is_some : (n : ℕ) → None ≡ Some n → ⊥
     none_is_some n e = cc
 
--- a forward ends, and the request that waited for it goes to the origin anew
+-- a forward ends, and the request of its exchange goes to the origin anew
 pub asked_anew : (E F : ℕ) (xs : Table OpenExchange) (fs : Table Awaited) (items : List Item) → AreAsked E F xs fs items → (f : ℕ) (a : Awaited) (item : Item) → get fs f ≡ Some a
     → ((e : ℕ) → exchange_of e (item ∷ items) ≡ exchange_of e items) → ((d : ℕ) → forward_of d (item ∷ items) ≡ cond (nat_eq f d) None (forward_of d items))
     → ((d : ℕ) → cause_of d (item ∷ items) ≡ cond (nat_eq f d) None (cause_of d items)) → (e n t : ℕ) (m : Message RequestHead) (why : Cause) (x : OpenExchange) → exchange_for a.forward.purpose ≡ Some e → F < n → get xs e ≡ Some x
     → AsksFor x why false (sent_forward m.head x.target t (purpose.Reply e why false)).forward
     → AreAsked E n xs (insert (remove fs f) n (sent_forward m.head x.target t (purpose.Reply e why false))) (OriginRequest n t m x.target (Some e) ∷ item ∷ items)
-asked_anew E F xs fs items k f a item is_open opens_none closes forgets e n t m why x its further waits asks =
+asked_anew E F xs fs items k f a item is_open opens_none closes forgets e n t m why x its further awaits asks =
     asked_more E F xs (remove fs f) (item ∷ items) (asked_behind E F xs fs items k f a item is_open opens_none closes forgets) n t m x.target (purpose.Reply e why false) further
-    (record { exchange = x; waits = waits; asks_for = asks }) taken
+    (record { exchange = x; is_open = awaits; asks_for = asks }) taken
   where
     some_one : (i j : ℕ) → Some i ≡ Some j → i ≡ j
     some_one i j e = cc

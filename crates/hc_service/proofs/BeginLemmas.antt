@@ -22,7 +22,7 @@ no_keys = tt
 
 pub new_agrees : (settings : CoreSettings) → Agrees (new_state settings) nothing_yet
 new_agrees settings = record {
-  stands = record {
+  consistent = record {
     counted = record {
       are_read = tt;
       records = refl;
@@ -36,7 +36,7 @@ new_agrees settings = record {
     };
     entries = tt;
     keys = no_keys;
-    heard = record {
+    received = record {
       connections_are = λ c k is. nothing_there c k is;
       forwards_are = λ f a is. nothing_there f a is;
       later_connections = λ c later. refl;
@@ -54,7 +54,7 @@ new_agrees settings = record {
       no_forward = get_none 0;
     };
     linked = record {
-      waiting = λ e x is. nothing_there e x is;
+      on_connections = λ e x is. nothing_there e x is;
       busy = λ c e k is. nothing_there c k is;
       later = λ c later. get_none c;
     };

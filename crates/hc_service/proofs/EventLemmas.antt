@@ -1,4 +1,4 @@
--- A served event keeps agreement: its turns do, what they heard and told is what the event brought, and nothing that can be read is left.
+-- A served event keeps agreement: its turns do, what comes with them is what comes with the event, and nothing that can be read is left.
 use Rattle.std.proofs.Common.{◌≡◌, ℕ, ◌≤◌, Bool, true, false, cond, not, List, [], ◌∷◌, nat_lt, Option, Some, None, refl, sym, ap, ◌∙◌, subst, arith, inl, inr, ⊎_elim}
 use Rattle.std.specs.FinMap.{get, insert, remove}
 use Rattle.std.specs.List.{AllByRecursion}
@@ -18,14 +18,14 @@ use Rattle.hc_service.specs.declared.settings.CoreSettings.{CoreSettings}
 use Rattle.hc_service.specs.Settings.{AreGood}
 use Rattle.hc_service.specs.Numbers.{at_moment}
 use Rattle.hc_service.specs.State.{State, Table, Connection, Awaited, new_connection}
-use Rattle.hc_service.specs.Turns.{after_octets, after_hearing, after_leaving, Tells, Failure}
+use Rattle.hc_service.specs.Turns.{after_client_octets, after_origin_octets, after_leaving, OriginSends, Failure}
 use Rattle.hc_service.specs.Turns.Failure.{IsBroken, IsCutOff, IsLost}
 use Rattle.hc_service.specs.Serves.{Turn, Takes, Run, Reads, ReadsOn, client_by, client_of, IsQuietAt, IsQuietBy, AwaitsStill, OwesEnd, OwesReply, OwesAnswer, Owes, passed_to, is_known, is_full, first_fault, Serves}
-use Rattle.hc_service.specs.Serves.Turn.{Opening, Hearing, Asking, Refusal, Dropping, Leaving, Closing, Telling, Answering, Failing}
-use Rattle.hc_service.specs.Agreement.{History, AreCounted, KeepsPurpose, Stands, IsQuiet, IsAwaiting, Agrees, HasExchange, IsReady}
-use Rattle.hc_service.specs.Runs.{heard_by, told_by}
+use Rattle.hc_service.specs.Serves.Turn.{Opening, ClientSending, Asking, Refusal, Dropping, Leaving, Closing, OriginSending, Answering, Failing}
+use Rattle.hc_service.specs.Agreement.{History, AreCounted, KeepsPurpose, IsConsistent, IsQuiet, IsAwaiting, Agrees, HasExchange, IsReady}
+use Rattle.hc_service.specs.Runs.{client_octets_by, origin_octets_by}
 use Rattle.hc_service.specs.LowerLaws.{ForwardLaws}
-use Rattle.hc_service.specs.Laws.{heard_all, told_all, KeepsAgreement}
+use Rattle.hc_service.specs.Laws.{client_octets_all, origin_octets_all, KeepsAgreement}
 use Rattle.hc_service.proofs.TableLemmas.{get_same, get_gone, was_put}
 use Rattle.hc_service.proofs.LinkLemmas.{none_some, one_of}
 use Rattle.hc_service.proofs.StepLemmas.{run_keeps}
@@ -54,75 +54,75 @@ passed_counted moment s h le a = record {
   in_time = omega (arith, a.in_time);
 }
 
-passed_stands : (moment : ℕ) (s : State) (h : History) → moment ≤ greatest_moment → Stands s h → Stands (passed_to moment s) h
-passed_stands moment s h le a = record {
+passed_consistent : (moment : ℕ) (s : State) (h : History) → moment ≤ greatest_moment → IsConsistent s h → IsConsistent (passed_to moment s) h
+passed_consistent moment s h le a = record {
   counted = passed_counted moment s h le a.counted;
   entries = a.entries;
   keys = a.keys;
-  heard = a.heard;
+  received = a.received;
   asked = a.asked;
   linked = a.linked;
   few = a.few;
 }
 
--- ---- what turns heard and told
+-- ---- what comes with turns
 
-abbrev HearNothing : List Turn → Type 0
-HearNothing turns = ((before : ℕ → List ℕ) → heard_all turns before ≡ before) × ((before : ℕ → List ℕ) → told_all turns before ≡ before)
+abbrev BringNothing : List Turn → Type 0
+BringNothing turns = ((before : ℕ → List ℕ) → client_octets_all turns before ≡ before) × ((before : ℕ → List ℕ) → origin_octets_all turns before ≡ before)
 
-readings_hear : (c : ℕ) (turns : List Turn) → AllByRecursion (Reads c) turns → HearNothing turns
-readings_hear c [] reads = (λ before. refl, λ before. refl)
-readings_hear c (Asking d ∷ turns) reads = readings_hear c turns reads.1
-readings_hear c (Refusal d status ∷ turns) reads = readings_hear c turns reads.1
-readings_hear c (Dropping d ∷ turns) reads = readings_hear c turns reads.1
-readings_hear c (Opening d ∷ turns) reads = absurd reads.0
-readings_hear c (Hearing d octets ∷ turns) reads = absurd reads.0
-readings_hear c (Leaving d ∷ turns) reads = absurd reads.0
-readings_hear c (Closing d ∷ turns) reads = absurd reads.0
-readings_hear c (Telling f octets ∷ turns) reads = absurd reads.0
-readings_hear c (Answering f ended ∷ turns) reads = absurd reads.0
-readings_hear c (Failing f how ∷ turns) reads = absurd reads.0
+readings_bring : (c : ℕ) (turns : List Turn) → AllByRecursion (Reads c) turns → BringNothing turns
+readings_bring c [] reads = (λ before. refl, λ before. refl)
+readings_bring c (Asking d ∷ turns) reads = readings_bring c turns reads.1
+readings_bring c (Refusal d status ∷ turns) reads = readings_bring c turns reads.1
+readings_bring c (Dropping d ∷ turns) reads = readings_bring c turns reads.1
+readings_bring c (Opening d ∷ turns) reads = absurd reads.0
+readings_bring c (ClientSending d octets ∷ turns) reads = absurd reads.0
+readings_bring c (Leaving d ∷ turns) reads = absurd reads.0
+readings_bring c (Closing d ∷ turns) reads = absurd reads.0
+readings_bring c (OriginSending f octets ∷ turns) reads = absurd reads.0
+readings_bring c (Answering f ended ∷ turns) reads = absurd reads.0
+readings_bring c (Failing f how ∷ turns) reads = absurd reads.0
 
-client_hears : (client : Option ℕ) (turns : List Turn) (s' : State) → ReadsOn client turns s' → HearNothing turns
-client_hears None turns s' reads = subst HearNothing (sym reads) (λ before. refl, λ before. refl)
-client_hears (Some c) turns s' reads = readings_hear c turns reads.0
+client_brings : (client : Option ℕ) (turns : List Turn) (s' : State) → ReadsOn client turns s' → BringNothing turns
+client_brings None turns s' reads = subst BringNothing (sym reads) (λ before. refl, λ before. refl)
+client_brings (Some c) turns s' reads = readings_bring c turns reads.0
 
--- the turns heard and told what has happened
-record HearThat (happening : Happening) (turns : List Turn) : Type 0 where
-  heard : (before : ℕ → List ℕ) → heard_all turns before ≡ heard_by happening before
-  told : (before : ℕ → List ℕ) → told_all turns before ≡ told_by happening before
+-- the turns bring what has happened
+record BringThat (happening : Happening) (turns : List Turn) : Type 0 where
+  client_octets : (before : ℕ → List ℕ) → client_octets_all turns before ≡ client_octets_by happening before
+  origin_octets : (before : ℕ → List ℕ) → origin_octets_all turns before ≡ origin_octets_by happening before
 
-end_hears : (c : ℕ) (leaves : Bool) (exchange : Option ℕ) (turns : List Turn) → OwesEnd c leaves exchange turns → HearNothing turns
-end_hears c true exchange turns owes = subst HearNothing (sym owes) (λ before. refl, λ before. refl)
-end_hears c false (Some e) turns owes = subst HearNothing (sym owes) (λ before. refl, λ before. refl)
-end_hears c false None turns (inl owes) = subst HearNothing (sym owes) (λ before. refl, λ before. refl)
-end_hears c false None turns (inr owes) = subst HearNothing (sym owes.1) (λ before. refl, λ before. refl)
+end_brings : (c : ℕ) (leaves : Bool) (exchange : Option ℕ) (turns : List Turn) → OwesEnd c leaves exchange turns → BringNothing turns
+end_brings c true exchange turns owes = subst BringNothing (sym owes) (λ before. refl, λ before. refl)
+end_brings c false (Some e) turns owes = subst BringNothing (sym owes) (λ before. refl, λ before. refl)
+end_brings c false None turns (inl owes) = subst BringNothing (sym owes) (λ before. refl, λ before. refl)
+end_brings c false None turns (inr owes) = subst BringNothing (sym owes.1) (λ before. refl, λ before. refl)
 
-answer_hears : (f : ℕ) (ended : Bool) (turns : List Turn) (s s' : State) → OwesReply f (Answering f ended) turns s s' → HearNothing turns
-answer_hears f ended turns s s' owes = subst HearNothing (sym owes.1) (let more = client_hears (client_of f s) owes.0 s' owes.2 in (more.0, more.1))
+answer_brings : (f : ℕ) (ended : Bool) (turns : List Turn) (s s' : State) → OwesReply f (Answering f ended) turns s s' → BringNothing turns
+answer_brings f ended turns s s' owes = subst BringNothing (sym owes.1) (let more = client_brings (client_of f s) owes.0 s' owes.2 in (more.0, more.1))
 
-failure_hears : (f : ℕ) (how : Failure) (turns : List Turn) (s s' : State) → OwesReply f (Failing f how) turns s s' → HearNothing turns
-failure_hears f how turns s s' owes = subst HearNothing (sym owes.1) (let more = client_hears (client_of f s) owes.0 s' owes.2 in (more.0, more.1))
+failure_brings : (f : ℕ) (how : Failure) (turns : List Turn) (s s' : State) → OwesReply f (Failing f how) turns s s' → BringNothing turns
+failure_brings f how turns s s' owes = subst BringNothing (sym owes.1) (let more = client_brings (client_of f s) owes.0 s' owes.2 in (more.0, more.1))
 
-more_hears : (f : ℕ) (turns : List Turn) (s s' : State) → OwesAnswer f turns s s' → HearNothing turns
-more_hears f turns s s' (inl none) = subst HearNothing (sym none.0) (λ before. refl, λ before. refl)
-more_hears f turns s s' (inr (inl owes)) = answer_hears f false turns s s' owes
-more_hears f turns s s' (inr (inr owes)) = failure_hears f IsBroken turns s s' owes
+more_brings : (f : ℕ) (turns : List Turn) (s s' : State) → OwesAnswer f turns s s' → BringNothing turns
+more_brings f turns s s' (inl none) = subst BringNothing (sym none.0) (λ before. refl, λ before. refl)
+more_brings f turns s s' (inr (inl owes)) = answer_brings f false turns s s' owes
+more_brings f turns s s' (inr (inr owes)) = failure_brings f IsBroken turns s s' owes
 
-event_hears : (happening : Happening) (turns : List Turn) (s s' : State) → Owes happening turns s s' → HearThat happening turns
-event_hears (ClientOpened c) turns s s' owes = subst (HearThat (ClientOpened c)) (sym owes) (record { heard = λ before. refl; told = λ before. refl })
-event_hears (ClientBytes c octets) turns s s' owes =
-    let more = readings_hear c owes.0 owes.2.0 in
-    subst (HearThat (ClientBytes c octets)) (sym owes.1)
-    (record { heard = λ before. more.0 (heard_by (ClientBytes c octets) before); told = λ before. more.1 before })
-event_hears (ClientEnd c) turns s s' owes = let none = end_hears c owes.0.leaves owes.0.exchange turns owes.2 in record { heard = none.0; told = none.1 }
-event_hears (OriginBytes f octets) turns s s' owes =
-    let more = more_hears f owes.0 s s' owes.2 in
-    subst (HearThat (OriginBytes f octets)) (sym owes.1)
-    (record { heard = λ before. more.0 before; told = λ before. more.1 (told_by (OriginBytes f octets) before) })
-event_hears (OriginEnd f) turns s s' (inl owes) = let none = answer_hears f true turns s s' owes in record { heard = none.0; told = none.1 }
-event_hears (OriginEnd f) turns s s' (inr owes) = let none = failure_hears f IsCutOff turns s s' owes in record { heard = none.0; told = none.1 }
-event_hears (OriginFailed f) turns s s' owes = let none = failure_hears f IsLost turns s s' owes in record { heard = none.0; told = none.1 }
+event_brings : (happening : Happening) (turns : List Turn) (s s' : State) → Owes happening turns s s' → BringThat happening turns
+event_brings (ClientOpened c) turns s s' owes = subst (BringThat (ClientOpened c)) (sym owes) (record { client_octets = λ before. refl; origin_octets = λ before. refl })
+event_brings (ClientBytes c octets) turns s s' owes =
+    let more = readings_bring c owes.0 owes.2.0 in
+    subst (BringThat (ClientBytes c octets)) (sym owes.1)
+    (record { client_octets = λ before. more.0 (client_octets_by (ClientBytes c octets) before); origin_octets = λ before. more.1 before })
+event_brings (ClientEnd c) turns s s' owes = let none = end_brings c owes.0.leaves owes.0.exchange turns owes.2 in record { client_octets = none.0; origin_octets = none.1 }
+event_brings (OriginBytes f octets) turns s s' owes =
+    let more = more_brings f owes.0 s s' owes.2 in
+    subst (BringThat (OriginBytes f octets)) (sym owes.1)
+    (record { client_octets = λ before. more.0 before; origin_octets = λ before. more.1 (origin_octets_by (OriginBytes f octets) before) })
+event_brings (OriginEnd f) turns s s' (inl owes) = let none = answer_brings f true turns s s' owes in record { client_octets = none.0; origin_octets = none.1 }
+event_brings (OriginEnd f) turns s s' (inr owes) = let none = failure_brings f IsCutOff turns s s' owes in record { client_octets = none.0; origin_octets = none.1 }
+event_brings (OriginFailed f) turns s s' owes = let none = failure_brings f IsLost turns s s' owes in record { client_octets = none.0; origin_octets = none.1 }
 
 -- ---- nothing is left unread
 
@@ -156,16 +156,16 @@ opened_read : (settings : CoreSettings) (c : ℕ) (turns : List Turn) (s : State
 opened_read settings c turns s actions s' is r quiet awaiting =
     let t = (one_turn settings (Opening c) turns s actions s' is r).1 in (
       quiet_at c s s' (others_put c new_connection s s' t.connections) quiet (quiet_put c new_connection s s' t.connections nothing_read),
-      awaiting_by s s' (forwards_same s s' t.forwards) awaiting,
+      awaiting_by s s' (forwards_same s s' t.keeps.forwards) awaiting,
     )
 
 -- octets come on it
-heard_read : (settings : CoreSettings) (c : ℕ) (octets : List ℕ) (readings : List Turn) (s : State) (actions : List Action) (s' : State) → ReadsOn (Some c) readings s'
-    → Run settings (Hearing c octets ∷ readings) s actions s' → IsQuiet s → IsAwaiting s → IsRead s'
-heard_read settings c octets readings s actions s' reads r quiet awaiting =
+client_sent_read : (settings : CoreSettings) (c : ℕ) (octets : List ℕ) (readings : List Turn) (s : State) (actions : List Action) (s' : State) → ReadsOn (Some c) readings s'
+    → Run settings (ClientSending c octets ∷ readings) s actions s' → IsQuiet s → IsAwaiting s → IsRead s'
+client_sent_read settings c octets readings s actions s' reads r quiet awaiting =
     let more = client_keeps settings (Some c) readings r.0 r.2 s' reads r.5 in (
-      quiet_at c s s' (others_then (Some c) s r.0 s' (others_put c (after_octets octets r.3.connection) s r.0 r.3.connections) more.0) quiet reads.1,
-      awaiting_by r.0 s' more.1 (awaiting_by s r.0 (forwards_same s r.0 r.3.forwards) awaiting),
+      quiet_at c s s' (others_then (Some c) s r.0 s' (others_put c (after_client_octets octets r.3.connection) s r.0 r.3.connections) more.0) quiet reads.1,
+      awaiting_by r.0 s' more.1 (awaiting_by s r.0 (forwards_same s r.0 r.3.keeps.forwards) awaiting),
     )
 
 -- it ends
@@ -175,17 +175,17 @@ left_read settings c true exchange turns s actions s' owes r quiet awaiting = su
 left_read settings c false (Some e) turns s actions s' owes r quiet awaiting =
     let t = (one_turn settings (Leaving c) turns s actions s' owes r).1 in (
       quiet_at c s s' (others_put c (after_leaving t.connection) s s' t.connections) quiet
-          (quiet_put c (after_leaving t.connection) s s' t.connections (subst (λ (o : Option ℕ). IsQuietBy o []) (sym t.waits) (omega arith))),
-      awaiting_by s s' (forwards_same s s' t.forwards) awaiting,
+          (quiet_put c (after_leaving t.connection) s s' t.connections (subst (λ (o : Option ℕ). IsQuietBy o []) (sym t.awaits) (omega arith))),
+      awaiting_by s s' (forwards_same s s' t.keeps.forwards) awaiting,
     )
 left_read settings c false None turns s actions s' (inl owes) r quiet awaiting =
     let t = (one_turn settings (Closing c) turns s actions s' owes r).1 in
-    (quiet_at c s s' (others_out c s s' t.connections) quiet (quiet_out c s s' t.connections), awaiting_by s s' (forwards_same s s' t.forwards) awaiting)
+    (quiet_at c s s' (others_out c s s' t.connections) quiet (quiet_out c s s' t.connections), awaiting_by s s' (forwards_same s s' t.keeps.forwards) awaiting)
 left_read settings c false None turns s actions s' (inr owes) r quiet awaiting =
     let t = (one_turn settings (Refusal c owes.0) turns s actions s' owes.1 r).1 in
-    (quiet_at c s s' (others_out c s s' t.connections) quiet (quiet_out c s s' t.connections), awaiting_by s s' (forwards_same s s' t.forwards) awaiting)
+    (quiet_at c s s' (others_out c s s' t.connections) quiet (quiet_out c s s' t.connections), awaiting_by s s' (forwards_same s s' t.keeps.forwards) awaiting)
 
--- a forward ends, and behind it the client that waited is read
+-- a forward ends, and behind it the client of its exchange is read
 ended_read : (settings : CoreSettings) (f : ℕ) (turn : Turn) (readings : List Turn) (s : State) (actions : List Action) (s' : State)
     → ((first : List Action) (mid : State) → Takes settings turn s first mid → KeepsBeside f s mid) → ReadsOn (client_of f s) readings s' → Run settings (turn ∷ readings) s actions s'
     → IsQuiet s → IsAwaitingBut f s → IsRead s'
@@ -209,49 +209,49 @@ failed_read settings f how turns readings s actions s' is reads r quiet awaiting
     (subst (λ (turns : List Turn). Run settings turns s actions s') is r) quiet awaiting
 
 -- octets come from the origin
-module _ (f : ℕ) (octets : List ℕ) (s : State) (given : List Action) (mid : State) (t : Tells f octets s given mid) where
-  told_quiet : IsQuiet s → IsQuiet mid
-  told_quiet quiet c k is = quiet c k (sym (ap (λ (t : Table Connection). get t c) t.connections) ∙ is)
+module _ (f : ℕ) (octets : List ℕ) (s : State) (given : List Action) (mid : State) (t : OriginSends f octets s given mid) where
+  origin_sent_quiet : IsQuiet s → IsQuiet mid
+  origin_sent_quiet quiet c k is = quiet c k (sym (ap (λ (t : Table Connection). get t c) t.keeps.connections) ∙ is)
 
-  told_awaiting : IsAwaiting s → IsAwaitingBut f mid
-  told_awaiting awaiting g other a is =
+  origin_sent_awaiting : IsAwaiting s → IsAwaitingBut f mid
+  origin_sent_awaiting awaiting g other a is =
       ⊎_elim
-      (λ (p : (f ≡ g) × (after_hearing octets t.awaited ≡ a)). absurd (other p.0))
+      (λ (p : (f ≡ g) × (after_origin_octets octets t.awaited ≡ a)). absurd (other p.0))
       (λ (p : (f ≡ g → ⊥) × (get s.forwards g ≡ Some a)). awaiting g a p.1)
-      (was_put s.forwards f (after_hearing octets t.awaited) g a (sym (ap (λ (t : Table Awaited). get t g) t.forwards) ∙ is))
+      (was_put s.forwards f (after_origin_octets octets t.awaited) g a (sym (ap (λ (t : Table Awaited). get t g) t.forwards) ∙ is))
 
-  told_client : client_of f s ≡ client_of f mid
-  told_client =
+  origin_sent_client : client_of f s ≡ client_of f mid
+  origin_sent_client =
       client_is f s t.awaited t.is_open
-      ∙ sym (client_is f mid (after_hearing octets t.awaited) (ap (λ (t : Table Awaited). get t f) t.forwards ∙ get_same s.forwards f (after_hearing octets t.awaited))
-      ∙ ap (λ (xs : Table OpenExchange). client_by xs t.awaited.forward.purpose) t.exchanges)
+      ∙ sym (client_is f mid (after_origin_octets octets t.awaited) (ap (λ (t : Table Awaited). get t f) t.forwards ∙ get_same s.forwards f (after_origin_octets octets t.awaited))
+      ∙ ap (λ (xs : Table OpenExchange). client_by xs t.awaited.forward.purpose) t.keeps.exchanges)
 
   -- what is owed then
-  told_then : (settings : CoreSettings) (more : List Turn) (rest : List Action) (s' : State) → OwesAnswer f more s s' → Run settings more mid rest s' → IsQuiet s → IsAwaiting s → IsRead s'
-  told_then settings more rest s' (inl none) r quiet awaiting =
+  origin_sent_then : (settings : CoreSettings) (more : List Turn) (rest : List Action) (s' : State) → OwesAnswer f more s s' → Run settings more mid rest s' → IsQuiet s → IsAwaiting s → IsRead s'
+  origin_sent_then settings more rest s' (inl none) r quiet awaiting =
       let same = no_turn settings more mid rest s' none.0 r in (
-        subst IsQuiet (sym same) (told_quiet quiet),
+        subst IsQuiet (sym same) (origin_sent_quiet quiet),
         λ g a is.
             ⊎_elim
             (λ (here : f ≡ g). subst (λ (n : ℕ). AwaitsStill n s') here none.1 a is)
-            (λ (other : f ≡ g → ⊥). subst (IsAwaitingBut f) (sym same) (told_awaiting awaiting) g other a is)
+            (λ (other : f ≡ g → ⊥). subst (IsAwaitingBut f) (sym same) (origin_sent_awaiting awaiting) g other a is)
             (cases_eq f g),
       )
-  told_then settings more rest s' (inr (inl owes)) r quiet awaiting =
-      answered_read settings f false more owes.0 mid rest s' owes.1 (subst (λ (client : Option ℕ). ReadsOn client owes.0 s') told_client owes.2) r (told_quiet quiet) (told_awaiting awaiting)
-  told_then settings more rest s' (inr (inr owes)) r quiet awaiting =
-      failed_read settings f IsBroken more owes.0 mid rest s' owes.1 (subst (λ (client : Option ℕ). ReadsOn client owes.0 s') told_client owes.2) r (told_quiet quiet) (told_awaiting awaiting)
+  origin_sent_then settings more rest s' (inr (inl owes)) r quiet awaiting =
+      answered_read settings f false more owes.0 mid rest s' owes.1 (subst (λ (client : Option ℕ). ReadsOn client owes.0 s') origin_sent_client owes.2) r (origin_sent_quiet quiet) (origin_sent_awaiting awaiting)
+  origin_sent_then settings more rest s' (inr (inr owes)) r quiet awaiting =
+      failed_read settings f IsBroken more owes.0 mid rest s' owes.1 (subst (λ (client : Option ℕ). ReadsOn client owes.0 s') origin_sent_client owes.2) r (origin_sent_quiet quiet) (origin_sent_awaiting awaiting)
 
 event_read : (settings : CoreSettings) (moment : ℕ) (happening : Happening) (turns : List Turn) (s : State) (actions : List Action) (s' : State) → Owes happening turns s s'
     → Run settings turns (passed_to moment s) actions s' → IsQuiet s → IsAwaiting s → IsRead s'
 event_read settings moment (ClientOpened c) turns s actions s' owes r quiet awaiting = opened_read settings c turns (passed_to moment s) actions s' owes r quiet awaiting
 event_read settings moment (ClientBytes c octets) turns s actions s' owes r quiet awaiting =
-    heard_read settings c octets owes.0 (passed_to moment s) actions s' owes.2 (subst (λ (turns : List Turn). Run settings turns (passed_to moment s) actions s') owes.1 r) quiet awaiting
+    client_sent_read settings c octets owes.0 (passed_to moment s) actions s' owes.2 (subst (λ (turns : List Turn). Run settings turns (passed_to moment s) actions s') owes.1 r) quiet awaiting
 event_read settings moment (ClientEnd c) turns s actions s' owes r quiet awaiting =
     left_read settings c owes.0.leaves owes.0.exchange turns (passed_to moment s) actions s' owes.2 r quiet awaiting
 event_read settings moment (OriginBytes f octets) turns s actions s' owes r quiet awaiting =
     let run = subst (λ (turns : List Turn). Run settings turns (passed_to moment s) actions s') owes.1 r in
-    told_then f octets (passed_to moment s) run.1 run.0 run.3 settings owes.0 run.2 s' owes.2 run.5 quiet awaiting
+    origin_sent_then f octets (passed_to moment s) run.1 run.0 run.3 settings owes.0 run.2 s' owes.2 run.5 quiet awaiting
 event_read settings moment (OriginEnd f) turns s actions s' (inl owes) r quiet awaiting =
     answered_read settings f true turns owes.0 (passed_to moment s) actions s' owes.1 owes.2 r quiet (λ g other. awaiting g)
 event_read settings moment (OriginEnd f) turns s actions s' (inr owes) r quiet awaiting =
@@ -264,27 +264,27 @@ event_read settings moment (OriginFailed f) turns s actions s' owes r quiet awai
 pub event_keeps : (settings : CoreSettings) → AreGood settings → ForwardLaws → (event : Event) (s : State) (actions : List Action) (s' : State) (h : History) → Agrees s h
     → Serves settings event s actions s' → s'.numbers.records ≤ greatest_number → KeepsAgreement event.of actions h s'
 event_keeps settings good laws event s actions s' h a v le =
-    let ks = run_keeps settings good laws v.turns (passed_to event.moment s) actions s' h (passed_stands event.moment s h (in_time event s v.is_served) a.stands) v.run le in
-    let hears = event_hears event.of v.turns s s' v.owes in
+    let ks = run_keeps settings good laws v.turns (passed_to event.moment s) actions s' h (passed_consistent event.moment s h (in_time event s v.is_served) a.consistent) v.run le in
+    let brings = event_brings event.of v.turns s s' v.owes in
     let read = event_read settings event.moment event.of v.turns s actions s' v.owes v.run a.quiet a.awaiting in
     record {
       later = ks.later;
       goes_on = record {
         records = ks.goes_on.records;
-        heard = ks.goes_on.heard ∙ hears.heard h.heard;
-        told = ks.goes_on.told ∙ hears.told h.told;
+        client_octets = ks.goes_on.client_octets ∙ brings.client_octets h.client_octets;
+        origin_octets = ks.goes_on.origin_octets ∙ brings.origin_octets h.origin_octets;
       };
-      agrees = record { stands = ks.stands; quiet = read.0; awaiting = read.1 };
+      agrees = record { consistent = ks.consistent; quiet = read.0; awaiting = read.1 };
     }
 
 -- ---- what a cache that agrees is ready for
 
 pub agreement_ready : (s : State) (h : History) → Agrees s h → IsReady s
 agreement_ready s h a = record {
-  exchanges = λ f w is. by_purpose w.forward.purpose w.forward (a.stands.asked.purposes f w is);
-  connections = λ e x is. let on = a.stands.linked.waiting e x is in subst IsSome (sym on.is_open) refl;
+  exchanges = λ f w is. by_purpose w.forward.purpose w.forward (a.consistent.asked.purposes f w is);
+  connections = λ e x is. let on = a.consistent.linked.on_connections e x is in subst IsSome (sym on.is_open) refl;
 }
   where
     by_purpose : (p : Purpose) (forward : OpenForward) → KeepsPurpose s.exchanges p forward → HasExchange s.exchanges p
     by_purpose purpose.Background forward keeps = tt
-    by_purpose (purpose.Reply e why conditional) forward keeps = subst IsSome (sym keeps.waits) refl
+    by_purpose (purpose.Reply e why conditional) forward keeps = subst IsSome (sym keeps.is_open) refl

@@ -5,7 +5,8 @@ use Rattle.hc_fields.specs.declared.fields.Field.{Field}
 use Rattle.hc_fresh.specs.Lifetimes.{says, seconds_said, stale_forbidden}
 use Rattle.hc_update.specs.declared.stored.Stored.{Stored}
 use Rattle.hc_service.specs.Asking.{allows_age, asks_for_fresh}
-use Rattle.hc_service.specs.Serving.{age_at, is_fresh, max_stale_permits, staleness_at, while_revalidating, on_error, may_be_used, is_fresh_enough, is_permitted_stale, may_be_served, may_replace}
+use Rattle.hc_history.specs.Usable.{age_at, permits_by_request, permits_on_error}
+use Rattle.hc_service.specs.Serving.{is_fresh, while_revalidating, may_be_used, is_fresh_enough, is_permitted_stale, may_be_served, may_replace}
 
 -- ---- tests that fail
 
@@ -64,7 +65,7 @@ module _ (asked : List Field) (stored : Stored) (moment : ℕ) where
   unused is = (
     first_fails (may_be_used asked stored) (allows_age (age_at stored moment) (seconds_said (codes "max-age") asked))
         (is_fresh_enough asked stored moment || is_permitted_stale asked stored moment) is,
-    head_fails (may_be_used asked stored) (is_fresh stored moment || (not (stale_forbidden stored.fields) && on_error asked stored moment)) is,
+    head_fails (may_be_used asked stored) (is_fresh stored moment || (not (stale_forbidden stored.fields) && permits_on_error 0 asked stored moment)) is,
   )
 
   pub no_cache_forbids : says (codes "no-cache") stored.fields ≡ true → (may_be_served asked stored moment ≡ false) × (may_replace asked stored moment ≡ false)
@@ -77,16 +78,16 @@ module _ (asked : List Field) (stored : Stored) (moment : ℕ) where
   stale_forbids stale forbidden = (
     third_fails (may_be_used asked stored) (allows_age (age_at stored moment) (seconds_said (codes "max-age") asked)) (is_fresh_enough asked stored moment || is_permitted_stale asked stored moment)
         (neither_forbidden (is_fresh stored moment) _ (stale_forbidden stored.fields) (asks_for_fresh (seconds_said (codes "min-fresh") asked))
-        (max_stale_permits (staleness_at stored moment) (seconds_said (codes "max-stale") asked) || while_revalidating stored moment) stale forbidden),
-    last_fails (may_be_used asked stored) (is_fresh stored moment || (not (stale_forbidden stored.fields) && on_error asked stored moment))
-        (never_replaces (is_fresh stored moment) (stale_forbidden stored.fields) (on_error asked stored moment) stale forbidden),
+        (permits_by_request 0 asked stored moment || while_revalidating stored moment) stale forbidden),
+    last_fails (may_be_used asked stored) (is_fresh stored moment || (not (stale_forbidden stored.fields) && permits_on_error 0 asked stored moment))
+        (never_replaces (is_fresh stored moment) (stale_forbidden stored.fields) (permits_on_error 0 asked stored moment) stale forbidden),
   )
 
   pub min_fresh_forbids : is_fresh stored moment ≡ false → asks_for_fresh (seconds_said (codes "min-fresh") asked) ≡ true → may_be_served asked stored moment ≡ false
   min_fresh_forbids stale asks =
       third_fails (may_be_used asked stored) (allows_age (age_at stored moment) (seconds_said (codes "max-age") asked)) (is_fresh_enough asked stored moment || is_permitted_stale asked stored moment)
       (neither_wanted (is_fresh stored moment) _ (stale_forbidden stored.fields) (asks_for_fresh (seconds_said (codes "min-fresh") asked))
-      (max_stale_permits (staleness_at stored moment) (seconds_said (codes "max-stale") asked) || while_revalidating stored moment) stale asks)
+      (permits_by_request 0 asked stored moment || while_revalidating stored moment) stale asks)
 
   pub max_age_forbids : allows_age (age_at stored moment) (seconds_said (codes "max-age") asked) ≡ false → may_be_served asked stored moment ≡ false
   max_age_forbids old =

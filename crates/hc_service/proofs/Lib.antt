@@ -12,7 +12,7 @@ pub mod ReceivedLemmas
 pub mod RecordLemmas
 pub mod LinkLemmas
 pub mod AskedLemmas
-pub mod HeardLemmas
+pub mod UnreadLemmas
 pub mod EntryLemmas
 pub mod OutcomeLemmas
 pub mod TurnLemmas

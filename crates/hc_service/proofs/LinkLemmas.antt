@@ -1,4 +1,4 @@
--- The requests that wait stay those of the connections.
+-- The open exchanges stay those of the connections.
 use Rattle.std.proofs.Common.{◌≡◌, ℕ, ◌<◌, Bool, true, false, List, Option, Some, None, refl, sym, ap, ◌∙◌, subst, arith, ⊎_elim}
 use Rattle.std.specs.FinMap.{get, insert, remove}
 use Rattle.std.proofs.lemmas.Bool.{ltb-true, lt-ltb, cases_eq}
@@ -7,7 +7,7 @@ use Rattle.hc_service.specs.declared.open.OpenExchange.{OpenExchange}
 use Rattle.hc_service.specs.Numbers.{is_later}
 use Rattle.hc_service.specs.State.{Table, Connection, new_connection}
 use Rattle.hc_service.specs.Turns.{after_request, after_reply, replied}
-use Rattle.hc_service.specs.Agreement.{WaitsOn, HasWaiting, AreLinked}
+use Rattle.hc_service.specs.Agreement.{AwaitsOn, HasItsExchange, AreLinked}
 use Rattle.hc_service.proofs.TableLemmas.{get_same, get_other, get_left, was_put, was_left}
 
 pub none_some : {X : Type 0} (o : Option X) (x : X) → o ≡ None → o ≡ Some x → ⊥
@@ -31,26 +31,26 @@ not_later : (c : ℕ) → is_later c (Some c) ≡ true → ⊥
 not_later c is = let lt : c < c = ltb-true c c is in absurd (omega arith)
 
 module _ (last : Option ℕ) (ks : Table Connection) (xs : Table OpenExchange) (l : AreLinked last ks xs) where
-  -- where a request waits, no other connection is meant
-  waits_elsewhere : (c : ℕ) (k : Connection) → get ks c ≡ Some k → (e : ℕ) (x : OpenExchange) (w : WaitsOn ks e x) → (k.exchange ≡ Some e → ⊥) → c ≡ x.connection → ⊥
-  waits_elsewhere c k at e x w none same = none (ap (λ (q : Connection). q.exchange) (one_of (get ks c) k w.connection at (ap (get ks) same ∙ w.is_open)) ∙ w.waits)
+  -- where an exchange is open, no other connection is meant
+  awaits_elsewhere : (c : ℕ) (k : Connection) → get ks c ≡ Some k → (e : ℕ) (x : OpenExchange) (w : AwaitsOn ks e x) → (k.exchange ≡ Some e → ⊥) → c ≡ x.connection → ⊥
+  awaits_elsewhere c k at e x w none same = none (ap (λ (q : Connection). q.exchange) (one_of (get ks c) k w.connection at (ap (get ks) same ∙ w.is_open)) ∙ w.awaits)
 
   -- a connection stays with its request
   pub linked_same : (c : ℕ) (k k' : Connection) → get ks c ≡ Some k → k'.exchange ≡ k.exchange → AreLinked last (insert ks c k') xs
   linked_same c k k' at same = record {
-    waiting = λ e x is.
-        let w = l.waiting e x is in
+    on_connections = λ e x is.
+        let w = l.on_connections e x is in
         ⊎_elim
         (λ (here : c ≡ x.connection). record {
           connection = k';
           is_open = subst (λ (d : ℕ). get (insert ks c k') d ≡ Some k') here (get_same ks c k');
-          waits = same ∙ ap (λ (q : Connection). q.exchange) (one_of (get ks c) k w.connection at (ap (get ks) here ∙ w.is_open)) ∙ w.waits;
+          awaits = same ∙ ap (λ (q : Connection). q.exchange) (one_of (get ks c) k w.connection at (ap (get ks) here ∙ w.is_open)) ∙ w.awaits;
           forwardable = w.forwardable;
         })
         (λ (there : c ≡ x.connection → ⊥). record {
           connection = w.connection;
           is_open = get_other ks c k' x.connection there ∙ w.is_open;
-          waits = w.waits;
+          awaits = w.awaits;
           forwardable = w.forwardable;
         })
         (cases_eq c x.connection);
@@ -65,12 +65,12 @@ module _ (last : Option ℕ) (ks : Table Connection) (xs : Table OpenExchange) (
   -- a connection without a request goes
   pub linked_out : (c : ℕ) (k : Connection) → get ks c ≡ Some k → k.exchange ≡ None → AreLinked last (remove ks c) xs
   linked_out c k at idle = record {
-    waiting = λ e x is.
-        let w = l.waiting e x is in
+    on_connections = λ e x is.
+        let w = l.on_connections e x is in
         record {
           connection = w.connection;
-          is_open = get_left ks c x.connection (waits_elsewhere c k at e x w (none_some k.exchange e idle)) ∙ w.is_open;
-          waits = w.waits;
+          is_open = get_left ks c x.connection (awaits_elsewhere c k at e x w (none_some k.exchange e idle)) ∙ w.is_open;
+          awaits = w.awaits;
           forwardable = w.forwardable;
         };
     busy = λ d e q is at_e. l.busy d e q (was_left ks c d q is).1 at_e;
@@ -80,12 +80,12 @@ module _ (last : Option ℕ) (ks : Table Connection) (xs : Table OpenExchange) (
   -- a connection opens
   pub linked_opened : (c : ℕ) → is_later c last ≡ true → AreLinked (Some c) (insert ks c new_connection) xs
   linked_opened c first = record {
-    waiting = λ e x is.
-        let w = l.waiting e x is in
+    on_connections = λ e x is.
+        let w = l.on_connections e x is in
         record {
           connection = w.connection;
           is_open = get_other ks c new_connection x.connection (λ same. none_some (get ks c) w.connection (l.later c first) (ap (get ks) same ∙ w.is_open)) ∙ w.is_open;
-          waits = w.waits;
+          awaits = w.awaits;
           forwardable = w.forwardable;
         };
     busy = λ d e q is at_e.
@@ -103,25 +103,25 @@ module _ (last : Option ℕ) (ks : Table Connection) (xs : Table OpenExchange) (
   linked_replied true c behind k at idle = linked_out c k at idle
   linked_replied false c behind k at idle = linked_same c k (after_reply behind k) at (sym idle)
 
-  -- a request waits
+  -- an exchange is open
   pub linked_asked : (c e : ℕ) (behind : List ℕ) (k : Connection) (x : OpenExchange) → get ks c ≡ Some k → k.exchange ≡ None → get xs e ≡ None → x.connection ≡ c
       → IsForwardable x.request x.target → AreLinked last (insert ks c (after_request e behind k)) (insert xs e x)
   linked_asked c e behind k x at idle fresh its may = record {
-    waiting = λ e' x' is.
+    on_connections = λ e' x' is.
         ⊎_elim
-        (λ (p : (e ≡ e') × (x ≡ x')). subst (λ (n : ℕ). WaitsOn (insert ks c (after_request e behind k)) n x') p.0
-        (subst (WaitsOn (insert ks c (after_request e behind k)) e) p.1 (record {
+        (λ (p : (e ≡ e') × (x ≡ x')). subst (λ (n : ℕ). AwaitsOn (insert ks c (after_request e behind k)) n x') p.0
+        (subst (AwaitsOn (insert ks c (after_request e behind k)) e) p.1 (record {
           connection = after_request e behind k;
           is_open = subst (λ (d : ℕ). get (insert ks c (after_request e behind k)) d ≡ Some (after_request e behind k)) (sym its) (get_same ks c (after_request e behind k));
-          waits = refl;
+          awaits = refl;
           forwardable = may;
         })))
         (λ (p : (e ≡ e' → ⊥) × (get xs e' ≡ Some x')).
-        let w = l.waiting e' x' p.1 in
+        let w = l.on_connections e' x' p.1 in
         record {
           connection = w.connection;
-          is_open = get_other ks c (after_request e behind k) x'.connection (waits_elsewhere c k at e' x' w (none_some k.exchange e' idle)) ∙ w.is_open;
-          waits = w.waits;
+          is_open = get_other ks c (after_request e behind k) x'.connection (awaits_elsewhere c k at e' x' w (none_some k.exchange e' idle)) ∙ w.is_open;
+          awaits = w.awaits;
           forwardable = w.forwardable;
         })
         (was_put xs e x e' x' is);
@@ -144,30 +144,30 @@ module _ (last : Option ℕ) (ks : Table Connection) (xs : Table OpenExchange) (
       some_same : (a b : ℕ) → Some a ≡ Some b → a ≡ b
       some_same a b e = cc
 
-  -- a request that waited has its reply
-  module _ (e : ℕ) (x : OpenExchange) (k : Connection) (waits : get xs e ≡ Some x) (at : get ks x.connection ≡ Some k) where
+  -- an exchange has its reply
+  module _ (e : ℕ) (x : OpenExchange) (k : Connection) (awaits : get xs e ≡ Some x) (at : get ks x.connection ≡ Some k) where
     its_exchange : k.exchange ≡ Some e
     its_exchange =
-        let w = l.waiting e x waits in
-        ap (λ (q : Connection). q.exchange) (one_of (get ks x.connection) k w.connection at w.is_open) ∙ w.waits
+        let w = l.on_connections e x awaits in
+        ap (λ (q : Connection). q.exchange) (one_of (get ks x.connection) k w.connection at w.is_open) ∙ w.awaits
 
-    others_wait : (ks' : Table Connection) → ((d : ℕ) → (x.connection ≡ d → ⊥) → get ks' d ≡ get ks d) → (e' : ℕ) (x' : OpenExchange) → get (remove xs e) e' ≡ Some x' → WaitsOn ks' e' x'
-    others_wait ks' keeps e' x' is =
+    others_await : (ks' : Table Connection) → ((d : ℕ) → (x.connection ≡ d → ⊥) → get ks' d ≡ get ks d) → (e' : ℕ) (x' : OpenExchange) → get (remove xs e) e' ≡ Some x' → AwaitsOn ks' e' x'
+    others_await ks' keeps e' x' is =
         let left = was_left xs e e' x' is in
-        let w = l.waiting e' x' left.1 in
+        let w = l.on_connections e' x' left.1 in
         record {
           connection = w.connection;
-          is_open = keeps x'.connection (waits_elsewhere x.connection k at e' x' w (λ (s : k.exchange ≡ Some e'). left.0 (one_of k.exchange e e' its_exchange s))) ∙ w.is_open;
-          waits = w.waits;
+          is_open = keeps x'.connection (awaits_elsewhere x.connection k at e' x' w (λ (s : k.exchange ≡ Some e'). left.0 (one_of k.exchange e e' its_exchange s))) ∙ w.is_open;
+          awaits = w.awaits;
           forwardable = w.forwardable;
         }
 
-    others_busy : (d e' : ℕ) (q : Connection) → (x.connection ≡ d → ⊥) → get ks d ≡ Some q → q.exchange ≡ Some e' → HasWaiting (remove xs e) d e'
+    others_busy : (d e' : ℕ) (q : Connection) → (x.connection ≡ d → ⊥) → get ks d ≡ Some q → q.exchange ≡ Some e' → HasItsExchange (remove xs e) d e'
     others_busy d e' q other at_d at_e =
         let b = l.busy d e' q at_d at_e in
         record {
           exchange = b.exchange;
-          is_open = get_left xs e e' (λ same. other (ap (λ (y : OpenExchange). y.connection) (one_of (get xs e) x b.exchange waits (ap (get xs) same ∙ b.is_open)) ∙ b.is_its)) ∙ b.is_open;
+          is_open = get_left xs e e' (λ same. other (ap (λ (y : OpenExchange). y.connection) (one_of (get xs e) x b.exchange awaits (ap (get xs) same ∙ b.is_open)) ∙ b.is_its)) ∙ b.is_open;
           is_its = b.is_its;
         }
 
@@ -176,12 +176,12 @@ module _ (last : Option ℕ) (ks : Table Connection) (xs : Table OpenExchange) (
 
     pub linked_answered : (closes : Bool) (behind : List ℕ) → AreLinked last (replied closes x.connection behind k ks) (remove xs e)
     linked_answered true behind = record {
-      waiting = others_wait (remove ks x.connection) (get_left ks x.connection);
+      on_connections = others_await (remove ks x.connection) (get_left ks x.connection);
       busy = λ d e' q is at_e. let left = was_left ks x.connection d q is in others_busy d e' q left.0 left.1 at_e;
       later = λ d is. get_left ks x.connection d (not_later_than d is) ∙ l.later d is;
     }
     linked_answered false behind = record {
-      waiting = others_wait (insert ks x.connection (after_reply behind k)) (get_other ks x.connection (after_reply behind k));
+      on_connections = others_await (insert ks x.connection (after_reply behind k)) (get_other ks x.connection (after_reply behind k));
       busy = λ d e' q is at_e.
           ⊎_elim
           (λ (p : (x.connection ≡ d) × (after_reply behind k ≡ q)). absurd (none_some q.exchange e' (sym (ap (λ (q : Connection). q.exchange) p.1)) at_e))

@@ -16,14 +16,14 @@ use Rattle.hc_status.specs.Texts.{HasShortStatus}
 use Rattle.hc_status.specs.declared.cache_status.Handling.TheVariants.{Hit, Fwd}
 use Rattle.hc_replies.specs.Laws.{IsWritableStatus}
 use Rattle.hc_update.specs.declared.stored.Stored.{Stored}
-use Rattle.hc_history.specs.Usable.{lifetime_of}
+use Rattle.hc_history.specs.Usable.{age_at, lifetime_of}
 use Rattle.hc_service.specs.declared.cases.Cause.{Cause}
 use Rattle.hc_service.specs.declared.cases.Cause.TheVariants.{Method, Bypass, NoStore, UriMiss, VaryMiss, Stale, Request}
 use Rattle.hc_service.specs.Settings.{is_name, is_name_octet}
 use Rattle.hc_service.specs.Cases.{word_of}
 use Rattle.hc_service.specs.Laws.{IsToldStatus}
 use Rattle.hc_service.specs.Replying.{status_told}
-use Rattle.hc_service.specs.Serving.{age_at, ttl_at}
+use Rattle.hc_service.specs.Serving.{ttl_at}
 
 octet_of_token : (octet : ℕ) → is_name_octet octet ≡ true → is_token_octet octet ≡ true
 octet_of_token octet is =

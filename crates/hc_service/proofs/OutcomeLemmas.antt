@@ -24,11 +24,11 @@ use Rattle.hc_store.specs.Entries.{Holdings, knows}
 use Rattle.hc_store.specs.Choosing.{is_selected}
 use Rattle.hc_service.specs.declared.cases.Cause.{Cause}
 use Rattle.hc_service.specs.declared.cases.Cause.TheVariants.{Method, Bypass, NoStore, UriMiss, VaryMiss, Stale, Request}
-use Rattle.hc_service.specs.declared.cases.Case.TheVariants as case
 use Rattle.hc_service.specs.declared.open.OpenForward.{OpenForward}
 use Rattle.hc_service.specs.Sending.{recorded_format}
 use Rattle.hc_service.specs.Settings.{is_name}
 use Rattle.hc_service.specs.Asking.{is_answered_by_store}
+use Rattle.hc_service.specs.Cases.Case.{Hit, Forward}
 use Rattle.hc_service.specs.Cases.{asks_store, is_of_stored, case_before_store, case_by_store, has_other_method, asks_origin, forbids_storing, cause_of_stored}
 use Rattle.hc_service.specs.Serving.{is_fresh, may_be_served, may_replace}
 use Rattle.hc_service.specs.State.{Table, Awaited}
@@ -36,7 +36,8 @@ use Rattle.hc_service.specs.Replying.{Wanted, made_reply, hit_reply, replacing_r
 use Rattle.hc_service.specs.Choices.{OnTest, Finds, validated_by, PutsResponse, Stores}
 use Rattle.hc_service.specs.Reactions.{Reaction, Reacts, ReactsBy, bare, is_validated_behind, validation_behind, hit_reaction, wants_no_forward, plain_forward, stored_forward, forward_reaction, chosen_reaction}
 use Rattle.hc_service.specs.Reactions.Reaction.{Replies as RepliesAtOnce, Sends}
-use Rattle.hc_service.specs.Answers.{Outcome, Responds, ByValidation, Passes, Replaces, StandsIn, FailsByStore, Fails, is_validation, validated_outcome, is_unasked, is_replaceable, failed_outcome, standing_in}
+use Rattle.hc_service.specs.Answers.Rule.{Validates, IsUnasked, MayBeReplaced, IsPassedOn}
+use Rattle.hc_service.specs.Answers.{Answer, Outcome, Responds, Passes, Replaces, RepliesInPlace, FailsByStore, Fails, is_validation, validated_outcome, is_unasked, is_replaceable, failed_outcome, replacement, rule_of}
 use Rattle.hc_service.specs.Answers.Outcome.{Replies, GoesAnew}
 use Rattle.hc_service.specs.Agreement.{HasSource, CanReply, AsksAfter}
 use Rattle.hc_service.specs.Runs.{strict}
@@ -97,8 +98,8 @@ module _ (laws : ForwardLaws) (name : List ℕ) (good : is_name name ≡ true) (
   abbrev the_exchange : Exchange
   the_exchange = record { number = e; position = length items + 1; request = request.head; target = target }
 
-  it_waits : exchange_of e (ClientRequest e t request target ∷ items) ≡ Some (record { number = e; position = length items + 1; request = request.head; target = target })
-  it_waits = rw (eq-eqb e e refl) refl
+  it_awaits : exchange_of e (ClientRequest e t request target ∷ items) ≡ Some (record { number = e; position = length items + 1; request = request.head; target = target })
+  it_awaits = rw (eq-eqb e e refl) refl
 
   -- it gets a right reply at once, behind which what is stored may be validated, or goes to the origin
   pub record GetsReply (reaction : Reaction) : Type 0 where
@@ -131,7 +132,7 @@ module _ (laws : ForwardLaws) (name : List ℕ) (good : is_name name ≡ true) (
     reply = made_reply wanted gateway_timeout;
     reaction_is = is;
     fit = made_fit wanted (is_head request.head.method) gateway_timeout (omega arith) (omega arith) early;
-    right = made_right the_items the_exchange wanted gateway_timeout it_waits (omega arith);
+    right = made_right the_items the_exchange wanted gateway_timeout it_awaits (omega arith);
   }
 
   -- what was chosen, where something was, can be asked after
@@ -211,7 +212,7 @@ module _ (laws : ForwardLaws) (name : List ℕ) (good : is_name name ≡ true) (
       fits = hit_fit wanted stored good can
 
       right : IsRight recorded_format strict (ClientRequest e t request target ∷ items) (ClientReply e t (hit_reply (record { name = name; moment = t; asked = request.head; closes = closes }) stored))
-      right = hit_right the_items the_exchange t name closes stored (still_source items (ClientRequest e t request target) refl target stored source) can method selected it_waits served
+      right = hit_right the_items the_exchange t name closes stored (still_source items (ClientRequest e t request target) refl target stored source) can method selected it_awaits served
           (hit_writable name stored t good).plain
 
       go : (b : Bool) → reaction ≡ RepliesAtOnce (hit_reply wanted stored) (cond b (validation_behind wanted target stored) None) → GetsReply reaction ⊎ (GetsBehind reaction ⊎ GetsForward reaction)
@@ -238,10 +239,10 @@ module _ (laws : ForwardLaws) (name : List ℕ) (good : is_name name ≡ true) (
       ⊎_elim
       (λ (served : may_be_served request.head.fields stored t ≡ true).
       hits forwards stored reaction source.0 can method source.1 served
-      (is ∙ ap (λ (b : Bool). chosen_reaction wanted target request forwards (Some stored) (cond b case.Hit (case.Forward (cause_of_stored stored t)))) served))
+      (is ∙ ap (λ (b : Bool). chosen_reaction wanted target request forwards (Some stored) (cond b (Hit stored) (Forward (cause_of_stored stored t)))) served))
       (λ (kept : may_be_served request.head.fields stored t ≡ false).
       forwarded (Some stored) (cause_of_stored stored t) reaction (λ _. method) (can, cause_is_of_stored (not (is_fresh stored t) || says (codes "no-cache") stored.fields), method)
-      (is ∙ ap (λ (b : Bool). chosen_reaction wanted target request forwards (Some stored) (cond b case.Hit (case.Forward (cause_of_stored stored t)))) kept))
+      (is ∙ ap (λ (b : Bool). chosen_reaction wanted target request forwards (Some stored) (cond b (Hit stored) (Forward (cause_of_stored stored t)))) kept))
       (cases_Bool (may_be_served request.head.fields stored t))
     where
       cause_is_of_stored : (b : Bool) → is_of_stored (cond b Stale Request) ≡ true
@@ -249,7 +250,7 @@ module _ (laws : ForwardLaws) (name : List ℕ) (good : is_name name ≡ true) (
       cause_is_of_stored false = refl
 
   pub reaction_right : (forwards : Table Awaited) (old new : Holdings) (reaction : Reaction) → SoundStore items old
-      → Reacts (record { name = name; moment = t; asked = request.head; closes = closes }) target request forwards old reaction new
+      → Reacts (record { request = request; target = target; wanted = record { name = name; moment = t; asked = request.head; closes = closes } }) forwards old reaction new
       → SoundStore items new × (GetsReply reaction ⊎ (GetsBehind reaction ⊎ GetsForward reaction))
   reaction_right forwards old new reaction h reacts = go (case_before_store request) refl reacts
     where
@@ -259,7 +260,7 @@ module _ (laws : ForwardLaws) (name : List ℕ) (good : is_name name ≡ true) (
           false_true : false ≡ true → ⊥
           false_true e = cc
 
-      go : (before : Option Cause) → case_before_store request ≡ before → ReactsBy before wanted target request forwards old reaction new
+      go : (before : Option Cause) → case_before_store request ≡ before → ReactsBy before (record { request = request; target = target; wanted = wanted }) forwards old reaction new
           → SoundStore items new × (GetsReply reaction ⊎ (GetsBehind reaction ⊎ GetsForward reaction))
       go (Some why) is r = (subst (SoundStore items) (sym r.1) h, forwarded None why reaction (never why (before_store request why is)) tt r.0)
       go None is r = (
@@ -306,7 +307,7 @@ of_stored_asks Stale is = refl
 of_stored_asks Request is = refl
 
 module _ (name : List ℕ) (good : is_name name ≡ true) (t : ℕ) (early : t < 253402300800) (closes : Bool) (items : List Item) (f : ℕ) (forward : OpenForward) (x : Exchange) (why : Cause)
-    (is_open : forward_of f items ≡ Some (recorded_forward forward)) (waits : exchange_of x.number items ≡ Some x) (method : forward.request.method ≡ x.request.method) (target : forward.target ≡ x.target)
+    (is_open : forward_of f items ≡ Some (recorded_forward forward)) (awaits : exchange_of x.number items ≡ Some x) (method : forward.request.method ≡ x.request.method) (target : forward.target ≡ x.target)
     (by_store : asks_store why ≡ true → is_answered_by_store x.request.method ≡ true) where
   abbrev wants : Wanted
   wants = record { name = name; moment = t; asked = x.request; closes = closes }
@@ -327,7 +328,10 @@ module _ (name : List ℕ) (good : is_name name ≡ true) (t : ℕ) (early : t <
     bare_body : is_head x.request.method ≡ true → response.body ≡ []
     bare_body is = r.bare (or_left _ _ (same_head ∙ is))
 
-    passes : (old new : Holdings) (outcome : Outcome) → SoundStore (OriginResponse f t response ∷ items) old → Passes wants forward why t response old outcome new
+    abbrev answer : Answer
+    answer = record { wanted = wants; forward = forward; cause = why; response = response }
+
+    passes : (old new : Holdings) (outcome : Outcome) → SoundStore (OriginResponse f t response ∷ items) old → Passes answer old outcome new
         → SoundStore (OriginResponse f t response ∷ items) new × GetsAnswer (OriginResponse f t response ∷ items) outcome
     passes old new outcome h p = (
       ⊎_elim
@@ -338,20 +342,20 @@ module _ (name : List ℕ) (good : is_name name ≡ true) (t : ℕ) (early : t <
         reply = passed_reply wants why p.stored response;
         outcome_is = p.outcome_is;
         fit = passed_fit wants why p.stored (is_head x.request.method) response good early (subst (λ (b : Bool). IsReceivedAnswer b response) same_head r);
-        right = passed_right items f t response forward x wants why p.stored is_open cause waits method target bare_body (forward_writable name why p.stored good).plain;
+        right = passed_right items f t response forward x wants why p.stored is_open cause awaits method target bare_body (forward_writable name why p.stored good).plain;
       },
     )
 
     -- a 304 that answers the cache's own condition
     validates : (position : ℕ) → position ≡ next_position items → asks_store why ≡ true → (old : Holdings) (outcome : Outcome) → SoundStore (OriginResponse f t response ∷ items) old
-        → outcome ≡ validated_outcome wants forward why (validated_by forward.target x.request.fields position old)
+        → outcome ≡ validated_outcome wants why (validated_by forward.target x.request.fields position old)
         → GetsAnswer (OriginResponse f t response ∷ items) outcome ⊎ (outcome ≡ GoesAnew)
     validates position at asks old outcome h is = go (validated_by forward.target x.request.fields position old) refl is
       where
         later : x.position < position
-        later = let place = exchange_place x.number items x waits in omega (arith, place, at)
+        later = let place = exchange_place x.number items x awaits in omega (arith, place, at)
 
-        go : (chosen : Option Stored) → chosen ≡ validated_by forward.target x.request.fields position old → outcome ≡ validated_outcome wants forward why chosen
+        go : (chosen : Option Stored) → chosen ≡ validated_by forward.target x.request.fields position old → outcome ≡ validated_outcome wants why chosen
             → GetsAnswer (OriginResponse f t response ∷ items) outcome ⊎ (outcome ≡ GoesAnew)
         go None same is = inr is
         go (Some stored) same is =
@@ -361,12 +365,12 @@ module _ (name : List ℕ) (good : is_name name ≡ true) (t : ℕ) (early : t <
               reply = replacing_reply wants why (Some not_modified) stored;
               outcome_is = is;
               fit = replacing_fit wants why (Some not_modified) stored good (omega arith) can;
-              right = validated_right name good t closes x why stored can (by_store asks) (OriginResponse f t response ∷ items) waits (of_exchange _ stored source.0) position source.1 later;
+              right = validated_right name good t closes x why stored can (by_store asks) (OriginResponse f t response ∷ items) awaits (of_exchange _ stored source.0) position source.1 later;
             })
 
     -- an error, in whose place a stored response may be the reply
     replaces : asks_store why ≡ true → is_error_status response.head.status ≡ true → (old new : Holdings) (outcome : Outcome) → SoundStore (OriginResponse f t response ∷ items) old
-        → Replaces wants forward why t response old outcome new
+        → Replaces answer old outcome new
         → SoundStore (OriginResponse f t response ∷ items) new × GetsAnswer (OriginResponse f t response ∷ items) outcome
     replaces asks is_error old new outcome h p = go p.chosen p.finds p.ends
       where
@@ -374,7 +378,7 @@ module _ (name : List ℕ) (good : is_name name ≡ true) (t : ℕ) (early : t <
         between chosen finds = found_sound (OriginResponse f t response ∷ items) forward.target x.request.fields old chosen p.between h finds
 
         go : (chosen : Option Stored) → Finds forward.target x.request.fields old chosen p.between
-            → StandsIn wants forward why (standing_in wants forward why chosen) t response p.between outcome new
+            → RepliesInPlace (replacement wants chosen) answer p.between outcome new
             → SoundStore (OriginResponse f t response ∷ items) new × GetsAnswer (OriginResponse f t response ∷ items) outcome
         go None finds ends = passes p.between new outcome (between None finds) ends
         go (Some stored) finds ends = by_test (may_replace x.request.fields stored t) refl ends
@@ -385,7 +389,7 @@ module _ (name : List ℕ) (good : is_name name ≡ true) (t : ℕ) (early : t <
             can : CanReply stored
             can = (chosen_held (λ _ stored. CanReply stored) forward.target x.request.fields old.entries stored h.1 finds.0).0
 
-            by_test : (b : Bool) → may_replace x.request.fields stored t ≡ b → StandsIn wants forward why (cond b (Some stored) None) t response p.between outcome new
+            by_test : (b : Bool) → may_replace x.request.fields stored t ≡ b → RepliesInPlace (cond b (Some stored) None) answer p.between outcome new
                 → SoundStore (OriginResponse f t response ∷ items) new × GetsAnswer (OriginResponse f t response ∷ items) outcome
             by_test false none ends = passes p.between new outcome (between (Some stored) finds) ends
             by_test true may ends = (
@@ -394,51 +398,41 @@ module _ (name : List ℕ) (good : is_name name ≡ true) (t : ℕ) (early : t <
                 reply = replacing_reply wants why (Some response.head.status) stored;
                 outcome_is = ends.0;
                 fit = replacing_fit wants why (Some response.head.status) stored good (error_is_small response.head.status is_error) can;
-                right = error_right name good t closes x why stored can (by_store asks) items f t forward is_open target waits source.1 may response is_error (of_exchange _ stored source.0);
+                right = error_right name good t closes x why stored can (by_store asks) items f t forward is_open target awaits source.1 may response is_error (of_exchange _ stored source.0);
               },
             )
 
     pub response_outcome : (conditional : Bool) → (conditional ≡ true → is_of_stored why ≡ true) → (position : ℕ) → position ≡ next_position items → (old new : Holdings) (outcome : Outcome)
         → SoundStore (OriginResponse f t response ∷ items) old
-        → Responds (record { name = name; moment = t; asked = x.request; closes = closes }) forward why conditional position response old outcome new
+        → Responds (rule_of why conditional forward.request response.head)
+        (record { wanted = record { name = name; moment = t; asked = x.request; closes = closes }; forward = forward; cause = why; response = response }) position old outcome new
         → SoundStore (OriginResponse f t response ∷ items) new × (GetsAnswer (OriginResponse f t response ∷ items) outcome ⊎ (outcome ≡ GoesAnew))
     response_outcome conditional of_stored position at old new outcome h responds =
-        ⊎_elim
-        (λ (q : (is_validation wants forward why conditional response.head ≡ true) × ByValidation wants forward why position old outcome new). (
-          subst (SoundStore (OriginResponse f t response ∷ items)) (sym q.1.1) h,
-          validates position at (of_stored_asks why (of_stored (and_parts conditional (response.head.status == not_modified) q.0).0)) old outcome h q.1.0,
-        ))
-        (λ (q : (is_validation wants forward why conditional response.head ≡ false)
-        × OnTest (is_unasked wants forward why response.head) ((outcome ≡ Replies (made_reply wants bad_gateway)) × (new ≡ old))
-        (OnTest (is_replaceable wants forward why response.head) (Replaces wants forward why t response old outcome new) (Passes wants forward why t response old outcome new))). otherwise q.1)
-        (on_test (is_validation wants forward why conditional response.head) _ _ responds)
+        go (is_validation conditional response.head) (is_unasked forward.request response.head) (is_replaceable why response.head) refl refl responds
       where
-        answered : SoundStore (OriginResponse f t response ∷ items) new × GetsAnswer (OriginResponse f t response ∷ items) outcome
+        got : SoundStore (OriginResponse f t response ∷ items) new × GetsAnswer (OriginResponse f t response ∷ items) outcome
             → SoundStore (OriginResponse f t response ∷ items) new × (GetsAnswer (OriginResponse f t response ∷ items) outcome ⊎ (outcome ≡ GoesAnew))
-        answered p = (p.0, inl p.1)
+        got p = (p.0, inl p.1)
 
-        otherwise : OnTest (is_unasked wants forward why response.head) ((outcome ≡ Replies (made_reply wants bad_gateway)) × (new ≡ old))
-            (OnTest (is_replaceable wants forward why response.head) (Replaces wants forward why t response old outcome new) (Passes wants forward why t response old outcome new))
+        -- by the first rule that holds
+        go : (validation unasked replaceable : Bool) → is_validation conditional response.head ≡ validation → is_replaceable why response.head ≡ replaceable
+            → Responds (cond validation Validates (cond unasked IsUnasked (cond replaceable MayBeReplaced IsPassedOn))) answer position old outcome new
             → SoundStore (OriginResponse f t response ∷ items) new × (GetsAnswer (OriginResponse f t response ∷ items) outcome ⊎ (outcome ≡ GoesAnew))
-        otherwise rest =
-            ⊎_elim
-            (λ (q : (is_unasked wants forward why response.head ≡ true) × ((outcome ≡ Replies (made_reply wants bad_gateway)) × (new ≡ old))). answered (
-              subst (SoundStore (OriginResponse f t response ∷ items)) (sym q.1.1) h,
-              record {
-                reply = made_reply wants bad_gateway;
-                outcome_is = q.1.0;
-                fit = made_fit wants (is_head x.request.method) bad_gateway (omega arith) (omega arith) early;
-                right = made_right (OriginResponse f t response ∷ items) x wants bad_gateway waits (omega arith);
-              },
-            ))
-            (λ (q : (is_unasked wants forward why response.head ≡ false)
-            × OnTest (is_replaceable wants forward why response.head) (Replaces wants forward why t response old outcome new) (Passes wants forward why t response old outcome new)).
-            ⊎_elim
-            (λ (p : (is_replaceable wants forward why response.head ≡ true) × Replaces wants forward why t response old outcome new).
-            let parts = and_parts (asks_store why) (is_error_status response.head.status) p.0 in answered (replaces parts.0 parts.1 old new outcome h p.1))
-            (λ (p : (is_replaceable wants forward why response.head ≡ false) × Passes wants forward why t response old outcome new). answered (passes old new outcome h p.1))
-            (on_test (is_replaceable wants forward why response.head) _ _ q.1))
-            (on_test (is_unasked wants forward why response.head) _ _ rest)
+        go true unasked replaceable is may r = (
+          subst (SoundStore (OriginResponse f t response ∷ items)) (sym r.1) h,
+          validates position at (of_stored_asks why (of_stored (and_parts conditional (response.head.status == not_modified) is).0)) old outcome h r.0,
+        )
+        go false true replaceable is may r = got (
+          subst (SoundStore (OriginResponse f t response ∷ items)) (sym r.1) h,
+          record {
+            reply = made_reply wants bad_gateway;
+            outcome_is = r.0;
+            fit = made_fit wants (is_head x.request.method) bad_gateway (omega arith) (omega arith) early;
+            right = made_right (OriginResponse f t response ∷ items) x wants bad_gateway awaits (omega arith);
+          },
+        )
+        go false false true is may r = let parts = and_parts (asks_store why) (is_error_status response.head.status) may in got (replaces parts.0 parts.1 old new outcome h r)
+        go false false false is may r = got (passes old new outcome h r)
 
   failed_status : (chosen : Option Stored) → (500 ≤ failure_status chosen) × (failure_status chosen < 600)
   failed_status None = (omega arith, omega arith)
@@ -457,21 +451,21 @@ module _ (name : List ℕ) (good : is_name name ≡ true) (t : ℕ) (early : t <
     right = made_right items' x wants status still is_error;
   }
 
-  failed_by_store : asks_store why ≡ true → (old new : Holdings) (outcome : Outcome) → SoundStore items old → FailsByStore wants forward why old outcome new
+  failed_by_store : asks_store why ≡ true → (old new : Holdings) (outcome : Outcome) → SoundStore items old → FailsByStore wants forward.target why old outcome new
       → GetsAnswer (OriginFailure f t ∷ items) outcome
   failed_by_store asks old new outcome h p = go p.chosen p.finds p.outcome_is
     where
       none_stands : (chosen : Option Stored) → outcome ≡ Replies (made_reply wants (failure_status chosen)) → GetsAnswer (OriginFailure f t ∷ items) outcome
       none_stands chosen is =
           let status = failed_status chosen in
-          made_answer (OriginFailure f t ∷ items) (failure_status chosen) outcome waits (omega (arith, status.0)) (omega (arith, status.1)) is
+          made_answer (OriginFailure f t ∷ items) (failure_status chosen) outcome awaits (omega (arith, status.0)) (omega (arith, status.1)) is
 
-      go : (chosen : Option Stored) → Finds forward.target x.request.fields old chosen new → outcome ≡ failed_outcome wants forward why chosen (standing_in wants forward why chosen)
+      go : (chosen : Option Stored) → Finds forward.target x.request.fields old chosen new → outcome ≡ failed_outcome wants why chosen (replacement wants chosen)
           → GetsAnswer (OriginFailure f t ∷ items) outcome
       go None finds is = none_stands None is
       go (Some stored) finds is = by_test (may_replace x.request.fields stored t) refl is
         where
-          by_test : (b : Bool) → may_replace x.request.fields stored t ≡ b → outcome ≡ failed_outcome wants forward why (Some stored) (cond b (Some stored) None)
+          by_test : (b : Bool) → may_replace x.request.fields stored t ≡ b → outcome ≡ failed_outcome wants why (Some stored) (cond b (Some stored) None)
               → GetsAnswer (OriginFailure f t ∷ items) outcome
           by_test false none is = none_stands (Some stored) is
           by_test true may is =
@@ -481,20 +475,20 @@ module _ (name : List ℕ) (good : is_name name ≡ true) (t : ℕ) (early : t <
                 reply = replacing_reply wants why None stored;
                 outcome_is = is;
                 fit = replacing_fit wants why None stored good tt can;
-                right = failure_right name good t closes x why stored can (by_store asks) items f t forward is_open target waits source.1 may
+                right = failure_right name good t closes x why stored can (by_store asks) items f t forward is_open target awaits source.1 may
                     (of_exchange _ stored (still_source items (OriginFailure f t) refl forward.target stored source.0));
               }
 
-  pub failure_outcome : (old new : Holdings) (outcome : Outcome) → SoundStore items old → Fails (record { name = name; moment = t; asked = x.request; closes = closes }) forward why old outcome new
+  pub failure_outcome : (old new : Holdings) (outcome : Outcome) → SoundStore items old → Fails (record { name = name; moment = t; asked = x.request; closes = closes }) forward.target why old outcome new
       → SoundStore (OriginFailure f t ∷ items) new × GetsAnswer (OriginFailure f t ∷ items) outcome
   failure_outcome old new outcome h fails =
       ⊎_elim
-      (λ (q : (asks_store why ≡ true) × FailsByStore wants forward why old outcome new). (
+      (λ (q : (asks_store why ≡ true) × FailsByStore wants forward.target why old outcome new). (
         still_sound items (OriginFailure f t) new refl (found_sound items forward.target x.request.fields old q.1.chosen new h q.1.finds),
         failed_by_store q.0 old new outcome h q.1,
       ))
       (λ (q : (asks_store why ≡ false) × ((outcome ≡ Replies (made_reply wants bad_gateway)) × (new ≡ old))). (
         subst (SoundStore (OriginFailure f t ∷ items)) (sym q.1.1) (still_sound items (OriginFailure f t) old refl h),
-        made_answer (OriginFailure f t ∷ items) bad_gateway outcome waits (omega arith) (omega arith) q.1.0,
+        made_answer (OriginFailure f t ∷ items) bad_gateway outcome awaits (omega arith) (omega arith) q.1.0,
       ))
       (on_test (asks_store why) _ _ fails)

@@ -78,19 +78,19 @@ module _ (items : List Item) (f moment : ℕ) (response : Message ResponseHead) 
   pub passed_right : forward_of f items ≡ Some (recorded_forward forward) → cause_of f items ≡ Some x.number → exchange_of x.number items ≡ Some x → forward.request.method ≡ x.request.method
       → forward.target ≡ x.target → (is_head x.request.method ≡ true → response.body ≡ []) → IsPlainStatus wanted.name (Fwd (word_of why) None stored false)
       → IsRight recorded_format strict (OriginResponse f moment response ∷ items) (ClientReply x.number wanted.moment the_reply)
-  passed_right is_open cause waits method target bare plain =
-      let place = exchange_place x.number items x waits in
+  passed_right is_open cause awaits method target bare plain =
+      let place = exchange_place x.number items x awaits in
       let marked : reply_mark the_reply ≡ mark.Forwarded false =
       ap (judged_mark response.head.status) (forwarded_marked wanted.name (Fwd (word_of why) None stored false) wanted.closes wanted.moment response plain) in
-      subst (λ (o : Option Exchange). IsRightTo recorded_format strict o wanted.moment the_reply (OriginResponse f moment response ∷ items)) (sym waits)
+      subst (λ (o : Option Exchange). IsRightTo recorded_format strict o wanted.moment the_reply (OriginResponse f moment response ∷ items)) (sym awaits)
       (subst (λ (m : Mark). IsRightBy m the_claim (OriginResponse f moment response ∷ items)) (sym marked)
       (inl (or_left _ _ (and_from _ _ (lt-ltb x.position (next_position items) (omega (arith, place))) (and_from _ _ (is_for_it cause) (is_its is_open method target bare))))))
 
 -- a reply that says that there is none
 pub made_right : (items : List Item) (x : Exchange) (wanted : Wanted) (status : ℕ) → exchange_of x.number items ≡ Some x → 400 ≤ status
     → IsRight recorded_format strict items (ClientReply x.number wanted.moment (made_reply wanted status))
-made_right items x wanted status waits is_error =
+made_right items x wanted status awaits is_error =
     let marked : reply_mark (made_reply wanted status) ≡ mark.Unmarked = ap (judged_mark status) (generated_unmarked status wanted.moment wanted.closes) in
-    subst (λ (o : Option Exchange). IsRightTo recorded_format strict o wanted.moment (made_reply wanted status) items) (sym waits)
+    subst (λ (o : Option Exchange). IsRightTo recorded_format strict o wanted.moment (made_reply wanted status) items) (sym awaits)
     (subst (λ (m : Mark). IsRightBy m (claim_of recorded_format strict x wanted.moment (made_reply wanted status) items) items) (sym marked)
     (le-leb 400 status is_error))

@@ -14,16 +14,15 @@ use Rattle.hc_service.specs.declared.open.Purpose.{Purpose}
 use Rattle.hc_service.specs.declared.open.Purpose.TheVariants as purpose
 use Rattle.hc_service.specs.declared.settings.CoreSettings.{CoreSettings}
 use Rattle.hc_service.specs.Numbers.{one_more}
-use Rattle.hc_service.specs.Replying.{Wanted}
 use Rattle.hc_service.specs.State.{State, Table, Connection, Awaited}
-use Rattle.hc_service.specs.Sending.{response_actions, failure_actions}
+use Rattle.hc_service.specs.Sending.{failure_actions}
 use Rattle.hc_service.specs.Reactions.{Reaction, forward_anew}
 use Rattle.hc_service.specs.Reactions.Reaction.{Replies as RepliesAtOnce, Sends}
 use Rattle.hc_service.specs.Answers.{Outcome}
 use Rattle.hc_service.specs.Answers.Outcome.{Replies, GoesAnew}
-use Rattle.hc_service.specs.Turns.{after_leaving, after_reply, after_request, sent_forward, replied, wanted_now, Asks, DoesReaction, Answers, Breaks, DoesOutcome, EndsByResponse, EndsByFailure, Failure, is_closed}
+use Rattle.hc_service.specs.Turns.{after_leaving, after_reply, after_request, sent_forward, replied, wanted_now, Asks, Asker, Ended, DoesReaction, Answers, Breaks, DoesOutcome, EndsByResponse, EndsByFailure, Failure, answered_now, arrived_on, asker_now, failed_now, is_closed, whole_request}
 use Rattle.hc_service.specs.Serves.{Turn, Takes, Run, Reads, ReadsOn, client_by, client_of, IsQuietAt, AwaitsStill}
-use Rattle.hc_service.specs.Serves.Turn.{Opening, Hearing, Asking, Refusal, Dropping, Leaving, Closing, Telling, Answering, Failing}
+use Rattle.hc_service.specs.Serves.Turn.{Opening, ClientSending, Asking, Refusal, Dropping, Leaving, Closing, OriginSending, Answering, Failing}
 use Rattle.hc_service.specs.Agreement.{IsQuiet, IsAwaiting}
 use Rattle.hc_service.proofs.TableLemmas.{get_other, get_left, was_put, was_left}
 use Rattle.hc_service.proofs.LinkLemmas.{none_some, one_of}
@@ -55,11 +54,11 @@ KeepsOthers client s s' = (d : ℕ) → (client ≡ Some d → ⊥) → get s'.c
 
 -- a forward that is open is new, or was open before
 abbrev pub KeepsForwards : State → State → Type 0
-KeepsForwards s s' = (g : ℕ) (a : Awaited) → get s'.forwards g ≡ Some a → (a.heard ≡ []) ⊎ (get s.forwards g ≡ Some a)
+KeepsForwards s s' = (g : ℕ) (a : Awaited) → get s'.forwards g ≡ Some a → (a.received ≡ []) ⊎ (get s.forwards g ≡ Some a)
 
 -- it is new, or another that was open before
 abbrev pub EndsForward : ℕ → State → State → Type 0
-EndsForward f s s' = (g : ℕ) (a : Awaited) → get s'.forwards g ≡ Some a → (a.heard ≡ []) ⊎ ((f ≡ g → ⊥) × (get s.forwards g ≡ Some a))
+EndsForward f s s' = (g : ℕ) (a : Awaited) → get s'.forwards g ≡ Some a → (a.received ≡ []) ⊎ ((f ≡ g → ⊥) × (get s.forwards g ≡ Some a))
 
 same_entries : {X : Type 0} (t u : Table X) (d : ℕ) → u ≡ t → get u d ≡ get t d
 same_entries {X = X} t u d same = ap (λ (t : Table X). get t d) same
@@ -83,34 +82,34 @@ others_then client s mid s' one more d other = more d other ∙ one d other
 pub forwards_same : (s s' : State) → s'.forwards ≡ s.forwards → KeepsForwards s s'
 forwards_same s s' same g a is = inr (sym (same_entries s.forwards s'.forwards g same) ∙ is)
 
-forwards_sent : (f : ℕ) (b : Awaited) (s s' : State) → s'.forwards ≡ insert s.forwards f b → b.heard ≡ [] → KeepsForwards s s'
+forwards_sent : (f : ℕ) (b : Awaited) (s s' : State) → s'.forwards ≡ insert s.forwards f b → b.received ≡ [] → KeepsForwards s s'
 forwards_sent f b s s' same none g a is =
     ⊎_elim
-    (λ (p : (f ≡ g) × (b ≡ a)). inl (sym (ap (λ (z : Awaited). z.heard) p.1) ∙ none))
+    (λ (p : (f ≡ g) × (b ≡ a)). inl (sym (ap (λ (z : Awaited). z.received) p.1) ∙ none))
     (λ (p : (f ≡ g → ⊥) × (get s.forwards g ≡ Some a)). inr p.1)
     (was_put s.forwards f b g a (sym (same_entries (insert s.forwards f b) s'.forwards g same) ∙ is))
 
 forwards_then : (s mid s' : State) → KeepsForwards s mid → KeepsForwards mid s' → KeepsForwards s s'
 forwards_then s mid s' one more g a is =
     ⊎_elim
-    (λ (new : a.heard ≡ []). inl new)
+    (λ (new : a.received ≡ []). inl new)
     (λ (before : get mid.forwards g ≡ Some a). one g a before)
     (more g a is)
 
 ended_out : (f : ℕ) (s s' : State) → s'.forwards ≡ remove s.forwards f → EndsForward f s s'
 ended_out f s s' same g a is = inr (was_left s.forwards f g a (sym (same_entries (remove s.forwards f) s'.forwards g same) ∙ is))
 
-ended_sent : (f n : ℕ) (b : Awaited) (s s' : State) → s'.forwards ≡ insert (remove s.forwards f) n b → b.heard ≡ [] → EndsForward f s s'
+ended_sent : (f n : ℕ) (b : Awaited) (s s' : State) → s'.forwards ≡ insert (remove s.forwards f) n b → b.received ≡ [] → EndsForward f s s'
 ended_sent f n b s s' same none g a is =
     ⊎_elim
-    (λ (p : (n ≡ g) × (b ≡ a)). inl (sym (ap (λ (z : Awaited). z.heard) p.1) ∙ none))
+    (λ (p : (n ≡ g) × (b ≡ a)). inl (sym (ap (λ (z : Awaited). z.received) p.1) ∙ none))
     (λ (p : (n ≡ g → ⊥) × (get (remove s.forwards f) g ≡ Some a)). inr (was_left s.forwards f g a p.1))
     (was_put (remove s.forwards f) n b g a (sym (same_entries (insert (remove s.forwards f) n b) s'.forwards g same) ∙ is))
 
 pub ended_then : (f : ℕ) (s mid s' : State) → EndsForward f s mid → KeepsForwards mid s' → EndsForward f s s'
 ended_then f s mid s' one more g a is =
     ⊎_elim
-    (λ (new : a.heard ≡ []). inl new)
+    (λ (new : a.received ≡ []). inl new)
     (λ (before : get mid.forwards g ≡ Some a). one g a before)
     (more g a is)
 
@@ -123,9 +122,9 @@ KeepsRest client s s' = KeepsOthers client s s' × KeepsForwards s s'
 asking_keeps : (settings : CoreSettings) (c : ℕ) (s : State) (actions : List Action) (s' : State) → Asks settings c s actions s' → KeepsRest (Some c) s s'
 asking_keeps settings c s actions s' t = by_reaction t.reaction t.does
   where
-    by_reaction : (r : Reaction) → DoesReaction r c t.connection (drop t.size t.connection.unread) t.request t.target (wanted_now settings s t.request.head t.connection) s actions s' → KeepsRest (Some c) s s'
+    by_reaction : (r : Reaction) → DoesReaction r (arrived_on c t.connection t.size (whole_request settings s t.request t.target t.connection)) s actions s' → KeepsRest (Some c) s s'
     by_reaction (RepliesAtOnce reply None) d =
-        (others_replied (wanted_now settings s t.request.head t.connection).closes c (drop t.size t.connection.unread) t.connection s s' d.connections, forwards_same s s' d.forwards)
+        (others_replied (wanted_now settings s t.request.head t.connection).closes c (drop t.size t.connection.unread) t.connection s s' d.connections, forwards_same s s' d.keeps.forwards)
     by_reaction (RepliesAtOnce reply (Some validation)) d = (
       others_replied (wanted_now settings s t.request.head t.connection).closes c (drop t.size t.connection.unread) t.connection s s' d.connections,
       forwards_sent (one_more s.numbers.forward) (sent_forward validation.head t.target s.numbers.moment purpose.Background) s s' d.forwards refl,
@@ -137,15 +136,15 @@ asking_keeps settings c s actions s' t = by_reaction t.reaction t.does
 
 reading_keeps : (settings : CoreSettings) (c : ℕ) (turn : Turn) (s : State) (actions : List Action) (s' : State) → Reads c turn → Takes settings turn s actions s' → KeepsRest (Some c) s s'
 reading_keeps settings c (Opening d) s actions s' is t = absurd is
-reading_keeps settings c (Hearing d octets) s actions s' is t = absurd is
+reading_keeps settings c (ClientSending d octets) s actions s' is t = absurd is
 reading_keeps settings c (Asking d) s actions s' is t = subst (λ (n : ℕ). KeepsRest (Some n) s s') is (asking_keeps settings d s actions s' t)
 reading_keeps settings c (Refusal d status) s actions s' is t =
-    subst (λ (n : ℕ). KeepsRest (Some n) s s') is (others_out d s s' t.connections, forwards_same s s' t.forwards)
+    subst (λ (n : ℕ). KeepsRest (Some n) s s') is (others_out d s s' t.connections, forwards_same s s' t.keeps.forwards)
 reading_keeps settings c (Dropping d) s actions s' is t =
-    subst (λ (n : ℕ). KeepsRest (Some n) s s') is (others_put d (after_leaving t.connection) s s' t.connections, forwards_same s s' t.forwards)
+    subst (λ (n : ℕ). KeepsRest (Some n) s s') is (others_put d (after_leaving t.connection) s s' t.connections, forwards_same s s' t.keeps.forwards)
 reading_keeps settings c (Leaving d) s actions s' is t = absurd is
 reading_keeps settings c (Closing d) s actions s' is t = absurd is
-reading_keeps settings c (Telling f octets) s actions s' is t = absurd is
+reading_keeps settings c (OriginSending f octets) s actions s' is t = absurd is
 reading_keeps settings c (Answering f ended) s actions s' is t = absurd is
 reading_keeps settings c (Failing f how) s actions s' is t = absurd is
 
@@ -173,37 +172,41 @@ pub client_is : (f : ℕ) (s : State) (a : Awaited) → get s.forwards f ≡ Som
 client_is f s a is = ap (option_and_then (λ (awaited : Awaited). client_by s.exchanges awaited.forward.purpose)) is
 
 -- the reply goes to the connection of the exchange
-module _ (settings : CoreSettings) (f e : ℕ) (why : Cause) (conditional : Bool) (x : OpenExchange) (k : Connection) (given : List Action) (wanted : Wanted) (s : State) (actions : List Action) (s' : State)
-    (waits : get s.exchanges e ≡ Some x) where
-  outcome_keeps : (o : Outcome) → DoesOutcome o settings f e x k why given wanted s actions s' → KeepsOthers (client_by s.exchanges (purpose.Reply e why conditional)) s s' × EndsForward f s s'
+module _ (ended : Ended) (asker : Asker) (why : Cause) (conditional : Bool) (s : State) (actions : List Action) (s' : State)
+    (awaits : get s.exchanges ended.exchange ≡ Some asker.exchange) where
+  outcome_keeps : (o : Outcome) → DoesOutcome o ended asker s actions s'
+      → KeepsOthers (client_by s.exchanges (purpose.Reply ended.exchange why conditional)) s s' × EndsForward ended.forward s s'
   outcome_keeps (Replies reply) d = (
-    subst (λ (client : Option ℕ). KeepsOthers client s s') (sym (ap (option_map (λ (x : OpenExchange). x.connection)) waits)) (others_replied wanted.closes x.connection k.unread k s s' d.connections),
-    ended_out f s s' d.forwards,
+    subst (λ (client : Option ℕ). KeepsOthers client s s') (sym (ap (option_map (λ (x : OpenExchange). x.connection)) awaits))
+        (others_replied asker.wanted.closes asker.exchange.connection asker.connection.unread asker.connection s s' d.connections),
+    ended_out ended.forward s s' d.forwards,
   )
   outcome_keeps GoesAnew d = (
-    others_same (client_by s.exchanges (purpose.Reply e why conditional)) s s' d.connections,
-    ended_sent f (one_more s.numbers.forward) (sent_forward (forward_anew settings.name x.target x.request).head x.target s.numbers.moment (purpose.Reply e why false)) s s' d.forwards refl,
+    others_same (client_by s.exchanges (purpose.Reply ended.exchange why conditional)) s s' d.keeps.connections,
+    ended_sent ended.forward (one_more s.numbers.forward)
+        (sent_forward (forward_anew asker.wanted.name asker.exchange.target asker.exchange.request).head asker.exchange.target s.numbers.moment
+        (purpose.Reply ended.exchange ended.why false)) s s' d.forwards refl,
   )
 
 pub answering_keeps : (settings : CoreSettings) (f : ℕ) (ended : Bool) (s : State) (actions : List Action) (s' : State) → Answers settings f ended s actions s' → KeepsBeside f s s'
 answering_keeps settings f ended s actions s' t =
     subst (λ (client : Option ℕ). KeepsOthers client s s' × EndsForward f s s') (sym (client_is f s t.awaited t.is_open)) (by_purpose t.awaited.forward.purpose t.ends)
   where
-    by_purpose : (p : Purpose) → EndsByResponse p settings f t.awaited.forward t.response t.told (response_actions f s.numbers.moment (is_head t.awaited.forward.request.method) t.response) s actions s'
+    by_purpose : (p : Purpose) → EndsByResponse p settings (answered_now f t.awaited.forward t.response t.renewed s) s actions s'
         → KeepsOthers (client_by s.exchanges p) s s' × EndsForward f s s'
-    by_purpose purpose.Background d = (others_same None s s' d.1.connections, ended_out f s s' d.1.forwards)
+    by_purpose purpose.Background d = (others_same None s s' d.1.keeps.connections, ended_out f s s' d.1.forwards)
     by_purpose (purpose.Reply e why conditional) d =
-        outcome_keeps settings f e why conditional d.exchange d.connection (response_actions f s.numbers.moment (is_head t.awaited.forward.request.method) t.response) (wanted_now settings s d.exchange.request d.connection) s actions s' d.is_waiting d.outcome d.does
+        outcome_keeps (record { forward = f; exchange = e; why = why; first = (answered_now f t.awaited.forward t.response t.renewed s).first }) (asker_now settings s d.exchange d.connection) why conditional s actions s' d.awaits d.outcome d.does
 
 pub failing_keeps : (settings : CoreSettings) (f : ℕ) (how : Failure) (s : State) (actions : List Action) (s' : State) → Breaks settings f how s actions s' → KeepsBeside f s s'
 failing_keeps settings f how s actions s' t =
     subst (λ (client : Option ℕ). KeepsOthers client s s' × EndsForward f s s') (sym (client_is f s t.awaited t.is_open)) (by_purpose t.awaited.forward.purpose t.ends)
   where
-    by_purpose : (p : Purpose) → EndsByFailure p settings f t.awaited.forward (failure_actions f s.numbers.moment (is_closed how)) s actions s'
+    by_purpose : (p : Purpose) → EndsByFailure p settings (failed_now f t.awaited.forward.target how s) s actions s'
         → KeepsOthers (client_by s.exchanges p) s s' × EndsForward f s s'
-    by_purpose purpose.Background d = (others_same None s s' d.1.connections, ended_out f s s' d.1.forwards)
+    by_purpose purpose.Background d = (others_same None s s' d.1.keeps.connections, ended_out f s s' d.1.forwards)
     by_purpose (purpose.Reply e why conditional) d =
-        outcome_keeps settings f e why conditional d.exchange d.connection (failure_actions f s.numbers.moment (is_closed how)) (wanted_now settings s d.exchange.request d.connection) s actions s' d.is_waiting d.outcome d.does
+        outcome_keeps (record { forward = f; exchange = e; why = why; first = failure_actions f s.numbers.moment (is_closed how) }) (asker_now settings s d.exchange d.connection) why conditional s actions s' d.awaits d.outcome d.does
 
 -- ---- nothing is left unread
 
@@ -223,16 +226,16 @@ pub read_quietly : (client : Option ℕ) (turns : List Turn) (s' : State) → Re
 read_quietly None turns s' reads c is = absurd (none_some None c refl is)
 read_quietly (Some d) turns s' reads c is = subst (λ (n : ℕ). IsQuietAt n s') (one_of (Some d) d c refl is) reads.1
 
-new_awaits : (a : Awaited) → a.heard ≡ [] → IsAwaitedStill (is_head a.forward.request.method) a.heard
+new_awaits : (a : Awaited) → a.received ≡ [] → IsAwaitedStill (is_head a.forward.request.method) a.received
 new_awaits a none = subst (IsAwaitedStill (is_head a.forward.request.method)) (sym none) (nothing_answered (is_head a.forward.request.method))
 
 pub awaiting_by : (s s' : State) → KeepsForwards s s' → IsAwaiting s → IsAwaiting s'
 awaiting_by s s' keeps awaiting g a is =
-    ⊎_elim (λ (none : a.heard ≡ []). new_awaits a none) (λ (before : get s.forwards g ≡ Some a). awaiting g a before) (keeps g a is)
+    ⊎_elim (λ (none : a.received ≡ []). new_awaits a none) (λ (before : get s.forwards g ≡ Some a). awaiting g a before) (keeps g a is)
 
 pub awaiting_without : (f : ℕ) (s s' : State) → EndsForward f s s' → IsAwaitingBut f s → IsAwaiting s'
 awaiting_without f s s' ends awaiting g a is =
     ⊎_elim
-    (λ (none : a.heard ≡ []). new_awaits a none)
+    (λ (none : a.received ≡ []). new_awaits a none)
     (λ (before : (f ≡ g → ⊥) × (get s.forwards g ≡ Some a)). awaiting g before.0 a before.1)
     (ends g a is)

@@ -67,24 +67,24 @@ module _ (name : List ℕ) (good : is_name name ≡ true) (t : ℕ) (closes : Bo
   pub validated_right : (items : List Item) → exchange_of x.number items ≡ Some x → HasSource items x.target stored → (position : ℕ)
       → is_selected_validated x.request.fields position stored ≡ true → x.position < position
       → IsRight recorded_format strict items (ClientReply x.number t (replacing_reply (record { name = name; moment = t; asked = x.request; closes = closes }) why (Some not_modified) stored))
-  validated_right items waits source position validated later =
+  validated_right items awaits source position validated later =
       let parts = and_parts (option_eq nat_eq stored.validated_at (Some position)) (is_selected x.request.fields stored) validated in
-      entry_right items x t name closes stored source can method parts.1 waits (word_of why) (status_told (Some not_modified) (entry_status wants stored)) false
+      entry_right items x t name closes stored source can method parts.1 awaits (word_of why) (status_told (Some not_modified) (entry_status wants stored)) false
       (replacing_writable name why (Some not_modified) (entry_status wants stored) good (omega arith)).plain
       (validated_usable items x t (replacing_reply wants why (Some not_modified) stored) stored position (validated_is stored.validated_at position parts.0) later)
 
   module _ (items : List Item) (f moment : ℕ) (forward : OpenForward) (is_open : forward_of f items ≡ Some (recorded_forward forward)) (target : forward.target ≡ x.target)
-      (waits : exchange_of x.number items ≡ Some x) (selected : is_selected x.request.fields stored ≡ true) (may : may_replace x.request.fields stored t ≡ true) where
+      (awaits : exchange_of x.number items ≡ Some x) (selected : is_selected x.request.fields stored ≡ true) (may : may_replace x.request.fields stored t ≡ true) where
     -- an error stands in the window
     pub error_right : (response : Message ResponseHead) → is_error_status response.head.status ≡ true → HasSource (OriginResponse f moment response ∷ items) x.target stored
         → IsRight recorded_format strict (OriginResponse f moment response ∷ items)
         (ClientReply x.number t (replacing_reply (record { name = name; moment = t; asked = x.request; closes = closes }) why (Some response.head.status) stored))
     error_right response is source =
         let told = status_told (Some response.head.status) (entry_status wants stored) in
-        entry_right (OriginResponse f moment response ∷ items) x t name closes stored source can method selected waits (word_of why) told false
+        entry_right (OriginResponse f moment response ∷ items) x t name closes stored source can method selected awaits (word_of why) told false
         (replacing_writable name why (Some response.head.status) (entry_status wants stored) good (error_is_small response.head.status is)).plain
         (replacing_usable (OriginResponse f moment response ∷ items) x t (replacing_reply wants why (Some response.head.status) stored) stored may
-        (or_left _ _ (stands_last (is_error x.target) x.position items (OriginResponse f moment response) (exchange_place x.number items x waits)
+        (or_left _ _ (stands_last (is_error x.target) x.position items (OriginResponse f moment response) (exchange_place x.number items x awaits)
         (and_from _ _ is (of_its_target items f forward x.target is_open target)))))
 
     -- a failure does
@@ -92,8 +92,8 @@ module _ (name : List ℕ) (good : is_name name ≡ true) (t : ℕ) (closes : Bo
         → IsRight recorded_format strict (OriginFailure f moment ∷ items)
         (ClientReply x.number t (replacing_reply (record { name = name; moment = t; asked = x.request; closes = closes }) why None stored))
     failure_right source =
-        entry_right (OriginFailure f moment ∷ items) x t name closes stored source can method selected waits (word_of why) None false
+        entry_right (OriginFailure f moment ∷ items) x t name closes stored source can method selected awaits (word_of why) None false
         (replacing_writable name why None (entry_status wants stored) good tt).plain
         (replacing_usable (OriginFailure f moment ∷ items) x t (replacing_reply wants why None stored) stored may
-        (or_right _ _ (stands_last (is_failure x.target) x.position items (OriginFailure f moment) (exchange_place x.number items x waits)
+        (or_right _ _ (stands_last (is_failure x.target) x.position items (OriginFailure f moment) (exchange_place x.number items x awaits)
         (of_its_target items f forward x.target is_open target))))

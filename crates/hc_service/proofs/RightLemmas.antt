@@ -32,7 +32,7 @@ use Rattle.hc_history.specs.Filters.{within, is_age, is_ttl, is_exempt, same_val
 use Rattle.hc_history.specs.Marks.{reply_mark, judged_mark}
 use Rattle.hc_history.specs.Reused.{Pass, IsReused, anywhere, forwarded_count}
 use Rattle.hc_history.specs.Right.{IsRight, IsRightTo, IsRightBy}
-use Rattle.hc_history.specs.Usable.{lifetime_of, is_usable}
+use Rattle.hc_history.specs.Usable.{age_at, lifetime_of, is_usable}
 use Rattle.hc_history.proofs.StateLemmas.{place_of}
 use Rattle.hc_head.proofs.SameTargetLemmas.{same_target_itself}
 use Rattle.hc_store.specs.Choosing.{is_selected}
@@ -40,7 +40,7 @@ use Rattle.hc_service.specs.Sending.{recorded_format}
 use Rattle.hc_service.specs.Agreement.{HasSource, CanReply}
 use Rattle.hc_service.specs.Replying.{Wanted, entry_reply, hit_reply}
 use Rattle.hc_service.specs.Runs.{strict}
-use Rattle.hc_service.specs.Serving.{age_at, ttl_at, has_still, may_be_served}
+use Rattle.hc_service.specs.Serving.{ttl_at, has_still, may_be_served}
 use Rattle.hc_service.proofs.UsableLemmas.{served_usable}
 
 -- ---- small facts

@@ -1,5 +1,5 @@
 -- Steps are a run, and what a run records is judged right.
-use Rattle.std.proofs.Common.{◌≡◌, ℕ, suc, ◌+◌, ◌≤◌, Bool, true, false, List, [], ◌∷◌, ◌++◌, length, drop, Option, Some, None, Ok, Err, refl, sym, ap, ◌∙◌, subst, arith, append_assoc, append-nil, length-append, flat_map}
+use Rattle.std.proofs.Common.{◌≡◌, ℕ, suc, ◌+◌, ◌≤◌, Bool, true, false, List, [], ◌∷◌, ◌++◌, length, Option, Some, None, Ok, Err, refl, sym, ap, ◌∙◌, subst, arith, append_assoc, append-nil, length-append, flat_map}
 use Rattle.hc_head.specs.Methods.{is_head}
 use Rattle.hc_head.specs.declared.head.ResponseHead.{ResponseHead}
 use Rattle.hc_framing.specs.declared.message.Message.{Message}
@@ -12,25 +12,22 @@ use Rattle.hc_history.specs.Counting.{counts_of}
 use Rattle.hc_history.specs.Right.{AllRight}
 use Rattle.hc_events.specs.declared.Event.{Event}
 use Rattle.hc_service.specs.declared.action.Action.{Action}
-use Rattle.hc_service.specs.declared.cases.Cause.{Cause}
 use Rattle.hc_service.specs.declared.fault.StepFault.TheVariants.{Memory, MomentTooLarge, UnknownNumber, TooManyConnections, Failed}
 use Rattle.hc_service.specs.declared.numbers.Numbers.{Numbers}
-use Rattle.hc_service.specs.declared.open.OpenExchange.{OpenExchange}
 use Rattle.hc_service.specs.declared.open.Purpose.{Purpose}
 use Rattle.hc_service.specs.declared.open.Purpose.TheVariants as purpose
 use Rattle.hc_service.specs.declared.settings.CoreSettings.{CoreSettings}
 use Rattle.hc_service.specs.Settings.{AreGood}
 use Rattle.hc_service.specs.Numbers.{one_more}
-use Rattle.hc_service.specs.Replying.{Wanted}
-use Rattle.hc_service.specs.State.{State, Connection, new_state}
+use Rattle.hc_service.specs.State.{State, new_state}
 use Rattle.hc_service.specs.Sending.{recorded_format, records_of, ask_actions, send_actions, reply_actions, response_actions, failure_actions}
 use Rattle.hc_service.specs.Reactions.{Reaction, forward_anew}
 use Rattle.hc_service.specs.Reactions.Reaction.{Replies as RepliesAtOnce, Sends}
 use Rattle.hc_service.specs.Answers.{Outcome}
 use Rattle.hc_service.specs.Answers.Outcome.{Replies, GoesAnew}
-use Rattle.hc_service.specs.Turns.{DoesReaction, DoesOutcome, EndsByResponse, EndsByFailure, is_closed, wanted_now}
+use Rattle.hc_service.specs.Turns.{Asker, Ended, DoesReaction, DoesOutcome, EndsByResponse, EndsByFailure, answered_now, arrived_on, asker_now, failed_now, is_closed, wanted_now, whole_request}
 use Rattle.hc_service.specs.Serves.{Turn, Takes, Run, Serves, passed_to}
-use Rattle.hc_service.specs.Serves.Turn.{Opening, Hearing, Asking, Refusal, Dropping, Leaving, Closing, Telling, Answering, Failing}
+use Rattle.hc_service.specs.Serves.Turn.{Opening, ClientSending, Asking, Refusal, Dropping, Leaving, Closing, OriginSending, Answering, Failing}
 use Rattle.hc_service.specs.Agreement.{History, Agrees, IsReady}
 use Rattle.hc_service.specs.Runs.{Records, AllRightBehind, behind, strict, nothing_yet, StepResult, Runs, RunsOn, RunsTo, Steps, records_given, GoesOnWith, EndAgrees, IsJudgedRight}
 use Rattle.hc_service.specs.LowerLaws.{ForwardLaws}
@@ -85,25 +82,27 @@ then_reply given e t to_head c closes reply one =
     let two = count_reply e t to_head c closes reply in
     omega arith
 
--- a forward that ends for a request
-outcome_counts : (settings : CoreSettings) (f e : ℕ) (x : OpenExchange) (k : Connection) (why : Cause) (given : List Action) (wanted : Wanted) (o : Outcome) (s : State) (actions : List Action) (s' : State)
-    → count given ≡ 1 → DoesOutcome o settings f e x k why given wanted s actions s' → Counts s.numbers s'.numbers actions
-outcome_counts settings f e x k why given wanted (Replies reply) s actions s' one d =
+-- a forward that ends for an exchange
+outcome_counts : (ended : Ended) (asker : Asker) (o : Outcome) (s : State) (actions : List Action) (s' : State)
+    → count ended.first ≡ 1 → DoesOutcome o ended asker s actions s' → Counts s.numbers s'.numbers actions
+outcome_counts ended asker (Replies reply) s actions s' one d =
     counts_two s.numbers s'.numbers actions
-    (count_of actions _ d.actions_are ∙ then_reply given e s.numbers.moment (is_head x.request.method) x.connection wanted.closes reply one) (records_in s'.numbers _ d.numbers)
-outcome_counts settings f e x k why given wanted GoesAnew s actions s' one d =
-    let sends = send_actions (one_more s.numbers.forward) s.numbers.moment (Some e) (forward_anew settings.name x.target x.request) in
-    let both = count_append given sends in
+    (count_of actions _ d.actions_are
+    ∙ then_reply ended.first ended.exchange s.numbers.moment (is_head asker.exchange.request.method) asker.exchange.connection asker.wanted.closes reply one)
+    (records_in s'.numbers _ d.numbers)
+outcome_counts ended asker GoesAnew s actions s' one d =
+    let sends = send_actions (one_more s.numbers.forward) s.numbers.moment (Some ended.exchange) (forward_anew asker.wanted.name asker.exchange.target asker.exchange.request) in
+    let both = count_append ended.first sends in
     let last : count sends ≡ 1 = refl in
-    let all : count (given ++ sends) ≡ 2 = omega arith in
-    counts_two s.numbers s'.numbers actions (count_of actions (given ++ sends) d.actions_are ∙ all) (records_in s'.numbers _ d.numbers)
+    let all : count (ended.first ++ sends) ≡ 2 = omega arith in
+    counts_two s.numbers s'.numbers actions (count_of actions (ended.first ++ sends) d.actions_are ∙ all) (records_in s'.numbers _ d.numbers)
 
 turn_counts : (settings : CoreSettings) (turn : Turn) (s : State) (actions : List Action) (s' : State) → Takes settings turn s actions s' → Counts s.numbers s'.numbers actions
 turn_counts settings (Opening c) s actions s' t = counts_none s.numbers s'.numbers actions (count_of actions [] t.actions_are) (records_in s'.numbers _ t.numbers)
-turn_counts settings (Hearing c octets) s actions s' t = counts_none s.numbers s'.numbers actions (count_of actions [] t.actions_are) (records_in s'.numbers _ t.numbers)
+turn_counts settings (ClientSending c octets) s actions s' t = counts_none s.numbers s'.numbers actions (count_of actions [] t.actions_are) (records_in s'.numbers _ t.keeps.numbers)
 turn_counts settings (Asking c) s actions s' t = by_reaction t.reaction t.does
   where
-    by_reaction : (r : Reaction) → DoesReaction r c t.connection (drop t.size t.connection.unread) t.request t.target (wanted_now settings s t.request.head t.connection) s actions s' → Counts s.numbers s'.numbers actions
+    by_reaction : (r : Reaction) → DoesReaction r (arrived_on c t.connection t.size (whole_request settings s t.request t.target t.connection)) s actions s' → Counts s.numbers s'.numbers actions
     by_reaction (RepliesAtOnce reply None) d =
         let e = one_more s.numbers.exchange in
         counts_two s.numbers s'.numbers actions
@@ -120,30 +119,30 @@ turn_counts settings (Asking c) s actions s' t = by_reaction t.reaction t.does
         let all : count (first ++ sends) ≡ 3 = omega arith in
         counts_three s.numbers s'.numbers actions (count_of actions (first ++ sends) d.actions_are ∙ all) (records_in s'.numbers _ d.numbers)
     by_reaction (Sends forward why conditional) d = counts_two s.numbers s'.numbers actions (count_of actions _ d.actions_are) (records_in s'.numbers _ d.numbers)
-turn_counts settings (Refusal c status) s actions s' t = counts_none s.numbers s'.numbers actions (count_of actions _ t.actions_are) (records_in s'.numbers _ t.numbers)
-turn_counts settings (Dropping c) s actions s' t = counts_none s.numbers s'.numbers actions (count_of actions [] t.actions_are) (records_in s'.numbers _ t.numbers)
-turn_counts settings (Leaving c) s actions s' t = counts_none s.numbers s'.numbers actions (count_of actions [] t.actions_are) (records_in s'.numbers _ t.numbers)
-turn_counts settings (Closing c) s actions s' t = counts_none s.numbers s'.numbers actions (count_of actions _ t.actions_are) (records_in s'.numbers _ t.numbers)
-turn_counts settings (Telling f octets) s actions s' t = counts_none s.numbers s'.numbers actions (count_of actions [] t.actions_are) (records_in s'.numbers _ t.numbers)
+turn_counts settings (Refusal c status) s actions s' t = counts_none s.numbers s'.numbers actions (count_of actions _ t.actions_are) (records_in s'.numbers _ t.keeps.numbers)
+turn_counts settings (Dropping c) s actions s' t = counts_none s.numbers s'.numbers actions (count_of actions [] t.actions_are) (records_in s'.numbers _ t.keeps.numbers)
+turn_counts settings (Leaving c) s actions s' t = counts_none s.numbers s'.numbers actions (count_of actions [] t.actions_are) (records_in s'.numbers _ t.keeps.numbers)
+turn_counts settings (Closing c) s actions s' t = counts_none s.numbers s'.numbers actions (count_of actions _ t.actions_are) (records_in s'.numbers _ t.keeps.numbers)
+turn_counts settings (OriginSending f octets) s actions s' t = counts_none s.numbers s'.numbers actions (count_of actions [] t.actions_are) (records_in s'.numbers _ t.keeps.numbers)
 turn_counts settings (Answering f ended) s actions s' t = by_purpose t.awaited.forward.purpose t.ends
   where
     given : List Action
     given = response_actions f s.numbers.moment (is_head t.awaited.forward.request.method) t.response
 
-    by_purpose : (p : Purpose) → EndsByResponse p settings f t.awaited.forward t.response t.told given s actions s' → Counts s.numbers s'.numbers actions
+    by_purpose : (p : Purpose) → EndsByResponse p settings (answered_now f t.awaited.forward t.response t.renewed s) s actions s' → Counts s.numbers s'.numbers actions
     by_purpose purpose.Background d = counts_one s.numbers s'.numbers actions (count_of actions given d.1.actions_are) (records_in s'.numbers _ d.1.numbers)
     by_purpose (purpose.Reply e why conditional) d =
-        outcome_counts settings f e d.exchange d.connection why given (wanted_now settings s d.exchange.request d.connection) d.outcome s actions s' refl d.does
+        outcome_counts (record { forward = f; exchange = e; why = why; first = given }) (asker_now settings s d.exchange d.connection) d.outcome s actions s' refl d.does
 turn_counts settings (Failing f how) s actions s' t = by_purpose t.awaited.forward.purpose t.ends
   where
     given : List Action
     given = failure_actions f s.numbers.moment (is_closed how)
 
-    by_purpose : (p : Purpose) → EndsByFailure p settings f t.awaited.forward given s actions s' → Counts s.numbers s'.numbers actions
+    by_purpose : (p : Purpose) → EndsByFailure p settings (failed_now f t.awaited.forward.target how s) s actions s' → Counts s.numbers s'.numbers actions
     by_purpose purpose.Background d =
         counts_one s.numbers s'.numbers actions (count_of actions given d.1.actions_are ∙ count_failure f s.numbers.moment (is_closed how)) (records_in s'.numbers _ d.1.numbers)
     by_purpose (purpose.Reply e why conditional) d =
-        outcome_counts settings f e d.exchange d.connection why given (wanted_now settings s d.exchange.request d.connection) d.outcome s actions s' (count_failure f s.numbers.moment (is_closed how)) d.does
+        outcome_counts (record { forward = f; exchange = e; why = why; first = given }) (asker_now settings s d.exchange d.connection) d.outcome s actions s' (count_failure f s.numbers.moment (is_closed how)) d.does
 
 run_counts : (settings : CoreSettings) (turns : List Turn) (s : State) (actions : List Action) (s' : State) → Run settings turns s actions s' → Counts s.numbers s'.numbers actions
 run_counts settings [] s actions s' r = counts_none s.numbers s'.numbers actions (count_of actions [] r.0) (ap (λ (s : State). s.numbers.records) r.1)
@@ -179,7 +178,7 @@ stays_to : (records : List Record) (s : State) (h : History) (end : Option State
 stays_to records s h end none a agrees = record {
   later = h;
   goes_on = record { newer = []; records_are = sym (ap (λ (rs : List Record). behind rs h.records) none); items_are = refl; right = tt };
-  are_read = a.stands.counted.are_read;
+  are_read = a.consistent.counted.are_read;
   agrees = agrees;
 }
 
@@ -255,7 +254,7 @@ right_joins h records more mid end to onward = record {
 
 -- a run from where a run has led to is, with it, one run
 pub runs_on : (settings : CoreSettings) (events : List Event) (results : List StepResult) (s mid : State) (h : History) (records : List Record)
-    → Runs settings s h events results records (Some mid) → RunsOn settings s h events results records mid
+    → Runs settings s h events results records (Some mid) → RunsOn settings s h (record { events = events; results = results; records = records }) mid
 runs_on settings [] [] s mid h records runs =
     let same = some_one mid s runs.2 in
     record {
@@ -325,7 +324,7 @@ as_many_behind (r ∷ records) before = let more = as_many_behind records (r ∷
 counted_behind : (records : List Record) (h : History) (s : State) → AreReadAs recorded_format h.records h.items → RunsTo records h (Some s)
     → s.numbers.records ≡ length h.items + length records
 counted_behind records h s read_before to =
-    let counted = to.agrees.stands.counted.records in
+    let counted = to.agrees.consistent.counted.records in
     let read = as_many_items to.later.records to.later.items to.are_read in
     let before = as_many_items h.records h.items read_before in
     let stands_behind = ap (λ (rs : List Record). length rs) to.goes_on.records_are in
@@ -352,7 +351,7 @@ pub runs_counted : (settings : CoreSettings) (events : List Event) (results : Li
     → Runs settings s h events results records (Some mid) → mid.numbers.records ≡ s.numbers.records + length records
 runs_counted settings events results s mid h records runs =
     let agrees = runs_agree settings events results s h records (Some mid) runs in
-    let counted = agrees.stands.counted in
+    let counted = agrees.consistent.counted in
     counted_behind records h mid counted.are_read (runs_to settings events results s h records (Some mid) runs) ∙ ap (λ (n : ℕ). n + length records) (sym counted.records)
 
 -- ---- steps are a run

@@ -1,5 +1,5 @@
 -- Each step keeps what the cache has to do with what has happened: its turns do, and all that can be read is read.
-use Rattle.std.proofs.Common.{◌≡◌, ℕ, ◌≤◌, List, [], ◌∷◌, ◌++◌, drop, Some, None, refl, sym, ap, ◌∙◌, subst, arith, append_assoc}
+use Rattle.std.proofs.Common.{◌≡◌, ◌≤◌, List, [], ◌∷◌, ◌++◌, Some, None, refl, sym, ap, ◌∙◌, subst, arith, append_assoc}
 use Rattle.hc_transcript.specs.declared.record.Record.{Record}
 use Rattle.hc_transcript.specs.Limits.{greatest_number}
 use Rattle.hc_transcript.specs.Items.{Item}
@@ -12,23 +12,19 @@ use Rattle.hc_service.specs.declared.open.Purpose.TheVariants as purpose
 use Rattle.hc_service.specs.declared.settings.CoreSettings.{CoreSettings}
 use Rattle.hc_service.specs.Settings.{AreGood}
 use Rattle.hc_service.specs.Numbers.{one_more}
-use Rattle.hc_head.specs.Methods.{is_head}
-use Rattle.hc_service.specs.declared.cases.Cause.{Cause}
-use Rattle.hc_service.specs.declared.open.OpenExchange.{OpenExchange}
-use Rattle.hc_service.specs.Replying.{Wanted}
-use Rattle.hc_service.specs.State.{State, Connection}
-use Rattle.hc_service.specs.Sending.{recorded_format, records_of, response_actions, failure_actions}
+use Rattle.hc_service.specs.State.{State}
+use Rattle.hc_service.specs.Sending.{recorded_format, records_of, failure_actions}
 use Rattle.hc_service.specs.Reactions.{Reaction}
 use Rattle.hc_service.specs.Reactions.Reaction.{Replies as RepliesAtOnce, Sends}
 use Rattle.hc_service.specs.Answers.{Outcome}
 use Rattle.hc_service.specs.Answers.Outcome.{Replies, GoesAnew}
-use Rattle.hc_service.specs.Turns.{DoesReaction, DoesOutcome, EndsByResponse, EndsByFailure, is_closed, wanted_now}
+use Rattle.hc_service.specs.Turns.{Asker, Ended, DoesReaction, DoesOutcome, EndsByResponse, EndsByFailure, answered_now, arrived_on, asker_now, failed_now, is_closed, whole_request}
 use Rattle.hc_service.specs.Serves.{Turn, Takes, Run}
-use Rattle.hc_service.specs.Serves.Turn.{Opening, Hearing, Asking, Refusal, Dropping, Leaving, Closing, Telling, Answering, Failing}
-use Rattle.hc_service.specs.Agreement.{History, Stands}
+use Rattle.hc_service.specs.Serves.Turn.{Opening, ClientSending, Asking, Refusal, Dropping, Leaving, Closing, OriginSending, Answering, Failing}
+use Rattle.hc_service.specs.Agreement.{History, IsConsistent}
 use Rattle.hc_service.specs.Runs.{Records, AllRightBehind, behind, strict}
 use Rattle.hc_service.specs.LowerLaws.{ForwardLaws}
-use Rattle.hc_service.specs.Laws.{heard_all, told_all, KeepsAll}
+use Rattle.hc_service.specs.Laws.{client_octets_all, origin_octets_all, KeepsAll}
 use Rattle.hc_service.proofs.TurnLemmas.{turn_keeps}
 
 -- ---- numbers never fall
@@ -54,38 +50,38 @@ count_of n m e = ap (λ (n : Numbers). n.records) e
 
 turn_rises : (settings : CoreSettings) (turn : Turn) (s : State) (actions : List Action) (s' : State) → s.numbers.records ≤ 18446744073709551615 → Takes settings turn s actions s' → Rises s.numbers s'.numbers
 turn_rises settings (Opening c) s actions s' le t = same_count s.numbers s'.numbers le (count_of s'.numbers _ t.numbers)
-turn_rises settings (Hearing c octets) s actions s' le t = same_count s.numbers s'.numbers le (count_of s'.numbers _ t.numbers)
+turn_rises settings (ClientSending c octets) s actions s' le t = same_count s.numbers s'.numbers le (count_of s'.numbers _ t.keeps.numbers)
 turn_rises settings (Asking c) s actions s' le t = by_reaction t.reaction t.does
   where
-    by_reaction : (r : Reaction) → DoesReaction r c t.connection (drop t.size t.connection.unread) t.request t.target (wanted_now settings s t.request.head t.connection) s actions s' → Rises s.numbers s'.numbers
+    by_reaction : (r : Reaction) → DoesReaction r (arrived_on c t.connection t.size (whole_request settings s t.request t.target t.connection)) s actions s' → Rises s.numbers s'.numbers
     by_reaction (RepliesAtOnce reply None) d = two_counts s.numbers s'.numbers le (count_of s'.numbers _ d.numbers)
     by_reaction (RepliesAtOnce reply (Some validation)) d = three_counts s.numbers s'.numbers le (count_of s'.numbers _ d.numbers)
     by_reaction (Sends forward why conditional) d = two_counts s.numbers s'.numbers le (count_of s'.numbers _ d.numbers)
-turn_rises settings (Refusal c status) s actions s' le t = same_count s.numbers s'.numbers le (count_of s'.numbers _ t.numbers)
-turn_rises settings (Dropping c) s actions s' le t = same_count s.numbers s'.numbers le (count_of s'.numbers _ t.numbers)
-turn_rises settings (Leaving c) s actions s' le t = same_count s.numbers s'.numbers le (count_of s'.numbers _ t.numbers)
-turn_rises settings (Closing c) s actions s' le t = same_count s.numbers s'.numbers le (count_of s'.numbers _ t.numbers)
-turn_rises settings (Telling f octets) s actions s' le t = same_count s.numbers s'.numbers le (count_of s'.numbers _ t.numbers)
+turn_rises settings (Refusal c status) s actions s' le t = same_count s.numbers s'.numbers le (count_of s'.numbers _ t.keeps.numbers)
+turn_rises settings (Dropping c) s actions s' le t = same_count s.numbers s'.numbers le (count_of s'.numbers _ t.keeps.numbers)
+turn_rises settings (Leaving c) s actions s' le t = same_count s.numbers s'.numbers le (count_of s'.numbers _ t.keeps.numbers)
+turn_rises settings (Closing c) s actions s' le t = same_count s.numbers s'.numbers le (count_of s'.numbers _ t.keeps.numbers)
+turn_rises settings (OriginSending f octets) s actions s' le t = same_count s.numbers s'.numbers le (count_of s'.numbers _ t.keeps.numbers)
 turn_rises settings (Answering f ended) s actions s' le t = by_purpose t.awaited.forward.purpose t.ends
   where
-    by_outcome : (e : ℕ) (x : OpenExchange) (k : Connection) (why : Cause) (given : List Action) (w : Wanted) (o : Outcome) → DoesOutcome o settings f e x k why given w s actions s' → Rises s.numbers s'.numbers
-    by_outcome e x k why given w (Replies reply) d = two_counts s.numbers s'.numbers le (count_of s'.numbers _ d.numbers)
-    by_outcome e x k why given w GoesAnew d = two_counts s.numbers s'.numbers le (count_of s'.numbers _ d.numbers)
+    by_outcome : (ended : Ended) (asker : Asker) (o : Outcome) → DoesOutcome o ended asker s actions s' → Rises s.numbers s'.numbers
+    by_outcome ended asker (Replies reply) d = two_counts s.numbers s'.numbers le (count_of s'.numbers _ d.numbers)
+    by_outcome ended asker GoesAnew d = two_counts s.numbers s'.numbers le (count_of s'.numbers _ d.numbers)
 
-    by_purpose : (p : Purpose) → EndsByResponse p settings f t.awaited.forward t.response t.told (response_actions f s.numbers.moment (is_head t.awaited.forward.request.method) t.response) s actions s' → Rises s.numbers s'.numbers
+    by_purpose : (p : Purpose) → EndsByResponse p settings (answered_now f t.awaited.forward t.response t.renewed s) s actions s' → Rises s.numbers s'.numbers
     by_purpose purpose.Background d = one_count s.numbers s'.numbers le (count_of s'.numbers _ d.1.numbers)
     by_purpose (purpose.Reply e why conditional) d =
-        by_outcome e d.exchange d.connection why (response_actions f s.numbers.moment (is_head t.awaited.forward.request.method) t.response) (wanted_now settings s d.exchange.request d.connection) d.outcome d.does
+        by_outcome (record { forward = f; exchange = e; why = why; first = (answered_now f t.awaited.forward t.response t.renewed s).first }) (asker_now settings s d.exchange d.connection) d.outcome d.does
 turn_rises settings (Failing f how) s actions s' le t = by_purpose t.awaited.forward.purpose t.ends
   where
-    by_outcome : (e : ℕ) (x : OpenExchange) (k : Connection) (why : Cause) (given : List Action) (w : Wanted) (o : Outcome) → DoesOutcome o settings f e x k why given w s actions s' → Rises s.numbers s'.numbers
-    by_outcome e x k why given w (Replies reply) d = two_counts s.numbers s'.numbers le (count_of s'.numbers _ d.numbers)
-    by_outcome e x k why given w GoesAnew d = two_counts s.numbers s'.numbers le (count_of s'.numbers _ d.numbers)
+    by_outcome : (ended : Ended) (asker : Asker) (o : Outcome) → DoesOutcome o ended asker s actions s' → Rises s.numbers s'.numbers
+    by_outcome ended asker (Replies reply) d = two_counts s.numbers s'.numbers le (count_of s'.numbers _ d.numbers)
+    by_outcome ended asker GoesAnew d = two_counts s.numbers s'.numbers le (count_of s'.numbers _ d.numbers)
 
-    by_purpose : (p : Purpose) → EndsByFailure p settings f t.awaited.forward (failure_actions f s.numbers.moment (is_closed how)) s actions s' → Rises s.numbers s'.numbers
+    by_purpose : (p : Purpose) → EndsByFailure p settings (failed_now f t.awaited.forward.target how s) s actions s' → Rises s.numbers s'.numbers
     by_purpose purpose.Background d = one_count s.numbers s'.numbers le (count_of s'.numbers _ d.1.numbers)
     by_purpose (purpose.Reply e why conditional) d =
-        by_outcome e d.exchange d.connection why (failure_actions f s.numbers.moment (is_closed how)) (wanted_now settings s d.exchange.request d.connection) d.outcome d.does
+        by_outcome (record { forward = f; exchange = e; why = why; first = failure_actions f s.numbers.moment (is_closed how) }) (asker_now settings s d.exchange d.connection) d.outcome d.does
 
 run_rises : (settings : CoreSettings) (turns : List Turn) (s : State) (actions : List Action) (s' : State) → s.numbers.records ≤ 18446744073709551615 → Run settings turns s actions s' → Rises s.numbers s'.numbers
 run_rises settings [] s actions s' le r = same_count s.numbers s'.numbers le (ap (λ (s : State). s.numbers.records) r.1)
@@ -123,29 +119,29 @@ records_append first rest actions h between later split one more = record {
   right = right_append more.newer one.newer h.items (subst (AllRightBehind more.newer) one.items_are more.right) one.right;
 }
 
-pub run_keeps : (settings : CoreSettings) → AreGood settings → ForwardLaws → (turns : List Turn) (s : State) (actions : List Action) (s' : State) (h : History) → Stands s h → Run settings turns s actions s'
+pub run_keeps : (settings : CoreSettings) → AreGood settings → ForwardLaws → (turns : List Turn) (s : State) (actions : List Action) (s' : State) (h : History) → IsConsistent s h → Run settings turns s actions s'
     → s'.numbers.records ≤ greatest_number → KeepsAll turns actions h s'
 run_keeps settings good laws [] s actions s' h stands r le = record {
   later = h;
   goes_on = record {
     records = record { newer = []; records_are = sym (ap (λ (a : List Action). behind (records_of a) h.records) r.0); items_are = refl; right = tt };
-    heard = refl;
-    told = refl;
+    client_octets = refl;
+    origin_octets = refl;
   };
-  stands = subst (λ (s : State). Stands s h) (sym r.1) stands;
+  consistent = subst (λ (s : State). IsConsistent s h) (sym r.1) stands;
 }
 run_keeps settings good laws (turn ∷ turns) s actions s' h stands r le =
     let counts = stands.counted in
     let one = turn_rises settings turn s r.1 r.0 (omega (arith, counts.in_range)) r.3 in
     let more = run_rises settings turns r.0 r.2 s' one.1 r.5 in
     let k = turn_keeps s h stands settings good laws turn r.1 r.0 r.3 (omega (arith, more.0, le)) in
-    let ks = run_keeps settings good laws turns r.0 r.2 s' k.later k.stands r.5 le in
+    let ks = run_keeps settings good laws turns r.0 r.2 s' k.later k.consistent r.5 le in
     record {
       later = ks.later;
       goes_on = record {
         records = records_append r.1 r.2 actions h k.later ks.later r.4 k.goes_on.records ks.goes_on.records;
-        heard = ks.goes_on.heard ∙ ap (heard_all turns) k.goes_on.heard;
-        told = ks.goes_on.told ∙ ap (told_all turns) k.goes_on.told;
+        client_octets = ks.goes_on.client_octets ∙ ap (client_octets_all turns) k.goes_on.client_octets;
+        origin_octets = ks.goes_on.origin_octets ∙ ap (origin_octets_all turns) k.goes_on.origin_octets;
       };
-      stands = ks.stands;
+      consistent = ks.consistent;
     }

@@ -40,17 +40,17 @@ use Rattle.std.specs.Prelude.{◌⊎◌, codes}
 use Rattle.hc_service.specs.Answers.{Outcome, Renews, is_news}
 use Rattle.hc_service.specs.Answers.Outcome.{GoesAnew}
 use Rattle.hc_service.specs.Choices.{Stores}
-use Rattle.hc_service.specs.Turns.{most_connections, after_octets, after_request, after_reply, after_leaving, after_hearing, sent_forward, replied, closes_behind, wanted_now, Opens, Hears, Drops, Leaves, Closes, Refuses, Asks, RepliesAlone, RepliesAndValidates, GoesForward, DoesReaction, Tells, Answers, Breaks, EndsBehind, EndsWithReply, EndsWithForward, EndsByResponse, EndsByFailure, DoesOutcome, Failure, is_closed}
+use Rattle.hc_service.specs.Turns.{most_connections, after_client_octets, after_request, after_reply, after_leaving, after_origin_octets, sent_forward, replied, closes_behind, wanted_now, whole_request, Arrived, arrived_on, asker_now, answered_now, failed_now, KeepsAllButConnections, Opens, ClientSends, Drops, Leaves, Closes, Refuses, Asks, RepliesAlone, RepliesAndValidates, GoesForward, DoesReaction, OriginSends, Answers, Breaks, EndsBehind, EndsWithReply, EndsWithForward, EndsByResponse, EndsByFailure, DoesOutcome, Failure, is_closed}
 use Rattle.hc_service.specs.Serves.{Turn, Takes}
-use Rattle.hc_service.specs.Serves.Turn.{Opening, Hearing, Asking, Refusal, Dropping, Leaving, Closing, Telling, Answering, Failing}
-use Rattle.hc_service.specs.Agreement.{History, AreCounted, AreHeard, AreAsked, AreLinked, Stands, AsksFor, IsFor, KeepsPurpose, IsSeenExchange, exchange_for, seen_forward}
-use Rattle.hc_service.specs.Runs.{Records, behind, heard_with, told_with, strict, with_octets}
+use Rattle.hc_service.specs.Serves.Turn.{Opening, ClientSending, Asking, Refusal, Dropping, Leaving, Closing, OriginSending, Answering, Failing}
+use Rattle.hc_service.specs.Agreement.{History, AreCounted, AreReceived, AreAsked, AreLinked, IsConsistent, AsksFor, IsFor, KeepsPurpose, IsSeenExchange, exchange_for, seen_forward}
+use Rattle.hc_service.specs.Runs.{Records, behind, client_octets_with, origin_octets_with, strict, with_octets}
 use Rattle.hc_service.specs.LowerLaws.{ForwardLaws}
 use Rattle.hc_service.specs.Laws.{KeepsOn, IsReceivedAnswer, IsReceivedAsk, with_record, recorded_forward}
 use Rattle.hc_service.proofs.TableLemmas.{len_new, len_old, len_less}
 use Rattle.hc_service.proofs.LinkLemmas.{none_some, one_of, later_behind, linked_opened, linked_same, linked_out, linked_replied, linked_asked, linked_answered}
-use Rattle.hc_service.proofs.AskedLemmas.{asked_alone, asked_sent, asked_validated, asked_told, asked_behind, asked_anew, asked_answered}
-use Rattle.hc_service.proofs.HeardLemmas.{read_request, read_replied, read_answered, read_left, heard_opened, heard_same, heard_octets, heard_out, heard_sent, heard_told, heard_ended}
+use Rattle.hc_service.proofs.AskedLemmas.{asked_alone, asked_sent, asked_validated, asked_received, asked_behind, asked_anew, asked_answered}
+use Rattle.hc_service.proofs.UnreadLemmas.{read_request, read_replied, read_answered, read_left, received_opened, received_same, received_from_client, received_out, received_sent, received_from_origin, received_ended}
 use Rattle.hc_service.proofs.RecordLemmas.{one_more_is, ask_counted, send_counted, response_counted, failure_counted, reply_counted}
 use Rattle.hc_service.proofs.ReceivedLemmas.{received_ask, received_answer}
 use Rattle.hc_service.proofs.NameLemmas.{cache_name}
@@ -63,21 +63,21 @@ use Rattle.hc_service.proofs.OutcomeLemmas.{SoundStore, GetsReply, GetsBehind, G
 -- a state is known by its parts
 of_parts : (s : State) (h : History) (n : Numbers) (ks : Table Connection) (xs : Table OpenExchange) (fs : Table Awaited) (store : Holdings)
     → s.numbers ≡ n → s.connections ≡ ks → s.exchanges ≡ xs → s.forwards ≡ fs → s.store ≡ store
-    → AreCounted n h → SoundStore h.items store → AreHeard n.connection n.forward ks fs h.heard h.told → AreAsked n.exchange n.forward xs fs h.items
-    → AreLinked n.connection ks xs → len ks ≤ most_connections → Stands s h
-of_parts s h n ks xs fs store en ek ex ef es counted sound heard asks linked few =
-    subst (λ (s : State). Stands s h) (λ i. record { numbers = sym en i; connections = sym ek i; exchanges = sym ex i; forwards = sym ef i; store = sym es i })
+    → AreCounted n h → SoundStore h.items store → AreReceived n.connection n.forward ks fs h.client_octets h.origin_octets → AreAsked n.exchange n.forward xs fs h.items
+    → AreLinked n.connection ks xs → len ks ≤ most_connections → IsConsistent s h
+of_parts s h n ks xs fs store en ek ex ef es counted sound received asks linked few =
+    subst (λ (s : State). IsConsistent s h) (λ i. record { numbers = sym en i; connections = sym ek i; exchanges = sym ex i; forwards = sym ef i; store = sym es i })
     (record {
       counted = counted;
       entries = all_both _ _ store.entries sound.0.sources sound.1;
       keys = sound.0.keys;
-      heard = heard;
+      received = received;
       asked = asks;
       linked = linked;
       few = few;
     })
 
-sound_of : (s : State) (h : History) → Stands s h → SoundStore h.items s.store
+sound_of : (s : State) (h : History) → IsConsistent s h → SoundStore h.items s.store
 sound_of s h a = sound_parts h.items s.store a.keys a.entries
 
 -- no record is given out
@@ -106,8 +106,8 @@ counted_opened c n h a = record {
 }
 
 -- what came doesn't matter to what is counted
-counted_heard : (n : Numbers) (h : History) (heard told : ℕ → List ℕ) → AreCounted n h → AreCounted n (record { records = h.records; items = h.items; heard = heard; told = told })
-counted_heard n h heard told a = record {
+counted_received : (n : Numbers) (h : History) (client_octets origin_octets : ℕ → List ℕ) → AreCounted n h → AreCounted n (record { records = h.records; items = h.items; client_octets = client_octets; origin_octets = origin_octets })
+counted_received n h client_octets origin_octets a = record {
   are_read = a.are_read;
   records = a.records;
   exchange = a.exchange;
@@ -119,7 +119,7 @@ counted_heard n h heard told a = record {
   in_time = a.in_time;
 }
 
-module _ (s : State) (h : History) (a : Stands s h) where
+module _ (s : State) (h : History) (a : IsConsistent s h) where
   known : (c : ℕ) (k : Connection) → get s.connections c ≡ Some k → is_later c s.numbers.connection ≡ true → ⊥
   known c k is later = none_some (get s.connections c) k (a.linked.later c later) is
 
@@ -139,78 +139,78 @@ module _ (s : State) (h : History) (a : Stands s h) where
   opening c actions s' t =
       record {
         later = h;
-        goes_on = record { records = none_given actions [] h t.actions_are refl; heard = refl; told = refl };
-        stands = of_parts s' h (after_opening c s.numbers) (insert s.connections c new_connection) s.exchanges s.forwards s.store t.numbers t.connections t.exchanges t.forwards t.store
+        goes_on = record { records = none_given actions [] h t.actions_are refl; client_octets = refl; origin_octets = refl };
+        consistent = of_parts s' h (after_opening c s.numbers) (insert s.connections c new_connection) s.exchanges s.forwards s.store t.numbers t.connections t.keeps.exchanges t.keeps.forwards t.store
             (counted_opened c s.numbers h a.counted) (sound_of s h a)
-            (heard_opened s.numbers.connection s.numbers.forward s.connections s.forwards h.heard h.told a.heard c t.later (λ d is. later_behind c d s.numbers.connection t.later is))
+            (received_opened s.numbers.connection s.numbers.forward s.connections s.forwards h.client_octets h.origin_octets a.received c t.later (λ d is. later_behind c d s.numbers.connection t.later is))
             a.asked (linked_opened s.numbers.connection s.connections s.exchanges a.linked c t.later)
             (let few = t.has_place in omega (arith, len_new s.connections c new_connection (a.linked.later c t.later)));
       }
 
-  pub hearing : (c : ℕ) (octets : List ℕ) (actions : List Action) (s' : State) → Hears c octets s actions s' → KeepsOn (Hearing c octets) actions h s'
-  hearing c octets actions s' t =
-      let h' : History = record { records = h.records; items = h.items; heard = with_octets c octets h.heard; told = h.told } in
+  pub client_sending : (c : ℕ) (octets : List ℕ) (actions : List Action) (s' : State) → ClientSends c octets s actions s' → KeepsOn (ClientSending c octets) actions h s'
+  client_sending c octets actions s' t =
+      let h' : History = record { records = h.records; items = h.items; client_octets = with_octets c octets h.client_octets; origin_octets = h.origin_octets } in
       record {
         later = h';
         goes_on = record {
           records = record { newer = []; records_are = given_from actions [] [] h.records t.actions_are refl; items_are = refl; right = tt };
-          heard = refl;
-          told = refl;
+          client_octets = refl;
+          origin_octets = refl;
         };
-        stands = of_parts s' h' s.numbers (insert s.connections c (after_octets octets t.connection)) s.exchanges s.forwards s.store t.numbers t.connections t.exchanges t.forwards t.store
-            (counted_heard s.numbers h (with_octets c octets h.heard) h.told a.counted) (sound_of s h a)
-            (heard_octets s.numbers.connection s.numbers.forward s.connections s.forwards h.heard h.told a.heard c octets t.connection
-            (a.heard.connections_are c t.connection t.is_open) (known c t.connection t.is_open))
-            a.asked (linked_same s.numbers.connection s.connections s.exchanges a.linked c t.connection (after_octets octets t.connection) t.is_open (same_exchange t.connection.leaves refl))
-            (len_kept c t.connection (after_octets octets t.connection) t.is_open);
+        consistent = of_parts s' h' s.numbers (insert s.connections c (after_client_octets octets t.connection)) s.exchanges s.forwards s.store t.keeps.numbers t.connections t.keeps.exchanges t.keeps.forwards t.keeps.store
+            (counted_received s.numbers h (with_octets c octets h.client_octets) h.origin_octets a.counted) (sound_of s h a)
+            (received_from_client s.numbers.connection s.numbers.forward s.connections s.forwards h.client_octets h.origin_octets a.received c octets t.connection
+            (a.received.connections_are c t.connection t.is_open) (known c t.connection t.is_open))
+            a.asked (linked_same s.numbers.connection s.connections s.exchanges a.linked c t.connection (after_client_octets octets t.connection) t.is_open (same_exchange t.connection.leaves refl))
+            (len_kept c t.connection (after_client_octets octets t.connection) t.is_open);
       }
     where
-      same_exchange : (b : Bool) → t.connection.leaves ≡ b → (after_octets octets t.connection).exchange ≡ t.connection.exchange
+      same_exchange : (b : Bool) → t.connection.leaves ≡ b → (after_client_octets octets t.connection).exchange ≡ t.connection.exchange
       same_exchange true is = ap (λ (b : Bool). (cond b t.connection (record { unread = t.connection.unread ++ octets; exchange = t.connection.exchange; leaves = t.connection.leaves })).exchange) is
       same_exchange false is = ap (λ (b : Bool). (cond b t.connection (record { unread = t.connection.unread ++ octets; exchange = t.connection.exchange; leaves = t.connection.leaves })).exchange) is
 
   -- nothing more is read of a connection
-  left_alone : (c e : ℕ) (k : Connection) (s' : State) → get s.connections c ≡ Some k → k.exchange ≡ Some e → s'.numbers ≡ s.numbers → s'.connections ≡ insert s.connections c (after_leaving k)
-      → s'.exchanges ≡ s.exchanges → s'.forwards ≡ s.forwards → s'.store ≡ s.store → Stands s' h
-  left_alone c e k s' is waits en ek ex ef es =
-      of_parts s' h s.numbers (insert s.connections c (after_leaving k)) s.exchanges s.forwards s.store en ek ex ef es a.counted (sound_of s h a)
-      (heard_same s.numbers.connection s.numbers.forward s.connections s.forwards h.heard h.told a.heard c (after_leaving k) (read_left (h.heard c) k e waits))
+  left_alone : (c e : ℕ) (k : Connection) (s' : State) → get s.connections c ≡ Some k → k.exchange ≡ Some e → s'.connections ≡ insert s.connections c (after_leaving k)
+      → KeepsAllButConnections s s' → IsConsistent s' h
+  left_alone c e k s' is awaits ek keeps =
+      of_parts s' h s.numbers (insert s.connections c (after_leaving k)) s.exchanges s.forwards s.store keeps.numbers ek keeps.exchanges keeps.forwards keeps.store a.counted (sound_of s h a)
+      (received_same s.numbers.connection s.numbers.forward s.connections s.forwards h.client_octets h.origin_octets a.received c (after_leaving k) (read_left (h.client_octets c) k e awaits))
       a.asked (linked_same s.numbers.connection s.connections s.exchanges a.linked c k (after_leaving k) is refl) (len_kept c k (after_leaving k) is)
 
   pub dropping : (c : ℕ) (actions : List Action) (s' : State) → Drops c s actions s' → KeepsOn (Dropping c) actions h s'
   dropping c actions s' t = record {
     later = h;
-    goes_on = record { records = none_given actions [] h t.actions_are refl; heard = refl; told = refl };
-    stands = left_alone c t.exchange t.connection s' t.is_open t.waits t.numbers t.connections t.exchanges t.forwards t.store;
+    goes_on = record { records = none_given actions [] h t.actions_are refl; client_octets = refl; origin_octets = refl };
+    consistent = left_alone c t.exchange t.connection s' t.is_open t.awaits t.connections t.keeps;
   }
 
   pub leaving : (c : ℕ) (actions : List Action) (s' : State) → Leaves c s actions s' → KeepsOn (Leaving c) actions h s'
   leaving c actions s' t = record {
     later = h;
-    goes_on = record { records = none_given actions [] h t.actions_are refl; heard = refl; told = refl };
-    stands = left_alone c t.exchange t.connection s' t.is_open t.waits t.numbers t.connections t.exchanges t.forwards t.store;
+    goes_on = record { records = none_given actions [] h t.actions_are refl; client_octets = refl; origin_octets = refl };
+    consistent = left_alone c t.exchange t.connection s' t.is_open t.awaits t.connections t.keeps;
   }
 
   -- a connection without a request goes
-  gone_alone : (c : ℕ) (k : Connection) (s' : State) → get s.connections c ≡ Some k → k.exchange ≡ None → s'.numbers ≡ s.numbers → s'.connections ≡ remove s.connections c
-      → s'.exchanges ≡ s.exchanges → s'.forwards ≡ s.forwards → s'.store ≡ s.store → Stands s' h
-  gone_alone c k s' is idle en ek ex ef es =
-      of_parts s' h s.numbers (remove s.connections c) s.exchanges s.forwards s.store en ek ex ef es a.counted (sound_of s h a)
-      (heard_out s.numbers.connection s.numbers.forward s.connections s.forwards h.heard h.told a.heard c)
+  gone_alone : (c : ℕ) (k : Connection) (s' : State) → get s.connections c ≡ Some k → k.exchange ≡ None → s'.connections ≡ remove s.connections c
+      → KeepsAllButConnections s s' → IsConsistent s' h
+  gone_alone c k s' is idle ek keeps =
+      of_parts s' h s.numbers (remove s.connections c) s.exchanges s.forwards s.store keeps.numbers ek keeps.exchanges keeps.forwards keeps.store a.counted (sound_of s h a)
+      (received_out s.numbers.connection s.numbers.forward s.connections s.forwards h.client_octets h.origin_octets a.received c)
       a.asked (linked_out s.numbers.connection s.connections s.exchanges a.linked c k is idle) (len_fewer c)
 
   pub closing : (c : ℕ) (actions : List Action) (s' : State) → Closes c s actions s' → KeepsOn (Closing c) actions h s'
   closing c actions s' t = record {
     later = h;
-    goes_on = record { records = none_given actions _ h t.actions_are refl; heard = refl; told = refl };
-    stands = gone_alone c t.connection s' t.is_open t.idle t.numbers t.connections t.exchanges t.forwards t.store;
+    goes_on = record { records = none_given actions _ h t.actions_are refl; client_octets = refl; origin_octets = refl };
+    consistent = gone_alone c t.connection s' t.is_open t.idle t.connections t.keeps;
   }
 
   pub refusing : (c status : ℕ) (actions : List Action) (s' : State) → Refuses c status s actions s' → KeepsOn (Refusal c status) actions h s'
   refusing c status actions s' t = record {
     later = h;
-    goes_on = record { records = none_given actions _ h t.actions_are refl; heard = refl; told = refl };
-    stands = gone_alone c t.connection s' t.is_open t.idle t.numbers t.connections t.exchanges t.forwards t.store;
+    goes_on = record { records = none_given actions _ h t.actions_are refl; client_octets = refl; origin_octets = refl };
+    consistent = gone_alone c t.connection s' t.is_open t.idle t.connections t.keeps;
   }
 
   -- ---- octets of the origin
@@ -218,20 +218,20 @@ module _ (s : State) (h : History) (a : Stands s h) where
   not_further : (f : ℕ) (w : Awaited) → get s.forwards f ≡ Some w → s.numbers.forward < f → ⊥
   not_further f w is further = none_some (get s.forwards f) w (a.asked.later_forwards f further) is
 
-  pub telling : (f : ℕ) (octets : List ℕ) (actions : List Action) (s' : State) → Tells f octets s actions s' → KeepsOn (Telling f octets) actions h s'
-  telling f octets actions s' t =
-      let h' : History = record { records = h.records; items = h.items; heard = h.heard; told = with_octets f octets h.told } in
+  pub origin_sending : (f : ℕ) (octets : List ℕ) (actions : List Action) (s' : State) → OriginSends f octets s actions s' → KeepsOn (OriginSending f octets) actions h s'
+  origin_sending f octets actions s' t =
+      let h' : History = record { records = h.records; items = h.items; client_octets = h.client_octets; origin_octets = with_octets f octets h.origin_octets } in
       record {
         later = h';
         goes_on = record {
           records = record { newer = []; records_are = given_from actions [] [] h.records t.actions_are refl; items_are = refl; right = tt };
-          heard = refl;
-          told = refl;
+          client_octets = refl;
+          origin_octets = refl;
         };
-        stands = of_parts s' h' s.numbers s.connections s.exchanges (insert s.forwards f (after_hearing octets t.awaited)) s.store t.numbers t.connections t.exchanges t.forwards t.store
-            (counted_heard s.numbers h h.heard (with_octets f octets h.told) a.counted) (sound_of s h a)
-            (heard_told s.numbers.connection s.numbers.forward s.connections s.forwards h.heard h.told a.heard f octets t.awaited t.is_open (not_further f t.awaited t.is_open))
-            (asked_told s.numbers.exchange s.numbers.forward s.exchanges s.forwards h.items a.asked f octets t.awaited t.is_open) a.linked a.few;
+        consistent = of_parts s' h' s.numbers s.connections s.exchanges (insert s.forwards f (after_origin_octets octets t.awaited)) s.store t.keeps.numbers t.keeps.connections t.keeps.exchanges t.forwards t.keeps.store
+            (counted_received s.numbers h h.client_octets (with_octets f octets h.origin_octets) a.counted) (sound_of s h a)
+            (received_from_origin s.numbers.connection s.numbers.forward s.connections s.forwards h.client_octets h.origin_octets a.received f octets t.awaited t.is_open (not_further f t.awaited t.is_open))
+            (asked_received s.numbers.exchange s.numbers.forward s.exchanges s.forwards h.items a.asked f octets t.awaited t.is_open) a.linked a.few;
       }
 
   -- ---- a whole request
@@ -259,11 +259,15 @@ module _ (s : State) (h : History) (a : Stands s h) where
       ask : IsReceivedAsk request target
       ask = received_ask k.unread request target size arrives
 
+      -- as it has arrived, with the reply that it wants
+      abbrev arrived : Wanted → Arrived
+      arrived wanted = arrived_on c k size (record { request = request; target = target; wanted = wanted })
+
       writable_ask : IsWritableAsk request target
       writable_ask = record { readable = ask.readable; target_is = ask.forwardable.has_target }
 
       -- it gets a reply at once
-      asking_alone : (wanted : Wanted) (reply : Message ResponseHead) (actions : List Action) (s' : State) → RepliesAlone c k (drop size k.unread) request wanted reply s actions s' → s'.numbers.records ≤ greatest_number
+      asking_alone : (wanted : Wanted) (reply : Message ResponseHead) (actions : List Action) (s' : State) → RepliesAlone (arrived wanted) reply s actions s' → s'.numbers.records ≤ greatest_number
           → SoundStore h.items s'.store → IsFit (is_head request.head.method) reply
           → IsRight recorded_format strict (ClientRequest (one_more s.numbers.exchange) s.numbers.moment request target ∷ h.items) (ClientReply (one_more s.numbers.exchange) s.numbers.moment reply)
           → KeepsOn (Asking c) actions h s'
@@ -291,26 +295,26 @@ module _ (s : State) (h : History) (a : Stands s h) where
                 items_are = refl;
                 right = ((tt, tt), right);
               };
-              heard = refl;
-              told = refl;
+              client_octets = refl;
+              origin_octets = refl;
             };
-            stands = of_parts s' h2 (noted (asked n)) (replied wanted.closes c (drop size k.unread) k s.connections) s.exchanges s.forwards s'.store t.numbers t.connections t.exchanges t.forwards refl
+            consistent = of_parts s' h2 (noted (asked n)) (replied wanted.closes c (drop size k.unread) k s.connections) s.exchanges s.forwards s'.store t.numbers t.connections t.keeps.exchanges t.keeps.forwards refl
                 (reply_counted (asked n) h1 c1 last e x reply (omega (arith, number)) (omega (arith, number, counts.exchanges, first, records)) (rw (eq-eqb e e refl) refl) fit.writable fit.digits)
                 (still_sound (q ∷ h.items) (ClientReply e n.moment reply) s'.store refl (still_sound h.items q s'.store refl sound))
-                (heard_replied wanted.closes)
+                (received_replied wanted.closes)
                 (asked_alone n.exchange n.forward s.exchanges s.forwards h.items a.asked e n.moment n.moment request target reply (omega (arith, number)))
                 (linked_replied n.connection s.connections s.exchanges a.linked wanted.closes c (drop size k.unread) k is_open idle)
                 (len_replied wanted.closes c (drop size k.unread) k k is_open);
           }
         where
-          heard_replied : (closes : Bool) → AreHeard s.numbers.connection s.numbers.forward (replied closes c (drop size k.unread) k s.connections) s.forwards h.heard h.told
-          heard_replied true = heard_out s.numbers.connection s.numbers.forward s.connections s.forwards h.heard h.told a.heard c
-          heard_replied false = heard_same s.numbers.connection s.numbers.forward s.connections s.forwards h.heard h.told a.heard c (after_reply (drop size k.unread) k)
-              (read_replied (h.heard c) k idle (a.heard.connections_are c k is_open) request target size arrives)
+          received_replied : (closes : Bool) → AreReceived s.numbers.connection s.numbers.forward (replied closes c (drop size k.unread) k s.connections) s.forwards h.client_octets h.origin_octets
+          received_replied true = received_out s.numbers.connection s.numbers.forward s.connections s.forwards h.client_octets h.origin_octets a.received c
+          received_replied false = received_same s.numbers.connection s.numbers.forward s.connections s.forwards h.client_octets h.origin_octets a.received c (after_reply (drop size k.unread) k)
+              (read_replied (h.client_octets c) k idle (a.received.connections_are c k is_open) request target size arrives)
 
       -- it gets a reply at once, and behind that what is stored is validated
       asking_behind : (wanted : Wanted) (reply : Message ResponseHead) (m : Message RequestHead) (actions : List Action) (s' : State)
-          → RepliesAndValidates c k (drop size k.unread) request target wanted reply m s actions s' → s'.numbers.records ≤ greatest_number
+          → RepliesAndValidates (arrived wanted) reply m s actions s' → s'.numbers.records ≤ greatest_number
           → SoundStore h.items s'.store → IsFit (is_head request.head.method) reply
           → IsRight recorded_format strict (ClientRequest (one_more s.numbers.exchange) s.numbers.moment request target ∷ h.items) (ClientReply (one_more s.numbers.exchange) s.numbers.moment reply)
           → m.head.method ≡ codes "GET" → IsWritableAsk m target → KeepsOn (Asking c) actions h s'
@@ -345,33 +349,33 @@ module _ (s : State) (h : History) (a : Stands s h) where
                 items_are = refl;
                 right = (((tt, tt), right), tt);
               };
-              heard = refl;
-              told = refl;
+              client_octets = refl;
+              origin_octets = refl;
             };
-            stands = of_parts s' h3 (sent (noted (asked n))) (replied wanted.closes c (drop size k.unread) k s.connections) s.exchanges
+            consistent = of_parts s' h3 (sent (noted (asked n))) (replied wanted.closes c (drop size k.unread) k s.connections) s.exchanges
                 (insert s.forwards f (sent_forward m.head target n.moment purpose.Background)) s'.store t.numbers t.connections t.exchanges t.forwards refl
                 (send_counted (noted (asked n)) h2 None m target c2 refl w last)
                 (still_sound (r ∷ q ∷ h.items) (OriginRequest f n.moment m target None) s'.store refl
                 (still_sound (q ∷ h.items) r s'.store refl (still_sound h.items q s'.store refl sound)))
-                (heard_sent n.connection n.forward (replied wanted.closes c (drop size k.unread) k s.connections) s.forwards h.heard h.told (heard_behind wanted.closes) f
+                (received_sent n.connection n.forward (replied wanted.closes c (drop size k.unread) k s.connections) s.forwards h.client_octets h.origin_octets (received_behind wanted.closes) f
                 (sent_forward m.head target n.moment purpose.Background) refl (omega (arith, sends)))
                 (asked_validated n.exchange n.forward s.exchanges s.forwards h.items a.asked e f n.moment n.moment n.moment request m target reply (omega (arith, number)) (omega (arith, sends)) get_method)
                 (linked_replied n.connection s.connections s.exchanges a.linked wanted.closes c (drop size k.unread) k is_open idle)
                 (len_replied wanted.closes c (drop size k.unread) k k is_open);
           }
         where
-          heard_behind : (closes : Bool) → AreHeard s.numbers.connection s.numbers.forward (replied closes c (drop size k.unread) k s.connections) s.forwards h.heard h.told
-          heard_behind true = heard_out s.numbers.connection s.numbers.forward s.connections s.forwards h.heard h.told a.heard c
-          heard_behind false = heard_same s.numbers.connection s.numbers.forward s.connections s.forwards h.heard h.told a.heard c (after_reply (drop size k.unread) k)
-              (read_replied (h.heard c) k idle (a.heard.connections_are c k is_open) request target size arrives)
+          received_behind : (closes : Bool) → AreReceived s.numbers.connection s.numbers.forward (replied closes c (drop size k.unread) k s.connections) s.forwards h.client_octets h.origin_octets
+          received_behind true = received_out s.numbers.connection s.numbers.forward s.connections s.forwards h.client_octets h.origin_octets a.received c
+          received_behind false = received_same s.numbers.connection s.numbers.forward s.connections s.forwards h.client_octets h.origin_octets a.received c (after_reply (drop size k.unread) k)
+              (read_replied (h.client_octets c) k idle (a.received.connections_are c k is_open) request target size arrives)
 
       -- it goes to the origin
-      asking_forward : (m : Message RequestHead) (why : Cause) (conditional : Bool) (actions : List Action) (s' : State)
-          → GoesForward c k (drop size k.unread) request target m why conditional s actions s' → s'.numbers.records ≤ greatest_number
+      asking_forward : (wanted : Wanted) (m : Message RequestHead) (why : Cause) (conditional : Bool) (actions : List Action) (s' : State)
+          → GoesForward (arrived wanted) m (purpose.Reply (one_more s.numbers.exchange) why conditional) s actions s' → s'.numbers.records ≤ greatest_number
           → SoundStore h.items s'.store → AsksFor (record { connection = c; request = request.head; target = target }) why conditional
           (sent_forward m.head target s.numbers.moment (purpose.Reply (one_more s.numbers.exchange) why conditional)).forward
           → IsWritableAsk m target → KeepsOn (Asking c) actions h s'
-      asking_forward m why conditional actions s' t le sound asks w =
+      asking_forward wanted m why conditional actions s' t le sound asks w =
           let n = s.numbers in
           let counts = a.counted in
           let e = one_more n.exchange in
@@ -386,8 +390,8 @@ module _ (s : State) (h : History) (a : Stands s h) where
           let x : Exchange = record { number = e; position = length h.items + 1; request = request.head; target = target } in
           let h2 = with_record (forward_record f n.moment (Some e) m) (OriginRequest f n.moment m target (Some e)) h1 in
           let c1 = ask_counted n h request target a.counted writable_ask first in
-          let heard1 = heard_same n.connection n.forward s.connections s.forwards h.heard h.told a.heard c (after_request e (drop size k.unread) k)
-          (read_request (h.heard c) k idle (a.heard.connections_are c k is_open) e request target size arrives) in
+          let received1 = received_same n.connection n.forward s.connections s.forwards h.client_octets h.origin_octets a.received c (after_request e (drop size k.unread) k)
+          (read_request (h.client_octets c) k idle (a.received.connections_are c k is_open) e request target size arrives) in
           record {
             later = h2;
             goes_on = record {
@@ -397,16 +401,16 @@ module _ (s : State) (h : History) (a : Stands s h) where
                 items_are = refl;
                 right = ((tt, tt), tt);
               };
-              heard = refl;
-              told = refl;
+              client_octets = refl;
+              origin_octets = refl;
             };
-            stands = of_parts s' h2 (sent (asked n)) (insert s.connections c (after_request e (drop size k.unread) k))
+            consistent = of_parts s' h2 (sent (asked n)) (insert s.connections c (after_request e (drop size k.unread) k))
                 (insert s.exchanges e (record { connection = c; request = request.head; target = target }))
                 (insert s.forwards f (sent_forward m.head target n.moment (purpose.Reply e why conditional))) s'.store t.numbers t.connections t.exchanges t.forwards refl
                 (send_counted (asked n) h1 (Some e) m target c1
                 (right_cause e h1.items x (rw (eq-eqb e e refl) refl) (omega (arith, number, counts.exchanges, first, records))) w last)
                 (still_sound (q ∷ h.items) (OriginRequest f n.moment m target (Some e)) s'.store refl (still_sound h.items q s'.store refl sound))
-                (heard_sent n.connection n.forward (insert s.connections c (after_request e (drop size k.unread) k)) s.forwards h.heard h.told heard1 f
+                (received_sent n.connection n.forward (insert s.connections c (after_request e (drop size k.unread) k)) s.forwards h.client_octets h.origin_octets received1 f
                 (sent_forward m.head target n.moment (purpose.Reply e why conditional)) refl (omega (arith, sends)))
                 (asked_sent n.exchange n.forward s.exchanges s.forwards h.items a.asked c e f n.moment request m target why conditional (omega (arith, number)) (omega (arith, sends)) asks)
                 (linked_asked n.connection s.connections s.exchanges a.linked c e (drop size k.unread) k (record { connection = c; request = request.head; target = target }) is_open idle
@@ -423,16 +427,16 @@ module _ (s : State) (h : History) (a : Stands s h) where
         ⊎_elim
         (λ (g : GetsReply laws settings.name good.name s.numbers.moment early wanted.closes h.items (one_more s.numbers.exchange) t.request t.target ask t.reaction).
         asking_alone c k t.is_open t.idle t.request t.target t.size t.arrives wanted g.reply actions s'
-        (subst (λ (r : Reaction). DoesReaction r c k (drop t.size k.unread) t.request t.target wanted s actions s') g.reaction_is t.does) le r.0 g.fit g.right)
+        (subst (λ (r : Reaction). DoesReaction r (arrived_on c k t.size (whole_request settings s t.request t.target k)) s actions s') g.reaction_is t.does) le r.0 g.fit g.right)
         (λ (others : GetsBehind laws settings.name good.name s.numbers.moment early wanted.closes h.items (one_more s.numbers.exchange) t.request t.target ask t.reaction
         ⊎ GetsForward laws settings.name good.name s.numbers.moment early wanted.closes h.items (one_more s.numbers.exchange) t.request t.target ask t.reaction).
         ⊎_elim
         (λ (g : GetsBehind laws settings.name good.name s.numbers.moment early wanted.closes h.items (one_more s.numbers.exchange) t.request t.target ask t.reaction).
         asking_behind c k t.is_open t.idle t.request t.target t.size t.arrives wanted g.reply g.validation actions s'
-        (subst (λ (r : Reaction). DoesReaction r c k (drop t.size k.unread) t.request t.target wanted s actions s') g.reaction_is t.does) le r.0 g.fit g.right g.get g.writable)
+        (subst (λ (r : Reaction). DoesReaction r (arrived_on c k t.size (whole_request settings s t.request t.target k)) s actions s') g.reaction_is t.does) le r.0 g.fit g.right g.get g.writable)
         (λ (g : GetsForward laws settings.name good.name s.numbers.moment early wanted.closes h.items (one_more s.numbers.exchange) t.request t.target ask t.reaction).
-        asking_forward c k t.is_open t.idle t.request t.target t.size t.arrives g.forward g.why g.conditional actions s'
-        (subst (λ (r : Reaction). DoesReaction r c k (drop t.size k.unread) t.request t.target wanted s actions s') g.reaction_is t.does) le r.0
+        asking_forward c k t.is_open t.idle t.request t.target t.size t.arrives wanted g.forward g.why g.conditional actions s'
+        (subst (λ (r : Reaction). DoesReaction r (arrived_on c k t.size (whole_request settings s t.request t.target k)) s actions s') g.reaction_is t.does) le r.0
         (record { method = g.method; target = refl; by_store = g.by_store; asks_after = g.asks_after c }) g.writable)
         others)
         r.1
@@ -459,28 +463,28 @@ module _ (s : State) (h : History) (a : Stands s h) where
           ]
 
       -- a forward for nobody ends, by a record
-      ends_behind : (turn : Turn) (r : Record) (item : Item) (given actions : List Action) (s' : State) → heard_with turn h.heard ≡ h.heard → told_with turn h.told ≡ h.told
+      ends_behind : (turn : Turn) (r : Record) (item : Item) (given actions : List Action) (s' : State) → client_octets_with turn h.client_octets ≡ h.client_octets → origin_octets_with turn h.origin_octets ≡ h.origin_octets
           → records_of given ≡ r ∷ [] → EndsBehind f given s actions s' → AreCounted (noted s.numbers) (with_record r item h) → SoundStore (item ∷ h.items) s'.store
           → ((e : ℕ) → exchange_of e (item ∷ h.items) ≡ exchange_of e h.items) → ((d : ℕ) → forward_of d (item ∷ h.items) ≡ cond (nat_eq f d) None (forward_of d h.items))
           → ((d : ℕ) → cause_of d (item ∷ h.items) ≡ cond (nat_eq f d) None (cause_of d h.items)) → IsRight recorded_format strict h.items item → KeepsOn turn actions h s'
-      ends_behind turn r item given actions s' heard told gives t counted sound opens_none closes forgets right = record {
+      ends_behind turn r item given actions s' client_octets origin_octets gives t counted sound opens_none closes forgets right = record {
         later = with_record r item h;
         goes_on = record {
           records = record { newer = item ∷ []; records_are = given_from actions given (r ∷ []) h.records t.actions_are gives; items_are = refl; right = (tt, right) };
-          heard = sym heard;
-          told = sym told;
+          client_octets = sym client_octets;
+          origin_octets = sym origin_octets;
         };
-        stands = of_parts s' (with_record r item h) (noted s.numbers) s.connections s.exchanges (remove s.forwards f) s'.store t.numbers t.connections t.exchanges t.forwards refl counted sound
-            (heard_ended s.numbers.connection s.numbers.forward s.connections s.forwards h.heard h.told a.heard f)
+        consistent = of_parts s' (with_record r item h) (noted s.numbers) s.connections s.exchanges (remove s.forwards f) s'.store t.numbers t.keeps.connections t.keeps.exchanges t.forwards refl counted sound
+            (received_ended s.numbers.connection s.numbers.forward s.connections s.forwards h.client_octets h.origin_octets a.received f)
             (asked_behind s.numbers.exchange s.numbers.forward s.exchanges s.forwards h.items a.asked f w item is_open opens_none closes forgets) a.linked a.few;
       }
 
-      -- a forward ends, by a record, and the request that waits for it gets its reply
-      module _ (e : ℕ) (x0 : OpenExchange) (k : Connection) (waits : get s.exchanges e ≡ Some x0) (on : get s.connections x0.connection ≡ Some k) where
+      -- a forward ends, by a record, and the exchange that it was for gets its reply
+      module _ (e : ℕ) (x0 : OpenExchange) (k : Connection) (awaits : get s.exchanges e ≡ Some x0) (on : get s.connections x0.connection ≡ Some k) where
         some_exchange : 1 ≤ e
         some_exchange =
             elim (cases_eq e 0) [
-              | inl none ↦ absurd (none_some (get s.exchanges e) x0 (ap (get s.exchanges) none ∙ a.asked.no_exchange) waits)
+              | inl none ↦ absurd (none_some (get s.exchanges e) x0 (ap (get s.exchanges) none ∙ a.asked.no_exchange) awaits)
               | inr some ↦ omega arith
             ]
 
@@ -488,36 +492,36 @@ module _ (s : State) (h : History) (a : Stands s h) where
         few_exchange =
             let counts = a.counted in
             elim (cases_lt s.numbers.exchange e) [
-              | inl further ↦ absurd (none_some (get s.exchanges e) x0 (a.asked.later_exchanges e further) waits)
+              | inl further ↦ absurd (none_some (get s.exchanges e) x0 (a.asked.later_exchanges e further) awaits)
               | inr le ↦ omega (arith, counts.exchanges, counts.in_range)
             ]
 
-        heard_after : (closes : Bool) → (closes ≡ false → k.leaves ≡ false)
-            → AreHeard s.numbers.connection s.numbers.forward (replied closes x0.connection k.unread k s.connections) (remove s.forwards f) h.heard h.told
-        heard_after true stays =
-            heard_out s.numbers.connection s.numbers.forward s.connections (remove s.forwards f) h.heard h.told
-            (heard_ended s.numbers.connection s.numbers.forward s.connections s.forwards h.heard h.told a.heard f) x0.connection
-        heard_after false stays =
-            heard_same s.numbers.connection s.numbers.forward s.connections (remove s.forwards f) h.heard h.told
-            (heard_ended s.numbers.connection s.numbers.forward s.connections s.forwards h.heard h.told a.heard f) x0.connection (after_reply k.unread k)
-            (read_answered (h.heard x0.connection) k (stays refl) (a.heard.connections_are x0.connection k on))
+        received_after : (closes : Bool) → (closes ≡ false → k.leaves ≡ false)
+            → AreReceived s.numbers.connection s.numbers.forward (replied closes x0.connection k.unread k s.connections) (remove s.forwards f) h.client_octets h.origin_octets
+        received_after true stays =
+            received_out s.numbers.connection s.numbers.forward s.connections (remove s.forwards f) h.client_octets h.origin_octets
+            (received_ended s.numbers.connection s.numbers.forward s.connections s.forwards h.client_octets h.origin_octets a.received f) x0.connection
+        received_after false stays =
+            received_same s.numbers.connection s.numbers.forward s.connections (remove s.forwards f) h.client_octets h.origin_octets
+            (received_ended s.numbers.connection s.numbers.forward s.connections s.forwards h.client_octets h.origin_octets a.received f) x0.connection (after_reply k.unread k)
+            (read_answered (h.client_octets x0.connection) k (stays refl) (a.received.connections_are x0.connection k on))
 
-        ends_with_reply : (turn : Turn) (r : Record) (item : Item) (given actions : List Action) (wanted : Wanted) (reply : Message ResponseHead) (s' : State) → heard_with turn h.heard ≡ h.heard
-            → told_with turn h.told ≡ h.told → records_of given ≡ r ∷ [] → (wanted.closes ≡ false → k.leaves ≡ false)
+        ends_with_reply : (turn : Turn) (r : Record) (item : Item) (why : Cause) (given actions : List Action) (wanted : Wanted) (reply : Message ResponseHead) (s' : State) → client_octets_with turn h.client_octets ≡ h.client_octets
+            → origin_octets_with turn h.origin_octets ≡ h.origin_octets → records_of given ≡ r ∷ [] → (wanted.closes ≡ false → k.leaves ≡ false)
             → records_of (given ++ reply_actions e s.numbers.moment (is_head x0.request.method) x0.connection wanted.closes reply) ≡ r ∷ reply_record e s.numbers.moment (is_head x0.request.method) reply ∷ []
-            → EndsWithReply f e x0 k given wanted reply s actions s' → s'.numbers.records ≤ greatest_number
+            → EndsWithReply (record { forward = f; exchange = e; why = why; first = given }) (record { exchange = x0; connection = k; wanted = wanted }) reply s actions s' → s'.numbers.records ≤ greatest_number
             → (one_more s.numbers.records ≤ greatest_number → AreCounted (noted s.numbers) (with_record r item h)) → SoundStore (item ∷ h.items) s'.store
             → ((d : ℕ) → exchange_of d (item ∷ h.items) ≡ exchange_of d h.items) → ((d : ℕ) → forward_of d (item ∷ h.items) ≡ cond (nat_eq f d) None (forward_of d h.items))
             → ((d : ℕ) → cause_of d (item ∷ h.items) ≡ cond (nat_eq f d) None (cause_of d h.items))
             → IsRight recorded_format strict h.items item → IsFit (is_head x0.request.method) reply → IsRight recorded_format strict (item ∷ h.items) (ClientReply e s.numbers.moment reply)
             → exchange_for w.forward.purpose ≡ Some e → KeepsOn turn actions h s'
-        ends_with_reply turn r item given actions wanted reply s' heard told gives stays both t le counted sound opens_none closes forgets right fit replied_right its =
+        ends_with_reply turn r item why given actions wanted reply s' client_octets origin_octets gives stays both t le counted sound opens_none closes forgets right fit replied_right its =
             let n = s.numbers in
             let last : one_more (one_more n.records) ≤ greatest_number = subst (λ (m : Numbers). m.records ≤ greatest_number) t.numbers le in
             let counts = a.counted in
             let first : one_more n.records ≤ greatest_number = omega arith in
             let h1 = with_record r item h in
-            let seen = subst (λ (o : Option OpenExchange). IsSeenExchange e o (exchange_of e h.items)) waits (a.asked.exchanges_are e) in
+            let seen = subst (λ (o : Option OpenExchange). IsSeenExchange e o (exchange_of e h.items)) awaits (a.asked.exchanges_are e) in
             let x : Exchange = record { number = e; position = seen.0; request = x0.request; target = x0.target } in
             let h2 = with_record (reply_record e n.moment (is_head x0.request.method) reply) (ClientReply e n.moment reply) h1 in
             record {
@@ -530,29 +534,29 @@ module _ (s : State) (h : History) (a : Stands s h) where
                   items_are = refl;
                   right = ((tt, right), replied_right);
                 };
-                heard = sym heard;
-                told = sym told;
+                client_octets = sym client_octets;
+                origin_octets = sym origin_octets;
               };
-              stands = of_parts s' h2 (noted (noted n)) (replied wanted.closes x0.connection k.unread k s.connections) (remove s.exchanges e) (remove s.forwards f) s'.store
+              consistent = of_parts s' h2 (noted (noted n)) (replied wanted.closes x0.connection k.unread k s.connections) (remove s.exchanges e) (remove s.forwards f) s'.store
                   t.numbers t.connections t.exchanges t.forwards refl
                   (reply_counted (noted n) h1 (counted first) last e x reply some_exchange few_exchange (opens_none e ∙ seen.1) fit.writable fit.digits)
                   (still_sound (item ∷ h.items) (ClientReply e n.moment reply) s'.store refl sound)
-                  (heard_after wanted.closes stays)
+                  (received_after wanted.closes stays)
                   (asked_answered n.exchange n.forward s.exchanges s.forwards h.items a.asked f w item is_open opens_none closes forgets e n.moment reply its)
-                  (linked_answered n.connection s.connections s.exchanges a.linked e x0 k waits on wanted.closes k.unread)
+                  (linked_answered n.connection s.connections s.exchanges a.linked e x0 k awaits on wanted.closes k.unread)
                   (len_replied wanted.closes x0.connection k.unread k k on);
             }
 
         -- and the request goes to the origin anew
-        ends_anew : (turn : Turn) (r : Record) (item : Item) (why : Cause) (given actions : List Action) (s' : State) → heard_with turn h.heard ≡ h.heard → told_with turn h.told ≡ h.told
+        ends_anew : (turn : Turn) (r : Record) (item : Item) (why : Cause) (given actions : List Action) (s' : State) → client_octets_with turn h.client_octets ≡ h.client_octets → origin_octets_with turn h.origin_octets ≡ h.origin_octets
             → records_of (given ++ send_actions (one_more s.numbers.forward) s.numbers.moment (Some e) (forward_anew settings.name x0.target x0.request))
             ≡ r ∷ forward_record (one_more s.numbers.forward) s.numbers.moment (Some e) (forward_anew settings.name x0.target x0.request) ∷ []
-            → EndsWithForward f e x0 why given (forward_anew settings.name x0.target x0.request) s actions s' → s'.numbers.records ≤ greatest_number
+            → EndsWithForward (record { forward = f; exchange = e; why = why; first = given }) (asker_now settings s x0 k) (forward_anew settings.name x0.target x0.request) s actions s' → s'.numbers.records ≤ greatest_number
             → (one_more s.numbers.records ≤ greatest_number → AreCounted (noted s.numbers) (with_record r item h)) → SoundStore (item ∷ h.items) s'.store
             → ((d : ℕ) → exchange_of d (item ∷ h.items) ≡ exchange_of d h.items) → ((d : ℕ) → forward_of d (item ∷ h.items) ≡ cond (nat_eq f d) None (forward_of d h.items))
             → ((d : ℕ) → cause_of d (item ∷ h.items) ≡ cond (nat_eq f d) None (cause_of d h.items))
             → IsRight recorded_format strict h.items item → exchange_for w.forward.purpose ≡ Some e → (asks_store why ≡ true → is_answered_by_store x0.request.method ≡ true) → KeepsOn turn actions h s'
-        ends_anew turn r item why given actions s' heard told both t le counted sound opens_none closes forgets right its by_store =
+        ends_anew turn r item why given actions s' client_octets origin_octets both t le counted sound opens_none closes forgets right its by_store =
             let n = s.numbers in
             let counts = a.counted in
             let g = one_more n.forward in
@@ -560,13 +564,13 @@ module _ (s : State) (h : History) (a : Stands s h) where
             let last : one_more (one_more n.records) ≤ greatest_number = subst (λ (m : Numbers). m.records ≤ greatest_number) t.numbers le in
             let first : one_more n.records ≤ greatest_number = omega arith in
             let sends : g ≡ n.forward + 1 = one_more_is n.forward (omega (arith, counts.forwards, counts.in_range)) in
-            let waiting = a.linked.waiting e x0 waits in
+            let on_its = a.linked.on_connections e x0 awaits in
             let writable : IsWritableAsk m x0.target = record {
-              readable = record { head = laws.unconditional_writable settings.name x0.target x0.request (cache_name settings.name good.name) waiting.forwardable; short = omega arith };
-              target_is = laws.unconditional_keeps settings.name x0.target x0.request waiting.forwardable.has_target;
+              readable = record { head = laws.unconditional_writable settings.name x0.target x0.request (cache_name settings.name good.name) on_its.forwardable; short = omega arith };
+              target_is = laws.unconditional_keeps settings.name x0.target x0.request on_its.forwardable.has_target;
             } in
             let h1 = with_record r item h in
-            let seen = subst (λ (o : Option OpenExchange). IsSeenExchange e o (exchange_of e h.items)) waits (a.asked.exchanges_are e) in
+            let seen = subst (λ (o : Option OpenExchange). IsSeenExchange e o (exchange_of e h.items)) awaits (a.asked.exchanges_are e) in
             let x : Exchange = record { number = e; position = seen.0; request = x0.request; target = x0.target } in
             let h2 = with_record (forward_record g n.moment (Some e) m) (OriginRequest g n.moment m x0.target (Some e)) h1 in
             let aim = sent_forward m.head x0.target n.moment (purpose.Reply e why false) in
@@ -579,15 +583,15 @@ module _ (s : State) (h : History) (a : Stands s h) where
                   items_are = refl;
                   right = ((tt, right), tt);
                 };
-                heard = sym heard;
-                told = sym told;
+                client_octets = sym client_octets;
+                origin_octets = sym origin_octets;
               };
-              stands = of_parts s' h2 (sent (noted n)) s.connections s.exchanges (insert (remove s.forwards f) g aim) s'.store t.numbers t.connections t.exchanges t.forwards refl
+              consistent = of_parts s' h2 (sent (noted n)) s.connections s.exchanges (insert (remove s.forwards f) g aim) s'.store t.numbers t.keeps.connections t.keeps.exchanges t.forwards refl
                   (send_counted (noted n) h1 (Some e) m x0.target (counted first) (right_cause e h1.items x (opens_none e ∙ seen.1) few_exchange) writable last)
                   (still_sound (item ∷ h.items) (OriginRequest g n.moment m x0.target (Some e)) s'.store refl sound)
-                  (heard_sent n.connection n.forward s.connections (remove s.forwards f) h.heard h.told (heard_ended n.connection n.forward s.connections s.forwards h.heard h.told a.heard f) g aim refl
+                  (received_sent n.connection n.forward s.connections (remove s.forwards f) h.client_octets h.origin_octets (received_ended n.connection n.forward s.connections s.forwards h.client_octets h.origin_octets a.received f) g aim refl
                   (omega (arith, sends)))
-                  (asked_anew n.exchange n.forward s.exchanges s.forwards h.items a.asked f w item is_open opens_none closes forgets e g n.moment m why x0 its (omega (arith, sends)) waits
+                  (asked_anew n.exchange n.forward s.exchanges s.forwards h.items a.asked f w item is_open opens_none closes forgets e g n.moment m why x0 its (omega (arith, sends)) awaits
                   (record { method = refl; target = refl; by_store = by_store; asks_after = λ is. absurd (false_true is) }))
                   a.linked a.few;
             }
@@ -599,14 +603,14 @@ module _ (s : State) (h : History) (a : Stands s h) where
     second_false true y is = absurd (cc)
     second_false false y is = is
 
-    -- what the request that waits wants
+    -- what the exchange that it is for wants
     module _ (f : ℕ) (w : Awaited) (is_open : get s.forwards f ≡ Some w) (e : ℕ) (why : Cause) (conditional : Bool) (is_for : w.forward.purpose ≡ purpose.Reply e why conditional)
-        (x0 : OpenExchange) (k : Connection) (waits : get s.exchanges e ≡ Some x0) where
+        (x0 : OpenExchange) (k : Connection) (awaits : get s.exchanges e ≡ Some x0) where
       its_keeps : IsFor s.exchanges e why conditional w.forward
       its_keeps = subst (λ (p : Purpose). KeepsPurpose s.exchanges p w.forward) is_for (a.asked.purposes f w is_open)
 
       its_same : its_keeps.exchange ≡ x0
-      its_same = one_of (get s.exchanges e) its_keeps.exchange x0 its_keeps.waits waits
+      its_same = one_of (get s.exchanges e) its_keeps.exchange x0 its_keeps.is_open awaits
 
       its_method : w.forward.request.method ≡ x0.request.method
       its_method = its_keeps.asks_for.method ∙ ap (λ (x : OpenExchange). x.request.method) its_same
@@ -621,7 +625,7 @@ module _ (s : State) (h : History) (a : Stands s h) where
       its_reason is = (its_keeps.asks_for.asks_after is).reason
 
       its_exchange : (position : ℕ) × (exchange_of e h.items ≡ Some (record { number = e; position = position; request = x0.request; target = x0.target }))
-      its_exchange = subst (λ (o : Option OpenExchange). IsSeenExchange e o (exchange_of e h.items)) waits (a.asked.exchanges_are e)
+      its_exchange = subst (λ (o : Option OpenExchange). IsSeenExchange e o (exchange_of e h.items)) awaits (a.asked.exchanges_are e)
 
       its_number : exchange_for w.forward.purpose ≡ Some e
       its_number = ap exchange_for is_for
@@ -638,7 +642,7 @@ module _ (s : State) (h : History) (a : Stands s h) where
         let w = t.awaited in
         let to_head = is_head w.forward.request.method in
         let response = t.response in
-        let r = received_answer ended to_head w.heard response t.arrives in
+        let r = received_answer ended to_head w.received response t.arrives in
         let writable : IsWritableAnswer to_head response = record {
           readable = record {
             head = light_response_writable response.head RECORDED r.plain r.no_framing (omega (arith, r.lines.light)) (omega (arith, r.lines.few));
@@ -648,22 +652,22 @@ module _ (s : State) (h : History) (a : Stands s h) where
           is_final = r.is_final;
         } in
         let before = sound_of s h a in
-        let told : SoundStore (OriginResponse f n.moment response ∷ h.items) t.told = (
-          renewed_sources h.items f n.moment response w.forward (recorded f w t.is_open) s.store t.told before.0
-              (subst (λ (p : ℕ). Renews w.forward n.moment p response.head s.store t.told) next t.renews),
-          renewed_can_reply w.forward n.moment (one_more n.records) to_head response s.store t.told r early before.1 t.renews,
+        let renewed : SoundStore (OriginResponse f n.moment response ∷ h.items) t.renewed = (
+          renewed_sources h.items f n.moment response w.forward (recorded f w t.is_open) s.store t.renewed before.0
+              (subst (λ (p : ℕ). Renews w.forward n.moment p response.head s.store t.renewed) next t.renews),
+          renewed_can_reply w.forward n.moment (one_more n.records) to_head response s.store t.renewed r early before.1 t.renews,
         ) in
-        by_purpose f ended actions s' t le r writable told w.forward.purpose refl t.ends
+        by_purpose f ended actions s' t le r writable renewed w.forward.purpose refl t.ends
       where
         next : one_more s.numbers.records ≡ next_position h.items
         next = let counts = a.counted in let records = one_more_is s.numbers.records counts.in_range in omega (arith, records, counts.records)
 
         by_purpose : (f : ℕ) (ended : Bool) (actions : List Action) (s' : State) (t : Answers settings f ended s actions s') → s'.numbers.records ≤ greatest_number
             → IsReceivedAnswer (is_head t.awaited.forward.request.method) t.response → IsWritableAnswer (is_head t.awaited.forward.request.method) t.response
-            → SoundStore (OriginResponse f s.numbers.moment t.response ∷ h.items) t.told → (p : Purpose) → t.awaited.forward.purpose ≡ p
-            → EndsByResponse p settings f t.awaited.forward t.response t.told (response_actions f s.numbers.moment (is_head t.awaited.forward.request.method) t.response) s actions s'
+            → SoundStore (OriginResponse f s.numbers.moment t.response ∷ h.items) t.renewed → (p : Purpose) → t.awaited.forward.purpose ≡ p
+            → EndsByResponse p settings (answered_now f t.awaited.forward t.response t.renewed s) s actions s'
             → KeepsOn (Answering f ended) actions h s'
-        by_purpose f ended actions s' t le r writable told purpose.Background is_for ends =
+        by_purpose f ended actions s' t le r writable renewed purpose.Background is_for ends =
             let n = s.numbers in
             let w = t.awaited in
             let to_head = is_head w.forward.request.method in
@@ -672,40 +676,40 @@ module _ (s : State) (h : History) (a : Stands s h) where
             refl refl refl ends.1
             (response_counted n h a.counted first f (recorded_forward w.forward) t.response (some_forward f w t.is_open) (few_forward f w t.is_open) (recorded f w t.is_open) writable r.plain.greatest)
             (⊎_elim
-            (λ (q : (is_news t.response.head ≡ true) × ((stored : Bool) × Stores w.forward n.moment t.response t.told stored s'.store)).
-            stored_sound h.items f n.moment t.response w.forward t.told q.1.0 s'.store (recorded f w t.is_open) r early told q.1.1)
-            (λ (q : (is_news t.response.head ≡ false) × (s'.store ≡ t.told)). subst (SoundStore (OriginResponse f n.moment t.response ∷ h.items)) (sym q.1) told)
+            (λ (q : (is_news t.response.head ≡ true) × ((stored : Bool) × Stores w.forward n.moment t.response t.renewed stored s'.store)).
+            stored_sound h.items f n.moment t.response w.forward t.renewed q.1.0 s'.store (recorded f w t.is_open) r early renewed q.1.1)
+            (λ (q : (is_news t.response.head ≡ false) × (s'.store ≡ t.renewed)). subst (SoundStore (OriginResponse f n.moment t.response ∷ h.items)) (sym q.1) renewed)
             (on_test (is_news t.response.head) _ _ ends.0))
             (λ d. refl) (λ d. refl) (λ d. refl) tt
-        by_purpose f ended actions s' t le r writable told (purpose.Reply e why conditional) is_for ends =
+        by_purpose f ended actions s' t le r writable renewed (purpose.Reply e why conditional) is_for ends =
             let n = s.numbers in
             let w = t.awaited in
             let to_head = is_head w.forward.request.method in
             let x0 = ends.exchange in
             let k = ends.connection in
             let wanted = wanted_now settings s x0.request k in
-            let seen = its_exchange f w t.is_open e why conditional is_for x0 k ends.is_waiting in
+            let seen = its_exchange f w t.is_open e why conditional is_for x0 k ends.awaits in
             let out = response_outcome settings.name good.name n.moment early wanted.closes h.items f w.forward (record { number = e; position = seen.0; request = x0.request; target = x0.target }) why
-            (recorded f w t.is_open) seen.1 (its_method f w t.is_open e why conditional is_for x0 k ends.is_waiting) (its_target f w t.is_open e why conditional is_for x0 k ends.is_waiting)
-            (its_by_store f w t.is_open e why conditional is_for x0 k ends.is_waiting)
-            t.response r (its_cause f w t.is_open e why conditional is_for x0 k ends.is_waiting) conditional (its_reason f w t.is_open e why conditional is_for x0 k ends.is_waiting) (one_more n.records) next t.told s'.store ends.outcome told ends.decided in
+            (recorded f w t.is_open) seen.1 (its_method f w t.is_open e why conditional is_for x0 k ends.awaits) (its_target f w t.is_open e why conditional is_for x0 k ends.awaits)
+            (its_by_store f w t.is_open e why conditional is_for x0 k ends.awaits)
+            t.response r (its_cause f w t.is_open e why conditional is_for x0 k ends.awaits) conditional (its_reason f w t.is_open e why conditional is_for x0 k ends.awaits) (one_more n.records) next t.renewed s'.store ends.outcome renewed ends.decided in
             ⊎_elim
             (λ (got : GetsAnswer settings.name good.name n.moment early wanted.closes h.items f w.forward (record { number = e; position = seen.0; request = x0.request; target = x0.target }) why
-            (recorded f w t.is_open) seen.1 (its_method f w t.is_open e why conditional is_for x0 k ends.is_waiting) (its_target f w t.is_open e why conditional is_for x0 k ends.is_waiting)
-            (its_by_store f w t.is_open e why conditional is_for x0 k ends.is_waiting) (OriginResponse f n.moment t.response ∷ h.items) ends.outcome).
-            ends_with_reply f w t.is_open e x0 k ends.is_waiting ends.is_open (Answering f ended) (response_record f n.moment to_head t.response) (OriginResponse f n.moment t.response)
-            (response_actions f n.moment to_head t.response) actions wanted got.reply s' refl refl refl (it_stays f w t.is_open e why conditional is_for x0 k ends.is_waiting)
+            (recorded f w t.is_open) seen.1 (its_method f w t.is_open e why conditional is_for x0 k ends.awaits) (its_target f w t.is_open e why conditional is_for x0 k ends.awaits)
+            (its_by_store f w t.is_open e why conditional is_for x0 k ends.awaits) (OriginResponse f n.moment t.response ∷ h.items) ends.outcome).
+            ends_with_reply f w t.is_open e x0 k ends.awaits ends.is_open (Answering f ended) (response_record f n.moment to_head t.response) (OriginResponse f n.moment t.response) why
+            (response_actions f n.moment to_head t.response) actions wanted got.reply s' refl refl refl (it_stays f w t.is_open e why conditional is_for x0 k ends.awaits)
             (ap (λ (rs : List Record). response_record f n.moment to_head t.response ∷ rs) (reply_given e n.moment (is_head x0.request.method) x0.connection wanted.closes got.reply))
-            (subst (λ (o : Outcome). DoesOutcome o settings f e x0 k why (response_actions f n.moment to_head t.response) wanted s actions s') got.outcome_is ends.does) le
+            (subst (λ (o : Outcome). DoesOutcome o (record { forward = f; exchange = e; why = why; first = response_actions f n.moment to_head t.response }) (asker_now settings s x0 k) s actions s') got.outcome_is ends.does) le
             (λ first. response_counted n h a.counted first f (recorded_forward w.forward) t.response (some_forward f w t.is_open) (few_forward f w t.is_open) (recorded f w t.is_open) writable r.plain.greatest)
-            out.0 (λ d. refl) (λ d. refl) (λ d. refl) tt got.fit got.right (its_number f w t.is_open e why conditional is_for x0 k ends.is_waiting))
+            out.0 (λ d. refl) (λ d. refl) (λ d. refl) tt got.fit got.right (its_number f w t.is_open e why conditional is_for x0 k ends.awaits))
             (λ (anew : ends.outcome ≡ GoesAnew).
-            ends_anew f w t.is_open e x0 k ends.is_waiting ends.is_open (Answering f ended) (response_record f n.moment to_head t.response) (OriginResponse f n.moment t.response) why
+            ends_anew f w t.is_open e x0 k ends.awaits ends.is_open (Answering f ended) (response_record f n.moment to_head t.response) (OriginResponse f n.moment t.response) why
             (response_actions f n.moment to_head t.response) actions s' refl refl refl
-            (subst (λ (o : Outcome). DoesOutcome o settings f e x0 k why (response_actions f n.moment to_head t.response) wanted s actions s') anew ends.does) le
+            (subst (λ (o : Outcome). DoesOutcome o (record { forward = f; exchange = e; why = why; first = response_actions f n.moment to_head t.response }) (asker_now settings s x0 k) s actions s') anew ends.does) le
             (λ first. response_counted n h a.counted first f (recorded_forward w.forward) t.response (some_forward f w t.is_open) (few_forward f w t.is_open) (recorded f w t.is_open) writable r.plain.greatest)
-            out.0 (λ d. refl) (λ d. refl) (λ d. refl) tt (its_number f w t.is_open e why conditional is_for x0 k ends.is_waiting)
-            (its_by_store f w t.is_open e why conditional is_for x0 k ends.is_waiting))
+            out.0 (λ d. refl) (λ d. refl) (λ d. refl) tt (its_number f w t.is_open e why conditional is_for x0 k ends.awaits)
+            (its_by_store f w t.is_open e why conditional is_for x0 k ends.awaits))
             out.1
 
     failure_given : (f t : ℕ) (closes : Bool) → records_of (failure_actions f t closes) ≡ failure_record f t ∷ []
@@ -719,7 +723,7 @@ module _ (s : State) (h : History) (a : Stands s h) where
     pub failing : (f : ℕ) (how : Failure) (actions : List Action) (s' : State) → Breaks settings f how s actions s' → s'.numbers.records ≤ greatest_number → KeepsOn (Failing f how) actions h s'
     failing f how actions s' t le = by_purpose t.awaited.forward.purpose refl t.ends
       where
-        by_purpose : (p : Purpose) → t.awaited.forward.purpose ≡ p → EndsByFailure p settings f t.awaited.forward (failure_actions f s.numbers.moment (is_closed how)) s actions s' → KeepsOn (Failing f how) actions h s'
+        by_purpose : (p : Purpose) → t.awaited.forward.purpose ≡ p → EndsByFailure p settings (failed_now f t.awaited.forward.target how s) s actions s' → KeepsOn (Failing f how) actions h s'
         by_purpose purpose.Background is_for ends =
             let n = s.numbers in
             let w = t.awaited in
@@ -735,27 +739,27 @@ module _ (s : State) (h : History) (a : Stands s h) where
             let x0 = ends.exchange in
             let k = ends.connection in
             let wanted = wanted_now settings s x0.request k in
-            let seen = its_exchange f w t.is_open e why conditional is_for x0 k ends.is_waiting in
+            let seen = its_exchange f w t.is_open e why conditional is_for x0 k ends.awaits in
             let out = failure_outcome settings.name good.name n.moment early wanted.closes h.items f w.forward (record { number = e; position = seen.0; request = x0.request; target = x0.target }) why
-            (recorded f w t.is_open) seen.1 (its_method f w t.is_open e why conditional is_for x0 k ends.is_waiting) (its_target f w t.is_open e why conditional is_for x0 k ends.is_waiting)
-            (its_by_store f w t.is_open e why conditional is_for x0 k ends.is_waiting) s.store s'.store ends.outcome (sound_of s h a) ends.decided in
-            ends_with_reply f w t.is_open e x0 k ends.is_waiting ends.is_open (Failing f how) (failure_record f n.moment) (OriginFailure f n.moment)
-            (failure_actions f n.moment (is_closed how)) actions wanted out.1.reply s' refl refl (failure_given f n.moment (is_closed how)) (it_stays f w t.is_open e why conditional is_for x0 k ends.is_waiting)
+            (recorded f w t.is_open) seen.1 (its_method f w t.is_open e why conditional is_for x0 k ends.awaits) (its_target f w t.is_open e why conditional is_for x0 k ends.awaits)
+            (its_by_store f w t.is_open e why conditional is_for x0 k ends.awaits) s.store s'.store ends.outcome (sound_of s h a) ends.decided in
+            ends_with_reply f w t.is_open e x0 k ends.awaits ends.is_open (Failing f how) (failure_record f n.moment) (OriginFailure f n.moment) why
+            (failure_actions f n.moment (is_closed how)) actions wanted out.1.reply s' refl refl (failure_given f n.moment (is_closed how)) (it_stays f w t.is_open e why conditional is_for x0 k ends.awaits)
             (failure_then f n.moment (is_closed how) (reply_actions e n.moment (is_head x0.request.method) x0.connection wanted.closes out.1.reply)
             ∙ ap (λ (rs : List Record). failure_record f n.moment ∷ rs) (reply_given e n.moment (is_head x0.request.method) x0.connection wanted.closes out.1.reply))
-            (subst (λ (o : Outcome). DoesOutcome o settings f e x0 k why (failure_actions f n.moment (is_closed how)) wanted s actions s') out.1.outcome_is ends.does) le
+            (subst (λ (o : Outcome). DoesOutcome o (record { forward = f; exchange = e; why = why; first = failure_actions f n.moment (is_closed how) }) (asker_now settings s x0 k) s actions s') out.1.outcome_is ends.does) le
             (λ first. failure_counted n h a.counted first f (recorded_forward w.forward) (some_forward f w t.is_open) (few_forward f w t.is_open) (recorded f w t.is_open))
-            out.0 (λ d. refl) (λ d. refl) (λ d. refl) tt out.1.fit out.1.right (its_number f w t.is_open e why conditional is_for x0 k ends.is_waiting)
+            out.0 (λ d. refl) (λ d. refl) (λ d. refl) tt out.1.fit out.1.right (its_number f w t.is_open e why conditional is_for x0 k ends.awaits)
 
     -- each turn
     pub turn_keeps : (turn : Turn) (actions : List Action) (s' : State) → Takes settings turn s actions s' → s'.numbers.records ≤ greatest_number → KeepsOn turn actions h s'
     turn_keeps (Opening c) actions s' t le = opening c actions s' t
-    turn_keeps (Hearing c octets) actions s' t le = hearing c octets actions s' t
+    turn_keeps (ClientSending c octets) actions s' t le = client_sending c octets actions s' t
     turn_keeps (Asking c) actions s' t le = asking c actions s' t le
     turn_keeps (Refusal c status) actions s' t le = refusing c status actions s' t
     turn_keeps (Dropping c) actions s' t le = dropping c actions s' t
     turn_keeps (Leaving c) actions s' t le = leaving c actions s' t
     turn_keeps (Closing c) actions s' t le = closing c actions s' t
-    turn_keeps (Telling f octets) actions s' t le = telling f octets actions s' t
+    turn_keeps (OriginSending f octets) actions s' t le = origin_sending f octets actions s' t
     turn_keeps (Answering f ended) actions s' t le = answering f ended actions s' t le
     turn_keeps (Failing f how) actions s' t le = failing f how actions s' t le

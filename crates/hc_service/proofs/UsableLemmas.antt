@@ -1,22 +1,19 @@
 -- What a cache serves may be used for the reply, in the strictest audit.
-use Rattle.std.proofs.Common.{◌≡◌, ℕ, ◌+◌, ◌<◌, Bool, true, false, ◌&&◌, ◌||◌, List, Option, Some, None, refl, sym, subst, arith, inl, inr, ⊎_elim, nat_eq, ap}
+use Rattle.std.proofs.Common.{◌≡◌, ℕ, ◌<◌, Bool, true, false, ◌&&◌, ◌||◌, List, Option, Some, None, refl, sym, subst, inl, inr, ⊎_elim, nat_eq, ap}
 use Rattle.std.specs.Prelude.{◌⊎◌, not, codes}
 use Rattle.std.specs.Option.{option_eq}
-use Rattle.std.proofs.lemmas.Bool.{and_from, and_parts, or_left, or_right, le-leb, leb-true, lt-ltb, ltb-true, eqb-true}
-use Rattle.hc_directives.specs.declared.cache_control.Seconds.{Seconds}
-use Rattle.hc_directives.specs.declared.cache_control.Seconds.TheVariants.{Absent, Bare, Value, Unreadable}
+use Rattle.std.proofs.lemmas.Bool.{and_from, and_parts, or_left, or_right, lt-ltb, eqb-true}
 use Rattle.hc_fresh.specs.Lifetimes.{says, seconds_said, stale_forbidden}
 use Rattle.hc_head.specs.declared.head.ResponseHead.{ResponseHead}
 use Rattle.hc_framing.specs.declared.message.Message.{Message}
 use Rattle.hc_update.specs.declared.stored.Stored.{Stored}
 use Rattle.hc_transcript.specs.Items.{Item, Exchange}
 use Rattle.hc_history.specs.Claims.{Claim, claim_of}
-use Rattle.hc_history.specs.Usable.{lifetime_of, validated_since, is_usable, permits_stale}
-use Rattle.hc_history.specs.Usable as audit
+use Rattle.hc_history.specs.Usable.{age_at, is_usable, permits_by_request, permits_on_error, permits_stale, validated_since}
 use Rattle.hc_service.specs.Sending.{recorded_format}
 use Rattle.hc_service.specs.Asking.{allows_age, asks_for_fresh}
 use Rattle.hc_service.specs.Runs.{strict}
-use Rattle.hc_service.specs.Serving.{age_at, is_fresh, staleness_at, permits, max_stale_permits, while_revalidating, on_error, may_be_used, is_fresh_enough, is_permitted_stale, may_be_served, may_replace}
+use Rattle.hc_service.specs.Serving.{is_fresh, while_revalidating, may_be_used, is_fresh_enough, is_permitted_stale, may_be_served, may_replace}
 
 -- ---- one of several
 
@@ -61,28 +58,23 @@ module _ (items : List Item) (x : Exchange) (moment : ℕ) (reply : Message Resp
   abbrev the_claim : Claim
   the_claim = claim_of recorded_format strict x moment reply items
 
-  -- what a directive permits is permitted without slack
-  permits_still : (n : ℕ) (s : Seconds) → permits n s ≡ true → audit.permits the_claim n s ≡ true
-  permits_still n Absent is = absurd (cc)
-  permits_still n Bare is = absurd (cc)
-  permits_still n (Value seconds) is = let le = leb-true n seconds is in le-leb n (seconds + 0) (omega (arith, le))
-  permits_still n Unreadable is = absurd (cc)
-
-  max_stale_still : (n : ℕ) (s : Seconds) → max_stale_permits n s ≡ true → audit.max_stale_permits the_claim n s ≡ true
-  max_stale_still n Absent is = absurd (cc)
-  max_stale_still n Bare is = refl
-  max_stale_still n (Value seconds) is = permits_still n (Value seconds) is
-  max_stale_still n Unreadable is = absurd (cc)
-
-  fresh_still : is_fresh stored moment ≡ true → audit.is_fresh_enough the_claim stored ≡ true
-  fresh_still is =
-      let younger : age_at stored moment < lifetime_of stored = ltb-true (age_at stored moment) (lifetime_of stored) is in
-      lt-ltb (age_at stored moment) (lifetime_of stored + 0) (omega (arith, younger))
-
   -- it may be used without validation, and is fresh or may be served stale
-  usable_by : not (says (codes "no-cache") stored.fields) ≡ true → (audit.is_fresh_enough the_claim stored ≡ true) ⊎ (permits_stale the_claim stored ≡ true) → is_usable the_claim stored ≡ true
+  usable_by : not (says (codes "no-cache") stored.fields) ≡ true → (is_fresh stored moment ≡ true) ⊎ (permits_stale the_claim stored ≡ true) → is_usable the_claim stored ≡ true
   usable_by used (inl fresh) = or_right _ _ (and_from _ _ used (or_left _ _ fresh))
   usable_by used (inr stale) = or_right _ _ (and_from _ _ used (or_right _ _ stale))
+
+  -- by the request, by the response while it is validated, or where an error or a failure stands in the window
+  abbrev asked_for : Bool
+  asked_for = permits_by_request 0 x.request.fields stored moment
+
+  abbrev meanwhile : Bool
+  meanwhile = while_revalidating stored moment
+
+  abbrev in_place : Bool
+  in_place = (the_claim.has_error || the_claim.has_failure) && permits_on_error 0 x.request.fields stored moment
+
+  permitted_by : not (stale_forbidden stored.fields) ≡ true → (asked_for || meanwhile || in_place || the_claim.has_failure) ≡ true → permits_stale the_claim stored ≡ true
+  permitted_by allowed one = and_from (not (stale_forbidden stored.fields)) (asked_for || meanwhile || in_place || the_claim.has_failure) allowed one
 
   -- what may be served to the request
   pub served_usable : may_be_served x.request.fields stored moment ≡ true → is_usable the_claim stored ≡ true
@@ -92,52 +84,37 @@ module _ (items : List Item) (x : Exchange) (moment : ℕ) (reply : Message Resp
       let used = and_parts (not (says (codes "no-cache") stored.fields)) (not (says (codes "no-cache") x.request.fields)) parts.0 in
       usable_by used.0
       (⊎_elim
-      (λ (enough : is_fresh_enough x.request.fields stored moment ≡ true). inl (fresh_still (and_parts (is_fresh stored moment) _ enough).0))
+      (λ (enough : is_fresh_enough x.request.fields stored moment ≡ true). inl (and_parts (is_fresh stored moment) _ enough).0)
       (λ (stale : is_permitted_stale x.request.fields stored moment ≡ true). inr (permitted stale))
       (one_of_two (is_fresh_enough x.request.fields stored moment) (is_permitted_stale x.request.fields stored moment) parts.2))
     where
       permitted : is_permitted_stale x.request.fields stored moment ≡ true → permits_stale the_claim stored ≡ true
       permitted stale =
           let parts = four_parts (not (is_fresh stored moment)) (not (stale_forbidden stored.fields)) (not (asks_for_fresh (seconds_said (codes "min-fresh") x.request.fields)))
-          (max_stale_permits (staleness_at stored moment) (seconds_said (codes "max-stale") x.request.fields) || while_revalidating stored moment) stale in
-          and_from (not (stale_forbidden stored.fields)) (audit.by_request the_claim stored || audit.while_revalidating the_claim stored || audit.on_error the_claim stored || the_claim.has_failure) parts.1
+          (asked_for || meanwhile) stale in
+          permitted_by parts.1
           (⊎_elim
-          (λ (asked : max_stale_permits (staleness_at stored moment) (seconds_said (codes "max-stale") x.request.fields) ≡ true).
-          first_of_four (audit.by_request the_claim stored) (audit.while_revalidating the_claim stored) (audit.on_error the_claim stored) the_claim.has_failure (max_stale_still (staleness_at stored moment) (seconds_said (codes "max-stale") x.request.fields) asked))
-          (λ (meanwhile : while_revalidating stored moment ≡ true).
-          second_of_four (audit.by_request the_claim stored) (audit.while_revalidating the_claim stored) (audit.on_error the_claim stored) the_claim.has_failure (permits_still (staleness_at stored moment) (seconds_said (codes "stale-while-revalidate") stored.fields) meanwhile))
-          (one_of_two (max_stale_permits (staleness_at stored moment) (seconds_said (codes "max-stale") x.request.fields)) (while_revalidating stored moment) parts.3))
+          (λ (asked : asked_for ≡ true). first_of_four asked_for meanwhile in_place the_claim.has_failure asked)
+          (λ (validated : meanwhile ≡ true). second_of_four asked_for meanwhile in_place the_claim.has_failure validated)
+          (one_of_two asked_for meanwhile parts.3))
 
   -- what may take the place of an error or a failure, where one stands in the window
   pub replacing_usable : may_replace x.request.fields stored moment ≡ true → (the_claim.has_error || the_claim.has_failure) ≡ true → is_usable the_claim stored ≡ true
   replacing_usable may stands =
-      let parts = and_parts (may_be_used x.request.fields stored) (is_fresh stored moment || (not (stale_forbidden stored.fields) && on_error x.request.fields stored moment)) may in
+      let parts = and_parts (may_be_used x.request.fields stored) (is_fresh stored moment || (not (stale_forbidden stored.fields) && permits_on_error 0 x.request.fields stored moment)) may in
       let used = and_parts (not (says (codes "no-cache") stored.fields)) (not (says (codes "no-cache") x.request.fields)) parts.0 in
       usable_by used.0
       (⊎_elim
-      (λ (fresh : is_fresh stored moment ≡ true). inl (fresh_still fresh))
-      (λ (stale : (not (stale_forbidden stored.fields) && on_error x.request.fields stored moment) ≡ true). inr (permitted stale))
-      (one_of_two (is_fresh stored moment) (not (stale_forbidden stored.fields) && on_error x.request.fields stored moment) parts.1))
+      (λ (fresh : is_fresh stored moment ≡ true). inl fresh)
+      (λ (stale : (not (stale_forbidden stored.fields) && permits_on_error 0 x.request.fields stored moment) ≡ true). inr (permitted stale))
+      (one_of_two (is_fresh stored moment) (not (stale_forbidden stored.fields) && permits_on_error 0 x.request.fields stored moment) parts.1))
     where
-      permitted : (not (stale_forbidden stored.fields) && on_error x.request.fields stored moment) ≡ true → permits_stale the_claim stored ≡ true
+      permitted : (not (stale_forbidden stored.fields) && permits_on_error 0 x.request.fields stored moment) ≡ true → permits_stale the_claim stored ≡ true
       permitted stale =
-          let parts = and_parts (not (stale_forbidden stored.fields)) (on_error x.request.fields stored moment) stale in
-          and_from (not (stale_forbidden stored.fields)) (audit.by_request the_claim stored || audit.while_revalidating the_claim stored || audit.on_error the_claim stored || the_claim.has_failure) parts.0
-          (third_of_four (audit.by_request the_claim stored) (audit.while_revalidating the_claim stored) (audit.on_error the_claim stored) the_claim.has_failure
-          (and_from (the_claim.has_error || the_claim.has_failure)
-          (audit.permits the_claim (staleness_at stored moment) (seconds_said (codes "stale-if-error") stored.fields)
-          || audit.permits the_claim (staleness_at stored moment) (seconds_said (codes "stale-if-error") x.request.fields)) stands
-          (⊎_elim
-          (λ (says_so : permits (staleness_at stored moment) (seconds_said (codes "stale-if-error") stored.fields) ≡ true).
-          or_left (audit.permits the_claim (staleness_at stored moment) (seconds_said (codes "stale-if-error") stored.fields))
-          (audit.permits the_claim (staleness_at stored moment) (seconds_said (codes "stale-if-error") x.request.fields))
-          (permits_still (staleness_at stored moment) (seconds_said (codes "stale-if-error") stored.fields) says_so))
-          (λ (says_so : permits (staleness_at stored moment) (seconds_said (codes "stale-if-error") x.request.fields) ≡ true).
-          or_right (audit.permits the_claim (staleness_at stored moment) (seconds_said (codes "stale-if-error") stored.fields))
-          (audit.permits the_claim (staleness_at stored moment) (seconds_said (codes "stale-if-error") x.request.fields))
-          (permits_still (staleness_at stored moment) (seconds_said (codes "stale-if-error") x.request.fields) says_so))
-          (one_of_two (permits (staleness_at stored moment) (seconds_said (codes "stale-if-error") stored.fields))
-          (permits (staleness_at stored moment) (seconds_said (codes "stale-if-error") x.request.fields)) parts.1))))
+          let parts = and_parts (not (stale_forbidden stored.fields)) (permits_on_error 0 x.request.fields stored moment) stale in
+          permitted_by parts.0
+          (third_of_four asked_for meanwhile in_place the_claim.has_failure
+          (and_from (the_claim.has_error || the_claim.has_failure) (permits_on_error 0 x.request.fields stored moment) stands parts.1))
 
   -- what was validated in the window
   pub validated_usable : (position : ℕ) → stored.validated_at ≡ Some position → x.position < position → is_usable the_claim stored ≡ true

@@ -45,8 +45,8 @@ use Rattle.hc_service.specs.Turns.{most_connections}
 pub record History : Type 0 where
   pub records : List Record
   pub items : List Item
-  pub heard : ℕ → List ℕ
-  pub told : ℕ → List ℕ
+  pub client_octets : ℕ → List ℕ
+  pub origin_octets : ℕ → List ℕ
 
 -- ---- 1: records and numbers
 
@@ -98,23 +98,23 @@ AreRequestsThen zero octets rest = octets ≡ rest
 AreRequestsThen (suc count) octets rest =
     (message : Message RequestHead) × (target : Target) × (size : ℕ) × IsRequest octets message target size × AreRequestsThen count (drop size octets) rest
 
--- nothing is unread of a connection of which nothing more is read, and which closes behind the reply that is waited for
+-- nothing is unread of a connection of which nothing more is read, and which closes behind the reply that its exchange awaits
 pub record HasLeft (k : Connection) : Type 0 where
   pub none_unread : k.unread ≡ []
   pub exchange : ℕ
-  pub waits : k.exchange ≡ Some exchange
+  pub awaits : k.exchange ≡ Some exchange
 
 -- what is unread of a connection is what came behind its last whole request
 abbrev pub IsReadOf : List ℕ → Connection → Type 0
 IsReadOf octets k = OnTest k.leaves (HasLeft k) ((count : ℕ) × AreRequestsThen count octets k.unread)
 
 -- by the numbers of the last connection and the last forward
-pub record AreHeard (last : Option ℕ) (forward : ℕ) (connections : Table Connection) (forwards : Table Awaited) (heard told : ℕ → List ℕ) : Type 0 where
-  pub connections_are : (c : ℕ) (k : Connection) → get connections c ≡ Some k → IsReadOf (heard c) k
-  pub forwards_are : (f : ℕ) (a : Awaited) → get forwards f ≡ Some a → a.heard ≡ told f
+pub record AreReceived (last : Option ℕ) (forward : ℕ) (connections : Table Connection) (forwards : Table Awaited) (client_octets origin_octets : ℕ → List ℕ) : Type 0 where
+  pub connections_are : (c : ℕ) (k : Connection) → get connections c ≡ Some k → IsReadOf (client_octets c) k
+  pub forwards_are : (f : ℕ) (a : Awaited) → get forwards f ≡ Some a → a.received ≡ origin_octets f
   -- nothing has come where nothing was open
-  pub later_connections : (c : ℕ) → is_later c last ≡ true → heard c ≡ []
-  pub later_forwards : (f : ℕ) → forward < f → told f ≡ []
+  pub later_connections : (c : ℕ) → is_later c last ≡ true → client_octets c ≡ []
+  pub later_forwards : (f : ℕ) → forward < f → origin_octets f ≡ []
 
 -- ---- 4: what is open
 
@@ -144,10 +144,10 @@ pub record AsksFor (x : OpenExchange) (why : Cause) (conditional : Bool) (forwar
   pub by_store : asks_store why ≡ true → is_answered_by_store x.request.method ≡ true
   pub asks_after : conditional ≡ true → AsksAfter x why forward.request
 
--- the request that the forward is for waits for it
+-- the exchange that the forward is for is open
 pub record IsFor (exchanges : Table OpenExchange) (e : ℕ) (why : Cause) (conditional : Bool) (forward : OpenForward) : Type 0 where
   pub exchange : OpenExchange
-  pub waits : get exchanges e ≡ Some exchange
+  pub is_open : get exchanges e ≡ Some exchange
   pub asks_for : AsksFor exchange why conditional forward
 
 abbrev pub KeepsPurpose : Table OpenExchange → Purpose → OpenForward → Type 0
@@ -175,38 +175,38 @@ pub record AreAsked (exchange forward : ℕ) (exchanges : Table OpenExchange) (f
   pub no_exchange : get exchanges 0 ≡ None
   pub no_forward : get forwards 0 ≡ None
 
--- the request waits on its connection, and can be passed on
-pub record WaitsOn (connections : Table Connection) (e : ℕ) (x : OpenExchange) : Type 0 where
+-- the request awaits its reply on its connection, and can be passed on
+pub record AwaitsOn (connections : Table Connection) (e : ℕ) (x : OpenExchange) : Type 0 where
   pub connection : Connection
   pub is_open : get connections x.connection ≡ Some connection
-  pub waits : connection.exchange ≡ Some e
+  pub awaits : connection.exchange ≡ Some e
   pub forwardable : IsForwardable x.request x.target
 
--- the connection's request waits there
-pub record HasWaiting (exchanges : Table OpenExchange) (c e : ℕ) : Type 0 where
+-- the connection's exchange is open
+pub record HasItsExchange (exchanges : Table OpenExchange) (c e : ℕ) : Type 0 where
   pub exchange : OpenExchange
   pub is_open : get exchanges e ≡ Some exchange
   pub is_its : exchange.connection ≡ c
 
--- the requests that wait are those of the connections, by the number of the last connection
+-- the open exchanges are those of the connections, by the number of the last connection
 pub record AreLinked (last : Option ℕ) (connections : Table Connection) (exchanges : Table OpenExchange) : Type 0 where
-  pub waiting : (e : ℕ) (x : OpenExchange) → get exchanges e ≡ Some x → WaitsOn connections e x
-  pub busy : (c e : ℕ) (k : Connection) → get connections c ≡ Some k → k.exchange ≡ Some e → HasWaiting exchanges c e
+  pub on_connections : (e : ℕ) (x : OpenExchange) → get exchanges e ≡ Some x → AwaitsOn connections e x
+  pub busy : (c e : ℕ) (k : Connection) → get connections c ≡ Some k → k.exchange ≡ Some e → HasItsExchange exchanges c e
   pub later : (c : ℕ) → is_later c last ≡ true → get connections c ≡ None
 
 -- ---- all
 
--- the parts, in the middle of a step
-pub record Stands (s : State) (h : History) : Type 0 where
+-- 1 to 4, which hold in the middle of an event too
+pub record IsConsistent (s : State) (h : History) : Type 0 where
   pub counted : AreCounted s.numbers h
   pub entries : AllHeld (IsSound h.items) s.store.entries
   pub keys : IsDistinct same_target (keys_of s.store.entries)
-  pub heard : AreHeard s.numbers.connection s.numbers.forward s.connections s.forwards h.heard h.told
+  pub received : AreReceived s.numbers.connection s.numbers.forward s.connections s.forwards h.client_octets h.origin_octets
   pub asked : AreAsked s.numbers.exchange s.numbers.forward s.exchanges s.forwards h.items
   pub linked : AreLinked s.numbers.connection s.connections s.exchanges
   pub few : len s.connections ≤ most_connections
 
--- 5: nothing that has come can be read yet, and while a request waits for its reply no more octets wait than may
+-- 5: nothing that has come can be read yet, and while an exchange awaits its reply no more octets are unread than may be
 abbrev pub IsQuiet : State → Type 0
 IsQuiet s = (c : ℕ) → IsQuietAt c s
 
@@ -214,9 +214,9 @@ IsQuiet s = (c : ℕ) → IsQuietAt c s
 abbrev pub IsAwaiting : State → Type 0
 IsAwaiting s = (f : ℕ) → AwaitsStill f s
 
--- the cache agrees with what has happened, between steps
+-- all six: the cache agrees with what has happened, between events
 pub record Agrees (s : State) (h : History) : Type 0 where
-  pub stands : Stands s h
+  pub consistent : IsConsistent s h
   pub quiet : IsQuiet s
   pub awaiting : IsAwaiting s
 
@@ -227,7 +227,7 @@ abbrev pub HasExchange : Table OpenExchange → Purpose → Type 0
 HasExchange exchanges purpose.Background = Unit {0}
 HasExchange exchanges (purpose.Reply e cause conditional) = IsSome (get exchanges e)
 
--- each forward that a request waits for has its exchange, and that its connection
+-- the exchange that a forward is for is open, and so is the connection of each exchange
 pub record IsReady (s : State) : Type 0 where
   pub exchanges : (f : ℕ) (a : Awaited) → get s.forwards f ≡ Some a → HasExchange s.exchanges a.forward.purpose
   pub connections : (e : ℕ) (x : OpenExchange) → get s.exchanges e ≡ Some x → IsSome (get s.connections x.connection)

@@ -1,8 +1,9 @@
--- What is done with a whole response of the origin, and with a failure: each rule for itself, and the first that holds.
+-- What is done with a whole response of the origin, by the first rule that holds, and with a failure.
 use Rattle.std.specs.Prelude.{◌≡◌, ℕ, Bool, false, ◌&&◌, ◌||◌, ◌==◌, not, Option, Some, None, codes, if◌then◌else◌}
 use Rattle.hc_fields.specs.Values.{has_name}
 use Rattle.hc_head.specs.declared.head.RequestHead.{RequestHead}
 use Rattle.hc_head.specs.declared.head.ResponseHead.{ResponseHead}
+use Rattle.hc_head.specs.declared.head.Target.{Target}
 use Rattle.hc_head.specs.Methods.{is_get, is_head}
 use Rattle.hc_head.specs.Statuses.{not_modified}
 use Rattle.hc_framing.specs.declared.message.Message.{Message}
@@ -16,19 +17,19 @@ use Rattle.hc_service.specs.Serving.{may_replace}
 use Rattle.hc_service.specs.Replying.{Wanted, bad_gateway, made_reply, replacing_reply, passed_reply, failure_status}
 use Rattle.hc_service.specs.Choices.{OnTest, Finds, validated_by, Stores, Invalidates, Updates}
 
--- what a request that waits for a forward gets: its reply, or a forward anew
+-- what the exchange that awaits a forward's response gets: its reply, or a forward anew
 pub data Outcome : Type 0 where
   Replies : (reply : Message ResponseHead) → Outcome
   GoesAnew : Outcome
 
--- ---- 1 and 2: a response invalidates, and freshens, whomever it is for; position is that of its record
+-- ---- whomever a response is for, it invalidates and freshens first; position is that of its record
 
 pub record Renews (forward : OpenForward) (moment position : ℕ) (response : ResponseHead) (old new : Holdings) : Type 0 where
   pub between : Holdings
   pub invalidates : Invalidates forward response old between
   pub updates : Updates forward moment position response between new
 
--- ---- 3: for the store alone
+-- ---- where it is for the store alone
 
 -- a response that says neither that what is stored still holds nor that the origin can't answer now
 abbrev pub is_news : ResponseHead → Bool
@@ -39,83 +40,102 @@ abbrev pub StoresBehind : OpenForward → ℕ → Message ResponseHead → Holdi
 StoresBehind forward moment response old new =
     OnTest (is_news response.head) ((stored : Bool) × Stores forward moment response old stored new) (new ≡ old)
 
--- ---- for a request that waits
+-- ---- where an exchange awaits it: the rules, in their order
 
-module _ (wanted : Wanted) (forward : OpenForward) (cause : Cause) where
-  -- ---- 4: a 304 that answers the cache's own condition
+-- it answers the cache's own condition: what is stored still holds (RFC 9111 section 4.3.3)
+abbrev pub is_validation : Bool → ResponseHead → Bool
+is_validation conditional response = conditional && response.status == not_modified
 
-  abbrev pub is_validation : Bool → ResponseHead → Bool
-  is_validation conditional response = conditional && response.status == not_modified
+-- a request that asks on a condition that a 304 answers (RFC 9110 sections 13.1.2 and 13.1.3)
+abbrev pub has_condition : RequestHead → Bool
+has_condition sent = has_name (codes "if-none-match") sent.fields || has_name (codes "if-modified-since") sent.fields
 
-  -- the stored response that it validated is the reply; where there is none, the request goes to the origin anew (RFC 9111 section 4.3.3)
-  abbrev pub validated_outcome : Option Stored → Outcome
-  validated_outcome (Some stored) = Replies (replacing_reply wanted cause (Some not_modified) stored)
-  validated_outcome None = GoesAnew
+-- a 304 that nobody asked for, since the forward had no condition (RFC 9110 section 15.4.5)
+abbrev pub is_unasked : RequestHead → ResponseHead → Bool
+is_unasked sent response =
+    response.status == not_modified && (is_get sent.method || is_head sent.method) && not (has_condition sent)
 
-  abbrev pub ByValidation : ℕ → Holdings → Outcome → Holdings → Type 0
-  ByValidation position old outcome new =
-      (outcome ≡ validated_outcome (validated_by forward.target wanted.asked.fields position old)) × (new ≡ old)
+-- an error, in whose place what is stored may be the reply, where the store was asked (RFC 5861 section 4)
+abbrev pub is_replaceable : Cause → ResponseHead → Bool
+is_replaceable cause response = asks_store cause && is_error_status response.status
 
-  -- ---- 5: a 304 that nobody asked for, since the forward had no condition (RFC 9110 section 15.4.5)
+pub data Rule : Type 0 where
+  -- a 304 that answers the cache's own condition
+  Validates : Rule
+  -- a 304 that nobody asked for
+  IsUnasked : Rule
+  -- an error, in whose place what is stored may be the reply
+  MayBeReplaced : Rule
+  -- anything else
+  IsPassedOn : Rule
 
-  abbrev pub has_condition : RequestHead → Bool
-  has_condition sent = has_name (codes "if-none-match") sent.fields || has_name (codes "if-modified-since") sent.fields
+-- the first that holds, of a response to a request that was sent for that cause, perhaps with the cache's own condition
+abbrev pub rule_of : Cause → Bool → RequestHead → ResponseHead → Rule
+rule_of cause conditional sent response =
+    if is_validation conditional response then Validates
+    else if is_unasked sent response then IsUnasked
+    else if is_replaceable cause response then MayBeReplaced
+    else IsPassedOn
 
-  abbrev pub is_unasked : ResponseHead → Bool
-  is_unasked response =
-      response.status == not_modified
-      && (is_get forward.request.method || is_head forward.request.method)
-      && not (has_condition forward.request)
+-- ---- what each rule does
 
-  -- ---- 7: it is the reply; it is put first where the store was asked and it may be stored
+-- the reply that is wanted, the forward and why it was sent, and the response to it
+pub record Answer : Type 0 where
+  pub wanted : Wanted
+  pub forward : OpenForward
+  pub cause : Cause
+  pub response : Message ResponseHead
 
-  pub record Passes (moment : ℕ) (response : Message ResponseHead) (old : Holdings) (outcome : Outcome) (new : Holdings) : Type 0 where
-    pub stored : Bool
-    pub puts : OnTest (asks_store cause) (Stores forward moment response old stored new) ((stored ≡ false) × (new ≡ old))
-    pub outcome_is : outcome ≡ Replies (passed_reply wanted cause stored response)
+-- a 304 that answers the cache's own condition: the stored response that it validated is the reply; where there is none, the request goes to the origin anew
+abbrev pub validated_outcome : Wanted → Cause → Option Stored → Outcome
+validated_outcome wanted cause (Some stored) = Replies (replacing_reply wanted cause (Some not_modified) stored)
+validated_outcome wanted cause None = GoesAnew
 
-  -- ---- 6: an error, in whose place a stored response may be the reply (RFC 5861 section 4)
+-- what is passed on is the reply; it is put first where the store was asked and it may be stored
+pub record Passes (answer : Answer) (old : Holdings) (outcome : Outcome) (new : Holdings) : Type 0 where
+  pub stored : Bool
+  pub puts : OnTest (asks_store answer.cause) (Stores answer.forward answer.wanted.moment answer.response old stored new) ((stored ≡ false) × (new ≡ old))
+  pub outcome_is : outcome ≡ Replies (passed_reply answer.wanted answer.cause stored answer.response)
 
-  abbrev pub is_replaceable : ResponseHead → Bool
-  is_replaceable response = asks_store cause && is_error_status response.status
+-- the stored response that was chosen, where it may take the place of an error or of a failure
+abbrev pub replacement : Wanted → Option Stored → Option Stored
+replacement wanted None = None
+replacement wanted (Some stored) = if may_replace wanted.asked.fields stored wanted.moment then Some stored else None
 
-  -- the stored response that is chosen now, where it may take the place
-  abbrev pub standing_in : Option Stored → Option Stored
-  standing_in None = None
-  standing_in (Some stored) = if may_replace wanted.asked.fields stored wanted.moment then Some stored else None
+-- it is the reply, where there is one; else the error is passed on
+abbrev pub RepliesInPlace : Option Stored → Answer → Holdings → Outcome → Holdings → Type 0
+RepliesInPlace (Some stored) answer old outcome new =
+    (outcome ≡ Replies (replacing_reply answer.wanted answer.cause (Some answer.response.head.status) stored)) × (new ≡ old)
+RepliesInPlace None answer old outcome new = Passes answer old outcome new
 
-  -- it is the reply, where there is one; else the error is passed on
-  abbrev pub StandsIn : Option Stored → ℕ → Message ResponseHead → Holdings → Outcome → Holdings → Type 0
-  StandsIn (Some stored) moment response old outcome new =
-      (outcome ≡ Replies (replacing_reply wanted cause (Some response.head.status) stored)) × (new ≡ old)
-  StandsIn None moment response old outcome new = Passes moment response old outcome new
+-- an error: the store is asked once more
+pub record Replaces (answer : Answer) (old : Holdings) (outcome : Outcome) (new : Holdings) : Type 0 where
+  pub chosen : Option Stored
+  pub between : Holdings
+  pub finds : Finds answer.forward.target answer.wanted.asked.fields old chosen between
+  pub ends : RepliesInPlace (replacement answer.wanted chosen) answer between outcome new
 
-  pub record Replaces (moment : ℕ) (response : Message ResponseHead) (old : Holdings) (outcome : Outcome) (new : Holdings) : Type 0 where
-    pub chosen : Option Stored
-    pub between : Holdings
-    pub finds : Finds forward.target wanted.asked.fields old chosen between
-    pub ends : StandsIn (standing_in chosen) moment response between outcome new
+-- the record of the response stands at that position
+abbrev pub Responds : Rule → Answer → ℕ → Holdings → Outcome → Holdings → Type 0
+Responds Validates answer position old outcome new =
+    (outcome ≡ validated_outcome answer.wanted answer.cause (validated_by answer.forward.target answer.wanted.asked.fields position old)) × (new ≡ old)
+Responds IsUnasked answer position old outcome new = (outcome ≡ Replies (made_reply answer.wanted bad_gateway)) × (new ≡ old)
+Responds MayBeReplaced answer position old outcome new = Replaces answer old outcome new
+Responds IsPassedOn answer position old outcome new = Passes answer old outcome new
 
-  -- ---- the first that holds
+-- ---- a failure: where the store was asked it is asked again, and a stored response may be the reply; else one that says that there is none
 
-  abbrev pub Responds : Bool → ℕ → Message ResponseHead → Holdings → Outcome → Holdings → Type 0
-  Responds conditional position response old outcome new =
-      OnTest (is_validation conditional response.head) (ByValidation position old outcome new)
-      (OnTest (is_unasked response.head) ((outcome ≡ Replies (made_reply wanted bad_gateway)) × (new ≡ old))
-      (OnTest (is_replaceable response.head) (Replaces wanted.moment response old outcome new)
-      (Passes wanted.moment response old outcome new)))
+abbrev pub failed_outcome : Wanted → Cause → Option Stored → Option Stored → Outcome
+failed_outcome wanted cause chosen (Some stored) = Replies (replacing_reply wanted cause None stored)
+failed_outcome wanted cause chosen None = Replies (made_reply wanted (failure_status chosen))
 
-  -- ---- a failure: where the store was asked it is asked again, and a stored response may be the reply; else one that says that there is none
+pub record FailsByStore (wanted : Wanted) (target : Target) (cause : Cause) (old : Holdings) (outcome : Outcome) (new : Holdings) : Type 0 where
+  pub chosen : Option Stored
+  pub finds : Finds target wanted.asked.fields old chosen new
+  pub outcome_is : outcome ≡ failed_outcome wanted cause chosen (replacement wanted chosen)
 
-  abbrev pub failed_outcome : Option Stored → Option Stored → Outcome
-  failed_outcome chosen (Some stored) = Replies (replacing_reply wanted cause None stored)
-  failed_outcome chosen None = Replies (made_reply wanted (failure_status chosen))
-
-  pub record FailsByStore (old : Holdings) (outcome : Outcome) (new : Holdings) : Type 0 where
-    pub chosen : Option Stored
-    pub finds : Finds forward.target wanted.asked.fields old chosen new
-    pub outcome_is : outcome ≡ failed_outcome chosen (standing_in chosen)
-
-  abbrev pub Fails : Holdings → Outcome → Holdings → Type 0
-  Fails old outcome new =
-      OnTest (asks_store cause) (FailsByStore old outcome new) ((outcome ≡ Replies (made_reply wanted bad_gateway)) × (new ≡ old))
+-- of a forward for that target, which was sent for that cause
+abbrev pub Fails : Wanted → Target → Cause → Holdings → Outcome → Holdings → Type 0
+Fails wanted target cause old outcome new =
+    OnTest (asks_store cause) (FailsByStore wanted target cause old outcome new)
+    ((outcome ≡ Replies (made_reply wanted bad_gateway)) × (new ≡ old))

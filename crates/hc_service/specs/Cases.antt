@@ -7,10 +7,17 @@ use Rattle.hc_fresh.specs.Lifetimes.{says}
 use Rattle.hc_update.specs.declared.stored.Stored.{Stored}
 use Rattle.hc_service.specs.declared.cases.Cause.{Cause}
 use Rattle.hc_service.specs.declared.cases.Cause.TheVariants.{Method, Bypass, NoStore, UriMiss, VaryMiss, Stale, Request}
-use Rattle.hc_service.specs.declared.cases.Case.{Case}
-use Rattle.hc_service.specs.declared.cases.Case.TheVariants.{Hit, Forward}
+use Rattle.hc_service.specs.declared.cases.Case.{Case as GivenCase}
+use Rattle.hc_service.specs.declared.cases.Case.TheVariants as given
 use Rattle.hc_service.specs.Asking.{is_answered_by_store, is_bypass}
 use Rattle.hc_service.specs.Serving.{is_fresh, may_be_served}
+
+-- what becomes of a request once the store was asked
+pub data Case : Type 0 where
+  -- the stored response that it selects is its reply
+  Hit : (stored : Stored) → Case
+  -- it goes to the origin
+  Forward : (why : Cause) → Case
 
 -- ---- the cases, each for itself
 
@@ -25,8 +32,6 @@ asks_origin request = is_bypass request
 -- 3: nothing of it may be stored (RFC 9111 section 5.2.1.5)
 abbrev pub forbids_storing : Message RequestHead → Bool
 forbids_storing request = says (codes "no-store") request.head.fields
-
--- a request that waits for the forward of another one, in place of a forward of its own, would be a case here, before the next
 
 -- 4: nothing is stored of its target
 abbrev pub has_no_entry : Bool → Bool
@@ -59,7 +64,12 @@ case_before_store request =
 abbrev pub case_by_store : List Field → Bool → Option Stored → ℕ → Case
 case_by_store asked known None moment = if has_no_entry known then Forward UriMiss else Forward VaryMiss
 case_by_store asked known (Some stored) moment =
-    if is_served asked stored moment then Hit else Forward (cause_of_stored stored moment)
+    if is_served asked stored moment then Hit stored else Forward (cause_of_stored stored moment)
+
+-- the case that the code answers
+abbrev pub case_of : GivenCase → Case
+case_of (given.Hit stored) = Hit stored.now
+case_of (given.Forward why) = Forward why
 
 -- ---- what is said of each (RFC 9211 section 2.2)
 

@@ -20,9 +20,9 @@ use Rattle.hc_transcript.specs.Limits.{greatest_number}
 use Rattle.hc_store.specs.Entries.{Holdings}
 use Rattle.hc_service.specs.declared.open.OpenForward.{OpenForward}
 use Rattle.hc_events.specs.declared.Happening.{Happening}
-use Rattle.hc_service.specs.Agreement.{Agrees, AllHeld, HasSource, History, Stands}
+use Rattle.hc_service.specs.Agreement.{Agrees, AllHeld, HasSource, History, IsConsistent}
 use Rattle.hc_service.specs.declared.action.Action.{Action}
-use Rattle.hc_service.specs.Runs.{GoesOn, GoesOnBy, Records, heard_with, told_with}
+use Rattle.hc_service.specs.Runs.{GoesOn, GoesOnBy, Records, client_octets_with, origin_octets_with}
 use Rattle.hc_service.specs.Serves.{Turn}
 use Rattle.hc_service.specs.State.{State}
 
@@ -61,33 +61,33 @@ pub record IsReceivedAsk (request : Message RequestHead) (target : Target) : Typ
 
 -- a history with a record more, and what it means
 abbrev pub with_record : Record → Item → History → History
-with_record r item h = record { records = r ∷ h.records; items = item ∷ h.items; heard = h.heard; told = h.told }
+with_record r item h = record { records = r ∷ h.records; items = item ∷ h.items; client_octets = h.client_octets; origin_octets = h.origin_octets }
 
--- what has happened goes on by a turn, and the cache stands as it is then
+-- what has happened goes on by a turn, and the cache is consistent with it then
 pub record KeepsOn (turn : Turn) (actions : List Action) (h : History) (s : State) : Type 0 where
   pub later : History
   pub goes_on : GoesOnBy turn actions h later
-  pub stands : Stands s later
+  pub consistent : IsConsistent s later
 
 -- what came with turns, one after another
-abbrev pub heard_all : List Turn → (ℕ → List ℕ) → ℕ → List ℕ
-heard_all [] before = before
-heard_all (turn ∷ turns) before = heard_all turns (heard_with turn before)
+abbrev pub client_octets_all : List Turn → (ℕ → List ℕ) → ℕ → List ℕ
+client_octets_all [] before = before
+client_octets_all (turn ∷ turns) before = client_octets_all turns (client_octets_with turn before)
 
-abbrev pub told_all : List Turn → (ℕ → List ℕ) → ℕ → List ℕ
-told_all [] before = before
-told_all (turn ∷ turns) before = told_all turns (told_with turn before)
+abbrev pub origin_octets_all : List Turn → (ℕ → List ℕ) → ℕ → List ℕ
+origin_octets_all [] before = before
+origin_octets_all (turn ∷ turns) before = origin_octets_all turns (origin_octets_with turn before)
 
 -- what turns, one after another, make of what has happened
 pub record GoesOnByAll (turns : List Turn) (actions : List Action) (old new : History) : Type 0 where
   pub records : Records actions old new
-  pub heard : new.heard ≡ heard_all turns old.heard
-  pub told : new.told ≡ told_all turns old.told
+  pub client_octets : new.client_octets ≡ client_octets_all turns old.client_octets
+  pub origin_octets : new.origin_octets ≡ origin_octets_all turns old.origin_octets
 
 pub record KeepsAll (turns : List Turn) (actions : List Action) (h : History) (s : State) : Type 0 where
   pub later : History
   pub goes_on : GoesOnByAll turns actions h later
-  pub stands : Stands s later
+  pub consistent : IsConsistent s later
 
 -- what has happened goes on by a step, and the cache agrees with it then
 pub record KeepsAgreement (happening : Happening) (actions : List Action) (h : History) (s : State) : Type 0 where

@@ -15,11 +15,10 @@ use Rattle.hc_update.specs.declared.stored.Stored.{Stored}
 use Rattle.hc_store.specs.Entries.{Holdings, knows}
 use Rattle.hc_service.specs.declared.cases.Cause.{Cause}
 use Rattle.hc_service.specs.declared.cases.Cause.TheVariants as cause
-use Rattle.hc_service.specs.declared.cases.Case.{Case}
-use Rattle.hc_service.specs.declared.cases.Case.TheVariants as case
 use Rattle.hc_service.specs.declared.open.Purpose.{Purpose}
 use Rattle.hc_service.specs.declared.open.Purpose.TheVariants as purpose
-use Rattle.hc_service.specs.Cases.{case_before_store, case_by_store}
+use Rattle.hc_service.specs.Cases.{Case, case_before_store, case_by_store}
+use Rattle.hc_service.specs.Cases.Case.{Hit, Forward}
 use Rattle.hc_service.specs.Serving.{is_fresh, while_revalidating}
 use Rattle.hc_service.specs.Replying.{Wanted, gateway_timeout, made_reply, hit_reply}
 use Rattle.hc_service.specs.Choices.{Finds}
@@ -105,21 +104,30 @@ forward_anew name target asked = bare (unconditional_request name target asked)
 
 -- ---- the first case that holds
 
--- by what the store chose
+-- by the case, and what the store chose
 abbrev pub chosen_reaction : Wanted → Target → Message RequestHead → Table Awaited → Option Stored → Case → Reaction
-chosen_reaction wanted target request forwards (Some stored) case.Hit = hit_reaction wanted target forwards stored
-chosen_reaction wanted target request forwards None case.Hit = Replies (made_reply wanted gateway_timeout) None
-chosen_reaction wanted target request forwards chosen (case.Forward why) = forward_reaction wanted target request chosen why
+chosen_reaction wanted target request forwards chosen (Hit stored) = hit_reaction wanted target forwards stored
+chosen_reaction wanted target request forwards chosen (Forward why) = forward_reaction wanted target request chosen why
 
-pub record ReactsByStore (wanted : Wanted) (target : Target) (request : Message RequestHead) (forwards : Table Awaited) (old : Holdings) (reaction : Reaction) (new : Holdings) : Type 0 where
+-- a whole request with its target, and the reply that it wants
+pub record WholeRequest : Type 0 where
+  pub request : Message RequestHead
+  pub target : Target
+  pub wanted : Wanted
+
+-- the store is asked, and what it chooses decides the case
+pub record ReactsByStore (whole : WholeRequest) (forwards : Table Awaited) (old : Holdings) (reaction : Reaction) (new : Holdings) : Type 0 where
   pub chosen : Option Stored
-  pub finds : Finds target request.head.fields old chosen new
-  pub reaction_is : reaction ≡ chosen_reaction wanted target request forwards chosen (case_by_store request.head.fields (knows target old.entries) chosen wanted.moment)
+  pub finds : Finds whole.target whole.request.head.fields old chosen new
+  pub reaction_is : reaction
+      ≡ chosen_reaction whole.wanted whole.target whole.request forwards chosen
+      (case_by_store whole.request.head.fields (knows whole.target old.entries) chosen whole.wanted.moment)
 
 -- the store is asked where no earlier case holds
-abbrev pub ReactsBy : Option Cause → Wanted → Target → Message RequestHead → Table Awaited → Holdings → Reaction → Holdings → Type 0
-ReactsBy (Some why) wanted target request forwards old reaction new = (reaction ≡ forward_reaction wanted target request None why) × (new ≡ old)
-ReactsBy None wanted target request forwards old reaction new = ReactsByStore wanted target request forwards old reaction new
+abbrev pub ReactsBy : Option Cause → WholeRequest → Table Awaited → Holdings → Reaction → Holdings → Type 0
+ReactsBy (Some why) whole forwards old reaction new =
+    (reaction ≡ forward_reaction whole.wanted whole.target whole.request None why) × (new ≡ old)
+ReactsBy None whole forwards old reaction new = ReactsByStore whole forwards old reaction new
 
-abbrev pub Reacts : Wanted → Target → Message RequestHead → Table Awaited → Holdings → Reaction → Holdings → Type 0
-Reacts wanted target request forwards old reaction new = ReactsBy (case_before_store request) wanted target request forwards old reaction new
+abbrev pub Reacts : WholeRequest → Table Awaited → Holdings → Reaction → Holdings → Type 0
+Reacts whole forwards old reaction new = ReactsBy (case_before_store whole.request) whole forwards old reaction new

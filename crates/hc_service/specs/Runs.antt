@@ -23,7 +23,7 @@ use Rattle.hc_service.specs.declared.settings.CoreSettings.{CoreSettings}
 use Rattle.hc_service.specs.State.{State}
 use Rattle.hc_service.specs.Sending.{recorded_format, records_of}
 use Rattle.hc_service.specs.Serves.{Turn, Serves, first_fault}
-use Rattle.hc_service.specs.Serves.Turn.{Hearing, Telling}
+use Rattle.hc_service.specs.Serves.Turn.{ClientSending, OriginSending}
 use Rattle.hc_service.specs.Agreement.{History, Agrees}
 
 -- ---- what a step makes of what has happened
@@ -38,22 +38,22 @@ abbrev pub with_octets : ℕ → List ℕ → (ℕ → List ℕ) → ℕ → Lis
 with_octets n octets before m = if m == n then before m ++ octets else before m
 
 -- what came on connections, and from the origin, with that turn
-abbrev pub heard_with : Turn → (ℕ → List ℕ) → ℕ → List ℕ
-heard_with (Hearing c octets) before = with_octets c octets before
-heard_with turn before = before
+abbrev pub client_octets_with : Turn → (ℕ → List ℕ) → ℕ → List ℕ
+client_octets_with (ClientSending c octets) before = with_octets c octets before
+client_octets_with turn before = before
 
-abbrev pub told_with : Turn → (ℕ → List ℕ) → ℕ → List ℕ
-told_with (Telling f octets) before = with_octets f octets before
-told_with turn before = before
+abbrev pub origin_octets_with : Turn → (ℕ → List ℕ) → ℕ → List ℕ
+origin_octets_with (OriginSending f octets) before = with_octets f octets before
+origin_octets_with turn before = before
 
 -- and with that event
-abbrev pub heard_by : Happening → (ℕ → List ℕ) → ℕ → List ℕ
-heard_by (ClientBytes c octets) before = with_octets c octets before
-heard_by other before = before
+abbrev pub client_octets_by : Happening → (ℕ → List ℕ) → ℕ → List ℕ
+client_octets_by (ClientBytes c octets) before = with_octets c octets before
+client_octets_by other before = before
 
-abbrev pub told_by : Happening → (ℕ → List ℕ) → ℕ → List ℕ
-told_by (OriginBytes f octets) before = with_octets f octets before
-told_by other before = before
+abbrev pub origin_octets_by : Happening → (ℕ → List ℕ) → ℕ → List ℕ
+origin_octets_by (OriginBytes f octets) before = with_octets f octets before
+origin_octets_by other before = before
 
 -- the audit that lets nothing pass: no slack, no names that aren't compared, and no reply without a mark but errors
 abbrev pub strict : Settings
@@ -74,18 +74,18 @@ pub record Records (actions : List Action) (old new : History) : Type 0 where
 -- what a turn makes of what has happened
 pub record GoesOnBy (turn : Turn) (actions : List Action) (old new : History) : Type 0 where
   pub records : Records actions old new
-  pub heard : new.heard ≡ heard_with turn old.heard
-  pub told : new.told ≡ told_with turn old.told
+  pub client_octets : new.client_octets ≡ client_octets_with turn old.client_octets
+  pub origin_octets : new.origin_octets ≡ origin_octets_with turn old.origin_octets
 
 -- what a step makes of it
 pub record GoesOn (happening : Happening) (actions : List Action) (old new : History) : Type 0 where
   pub records : Records actions old new
-  pub heard : new.heard ≡ heard_by happening old.heard
-  pub told : new.told ≡ told_by happening old.told
+  pub client_octets : new.client_octets ≡ client_octets_by happening old.client_octets
+  pub origin_octets : new.origin_octets ≡ origin_octets_by happening old.origin_octets
 
 -- nothing has happened
 abbrev pub nothing_yet : History
-nothing_yet = record { records = []; items = []; heard = λ _. []; told = λ _. [] }
+nothing_yet = record { records = []; items = []; client_octets = λ _. []; origin_octets = λ _. [] }
 
 -- ---- runs
 
@@ -162,12 +162,18 @@ pub record RunsTo (records : List Record) (h : History) (end : Option State) : T
   pub are_read : AreReadAs recorded_format later.records later.items
   pub agrees : EndAgrees end later
 
+-- events, what was answered to each, and the records that the answers gave out
+pub record Course : Type 0 where
+  pub events : List Event
+  pub results : List StepResult
+  pub records : List Record
+
 -- behind a run that has led to a cache, what has happened is such that the cache agrees with it, and that a run which goes on from there is, with the first, one run
-pub record RunsOn (settings : CoreSettings) (s : State) (h : History) (events : List Event) (results : List StepResult) (records : List Record) (mid : State) : Type 0 where
+pub record RunsOn (settings : CoreSettings) (s : State) (h : History) (course : Course) (mid : State) : Type 0 where
   pub later : History
   pub agrees : Agrees mid later
   pub goes_on : (others : List Event) (answers : List StepResult) (more : List Record) (end : Option State) → Runs settings mid later others answers more end
-      → Runs settings s h (events ++ others) (results ++ answers) (records ++ more) end
+      → Runs settings s h (course.events ++ others) (course.results ++ answers) (course.records ++ more) end
 
 -- ---- the transcript of a run
 

@@ -18,7 +18,7 @@ use Rattle.hc_service.specs.declared.open.Purpose.TheVariants as purpose
 use Rattle.hc_service.specs.declared.settings.CoreSettings.{CoreSettings}
 use Rattle.hc_service.specs.Numbers.{at_moment, is_later}
 use Rattle.hc_service.specs.State.{State, Table, Connection, Awaited}
-use Rattle.hc_service.specs.Turns.{most_connections, most_waiting, Failure, Opens, Hears, Drops, Leaves, Closes, Refuses, Asks, Tells, Answers, Breaks}
+use Rattle.hc_service.specs.Turns.{most_connections, most_unread, Failure, Opens, ClientSends, Drops, Leaves, Closes, Refuses, Asks, OriginSends, Answers, Breaks}
 use Rattle.hc_service.specs.Turns.Failure.{IsBroken, IsCutOff, IsLost}
 
 -- ---- turns
@@ -27,18 +27,18 @@ pub data Turn : Type 0 where
   -- a connection opens
   Opening : (c : ℕ) → Turn
   -- octets come from a client
-  Hearing : (c : ℕ) (octets : List ℕ) → Turn
+  ClientSending : (c : ℕ) (octets : List ℕ) → Turn
   -- a whole request is read
   Asking : (c : ℕ) → Turn
   -- what came is refused
   Refusal : (c status : ℕ) → Turn
-  -- octets that waited are dropped
+  -- unread octets are dropped
   Dropping : (c : ℕ) → Turn
-  -- the client ends, while a request waits for its reply, or else
+  -- the client ends, while an exchange awaits its reply, or else
   Leaving : (c : ℕ) → Turn
   Closing : (c : ℕ) → Turn
   -- octets come from the origin
-  Telling : (f : ℕ) (octets : List ℕ) → Turn
+  OriginSending : (f : ℕ) (octets : List ℕ) → Turn
   -- a whole response has come
   Answering : (f : ℕ) (ended : Bool) → Turn
   -- a forward fails
@@ -47,13 +47,13 @@ pub data Turn : Type 0 where
 -- what a turn does
 abbrev pub Takes : CoreSettings → Turn → State → List Action → State → Type 0
 Takes settings (Opening c) s actions s' = Opens c s actions s'
-Takes settings (Hearing c octets) s actions s' = Hears c octets s actions s'
+Takes settings (ClientSending c octets) s actions s' = ClientSends c octets s actions s'
 Takes settings (Asking c) s actions s' = Asks settings c s actions s'
 Takes settings (Refusal c status) s actions s' = Refuses c status s actions s'
 Takes settings (Dropping c) s actions s' = Drops c s actions s'
 Takes settings (Leaving c) s actions s' = Leaves c s actions s'
 Takes settings (Closing c) s actions s' = Closes c s actions s'
-Takes settings (Telling f octets) s actions s' = Tells f octets s actions s'
+Takes settings (OriginSending f octets) s actions s' = OriginSends f octets s actions s'
 Takes settings (Answering f ended) s actions s' = Answers settings f ended s actions s'
 Takes settings (Failing f how) s actions s' = Breaks settings f how s actions s'
 
@@ -73,9 +73,9 @@ Reads c (Refusal d status) = d ≡ c
 Reads c (Dropping d) = d ≡ c
 Reads c turn = ⊥
 
--- nothing more can be read: while a request waits for its reply no more octets wait than may, and else no request is there yet
+-- nothing more can be read: while an exchange awaits its reply no more octets are unread than may be, and else no request is there yet
 abbrev pub IsQuietBy : Option ℕ → List ℕ → Type 0
-IsQuietBy (Some exchange) unread = length unread ≤ most_waiting
+IsQuietBy (Some exchange) unread = length unread ≤ most_unread
 IsQuietBy None unread = IsUnfinished unread
 
 abbrev pub IsQuietAt : ℕ → State → Type 0
@@ -86,7 +86,7 @@ abbrev pub ReadsOn : Option ℕ → List Turn → State → Type 0
 ReadsOn None turns s' = turns ≡ []
 ReadsOn (Some c) turns s' = AllByRecursion (Reads c) turns × IsQuietAt c s'
 
--- the connection of the request that waits for the forward
+-- the connection of the exchange that the forward is for
 abbrev pub client_by : Table OpenExchange → Purpose → Option ℕ
 client_by exchanges purpose.Background = None
 client_by exchanges (purpose.Reply e why conditional) = option_map (λ x. x.connection) (get exchanges e)
@@ -96,7 +96,7 @@ client_of f s = option_and_then (λ awaited. client_by s.exchanges awaited.forwa
 
 -- ---- what each event owes
 
--- the client ends: nothing where nothing more is read; else what waits is given up, and the connection closes, or is refused
+-- the client ends: nothing where nothing more is read; else what is unread is given up, and the connection closes, or is refused
 abbrev pub OwesEnd : ℕ → Bool → Option ℕ → List Turn → Type 0
 OwesEnd c true exchange turns = turns ≡ []
 OwesEnd c false (Some e) turns = turns ≡ Leaving c ∷ []
@@ -104,9 +104,9 @@ OwesEnd c false None turns = (turns ≡ Closing c ∷ []) ⊎ ((status : ℕ) ×
 
 -- no response has come yet on a forward that is open
 abbrev pub AwaitsStill : ℕ → State → Type 0
-AwaitsStill f s = (awaited : Awaited) → get s.forwards f ≡ Some awaited → IsAwaitedStill (is_head awaited.forward.request.method) awaited.heard
+AwaitsStill f s = (awaited : Awaited) → get s.forwards f ≡ Some awaited → IsAwaitedStill (is_head awaited.forward.request.method) awaited.received
 
--- the turn, and behind it what came meanwhile from the client that waits for the forward is read
+-- the turn, and behind it what came meanwhile on the connection of the exchange that it was for is read
 abbrev pub OwesReply : ℕ → Turn → List Turn → State → State → Type 0
 OwesReply f turn turns s s' = (readings : List Turn) × (turns ≡ turn ∷ readings) × ReadsOn (client_of f s) readings s'
 
@@ -117,9 +117,9 @@ OwesAnswer f turns s s' =
 -- the turns that an event owes
 abbrev pub Owes : Happening → List Turn → State → State → Type 0
 Owes (ClientOpened c) turns s s' = turns ≡ Opening c ∷ []
-Owes (ClientBytes c octets) turns s s' = (readings : List Turn) × (turns ≡ Hearing c octets ∷ readings) × ReadsOn (Some c) readings s'
+Owes (ClientBytes c octets) turns s s' = (readings : List Turn) × (turns ≡ ClientSending c octets ∷ readings) × ReadsOn (Some c) readings s'
 Owes (ClientEnd c) turns s s' = (k : Connection) × (get s.connections c ≡ Some k) × OwesEnd c k.leaves k.exchange turns
-Owes (OriginBytes f octets) turns s s' = (more : List Turn) × (turns ≡ Telling f octets ∷ more) × OwesAnswer f more s s'
+Owes (OriginBytes f octets) turns s s' = (more : List Turn) × (turns ≡ OriginSending f octets ∷ more) × OwesAnswer f more s s'
 Owes (OriginEnd f) turns s s' = OwesReply f (Answering f true) turns s s' ⊎ OwesReply f (Failing f IsCutOff) turns s s'
 Owes (OriginFailed f) turns s s' = OwesReply f (Failing f IsLost) turns s s'
 

@@ -1,54 +1,25 @@
 -- Whether a stored response may be served to a request at a moment (RFC 9111 section 4).
-use Rattle.std.specs.Prelude.{ℕ, Bool, true, false, ◌&&◌, ◌||◌, ◌-◌, not, nat_le, List, ℤ, pos, ◌-ℤ◌, codes}
+use Rattle.std.specs.Prelude.{ℕ, Bool, ◌&&◌, ◌||◌, ◌-◌, not, List, ℤ, pos, ◌-ℤ◌, codes}
 use Rattle.hc_fields.specs.declared.fields.Field.{Field}
-use Rattle.hc_directives.specs.declared.cache_control.Seconds.{Seconds}
-use Rattle.hc_directives.specs.declared.cache_control.Seconds.TheVariants.{Bare, Value}
-use Rattle.hc_fresh.specs.Ages.{current_age, fresh, staleness}
 use Rattle.hc_fresh.specs.Lifetimes.{says, seconds_said, stale_forbidden}
 use Rattle.hc_rules.specs.Conditions.{client_condition}
 use Rattle.hc_update.specs.declared.stored.Stored.{Stored}
-use Rattle.hc_history.specs.Usable.{lifetime_of}
+use Rattle.hc_history.specs.Usable.{age_at, is_fresh_within, lifetime_of, permits_by_request, permits_meanwhile, permits_on_error}
 use Rattle.hc_service.specs.Asking.{allows_age, allows_left, asks_for_fresh}
 
--- ---- lifetime and age
-
--- its age then (section 4.2.3)
-abbrev pub age_at : Stored → ℕ → ℕ
-age_at stored moment = current_age stored.times moment
+-- ---- fresh, and what permits staleness: as in an audit, without any slack
 
 -- whether it is fresh then (section 4.2)
 abbrev pub is_fresh : Stored → ℕ → Bool
-is_fresh stored moment = fresh (lifetime_of stored) (age_at stored moment)
+is_fresh stored moment = is_fresh_within 0 stored moment
 
 -- for how many seconds it is fresh still, negative where it is stale (RFC 9211 section 2.4)
 abbrev pub ttl_at : Stored → ℕ → ℤ
 ttl_at stored moment = pos (lifetime_of stored) -ℤ pos (age_at stored moment)
 
--- by how much it is stale then, 0 where it is fresh
-abbrev pub staleness_at : Stored → ℕ → ℕ
-staleness_at stored moment = staleness (lifetime_of stored) (age_at stored moment)
-
--- ---- stale (section 4.2.4)
-
--- whether a directive permits that staleness; only one that says a number does
-abbrev pub permits : ℕ → Seconds → Bool
-permits stale (Value seconds) = nat_le stale seconds
-permits stale said = false
-
--- whether the request's max-stale permits it; a bare one permits any (section 5.2.1.2)
-abbrev pub max_stale_permits : ℕ → Seconds → Bool
-max_stale_permits stale Bare = true
-max_stale_permits stale said = permits stale said
-
 -- whether stale-while-revalidate of the response permits its staleness (RFC 5861 section 3)
 abbrev pub while_revalidating : Stored → ℕ → Bool
-while_revalidating stored moment = permits (staleness_at stored moment) (seconds_said (codes "stale-while-revalidate") stored.fields)
-
--- whether stale-if-error of the response or of the request permits it (RFC 5861 section 4)
-abbrev pub on_error : List Field → Stored → ℕ → Bool
-on_error asked stored moment =
-    permits (staleness_at stored moment) (seconds_said (codes "stale-if-error") stored.fields)
-    || permits (staleness_at stored moment) (seconds_said (codes "stale-if-error") asked)
+while_revalidating stored moment = permits_meanwhile 0 stored moment
 
 -- ---- may be served
 
@@ -67,7 +38,7 @@ is_permitted_stale asked stored moment =
     not (is_fresh stored moment)
     && not (stale_forbidden stored.fields)
     && not (asks_for_fresh (seconds_said (codes "min-fresh") asked))
-    && (max_stale_permits (staleness_at stored moment) (seconds_said (codes "max-stale") asked) || while_revalidating stored moment)
+    && (permits_by_request 0 asked stored moment || while_revalidating stored moment)
 
 -- the stored response may be served to a request of those fields
 abbrev pub may_be_served : List Field → Stored → ℕ → Bool
@@ -82,7 +53,7 @@ may_be_served asked stored moment =
 abbrev pub may_replace : List Field → Stored → ℕ → Bool
 may_replace asked stored moment =
     may_be_used asked stored
-    && (is_fresh stored moment || (not (stale_forbidden stored.fields) && on_error asked stored moment))
+    && (is_fresh stored moment || (not (stale_forbidden stored.fields) && permits_on_error 0 asked stored moment))
 
 -- ---- the client's own condition
 

@@ -17,9 +17,9 @@ Table X = FinMap nat_cmp X
 pub record Connection : Type 0 where
   -- the octets behind the last whole request, as far as they came
   pub unread : List ℕ
-  -- the number of the request that waits for its reply, if one does
+  -- the number of the exchange that awaits its reply, if one does
   pub exchange : Option ℕ
-  -- nothing more is read: the client has ended, or octets that waited were dropped; it closes behind the reply
+  -- nothing more is read: the client has ended, or unread octets were dropped; it closes behind the reply
   pub leaves : Bool
 
 -- one that has just opened
@@ -29,7 +29,7 @@ new_connection = record { unread = []; exchange = None; leaves = false }
 -- a forward that is open, and the octets that came from the origin
 pub record Awaited : Type 0 where
   pub forward : OpenForward
-  pub heard : List ℕ
+  pub received : List ℕ
 
 pub record State : Type 0 where
   pub numbers : Numbers

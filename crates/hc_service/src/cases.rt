@@ -1,7 +1,7 @@
 //! The cases of a request, and why it goes to the origin.
 
 ghost use Rattle.std.specs.Prelude.{◌≡◌, option_copied};
-ghost use Rattle.hc_service.specs.Cases.{asks_store, case_before_store, case_by_store, cause_of_stored, word_of};
+ghost use Rattle.hc_service.specs.Cases.{asks_store, case_before_store, case_by_store, case_of, cause_of_stored, word_of};
 
 use crate::asking::is_bypass;
 use crate::serving::{is_fresh, may_be_served};
@@ -31,10 +31,10 @@ pub enum Cause {
 }
 
 /// What becomes of a request.
-#[derive(Clone, Copy, Debug, PartialEq, Eq)]
-pub enum Case {
+#[derive(Clone, Copy, Debug)]
+pub enum Case<'a> {
     /// The stored response that it selects is its reply.
-    Hit,
+    Hit(&'a Stored),
     /// It goes to the origin.
     Forward(Cause),
 }
@@ -100,8 +100,13 @@ fn cause_of_stored(stored: &Stored, moment: u64) -> Cause
 
 /// What becomes of a request once the store was asked: `known` tells whether anything is stored of its
 /// target, and `chosen` is the stored response that the store chose.
-pub fn case_by_store(asked: &Fields, known: bool, chosen: Option<&Stored>, moment: u64) -> Case
-    ensures { result ≡ case_by_store asked.now known (option_copied chosen.entry) moment }
+pub fn case_by_store<'a>(
+    asked: &Fields,
+    known: bool,
+    chosen: Option<&'a Stored>,
+    moment: u64,
+) -> Case<'a>
+    ensures { case_of result ≡ case_by_store asked.now known (option_copied chosen.entry) moment }
 {
     match chosen {
         None => {
@@ -112,7 +117,7 @@ pub fn case_by_store(asked: &Fields, known: bool, chosen: Option<&Stored>, momen
         }
         Some(stored) => {
             if may_be_served(asked, stored, moment) {
-                return Case::Hit;
+                return Case::Hit(stored);
             }
             Case::Forward(cause_of_stored(stored, moment))
         }

@@ -15,7 +15,7 @@ ghost use Rattle.hc_transcript.specs.Items.{ClientReply, ClientRequest, Exchange
 ghost use Rattle.hc_transcript.specs.Checks.{cause_is_open, has_right_cause};
 ghost use Rattle.hc_transcript.specs.History.{cause_of, exchange_of, forward_of, next_position};
 ghost use Rattle.hc_transcript.specs.Limits.{greatest_number};
-ghost use Rattle.hc_transcript.specs.Records.{told};
+ghost use Rattle.hc_transcript.specs.Records.{told as cause_told};
 ghost use Rattle.hc_transcript.specs.Written.{IsWritableAnswer, IsWritableAsk};
 ghost use Rattle.hc_history.specs.Right.{IsRight};
 ghost use Rattle.hc_head.specs.Statuses.{is_error_status};
@@ -40,12 +40,13 @@ ghost use Rattle.std.specs.FinMap.{get, insert, remove};
 ghost use Rattle.hc_rules.specs.Laws.{IsForwardable};
 ghost use Rattle.hc_service.specs.declared.open.OpenExchange.{OpenExchange};
 ghost use Rattle.hc_service.specs.State.{Awaited, Connection, State, Table, new_connection, new_state};
-ghost use Rattle.hc_service.specs.Agreement.{AllHeld, CanReply, AreAsked, AreCounted, AreHeard, AreLinked, Agrees, History, IsReadOf, IsReady, IsSound, Stands, exchange_for};
+ghost use Rattle.hc_service.specs.Agreement.{AllHeld, CanReply, AreAsked, AreCounted, AreReceived, AreLinked, Agrees, History, IsReadOf, IsReady, IsSound, IsConsistent, exchange_for};
 ghost use Rattle.hc_service.specs.Runs.{Runs, RunsOn, RunsTo, nothing_yet, records_given, IsJudgedRight, StepResult, Steps, strict, with_octets};
 ghost use Rattle.hc_service.specs.Asking.{allows_age, asks_for_fresh, is_answered_by_store};
 ghost use Rattle.hc_service.specs.Replying.{Wanted, hit_reply, made_reply, passed_reply, replacing_reply};
-ghost use Rattle.hc_service.specs.Serving.{age_at, is_fresh, may_be_served, may_replace};
-ghost use Rattle.hc_service.specs.Turns.{IsAnswer, after_hearing, after_octets, after_request, replied};
+ghost use Rattle.hc_history.specs.Usable.{age_at};
+ghost use Rattle.hc_service.specs.Serving.{is_fresh, may_be_served, may_replace};
+ghost use Rattle.hc_service.specs.Turns.{IsAnswer, after_origin_octets, after_client_octets, after_request, replied};
 ghost use Rattle.hc_service.specs.Settings.{AreGood, is_name};
 
 use hc_rules::{forwards_are_writable, forwards_keep_the_target};
@@ -181,7 +182,7 @@ pub fn records_keep_to_the_format()
         → AreCounted (asked n) (with_record (request_record (one_more n.exchange) n.moment request)
         (ClientRequest (one_more n.exchange) n.moment request target) h) }
     ensures send { (n : Numbers) (h : History) (cause : Option ℕ) (request : Message RequestHead) (target : Target)
-        → AreCounted n h → has_right_cause (told cause) (cause_is_open (told cause) h.items) ≡ true
+        → AreCounted n h → has_right_cause (cause_told cause) (cause_is_open (cause_told cause) h.items) ≡ true
         → IsWritableAsk request target → one_more n.records ≤ greatest_number
         → AreCounted (sent n) (with_record (forward_record (one_more n.forward) n.moment cause request)
         (OriginRequest (one_more n.forward) n.moment request target cause) h) }
@@ -202,8 +203,8 @@ pub fn records_keep_to_the_format()
         (ClientReply e n.moment reply) h) }
 {}
 
-/// The requests that wait stay those of the connections, whatever opens, closes, waits or is answered.
-pub fn waiting_requests_are_those_of_the_connections()
+/// The open exchanges stay those of the connections, whatever opens, closes or is answered.
+pub fn open_exchanges_are_those_of_the_connections()
     ensures opened { (last : Option ℕ) (ks : Table Connection) (xs : Table OpenExchange) → AreLinked last ks xs
         → (c : ℕ) → is_later c last ≡ true → AreLinked (Some c) (insert ks c new_connection) xs }
     ensures same { (last : Option ℕ) (ks : Table Connection) (xs : Table OpenExchange) → AreLinked last ks xs
@@ -221,15 +222,15 @@ pub fn waiting_requests_are_those_of_the_connections()
         → AreLinked last (replied closes x.connection behind k ks) (remove xs e) }
 {}
 
-/// What is open stays what the records leave open, whatever is asked, sent, told and answered.
+/// What is open stays what the records leave open, whatever is asked, sent, received and answered.
 pub fn what_is_open_is_that_of_the_records()
     ensures alone { (last other : ℕ) (xs : Table OpenExchange) (fs : Table Awaited) (items : List Item)
         → AreAsked last other xs fs items → (e t u : ℕ) (request : Message RequestHead) (target : Target)
         (reply : Message ResponseHead) → last < e
         → AreAsked e other xs fs (ClientReply e u reply ∷ ClientRequest e t request target ∷ items) }
-    ensures told { (last other : ℕ) (xs : Table OpenExchange) (fs : Table Awaited) (items : List Item)
+    ensures origin_octets { (last other : ℕ) (xs : Table OpenExchange) (fs : Table Awaited) (items : List Item)
         → AreAsked last other xs fs items → (f : ℕ) (octets : List ℕ) (a : Awaited) → get fs f ≡ Some a
-        → AreAsked last other xs (insert fs f (after_hearing octets a)) items }
+        → AreAsked last other xs (insert fs f (after_origin_octets octets a)) items }
     ensures answered { (last other : ℕ) (xs : Table OpenExchange) (fs : Table Awaited) (items : List Item)
         → AreAsked last other xs fs items → (f moment : ℕ) (response : Message ResponseHead) (a : Awaited)
         → get fs f ≡ Some a → (e t : ℕ) (reply : Message ResponseHead) → exchange_for a.forward.purpose ≡ Some e
@@ -245,17 +246,17 @@ pub fn what_is_open_is_that_of_the_records()
 /// What is unread of a connection stays what came behind its last whole request, and what came of the
 /// origin on a forward is kept.
 pub fn unread_octets_are_those_that_came()
-    ensures octets { (last : Option ℕ) (forward : ℕ) (ks : Table Connection) (fs : Table Awaited)
-        (heard told : ℕ → List ℕ) → AreHeard last forward ks fs heard told
-        → (c : ℕ) (octets : List ℕ) (k : Connection) → IsReadOf (heard c) k → (is_later c last ≡ true → ⊥)
-        → AreHeard last forward (insert ks c (after_octets octets k)) fs (with_octets c octets heard) told }
+    ensures client_octets { (last : Option ℕ) (forward : ℕ) (ks : Table Connection) (fs : Table Awaited)
+        (client_octets origin_octets : ℕ → List ℕ) → AreReceived last forward ks fs client_octets origin_octets
+        → (c : ℕ) (octets : List ℕ) (k : Connection) → IsReadOf (client_octets c) k → (is_later c last ≡ true → ⊥)
+        → AreReceived last forward (insert ks c (after_client_octets octets k)) fs (with_octets c octets client_octets) origin_octets }
     ensures request { (octets : List ℕ) (k : Connection) → k.exchange ≡ None → IsReadOf octets k
         → (e : ℕ) (request : Message RequestHead) (target : Target) (size : ℕ)
         → IsRequest k.unread request target size → IsReadOf octets (after_request e (drop size k.unread) k) }
-    ensures told { (last : Option ℕ) (forward : ℕ) (ks : Table Connection) (fs : Table Awaited)
-        (heard told : ℕ → List ℕ) → AreHeard last forward ks fs heard told
+    ensures origin_octets { (last : Option ℕ) (forward : ℕ) (ks : Table Connection) (fs : Table Awaited)
+        (client_octets origin_octets : ℕ → List ℕ) → AreReceived last forward ks fs client_octets origin_octets
         → (f : ℕ) (octets : List ℕ) (a : Awaited) → get fs f ≡ Some a → (forward < f → ⊥)
-        → AreHeard last forward ks (insert fs f (after_hearing octets a)) heard (with_octets f octets told) }
+        → AreReceived last forward ks (insert fs f (after_origin_octets octets a)) client_octets (with_octets f octets origin_octets) }
 {}
 
 /// What is stored can be a reply that is recorded and read back, whatever the store is asked.
@@ -281,7 +282,7 @@ pub fn what_is_stored_can_be_a_reply()
 /// its records is right in the strictest audit, as far as records can be numbered.
 pub fn turns_keep_agreement()
     ensures { (settings : CoreSettings) → AreGood settings → (turn : Turn) (s : State) (actions : List Action)
-        (other : State) (h : History) → Stands s h → Takes settings turn s actions other
+        (other : State) (h : History) → IsConsistent s h → Takes settings turn s actions other
         → other.numbers.records ≤ greatest_number → KeepsOn turn actions h other }
 {
     forwards_are_writable();
@@ -291,7 +292,7 @@ pub fn turns_keep_agreement()
 /// So do turns, one after another, as an event owes them.
 pub fn runs_of_turns_keep_agreement()
     ensures { (settings : CoreSettings) → AreGood settings → (turns : List Turn) (s : State) (actions : List Action)
-        (other : State) (h : History) → Stands s h → Run settings turns s actions other
+        (other : State) (h : History) → IsConsistent s h → Run settings turns s actions other
         → other.numbers.records ≤ greatest_number → KeepsAll turns actions h other }
 {
     forwards_are_writable();
@@ -310,7 +311,7 @@ pub fn events_keep_agreement()
     forwards_keep_the_target();
 }
 
-/// Where a cache agrees with what has happened, each forward can end: the request that waits for it is
+/// Where a cache agrees with what has happened, each forward can end: the exchange that it is for is
 /// open, and so is its connection.
 pub fn agreement_is_ready()
     ensures { (s : State) (h : History) → Agrees s h → IsReady s }
@@ -367,7 +368,7 @@ pub fn right_runs_join()
 pub fn runs_go_on()
     ensures on { (settings : CoreSettings) (events : List Event) (results : List StepResult) (s mid : State)
         (h : History) (records : List Record) → Runs settings s h events results records (Some mid)
-        → RunsOn settings s h events results records mid }
+        → RunsOn settings s h (record { events = events; results = results; records = records }) mid }
     ensures counted { (settings : CoreSettings) (events : List Event) (results : List StepResult) (s mid : State)
         (h : History) (records : List Record) → Runs settings s h events results records (Some mid)
         → mid.numbers.records ≡ s.numbers.records + length records }

@@ -6,7 +6,7 @@ ghost use Rattle.hc_service.specs.Agreement.{exchange_for};
 use crate::cases::Cause;
 use hc_head::{RequestHead, Target};
 
-/// A request that waits for its reply.
+/// A request that awaits its reply.
 #[derive(Debug, Drop)]
 pub struct OpenExchange {
     /// The number of the connection on which it came.

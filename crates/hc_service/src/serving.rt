@@ -1,9 +1,8 @@
 //! Whether a stored response may be served to a request at a moment (RFC 9111 section 4).
 
-ghost use Rattle.std.specs.Prelude.{◌≡◌, ◌||◌, codes};
-ghost use Rattle.hc_fresh.specs.Lifetimes.{says, seconds_said};
-ghost use Rattle.hc_history.specs.Usable.{lifetime_of};
-ghost use Rattle.hc_service.specs.Serving.{age_at, has_still, is_fresh, is_fresh_enough, is_permitted_stale, max_stale_permits, may_be_served, may_be_used, may_replace, on_error, permits, staleness_at, ttl_at, while_revalidating};
+ghost use Rattle.std.specs.Prelude.{◌≡◌, ◌||◌};
+ghost use Rattle.hc_history.specs.Usable.{age_at, max_stale_permits, permits, permits_by_request, permits_on_error, staleness_at};
+ghost use Rattle.hc_service.specs.Serving.{has_still, is_fresh, is_fresh_enough, is_permitted_stale, may_be_served, may_be_used, may_replace, ttl_at, while_revalidating};
 
 use crate::asking::{allows_age, allows_left, asks_for_fresh};
 use hc_directives::Seconds;
@@ -44,7 +43,7 @@ fn staleness_at(stored: &Stored, moment: u64) -> u32
 
 /// Whether a directive permits that staleness.
 fn permits(stale: u32, said: Seconds) -> bool
-    ensures { result ≡ permits stale said }
+    ensures { result ≡ permits 0 stale said }
 {
     match said {
         Seconds::Value(seconds) => stale <= seconds,
@@ -55,11 +54,11 @@ fn permits(stale: u32, said: Seconds) -> bool
 /// Whether a max-stale of the request permits that staleness; a bare one permits any (RFC 9111 section
 /// 5.2.1.2).
 fn max_stale_permits(stale: u32, said: Seconds) -> bool
-    ensures { result ≡ max_stale_permits stale said }
+    ensures { result ≡ max_stale_permits 0 stale said }
 {
     match said {
         Seconds::Bare => true,
-        Seconds::Value(seconds) => stale <= seconds,
+        Seconds::Value(_) => permits(stale, said),
         Seconds::Absent | Seconds::Unreadable => false,
     }
 }
@@ -78,7 +77,7 @@ pub fn while_revalidating(stored: &Stored, moment: u64) -> bool
 /// Whether stale-if-error of a stored response or of the request permits how stale it is at a moment
 /// (RFC 5861 section 4).
 fn on_error(asked: &Fields, stored: &Stored, moment: u64) -> bool
-    ensures { result ≡ on_error asked.now stored.now moment }
+    ensures { result ≡ permits_on_error 0 asked.now stored.now moment }
 {
     let stale = staleness_at(stored, moment);
     permits(stale, seconds_said(b"stale-if-error", &stored.fields))
@@ -98,7 +97,7 @@ fn is_fresh_enough(asked: &Fields, stored: &Stored, moment: u64) -> bool
 {
     let lifetime = lifetime_of(stored);
     let age = age_at(stored, moment);
-    fresh(lifetime, age)
+    is_fresh(stored, moment)
         && allows_left(
             lifetime.saturating_sub(age),
             seconds_said(b"min-fresh", asked),
@@ -108,8 +107,7 @@ fn is_fresh_enough(asked: &Fields, stored: &Stored, moment: u64) -> bool
 /// Whether the request's max-stale or its own stale-while-revalidate permits how stale a stored response
 /// is at a moment.
 fn permits_staleness(asked: &Fields, stored: &Stored, moment: u64) -> bool
-    ensures { result ≡ (max_stale_permits (staleness_at stored.now moment) (seconds_said (codes "max-stale") asked.now)
-        || while_revalidating stored.now moment) }
+    ensures { result ≡ (permits_by_request 0 asked.now stored.now moment || while_revalidating stored.now moment) }
 {
     max_stale_permits(
         staleness_at(stored, moment),

@@ -1,5 +1,5 @@
 use Rattle.std.proofs.Common.{length}
-use Rattle.hc_links.specs.RequestReading.{CanRead, waiting}
+use Rattle.hc_links.specs.RequestReading.{CanRead, unread}
 use Rattle.hc_message_cases.proofs.links.refused.Given as goal
 
 -- the reader can read on
@@ -7,4 +7,4 @@ abbrev pub invariant-requests : goal.invariant-requests
 invariant-requests l = CanRead l.reader
 
 abbrev pub decreases-requests : goal.decreases-requests
-decreases-requests l = length (waiting l.reader)
+decreases-requests l = length (unread l.reader)

@@ -7,5 +7,5 @@ use Rattle.hc_reactions.proofs.outcomes.fail_by_store.Goals as goal
 pub returns : goal.returns
 returns g c =
     let left = rw c.in_ok-chosen.was at c.choose.follows.holds-at-none in
-    failure_gives c.args.wanted.now c.args.forward.now c.args.cause c.args.store.now _ (option_copied c.in_ok-chosen.chosen) _ c.failed_reply.result
-    (ap (λ (w : Wanted). w.asked.fields) c.wanted.view_is) (c.in_ok-chosen.ensures.answer, left) (c.failed_reply.ensures c.args.forward.now)
+    failure_gives c.args.wanted.now c.args.forward.now.target c.args.cause c.args.store.now _ (option_copied c.in_ok-chosen.chosen) _ c.failed_reply.result
+    (ap (λ (w : Wanted). w.asked.fields) c.wanted.view_is) (c.in_ok-chosen.ensures.answer, left) c.failed_reply.ensures

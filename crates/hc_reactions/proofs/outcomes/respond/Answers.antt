@@ -4,10 +4,10 @@ use Rattle.hc_reactions.proofs.outcomes.respond.Goals as goal
 
 pub returns-then-is_validation : goal.returns-then-is_validation
 returns-then-is_validation g c =
-    validation_gets c.args.wanted.now c.args.forward c.args.cause c.args.conditional c.args.position c.args.response _ _ c.validated_outcome.result
-    (sym (c.is_validation.ensures c.args.wanted.now c.args.forward c.args.cause) ∙ c.if-is_validation.true) refl c.validated_outcome.ensures
+    validation_gets (record { wanted = c.args.wanted.now; forward = c.args.forward; cause = c.args.cause; response = c.args.response }) c.args.conditional c.args.position _ _ c.validated_outcome.result
+    (sym c.is_validation.ensures ∙ c.if-is_validation.true) refl c.validated_outcome.ensures
 
 pub returns : goal.returns
 returns g c =
-    other_gets c.args.wanted.now c.args.forward c.args.cause c.args.conditional c.args.position c.args.response _ _ c.in_ok-answered.field-0
-    (sym (c.is_validation.ensures c.args.wanted.now c.args.forward c.args.cause) ∙ c.if-is_validation.false) c.in_ok-answered.ensures
+    other_gets (record { wanted = c.args.wanted.now; forward = c.args.forward; cause = c.args.cause; response = c.args.response }) c.args.conditional c.args.position _ _ c.in_ok-answered.field-0
+    (sym c.is_validation.ensures ∙ c.if-is_validation.false) c.in_ok-answered.ensures

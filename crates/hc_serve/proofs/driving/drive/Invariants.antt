@@ -3,9 +3,9 @@ use Rattle.hc_connection.specs.Moves.{Move}
 use Rattle.hc_serve.proofs.DriveLemmas.{SoFar}
 use Rattle.hc_serve.proofs.driving.drive.Given as goal
 
--- the turns so far
-abbrev pub invariant-turns : goal.invariant-turns
-invariant-turns g l = record {
+-- the rounds so far
+abbrev pub invariant-rounds : goal.invariant-rounds
+invariant-rounds g l = record {
   so_far : (log : List Move) (text : List ℕ) → g.L.Links.tells l.initial.links log → g.R.Link.has_got l.initial.recorder text
       → SoFar (g.L.Links.tells l.links) (g.R.Link.has_got l.recorder) l.initial.core l.core log text l.counter;
   moments : (moment : ℕ) → g.L.Links.may_tell l.links moment → g.L.Links.may_tell l.initial.links moment;

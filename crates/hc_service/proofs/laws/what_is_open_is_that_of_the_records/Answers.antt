@@ -1,13 +1,13 @@
 use Rattle.std.proofs.Common.{refl}
 use Rattle.hc_transcript.specs.Items.{OriginResponse, OriginFailure}
-use Rattle.hc_service.proofs.AskedLemmas.{asked_alone, asked_told, asked_answered}
+use Rattle.hc_service.proofs.AskedLemmas.{asked_alone, asked_received, asked_answered}
 use Rattle.hc_service.proofs.laws.what_is_open_is_that_of_the_records.Goals as goal
 
 pub returns-clause-alone : goal.returns-clause-alone
 returns-clause-alone c = asked_alone
 
-pub returns-clause-told : goal.returns-clause-told
-returns-clause-told c = asked_told
+pub returns-clause-origin_octets : goal.returns-clause-origin_octets
+returns-clause-origin_octets c = asked_received
 
 pub returns-clause-answered : goal.returns-clause-answered
 returns-clause-answered c = λ last other xs fs items k f moment response a is_open e t reply its.

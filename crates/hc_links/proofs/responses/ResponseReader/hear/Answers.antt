@@ -1,5 +1,5 @@
 use Rattle.std.proofs.Common.{Bool, List, ℕ, rules, ◌+◌, ◌<◌, ◌≤◌, ◌++◌, length, take, subst, arith, Ok}
-use Rattle.hc_links.specs.ResponseReading.{Agrees, GivesHeard}
+use Rattle.hc_links.specs.ResponseReading.{WasGiven, GivesHeard}
 use Rattle.hc_links.proofs.ResponseLemmas.{taken_of_rest, front_of_rest, all_of_rest}
 use Rattle.hc_links.proofs.ResponseLaws.{finds_response}
 use Rattle.hc_links.proofs.responses.ResponseReader.hear.Goals as goal
@@ -24,11 +24,11 @@ loop-taken-preserved c = record {
   agrees = λ to_head octets a.
       let before = octets ++ take c.loop-taken.used c.args.piece.now in
       let dropped = (rw c.in-Interim.is at (c.in_ok-taken.ensures.gives to_head before (c.loop-taken.invariant.agrees to_head octets a))) in
-      subst (Agrees to_head c.read.new.self) (front_of_rest octets c.args.piece.now c.split_at.result.1.now c.loop-taken.used c.in-Interim.taken c.split_at.ensures.back) dropped.agrees;
+      subst (WasGiven to_head c.read.new.self) (front_of_rest octets c.args.piece.now c.split_at.result.1.now c.loop-taken.used c.in-Interim.taken c.split_at.ensures.back) dropped.agrees;
 }
 
 -- what was heard is that of all octets
-heard : (c : goal.In-Last) → (to_head : Bool) (octets : List ℕ) → Agrees to_head c.args.self.now octets → GivesHeard (Ok c.in-Last.heard) to_head c.read.new.self (octets ++ c.args.piece.now)
+heard : (c : goal.In-Last) → (to_head : Bool) (octets : List ℕ) → WasGiven to_head c.args.self.now octets → GivesHeard (Ok c.in-Last.heard) to_head c.read.new.self (octets ++ c.args.piece.now)
 heard c = λ to_head octets a.
     let before = octets ++ take c.loop-taken.used c.args.piece.now in
     let rest = (rw c.in-Last.is at (c.in_ok-taken.ensures.gives to_head before (c.loop-taken.invariant.agrees to_head octets a))) in

@@ -14,8 +14,8 @@ returns-in-Replies-clause-turn g c = λ settings s k size stands there is.
       exchange_is = c.in_ok-number.ensures.number;
       numbers_are = c.in_ok-number.ensures.numbers;
       actions_are = c.in_ok-number.ensures.actions;
-      reacts = reacts_as _ c.args.target c.args.request c.args.self.now.store c.react.new.store c.args.self.now.links c.open_behind-told.result
-          c.in_ok-reaction.reaction (Replies c.in-Replies.reply c.in-Replies.behind) c.in-Replies.is c.open_behind-told.ensures c.in_ok-reaction.ensures;
+      reacts = reacts_as _ c.args.target c.args.request c.args.self.now.store c.react.new.store c.args.self.now.links c.open_behind-open_behind.result
+          c.in_ok-reaction.reaction (Replies c.in-Replies.reply c.in-Replies.behind) c.in-Replies.is c.open_behind-open_behind.ensures c.in_ok-reaction.ensures;
     })
     c.reply_and_validate.ensures.replies
 
@@ -30,7 +30,7 @@ returns-clause-turn g c = λ settings s k size stands there is.
       exchange_is = c.in_ok-number.ensures.number;
       numbers_are = c.in_ok-number.ensures.numbers;
       actions_are = c.in_ok-number.ensures.actions;
-      reacts = reacts_as _ c.args.target c.args.request c.args.self.now.store c.react.new.store c.args.self.now.links c.open_behind-told.result
-          c.in_ok-reaction.reaction (Sends c.in-Sends.forward c.in-Sends.cause c.in-Sends.conditional) c.in-Sends.is c.open_behind-told.ensures c.in_ok-reaction.ensures;
+      reacts = reacts_as _ c.args.target c.args.request c.args.self.now.store c.react.new.store c.args.self.now.links c.open_behind-open_behind.result
+          c.in_ok-reaction.reaction (Sends c.in-Sends.forward c.in-Sends.cause c.in-Sends.conditional) c.in-Sends.is c.open_behind-open_behind.ensures c.in_ok-reaction.ensures;
     }))
     c.go_forward.ensures.goes

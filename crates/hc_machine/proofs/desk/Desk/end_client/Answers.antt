@@ -20,7 +20,7 @@ returns-in-Some-exchange g c = λ settings s k stands there.
     let was = found_for IsClient _ _ c.in-Some.client k (stands.clients.at n) (sym c.in-Some.ensures.value) there in
     let out = alike_taken IsClient d.clients c.remove.new.self s.connections n (Some c.in-Some.client) stands.clients
     c.in-Some.ensures.updates c.in-Some.ensures.value c.in-Some.ensures.len in
-    c.leave_waiting.ensures settings s k _ c.args.actions.now.items (left_without g.row.S.Denot g.row.S-Hasher.Denot settings n d s c.remove.new.self stands out) there was
+    c.leave_busy.ensures settings s k _ c.args.actions.now.items (left_without g.row.S.Denot g.row.S-Hasher.Denot settings n d s c.remove.new.self stands out) there was
     (sym was.exchange ∙ c.in-Some-exchange.is) (sym was.leaves ∙ c.if-client.false)
 
 pub returns-in-None : goal.returns-in-None

@@ -2,7 +2,7 @@ use Rattle.std.proofs.Common.{true, refl}
 use Rattle.hc_head.specs.Methods.{is_head}
 use Rattle.hc_service.specs.Turns.Failure.{IsCutOff}
 use Rattle.std.specs.FinMap.{get}
-use Rattle.hc_machine.proofs.HeardLemmas.{answer_of_link, failure_of_link, left_way, none_or_some, right_way, same_forward, stands_without, taken_link}
+use Rattle.hc_machine.proofs.UnreadLemmas.{answer_of_link, failure_of_link, left_way, none_or_some, right_way, same_forward, stands_without, taken_link}
 use Rattle.hc_machine.proofs.desk.Desk.end_origin.Goals as goal
 
 pub returns-in_default : goal.returns-in_default
@@ -15,11 +15,11 @@ returns-in-Some-ended g c = λ settings s awaited stands there.
     let link = c.in-Some.link in
     let taken = c.in-Some.ensures s.forwards stands.links in
     let was = taken_link link (get s.forwards c.args.f) taken.0 awaited taken.1 there taken.2 in
-    let ends = (rw c.in-Some-ended.is at (c.in_ok-ended.ensures.gives (is_head awaited.forward.request.method) awaited.heard was.reads)) in
+    let ends = (rw c.in-Some-ended.is at (c.in_ok-ended.ensures.gives (is_head awaited.forward.request.method) awaited.received was.reads)) in
     left_way c.answer.result _ _
     (c.answer.ensures settings s awaited true
     (stands_without g.row.S.Denot g.row.S-Hasher.Denot settings d s c.args.f awaited stands there c.take.new.self taken.3) there
-    (same_forward link awaited was) (answer_of_link link awaited was true awaited.heard c.in-Some-ended.response ends))
+    (same_forward link awaited was) (answer_of_link link awaited was true awaited.received c.in-Some-ended.response ends))
 
 pub returns : goal.returns
 returns g c = λ settings s awaited stands there.
@@ -27,8 +27,8 @@ returns g c = λ settings s awaited stands there.
     let link = c.in-Some.link in
     let taken = c.in-Some.ensures s.forwards stands.links in
     let was = taken_link link (get s.forwards c.args.f) taken.0 awaited taken.1 there taken.2 in
-    let ends = (rw c.in-None.is at (c.in_ok-ended.ensures.gives (is_head awaited.forward.request.method) awaited.heard was.reads)) in
+    let ends = (rw c.in-None.is at (c.in_ok-ended.ensures.gives (is_head awaited.forward.request.method) awaited.received was.reads)) in
     right_way c.break_off.result _ _
     (c.break_off.ensures settings s awaited IsCutOff
     (stands_without g.row.S.Denot g.row.S-Hasher.Denot settings d s c.args.f awaited stands there c.take.new.self taken.3) there
-    (same_forward link awaited was) refl (failure_of_link link awaited was IsCutOff awaited.heard ends))
+    (same_forward link awaited was) refl (failure_of_link link awaited was IsCutOff awaited.received ends))

@@ -8,7 +8,6 @@ use Rattle.hc_machine.proofs.desk.Desk.go_forward.Goals as goal
 
 pub returns-clause-goes : goal.returns-clause-goes
 returns-clause-goes g c = record {
-  name = refl;
   numbers = c.in_ok-send_forward.ensures.numbers;
   clients = c.in_ok-await_reply.ensures.clients;
   exchanges = c.in_ok-await_reply.ensures.exchanges;
@@ -17,6 +16,6 @@ returns-clause-goes g c = record {
       (sent_forward c.args.forward.head t c.args.self.now.numbers.moment c.args.purpose)))
       c.in_ok-target.ensures (c.in_ok-send_forward.ensures.links forwards are
       (subst (λ (t : Target). HasPlace (sent_forward c.args.forward.head t c.args.self.now.numbers.moment c.args.purpose) forwards) (sym c.in_ok-target.ensures) place));
-  store = refl;
+  keeps = record { name = refl; store = refl };
   actions = c.in_ok-send_forward.ensures.actions;
 }

@@ -1,7 +1,7 @@
 use Rattle.std.proofs.Common.{refl}
 use Rattle.hc_service.specs.Turns.Failure.{IsLost}
 use Rattle.std.specs.FinMap.{get}
-use Rattle.hc_machine.proofs.HeardLemmas.{none_or_some, same_forward, stands_without, taken_link}
+use Rattle.hc_machine.proofs.UnreadLemmas.{none_or_some, same_forward, stands_without, taken_link}
 use Rattle.hc_machine.proofs.desk.Desk.lose.Goals as goal
 
 pub returns-in-None : goal.returns-in-None

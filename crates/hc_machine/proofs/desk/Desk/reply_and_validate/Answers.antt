@@ -1,27 +1,28 @@
 use Rattle.std.proofs.Common.{◌≤◌, ℕ, length, subst, sym}
 use Rattle.std.specs.BTreeMap.{BTreeMap}
-use Rattle.hc_links.specs.RequestReading.{waiting}
+use Rattle.hc_links.specs.RequestReading.{unread}
 use Rattle.hc_open.specs.declared.links.Client.{Client}
-use Rattle.hc_machine.specs.Reading.{waiting_at}
+use Rattle.hc_machine.specs.Reading.{unread_at}
+use Rattle.hc_machine.specs.Standing.{at_desk}
 use Rattle.hc_machine.proofs.AskLemmas.{replies_alone, replies_then}
 use Rattle.hc_machine.proofs.SendLemmas.{always_ok, on_ok_by}
 use Rattle.hc_machine.proofs.desk.Desk.reply_and_validate.Goals as goal
 
 pub returns-in-None-clause-replies : goal.returns-in-None-clause-replies
 returns-in-None-clause-replies g c =
-    replies_alone g.row.S.Denot g.row.S-Hasher.Denot c.args.number c.args.exchange c.args.client c.args.closes c.args.reply.now c.args.behind
-    c.args.actions.now.items c.reply_at_once.new.actions.items c.args.self.now c.reply_at_once.new.self c.in-None.is c.in_ok-reply_at_once.ensures.replies
+    replies_alone g.row.S.Denot g.row.S-Hasher.Denot (record { number = c.args.number; exchange = c.args.exchange; client = c.args.client }) c.args.closes c.args.reply.now c.args.behind
+    (at_desk c.args.actions.now.items c.args.self.now) (at_desk c.reply_at_once.new.actions.items c.reply_at_once.new.self) c.in-None.is c.in_ok-reply_at_once.ensures.replies
 
 pub returns-in-Some-clause-replies : goal.returns-in-Some-clause-replies
 returns-in-Some-clause-replies g c =
     on_ok_by c.send_behind.result _ _
-    (replies_then g.row.S.Denot g.row.S-Hasher.Denot c.args.number c.args.exchange c.args.client c.args.closes c.args.reply.now c.args.behind c.in-Some.validation
-    c.args.actions.now.items c.reply_at_once.new.actions.items c.send_behind.new.actions.items c.args.self.now c.reply_at_once.new.self c.send_behind.new.self c.in-Some.is
+    (replies_then g.row.S.Denot g.row.S-Hasher.Denot (record { number = c.args.number; exchange = c.args.exchange; client = c.args.client }) c.args.closes c.args.reply.now c.args.behind c.in-Some.validation
+    (at_desk c.args.actions.now.items c.args.self.now) (at_desk c.reply_at_once.new.actions.items c.reply_at_once.new.self) (at_desk c.send_behind.new.actions.items c.send_behind.new.self) c.in-Some.is
     c.in_ok-reply_at_once.ensures.replies)
     c.send_behind.ensures.sends
 
-pub returns-in-Some-clause-waits : goal.returns-in-Some-clause-waits
-returns-in-Some-clause-waits g c = λ none.
+pub returns-in-Some-clause-unread : goal.returns-in-Some-clause-unread
+returns-in-Some-clause-unread g c = λ none.
     always_ok c.send_behind.result _
-    (subst (λ (m : BTreeMap ℕ Client). waiting_at c.args.exchange.connection m ≤ length (waiting c.args.client.reader)) (sym c.send_behind.ensures.clients)
-    (c.in_ok-reply_at_once.ensures.waits none))
+    (subst (λ (m : BTreeMap ℕ Client). unread_at c.args.exchange.connection m ≤ length (unread c.args.client.reader)) (sym c.send_behind.ensures.clients)
+    (c.in_ok-reply_at_once.ensures.unread none))

@@ -4,11 +4,8 @@ use Rattle.hc_machine.proofs.desk.Desk.send_behind.Goals as goal
 
 pub returns-clause-sends : goal.returns-clause-sends
 returns-clause-sends g c = when_ok c.send_forward.result _ (λ ok. record {
-  name = refl;
   numbers = of_ok c.send_forward.result _ c.send_forward.ensures.numbers ok;
-  clients = refl;
-  exchanges = refl;
   links = λ forwards are place. of_ok c.send_forward.result _ (c.send_forward.ensures.links forwards are place) ok;
-  store = refl;
+  keeps = record { name = refl; clients = refl; exchanges = refl; store = refl };
   actions = of_ok c.send_forward.result _ c.send_forward.ensures.actions ok;
 })

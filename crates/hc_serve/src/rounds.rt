@@ -1,9 +1,9 @@
-//! One turn: something happens, the cache is handed it, and what it does is carried out.
+//! One round: something happens, the cache is handed it, and what it does is carried out.
 
 ghost use Rattle.std.specs.Prelude.{◌≡◌, ℕ, List, Ok, false};
 ghost use Rattle.hc_connection.specs.Moves.{Move};
 ghost use Rattle.hc_serve.specs.Carrying.{CountsRecorder};
-ghost use Rattle.hc_serve.specs.Turns.{GivesTurn};
+ghost use Rattle.hc_serve.specs.Rounds.{GivesRound};
 
 use crate::carrying::carry_out;
 use crate::fault::DriveFault;
@@ -12,15 +12,15 @@ use hc_machine::Core;
 use std::alloc::Global;
 use std::hash::BuildHasher;
 
-/// One turn. Answers whether something happened.
-pub(crate) fn turn<S: BuildHasher, L: Links, R: Link>(
+/// One round. Answers whether something happened.
+pub(crate) fn round<S: BuildHasher, L: Links, R: Link>(
     alloc: Global,
     core: &mut Core<S>,
     links: &mut L,
     recorder: &mut R,
 ) -> Result<bool, DriveFault>
-    ensures turn { (log : List Move) (text : List ℕ) → L.tells links.old log → R.has_got recorder.old text
-        → GivesTurn (L.tells links.new) (R.has_got recorder.new) result core.old core.new log text }
+    ensures round { (log : List Move) (text : List ℕ) → L.tells links.old log → R.has_got recorder.old text
+        → GivesRound (L.tells links.new) (R.has_got recorder.new) result core.old core.new log text }
     ensures rest { result ≡ Ok false → L.rests links.new }
     ensures moments { (moment : ℕ) → L.may_tell links.new moment → L.may_tell links.old moment }
     ensures unread { (times : ℕ) → R.was_read recorder.old times → R.was_read recorder.new times }

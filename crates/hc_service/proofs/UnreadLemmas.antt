@@ -12,9 +12,9 @@ use Rattle.hc_framing.proofs.BodyLemmas.{body-append, body_within}
 use Rattle.hc_links.specs.Requests.{IsRequest}
 use Rattle.hc_service.specs.Numbers.{is_later}
 use Rattle.hc_service.specs.State.{Table, Connection, Awaited, new_connection}
-use Rattle.hc_service.specs.Turns.{after_octets, after_request, after_reply, after_leaving, after_hearing}
+use Rattle.hc_service.specs.Turns.{after_client_octets, after_request, after_reply, after_leaving, after_origin_octets}
 use Rattle.hc_service.specs.Choices.{OnTest}
-use Rattle.hc_service.specs.Agreement.{AreRequestsThen, HasLeft, IsReadOf, AreHeard}
+use Rattle.hc_service.specs.Agreement.{AreRequestsThen, HasLeft, IsReadOf, AreReceived}
 use Rattle.hc_service.specs.Runs.{with_octets}
 use Rattle.hc_service.proofs.TableLemmas.{was_put, was_left}
 use Rattle.hc_service.proofs.LinkLemmas.{none_some}
@@ -80,16 +80,16 @@ rest_of octets k stays is = subst (λ (b : Bool). OnTest b (HasLeft k) ((count :
 left_of : (octets : List ℕ) (k : Connection) → k.leaves ≡ true → IsReadOf octets k → HasLeft k
 left_of octets k leaves is = subst (λ (b : Bool). OnTest b (HasLeft k) ((count : ℕ) × AreRequestsThen count octets k.unread)) leaves is
 
--- whoever has no request waiting can be read on
+-- a connection without an open exchange can be read on
 idle_stays : (octets : List ℕ) (k : Connection) → k.exchange ≡ None → IsReadOf octets k → k.leaves ≡ false
 idle_stays octets k idle is =
     ⊎_elim
-    (λ (leaves : k.leaves ≡ true). let l = left_of octets k leaves is in absurd (none_some k.exchange l.exchange idle l.waits))
+    (λ (leaves : k.leaves ≡ true). let l = left_of octets k leaves is in absurd (none_some k.exchange l.exchange idle l.awaits))
     (λ (stays : k.leaves ≡ false). stays)
     (cases_Bool k.leaves)
 
 -- octets come
-pub read_octets : (octets more : List ℕ) (k : Connection) → IsReadOf octets k → IsReadOf (octets ++ more) (after_octets more k)
+pub read_octets : (octets more : List ℕ) (k : Connection) → IsReadOf octets k → IsReadOf (octets ++ more) (after_client_octets more k)
 read_octets octets more k is =
     ⊎_elim
     (λ (leaves : k.leaves ≡ true). subst (IsReadOf (octets ++ more)) (sym (ap (λ (b : Bool). cond b k (record { unread = k.unread ++ more; exchange = k.exchange; leaves = k.leaves })) leaves))
@@ -117,24 +117,24 @@ module _ (octets : List ℕ) (k : Connection) (idle : k.exchange ≡ None) (is :
       subst (λ (b : Bool). OnTest b (HasLeft (after_reply (drop size k.unread) k)) ((count : ℕ) × AreRequestsThen count octets (drop size k.unread)))
       (sym stays_open) (suc rest.0, requests_next rest.0 octets k.unread message target size rest.1 r)
 
--- a request that waited has its reply, and the connection stays
+-- an exchange has its reply, and the connection stays
 pub read_answered : (octets : List ℕ) (k : Connection) → k.leaves ≡ false → IsReadOf octets k → IsReadOf octets (after_reply k.unread k)
 read_answered octets k stays is =
     subst (λ (b : Bool). OnTest b (HasLeft (after_reply k.unread k)) ((count : ℕ) × AreRequestsThen count octets k.unread)) (sym stays) (rest_of octets k stays is)
 
 -- nothing more is read
 pub read_left : (octets : List ℕ) (k : Connection) (e : ℕ) → k.exchange ≡ Some e → IsReadOf octets (after_leaving k)
-read_left octets k e waits = record { none_unread = refl; exchange = e; waits = waits }
+read_left octets k e awaits = record { none_unread = refl; exchange = e; awaits = awaits }
 
 -- ---- all links
 
-module _ (last : Option ℕ) (F : ℕ) (ks : Table Connection) (fs : Table Awaited) (heard told : ℕ → List ℕ) (a : AreHeard last F ks fs heard told) where
+module _ (last : Option ℕ) (F : ℕ) (ks : Table Connection) (fs : Table Awaited) (client_octets origin_octets : ℕ → List ℕ) (a : AreReceived last F ks fs client_octets origin_octets) where
   -- a connection opens
-  pub heard_opened : (c : ℕ) → is_later c last ≡ true → ((d : ℕ) → is_later d (Some c) ≡ true → is_later d last ≡ true) → AreHeard (Some c) F (insert ks c new_connection) fs heard told
-  heard_opened c first behind = record {
+  pub received_opened : (c : ℕ) → is_later c last ≡ true → ((d : ℕ) → is_later d (Some c) ≡ true → is_later d last ≡ true) → AreReceived (Some c) F (insert ks c new_connection) fs client_octets origin_octets
+  received_opened c first behind = record {
     connections_are = λ d k is.
         ⊎_elim
-        (λ (p : (c ≡ d) × (new_connection ≡ k)). subst (IsReadOf (heard d)) p.1 (0, ap heard (sym p.0) ∙ a.later_connections c first))
+        (λ (p : (c ≡ d) × (new_connection ≡ k)). subst (IsReadOf (client_octets d)) p.1 (0, ap client_octets (sym p.0) ∙ a.later_connections c first))
         (λ (p : (c ≡ d → ⊥) × (get ks d ≡ Some k)). a.connections_are d k p.1)
         (was_put ks c new_connection d k is);
     forwards_are = a.forwards_are;
@@ -143,11 +143,11 @@ module _ (last : Option ℕ) (F : ℕ) (ks : Table Connection) (fs : Table Await
   }
 
   -- a connection goes on
-  pub heard_same : (c : ℕ) (k : Connection) → IsReadOf (heard c) k → AreHeard last F (insert ks c k) fs heard told
-  heard_same c k is_read = record {
+  pub received_same : (c : ℕ) (k : Connection) → IsReadOf (client_octets c) k → AreReceived last F (insert ks c k) fs client_octets origin_octets
+  received_same c k is_read = record {
     connections_are = λ d q is.
         ⊎_elim
-        (λ (p : (c ≡ d) × (k ≡ q)). subst (λ (n : ℕ). IsReadOf (heard n) q) p.0 (subst (IsReadOf (heard c)) p.1 is_read))
+        (λ (p : (c ≡ d) × (k ≡ q)). subst (λ (n : ℕ). IsReadOf (client_octets n) q) p.0 (subst (IsReadOf (client_octets c)) p.1 is_read))
         (λ (p : (c ≡ d → ⊥) × (get ks d ≡ Some q)). a.connections_are d q p.1)
         (was_put ks c k d q is);
     forwards_are = a.forwards_are;
@@ -156,26 +156,26 @@ module _ (last : Option ℕ) (F : ℕ) (ks : Table Connection) (fs : Table Await
   }
 
   -- octets come on it
-  pub heard_octets : (c : ℕ) (octets : List ℕ) (k : Connection) → IsReadOf (heard c) k → (is_later c last ≡ true → ⊥) → AreHeard last F (insert ks c (after_octets octets k)) fs (with_octets c octets heard) told
-  heard_octets c octets k is_read known = record {
+  pub received_from_client : (c : ℕ) (octets : List ℕ) (k : Connection) → IsReadOf (client_octets c) k → (is_later c last ≡ true → ⊥) → AreReceived last F (insert ks c (after_client_octets octets k)) fs (with_octets c octets client_octets) origin_octets
+  received_from_client c octets k is_read known = record {
     connections_are = λ d q is.
         ⊎_elim
-        (λ (p : (c ≡ d) × (after_octets octets k ≡ q)). subst (λ (n : ℕ). IsReadOf (with_octets c octets heard n) q) p.0
-        (subst (λ (o : List ℕ). IsReadOf o q) (sym (ap (λ (b : Bool). cond b (heard c ++ octets) (heard c)) (eq-eqb c c refl)))
-        (subst (IsReadOf (heard c ++ octets)) p.1 (read_octets (heard c) octets k is_read))))
+        (λ (p : (c ≡ d) × (after_client_octets octets k ≡ q)). subst (λ (n : ℕ). IsReadOf (with_octets c octets client_octets n) q) p.0
+        (subst (λ (o : List ℕ). IsReadOf o q) (sym (ap (λ (b : Bool). cond b (client_octets c ++ octets) (client_octets c)) (eq-eqb c c refl)))
+        (subst (IsReadOf (client_octets c ++ octets)) p.1 (read_octets (client_octets c) octets k is_read))))
         (λ (p : (c ≡ d → ⊥) × (get ks d ≡ Some q)). subst (λ (o : List ℕ). IsReadOf o q) (sym (elsewhere d (λ same. p.0 (sym same)))) (a.connections_are d q p.1))
-        (was_put ks c (after_octets octets k) d q is);
+        (was_put ks c (after_client_octets octets k) d q is);
     forwards_are = a.forwards_are;
     later_connections = λ d is. elsewhere d (λ same. known (subst (λ (n : ℕ). is_later n last ≡ true) same is)) ∙ a.later_connections d is;
     later_forwards = a.later_forwards;
   }
     where
-      elsewhere : (d : ℕ) → (d ≡ c → ⊥) → with_octets c octets heard d ≡ heard d
-      elsewhere d other = ap (λ (b : Bool). cond b (heard d ++ octets) (heard d)) (ne_eqb d c other)
+      elsewhere : (d : ℕ) → (d ≡ c → ⊥) → with_octets c octets client_octets d ≡ client_octets d
+      elsewhere d other = ap (λ (b : Bool). cond b (client_octets d ++ octets) (client_octets d)) (ne_eqb d c other)
 
   -- it closes
-  pub heard_out : (c : ℕ) → AreHeard last F (remove ks c) fs heard told
-  heard_out c = record {
+  pub received_out : (c : ℕ) → AreReceived last F (remove ks c) fs client_octets origin_octets
+  received_out c = record {
     connections_are = λ d q is. a.connections_are d q (was_left ks c d q is).1;
     forwards_are = a.forwards_are;
     later_connections = a.later_connections;
@@ -183,12 +183,12 @@ module _ (last : Option ℕ) (F : ℕ) (ks : Table Connection) (fs : Table Await
   }
 
   -- a forward is sent
-  pub heard_sent : (f : ℕ) (b : Awaited) → b.heard ≡ [] → F < f → AreHeard last f ks (insert fs f b) heard told
-  heard_sent f b none further = record {
+  pub received_sent : (f : ℕ) (b : Awaited) → b.received ≡ [] → F < f → AreReceived last f ks (insert fs f b) client_octets origin_octets
+  received_sent f b none further = record {
     connections_are = a.connections_are;
     forwards_are = λ d z is.
         ⊎_elim
-        (λ (p : (f ≡ d) × (b ≡ z)). sym (ap (λ (z : Awaited). z.heard) p.1) ∙ none ∙ sym (ap told (sym p.0) ∙ a.later_forwards f further))
+        (λ (p : (f ≡ d) × (b ≡ z)). sym (ap (λ (z : Awaited). z.received) p.1) ∙ none ∙ sym (ap origin_octets (sym p.0) ∙ a.later_forwards f further))
         (λ (p : (f ≡ d → ⊥) × (get fs d ≡ Some z)). a.forwards_are d z p.1)
         (was_put fs f b d z is);
     later_connections = a.later_connections;
@@ -196,25 +196,25 @@ module _ (last : Option ℕ) (F : ℕ) (ks : Table Connection) (fs : Table Await
   }
 
   -- octets come on it
-  pub heard_told : (f : ℕ) (octets : List ℕ) (b : Awaited) → get fs f ≡ Some b → (F < f → ⊥) → AreHeard last F ks (insert fs f (after_hearing octets b)) heard (with_octets f octets told)
-  heard_told f octets b is_open known = record {
+  pub received_from_origin : (f : ℕ) (octets : List ℕ) (b : Awaited) → get fs f ≡ Some b → (F < f → ⊥) → AreReceived last F ks (insert fs f (after_origin_octets octets b)) client_octets (with_octets f octets origin_octets)
+  received_from_origin f octets b is_open known = record {
     connections_are = a.connections_are;
     forwards_are = λ d z is.
         ⊎_elim
-        (λ (p : (f ≡ d) × (after_hearing octets b ≡ z)). sym (ap (λ (z : Awaited). z.heard) p.1) ∙ ap (λ (o : List ℕ). o ++ octets) (a.forwards_are f b is_open)
-        ∙ sym (ap (λ (n : ℕ). with_octets f octets told n) (sym p.0) ∙ ap (λ (b : Bool). cond b (told f ++ octets) (told f)) (eq-eqb f f refl)))
+        (λ (p : (f ≡ d) × (after_origin_octets octets b ≡ z)). sym (ap (λ (z : Awaited). z.received) p.1) ∙ ap (λ (o : List ℕ). o ++ octets) (a.forwards_are f b is_open)
+        ∙ sym (ap (λ (n : ℕ). with_octets f octets origin_octets n) (sym p.0) ∙ ap (λ (b : Bool). cond b (origin_octets f ++ octets) (origin_octets f)) (eq-eqb f f refl)))
         (λ (p : (f ≡ d → ⊥) × (get fs d ≡ Some z)). a.forwards_are d z p.1 ∙ sym (elsewhere d (λ same. p.0 (sym same))))
-        (was_put fs f (after_hearing octets b) d z is);
+        (was_put fs f (after_origin_octets octets b) d z is);
     later_connections = a.later_connections;
     later_forwards = λ d is. elsewhere d (λ same. known (subst (λ (n : ℕ). F < n) same is)) ∙ a.later_forwards d is;
   }
     where
-      elsewhere : (d : ℕ) → (d ≡ f → ⊥) → with_octets f octets told d ≡ told d
-      elsewhere d other = ap (λ (b : Bool). cond b (told d ++ octets) (told d)) (ne_eqb d f other)
+      elsewhere : (d : ℕ) → (d ≡ f → ⊥) → with_octets f octets origin_octets d ≡ origin_octets d
+      elsewhere d other = ap (λ (b : Bool). cond b (origin_octets d ++ octets) (origin_octets d)) (ne_eqb d f other)
 
   -- it ends
-  pub heard_ended : (f : ℕ) → AreHeard last F ks (remove fs f) heard told
-  heard_ended f = record {
+  pub received_ended : (f : ℕ) → AreReceived last F ks (remove fs f) client_octets origin_octets
+  received_ended f = record {
     connections_are = a.connections_are;
     forwards_are = λ d z is. a.forwards_are d z (was_left fs f d z is).1;
     later_connections = a.later_connections;

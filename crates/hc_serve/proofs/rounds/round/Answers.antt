@@ -2,11 +2,11 @@ use Rattle.std.proofs.Common.{◌∷◌, subst, sym}
 use Rattle.std.proofs.lemmas.Result.{err_from_is_err_and}
 use Rattle.hc_connection.specs.Moves.Move.{Heard}
 use Rattle.hc_serve.specs.Carrying.{IsOfCarrying}
-use Rattle.hc_serve.specs.Turns.Break.{AtAnswer, Carrying}
-use Rattle.hc_serve.proofs.turning.turn.Goals as goal
+use Rattle.hc_serve.specs.Rounds.Break.{AtAnswer, Carrying}
+use Rattle.hc_serve.proofs.rounds.round.Goals as goal
 
-pub returns-in_err-actions-clause-turn : goal.returns-in_err-actions-clause-turn
-returns-in_err-actions-clause-turn g c =
+pub returns-in_err-actions-clause-round : goal.returns-in_err-actions-clause-round
+returns-in_err-actions-clause-round g c =
     let p = err_from_is_err_and c.from_residual-in_err-actions.result c.from_residual-in_err-actions.ensures.1 in
     rw p.1 (λ log text told held. (
       AtAnswer c.in-Some.event c.in_err-actions.field-0.0,
@@ -15,8 +15,8 @@ returns-in_err-actions-clause-turn g c =
       ((rw c.in-Some.is at c.in_ok-event.ensures.tells) log told, held),
     ))
 
-pub returns-in_err-carry_out-clause-turn : goal.returns-in_err-carry_out-clause-turn
-returns-in_err-carry_out-clause-turn g c =
+pub returns-in_err-carry_out-clause-round : goal.returns-in_err-carry_out-clause-round
+returns-in_err-carry_out-clause-round g c =
     let p = err_from_is_err_and c.from_residual-in_err-carry_out.result c.from_residual-in_err-carry_out.ensures.1 in
     rw p.1 (λ log text told held. (
       Carrying c.in-Some.event c.in_ok-actions.actions,
@@ -26,8 +26,8 @@ returns-in_err-carry_out-clause-turn g c =
           ((rw c.in-Some.is at c.in_ok-event.ensures.tells) log told) held,
     ))
 
-pub returns-clause-turn : goal.returns-clause-turn
-returns-clause-turn g c = λ log text told held. record {
+pub returns-clause-round : goal.returns-clause-round
+returns-clause-round g c = λ log text told held. record {
   event = c.in-Some.event;
   actions = c.in_ok-actions.actions;
   answers = record { gives = c.in_ok-actions.ensures.gives; same = c.in_ok-actions.ensures.same };

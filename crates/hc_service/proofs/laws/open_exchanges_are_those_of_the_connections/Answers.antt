@@ -1,5 +1,5 @@
 use Rattle.hc_service.proofs.LinkLemmas.{linked_opened, linked_same, linked_out, linked_asked, linked_answered}
-use Rattle.hc_service.proofs.laws.waiting_requests_are_those_of_the_connections.Goals as goal
+use Rattle.hc_service.proofs.laws.open_exchanges_are_those_of_the_connections.Goals as goal
 
 pub returns-clause-opened : goal.returns-clause-opened
 returns-clause-opened c = linked_opened

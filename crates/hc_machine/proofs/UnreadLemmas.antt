@@ -7,16 +7,16 @@ use Rattle.hc_head.specs.declared.head.ResponseHead.{ResponseHead}
 use Rattle.hc_head.specs.Methods.{is_head}
 use Rattle.hc_framing.specs.declared.message.Message.{Message}
 use Rattle.hc_links.specs.declared.responses.ResponseReader.{ResponseReader}
-use Rattle.hc_links.specs.ResponseReading.{Agrees}
+use Rattle.hc_links.specs.ResponseReading.{WasGiven}
 use Rattle.hc_service.specs.declared.open.OpenForward.{OpenForward}
 use Rattle.hc_service.specs.declared.settings.CoreSettings.{CoreSettings}
 use Rattle.hc_service.specs.State.{State, Awaited}
-use Rattle.hc_service.specs.Turns.{Failure, HasFailure, IsAnswer, after_hearing}
+use Rattle.hc_service.specs.Turns.{Failure, HasFailure, IsAnswer, after_origin_octets}
 use Rattle.hc_machine.specs.declared.desk.Desk.{Desk}
 use Rattle.hc_open.specs.declared.links.Link.{Link}
 use Rattle.hc_open.specs.declared.open_links.OpenLinks.{OpenLinks}
 use Rattle.hc_open.specs.Links.{AreLinks, IsLink}
-use Rattle.hc_machine.specs.Standing.{Stands, without_forward}
+use Rattle.hc_machine.specs.Standing.{DeskStandsFor, without_forward}
 use Rattle.hc_open.proofs.TableLemmas.{found_for, found_none}
 
 -- one of two ways
@@ -40,7 +40,7 @@ pub none_or_some : (o : Option Awaited) (a : Awaited) → o ≡ None → o ≡ S
 none_or_some o a none some = cc
 
 module _ (S H : Type 0) (settings : CoreSettings) (d : Desk S H) (s : State) (f : ℕ) (awaited : Awaited)
-    (stands : Stands {S = S} {H = H} settings d s) (there : get s.forwards f ≡ Some awaited) where
+    (stands : DeskStandsFor {S = S} {H = H} settings d s) (there : get s.forwards f ≡ Some awaited) where
   -- its link is there
   pub has_link : kept_at nat_cmp d.links.by_number f ≡ None → ⊥
   has_link none = none_or_some (get s.forwards f) awaited (found_none IsLink _ _ (stands.links.by_number.at f) none) there
@@ -50,7 +50,7 @@ module _ (S H : Type 0) (settings : CoreSettings) (d : Desk S H) (s : State) (f 
 
   -- without it, what is kept is that of the state without the forward
   pub stands_without : (links : OpenLinks) → AreLinks links (remove s.forwards f)
-      → Stands {S = S} {H = H} settings (record { alloc = d.alloc; name = d.name; numbers = d.numbers; clients = d.clients; exchanges = d.exchanges; links = links; store = d.store })
+      → DeskStandsFor {S = S} {H = H} settings (record { alloc = d.alloc; name = d.name; numbers = d.numbers; clients = d.clients; exchanges = d.exchanges; links = links; store = d.store })
       (without_forward f s)
   stands_without links are = record {
     name = stands.name;
@@ -64,9 +64,9 @@ module _ (S H : Type 0) (settings : CoreSettings) (d : Desk S H) (s : State) (f 
 
 module _ (link : Link) (awaited : Awaited) (is : IsLink link awaited) where
   -- octets came on it
-  pub told_link : (octets : List ℕ) (reader : ResponseReader) → Agrees (is_head awaited.forward.request.method) reader (awaited.heard ++ octets)
-      → IsLink (record { forward = link.forward; reader = reader }) (after_hearing octets awaited)
-  told_link octets reader agrees = record { reads = agrees; forward = is.forward }
+  pub received_link : (octets : List ℕ) (reader : ResponseReader) → WasGiven (is_head awaited.forward.request.method) reader (awaited.received ++ octets)
+      → IsLink (record { forward = link.forward; reader = reader }) (after_origin_octets octets awaited)
+  received_link octets reader agrees = record { reads = agrees; forward = is.forward }
 
   pub same_forward : awaited.forward ≡ link.forward
   same_forward = sym is.forward

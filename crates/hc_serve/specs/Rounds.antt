@@ -1,4 +1,4 @@
--- Turns: something happens, the cache is handed it, and what the cache does is carried out.
+-- Rounds: something happens, the cache is handed it, and what the cache does is carried out.
 use Rattle.std.specs.Prelude.{◌≡◌, ◌≢◌, ℕ, true, false, Bool, List, ◌∷◌, Result, Ok, Err}
 use Rattle.std.specs.Global.{Global}
 use Rattle.std.specs.declared.vec.Vec.{Vec}
@@ -22,8 +22,8 @@ pub record Answers (event : Event) (answer : StepResult) (old new : Cache) : Typ
   pub gives : (settings : CoreSettings) (s : State) → StandsFor settings old s → IsReady s → GivesStep answer settings event s new
   pub same : (step : StepFault) → answer ≡ Err step → step ≢ Memory → new ≡ old
 
--- a whole turn
-pub record IsTurn (tells : List Move → Type 0) (holds : List ℕ → Type 0) (old new : Cache) (log : List Move) (text : List ℕ) : Type 0 where
+-- a whole round
+pub record IsRound (tells : List Move → Type 0) (holds : List ℕ → Type 0) (old new : Cache) (log : List Move) (text : List ℕ) : Type 0 where
   pub event : Event
   pub actions : Vec Action Global
   pub answers : Answers event (Ok actions) old new
@@ -53,7 +53,7 @@ IsToldBy Before fault = fault ≡ Core Memory
 IsToldBy (AtAnswer event step) fault = fault ≡ Core step
 IsToldBy (Carrying event actions) fault = IsOfCarrying fault
 
-abbrev pub GivesTurn : (List Move → Type 0) → (List ℕ → Type 0) → Result Bool DriveFault → Cache → Cache → List Move → List ℕ → Type 0
-GivesTurn tells holds (Ok true) old new log text = IsTurn tells holds old new log text
-GivesTurn tells holds (Ok false) old new log text = (new ≡ old) × tells log × holds text
-GivesTurn tells holds (Err fault) old new log text = (break : Break) × IsToldBy break fault × AnswersBy break old new × StopsAt break tells holds log text
+abbrev pub GivesRound : (List Move → Type 0) → (List ℕ → Type 0) → Result Bool DriveFault → Cache → Cache → List Move → List ℕ → Type 0
+GivesRound tells holds (Ok true) old new log text = IsRound tells holds old new log text
+GivesRound tells holds (Ok false) old new log text = (new ≡ old) × tells log × holds text
+GivesRound tells holds (Err fault) old new log text = (break : Break) × IsToldBy break fault × AnswersBy break old new × StopsAt break tells holds log text

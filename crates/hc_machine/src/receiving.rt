@@ -16,20 +16,21 @@ impl<S: BuildHasher> Desk<S> {
     ghost use Rattle.hc_service.specs.State.{Awaited, State};
     ghost use Rattle.hc_service.specs.Serves.Turn.{Answering, Failing};
     ghost use Rattle.hc_service.specs.Turns.Failure.{IsCutOff, IsLost};
-    ghost use Rattle.hc_machine.specs.Standing.{CanServe, GivesEnding, GivesTelling, Stands};
+    ghost use Rattle.hc_machine.specs.Standing.{CanServe, GivesEnding, GivesReceiving, DeskStandsFor, from_state, at_desk};
 
     /// Octets come from the origin on an open forward. Answers the connection that may be read on, where
     /// the forward ends.
-    pub(crate) fn tell(
+    pub(crate) fn receive_origin(
         &mut self,
         f: u64,
         octets: &[u8],
         actions: &mut Vec<Action>,
     ) -> Result<Option<u64>, AllocError>
         requires { CanServe self.old }
-        ensures { (settings : CoreSettings) (s : State) (awaited : Awaited) → Stands settings self.old s
+        ensures { (settings : CoreSettings) (s : State) (awaited : Awaited) → DeskStandsFor settings self.old s
             → get s.forwards f ≡ Some awaited
-            → IfOk result (λ client. GivesTelling settings f octets.now client s actions.old.items actions.new.items self.new) }
+            → IfOk result (λ client. GivesReceiving (from_state settings s actions.old.items) f octets.now client
+            (at_desk actions.new.items self.new)) }
     {
         let Some(link) = self.links.by_number.remove(&f) else {
             return Ok(None);
@@ -62,10 +63,12 @@ impl<S: BuildHasher> Desk<S> {
         actions: &mut Vec<Action>,
     ) -> Result<Option<u64>, AllocError>
         requires { CanServe self.old }
-        ensures { (settings : CoreSettings) (s : State) (awaited : Awaited) → Stands settings self.old s
+        ensures { (settings : CoreSettings) (s : State) (awaited : Awaited) → DeskStandsFor settings self.old s
             → get s.forwards f ≡ Some awaited
-            → IfOk result (λ client. GivesEnding settings (Answering f true) f client s actions.old.items actions.new.items self.new
-            ⊎ GivesEnding settings (Failing f IsCutOff) f client s actions.old.items actions.new.items self.new) }
+            → IfOk result (λ client. GivesEnding (from_state settings s actions.old.items) (Answering f true) f client
+            (at_desk actions.new.items self.new)
+            ⊎ GivesEnding (from_state settings s actions.old.items) (Failing f IsCutOff) f client
+            (at_desk actions.new.items self.new)) }
     {
         let Some(link) = self.links.take(f) else {
             return Ok(None);
@@ -88,9 +91,10 @@ impl<S: BuildHasher> Desk<S> {
         actions: &mut Vec<Action>,
     ) -> Result<Option<u64>, AllocError>
         requires { CanServe self.old }
-        ensures { (settings : CoreSettings) (s : State) (awaited : Awaited) → Stands settings self.old s
+        ensures { (settings : CoreSettings) (s : State) (awaited : Awaited) → DeskStandsFor settings self.old s
             → get s.forwards f ≡ Some awaited
-            → IfOk result (λ client. GivesEnding settings (Failing f IsLost) f client s actions.old.items actions.new.items self.new) }
+            → IfOk result (λ client. GivesEnding (from_state settings s actions.old.items) (Failing f IsLost) f client
+            (at_desk actions.new.items self.new)) }
     {
         match self.links.take(f) {
             None => Ok(None),
