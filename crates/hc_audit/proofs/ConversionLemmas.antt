@@ -27,7 +27,7 @@ use Rattle.hc_history.specs.Filters.{filters}
 use Rattle.hc_history.specs.Forwarded.{is_carried, carries_response}
 use Rattle.hc_history.specs.Marks.{reply_mark}
 use Rattle.hc_history.specs.Reused.{Pass, anywhere, collapsed_count, forwarded_count}
-use Rattle.hc_history.specs.Right.{IsRightBy, IsRightForwarded, IsRightTo, IsRight, AllRight, is_collapsed}
+use Rattle.hc_history.specs.Right.{IsRightBy, IsRightForwarded, IsRightTo, IsRight, AllRight, is_judged_collapsed}
 use Rattle.hc_history.specs.States.{state_begun, begun_to, kept_answered_to, state_after, state_at}
 use Rattle.hc_history.specs.Verdicts.{IsAllRight}
 use Rattle.hc_history.specs.Windows.{some_since, is_forward_of, is_error, is_failure}
@@ -156,7 +156,7 @@ module _ (format : Format) (settings : Settings) (x : Exchange) (moment : ℕ) (
   right_by : (mark : Mark) (h : List Item) → IsRightBy mark (claim_of format settings x moment reply h) h
       → IsRightBy mark (claim_in settings x moment reply (map item_without_cause h)) (map item_without_cause h)
   right_by (Hit ttl) h is = passes _ _ h is
-  right_by (Forwarded collapsed) h is = right_forwarded (is_collapsed format collapsed) h is
+  right_by (Forwarded collapsed) h is = right_forwarded (is_judged_collapsed format collapsed) h is
   right_by Both h is = is
   right_by Unmarked h is = is
 

@@ -1,5 +1,6 @@
 //! How many hits a second a cache serves, and how many validations.
 
+use crate::bursts::measure_bursts;
 use crate::caches::{Size, filled};
 use crate::exchanges::{Exchange, Validated, exchanges, serve_all, validated_reply};
 use crate::trouble::Trouble;
@@ -55,10 +56,12 @@ fn few_served(alloc: Global, size: Size, way: Way) -> Result<u64, Trouble> {
     serve_all(&mut core, made, &reply)
 }
 
-/// Says how many hits a second are served, for each size, and then how many validations.
+/// Says how many hits a second are served, for each size, then how many validations, and how many requests that
+/// wait for the forward of another one.
 pub fn hits<C: Clock, W: Write>(alloc: Global, clock: &C, output: &mut W) -> Result<(), Trouble> {
     measure_way(alloc, clock, Way::Hits, output)?;
-    measure_way(alloc, clock, Way::Validations, output)
+    measure_way(alloc, clock, Way::Validations, output)?;
+    measure_bursts(alloc, clock, output)
 }
 
 // Says how many exchanges of that way are served a second, for each size.

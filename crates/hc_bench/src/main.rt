@@ -6,11 +6,13 @@
 //! against the clock. With `audit` it audits transcripts against it, and with `audit-long` also one of a
 //! million records. With `transcript` it writes one of those that it audits, so that other programs can
 //! be timed over the same octets. With `store` it asks stores of few keys and of many for responses, and
-//! puts others in their place. With `hits` it lets caches serve hits, and replies that are validated first.
+//! puts others in their place. With `hits` it lets caches serve hits, replies that are validated
+//! first, and requests that wait for the forward of another one.
 #![tactic(auto)]
 
 mod auditing;
 mod audits;
+mod bursts;
 mod caches;
 mod command;
 mod counts;

@@ -1,6 +1,7 @@
 //! Small samples of what is measured, by a clock that always goes alike.
 
 use crate::audits::{Sample, audit_sample};
+use crate::bursts::count_bursts;
 use crate::counts::count;
 use crate::hits::count_hits;
 use crate::measures::{Pair, compare};
@@ -50,7 +51,7 @@ impl Clock for Ticks {
 }
 
 /// Counts calls, then measures short messages, a short transcript and a small store, each in a
-/// microsecond, so that what is said is always the same, and counts hits.
+/// microsecond, so that what is said is always the same, and counts hits and what waits for another.
 pub fn sample<W: Write>(alloc: Global, output: &mut W) -> Result<(), Trouble> {
     let clock = Ticks {
         microseconds: Cell::new(0),
@@ -60,7 +61,8 @@ pub fn sample<W: Write>(alloc: Global, output: &mut W) -> Result<(), Trouble> {
     audit_sample(alloc, &clock, &FEW_RECORDS, output)?;
     audit_sample(alloc, &clock, &FEW_RECORDS_WITH_CAUSES, output)?;
     store_sized(alloc, &clock, 3, 2, 20, output)?;
-    count_hits(alloc, output)
+    count_hits(alloc, output)?;
+    count_bursts(alloc, output)
 }
 
 // Two requests of 73 octets, and one of 146.

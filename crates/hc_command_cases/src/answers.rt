@@ -1,5 +1,6 @@
 //! The questions of the cases.
 
+use crate::burst::say_burst;
 use crate::devices::Task;
 use crate::names::{say_run_faults, say_script_faults};
 use crate::orders::say_order;
@@ -49,6 +50,7 @@ fn answer_in_memory(
 ) -> Result<(), Unanswered> {
     match question {
         "order" => say_order(alloc, about, out),
+        "burst" => say_burst(alloc, about, out),
         "audit in pieces" => say_task(alloc, Task::Audit, about, out),
         "replay in pieces" => say_task(alloc, Task::Replay, about, out),
         "convert in pieces" => say_task(alloc, Task::Convert, about, out),

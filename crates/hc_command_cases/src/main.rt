@@ -4,6 +4,7 @@
 #![tactic(auto)]
 
 mod answers;
+mod burst;
 mod devices;
 mod folder;
 mod fronts;

@@ -90,6 +90,7 @@ fn fault_of(read: &[u8], kind: &[u8]) -> Result<Fault, Unanswered> {
     })
 }
 
-fn number_of(part: &[u8]) -> Result<u64, Unanswered> {
+/// The number that a part is.
+pub(crate) fn number_of(part: &[u8]) -> Result<u64, Unanswered> {
     decimal(part).ok_or(Unanswered::Unknown)
 }

@@ -14,6 +14,7 @@ use Rattle.hc_service.specs.State.{State, new_state}
 use Rattle.hc_service.proofs.BeginLemmas.{new_agrees}
 use Rattle.hc_service.proofs.RunLemmas.{runs_judged, steps_append}
 use Rattle.hc_machine.specs.Steps.{Cache, GivesStep, StandsFor}
+use Rattle.hc_core.specs.declared.recording.Recording.{Recording}
 use Rattle.hc_core.specs.Recordings.{TakesStep}
 use Rattle.hc_core.specs.Results.{is_refusal, records_in}
 use Rattle.hc_core.specs.Runs.{IsRunOf}
@@ -113,10 +114,16 @@ pub none_left : (events : List Event) (n : ℕ) → n ≡ length events → n �
 none_left [] n is none = refl
 none_left (event ∷ events) n is none = absurd (omega arith)
 
-module _ (settings : CoreSettings) (ready : LeadToReady settings) (event : Event) (before : List Event) (results after : List StepResult) (text longer : List ℕ) (old new : Cache) (goes_on : Bool)
-    (r : IsRecording settings before results text old) (t : TakesStep event old new results after text longer goes_on) where
+module _ (settings : CoreSettings) (ready : LeadToReady settings) (event : Event) (before : List Event) (kept after : Recording) (old new : Cache) (goes_on : Bool)
+    (r : IsRecording settings before kept.results.items kept.text.items old) (t : TakesStep event old new kept after goes_on) where
+  abbrev results : List StepResult
+  results = kept.results.items
+
+  abbrev longer : List ℕ
+  longer = after.text.items
+
   text_goes_on : longer ≡ transcript_of (records_given (results ++ t.answer ∷ []))
-  text_goes_on = longer_transcript results t.answer text longer r.text_is t.text_is
+  text_goes_on = longer_transcript results t.answer kept.text.items longer r.text_is t.text_is
 
   came : length (records_given (results ++ t.answer ∷ [])) ≤ greatest_number → HasCome settings before results old
   came few = r.comes (fewer results t.answer few)
@@ -126,14 +133,14 @@ module _ (settings : CoreSettings) (ready : LeadToReady settings) (event : Event
       let h = came few in
       t.gives settings h.state h.stands (ready before results h.state h.steps (fewer results t.answer few))
 
-  pub went_on : goes_on ≡ true → IsRecording settings (before ++ event ∷ []) after longer new
+  pub went_on : goes_on ≡ true → IsRecording settings (before ++ event ∷ []) after.results.items longer new
   went_on on =
       subst (λ (rs : List StepResult). IsRecording settings (before ++ event ∷ []) rs longer new) (sym t.results_are) (record {
         text_is = text_goes_on;
         comes = λ few. step_on settings event before results old new (came few) t.answer (goes_by t.answer goes_on false t.goes_on_is on) (gave few) t.same;
       })
 
-  pub was_cut_off : (left : List Event) → AreGood settings → LeadToRuns settings → goes_on ≡ false → IsRunOf settings (before ++ event ∷ left) after longer
+  pub was_cut_off : (left : List Event) → AreGood settings → LeadToRuns settings → goes_on ≡ false → IsRunOf settings (before ++ event ∷ left) after.results.items longer
   was_cut_off left good runs off =
       subst (λ (rs : List StepResult). IsRunOf settings (before ++ event ∷ left) rs longer) (sym t.results_are) (record {
         good = good;

@@ -68,8 +68,7 @@ pub(crate) fn take_step<S: BuildHasher>(
     event: Event,
     recording: &mut Recording,
 ) -> Result<bool, AllocError>
-    ensures { IfOk result (λ goes_on. TakesStep event core.old core.new recording.old.results.items recording.new.results.items
-        recording.old.text.items recording.new.text.items goes_on) }
+    ensures { IfOk result (λ goes_on. TakesStep event core.old core.new recording.old recording.new goes_on) }
 {
     let answer = core.step(event);
     append_result(&mut recording.text, &answer)?;

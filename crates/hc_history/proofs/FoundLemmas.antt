@@ -24,17 +24,17 @@ use Rattle.hc_history.specs.declared.settings.Settings.{Settings}
 use Rattle.hc_history.specs.declared.verdicts.Finding.{Finding}
 use Rattle.hc_history.specs.declared.verdicts.Finding.TheVariants.{Right, Wrong}
 use Rattle.hc_history.specs.Claims.{Claim}
-use Rattle.hc_history.specs.Right.{IsRightTo, IsWrongTo, IsRight, IsWrong, IsFinding, IsFoundBy, IsFoundForwarded, is_collapsed}
+use Rattle.hc_history.specs.Right.{IsRightTo, IsWrongTo, IsRight, IsWrong, IsFinding, IsFoundBy, IsFoundForwarded, is_judged_collapsed}
 use Rattle.hc_history.specs.Found.{IsFound, AnswersOpen}
 
 -- ---- what is found of a reply that went forward is found of its mark
 
 found_by_mark : (collapsed : Bool) (claim : Claim) (h : List Item) (found : Finding)
-    → IsFoundForwarded (is_collapsed claim.format collapsed) claim h found → IsFoundBy (Forwarded collapsed) claim h found
+    → IsFoundForwarded (is_judged_collapsed claim.format collapsed) claim h found → IsFoundBy (Forwarded collapsed) claim h found
 found_by_mark collapsed claim h Right is = is
 found_by_mark collapsed claim h (Wrong why) is = is
 
-pub found_forwarded : (collapsed judged : Bool) (claim : Claim) (h : List Item) (found : Result Finding AllocError) → is_collapsed claim.format collapsed ≡ judged
+pub found_forwarded : (collapsed judged : Bool) (claim : Claim) (h : List Item) (found : Result Finding AllocError) → is_judged_collapsed claim.format collapsed ≡ judged
     → IfOk found (IsFoundForwarded judged claim h) → IfOk found (IsFoundBy (Forwarded collapsed) claim h)
 found_forwarded collapsed judged claim h (Ok found) is by =
     found_by_mark collapsed claim h found (subst (λ (b : Bool). IsFoundForwarded b claim h found) (sym is) by)

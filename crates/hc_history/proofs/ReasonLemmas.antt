@@ -10,7 +10,7 @@ use Rattle.hc_history.specs.declared.reasons.Reason.TheVariants as reason
 use Rattle.hc_history.specs.Names.{reason_number}
 use Rattle.hc_history.specs.Claims.{Claim}
 use Rattle.hc_history.specs.Reused.{IsFirstFailed, anywhere, filter_count}
-use Rattle.hc_history.specs.Right.{IsRightBy, IsWrongBy, IsRightForwarded, IsWrongForwarded, is_collapsed}
+use Rattle.hc_history.specs.Right.{IsRightBy, IsWrongBy, IsRightForwarded, IsWrongForwarded, is_judged_collapsed}
 use Rattle.hc_history.proofs.FurthestLemmas.{Pass-fewer}
 
 -- the reason of a number, so that two reasons have two numbers
@@ -66,7 +66,7 @@ one_reason_forwarded false claim h why other one two = one.0 ∙ sym two.0
 
 pub one_reason : (mark : Mark) (claim : Claim) (h : List Item) (why other : Reason) → IsWrongBy mark claim h why → IsWrongBy mark claim h other → why ≡ other
 one_reason (Hit ttl) claim h why other one two = one_number why other (one_first (reason_number why) (reason_number other) claim h one two)
-one_reason (Forwarded collapsed) claim h why other one two = one_reason_forwarded (is_collapsed claim.format collapsed) claim h why other one two
+one_reason (Forwarded collapsed) claim h why other one two = one_reason_forwarded (is_judged_collapsed claim.format collapsed) claim h why other one two
 one_reason Both claim h why other one two = one ∙ sym two
 one_reason Unmarked claim h why other one two = one.0 ∙ sym two.0
 
@@ -79,6 +79,6 @@ not_both_forwarded false claim h why right wrong = elim right [ inl carried ↦ 
 
 pub not_both : (mark : Mark) (claim : Claim) (h : List Item) (why : Reason) → IsRightBy mark claim h → ¬ (IsWrongBy mark claim h why)
 not_both (Hit ttl) claim h why right wrong = wrong.leaves_nobody (Pass-fewer (reason_number why) filter_count anywhere claim h wrong.is_filter.1 right)
-not_both (Forwarded collapsed) claim h why right wrong = not_both_forwarded (is_collapsed claim.format collapsed) claim h why right wrong
+not_both (Forwarded collapsed) claim h why right wrong = not_both_forwarded (is_judged_collapsed claim.format collapsed) claim h why right wrong
 not_both Both claim h why right wrong = right
 not_both Unmarked claim h why right wrong = apart right wrong.1

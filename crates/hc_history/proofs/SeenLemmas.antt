@@ -18,7 +18,7 @@ use Rattle.hc_history.specs.Windows.{some_since, is_error, is_failure}
 use Rattle.hc_history.specs.Claims.{Claim, ttl_of, claim_of}
 use Rattle.hc_history.specs.Reused.{Pass, IsFirstFailed, anywhere, filter_count, forwarded_count, collapsed_count}
 use Rattle.hc_history.specs.Forwarded.{carries, is_forwarded}
-use Rattle.hc_history.specs.Right.{IsFoundBy, IsFinding, IsRightForwarded, IsWrongForwarded, is_collapsed}
+use Rattle.hc_history.specs.Right.{IsFoundBy, IsFinding, IsRightForwarded, IsWrongForwarded, is_judged_collapsed}
 use Rattle.hc_history.specs.Seen.{responses_since, window_responses_of, Seen, IsSeenAs}
 use Rattle.hc_history.specs.Furthest.{furthest, furthest_live}
 use Rattle.hc_history.proofs.WindowLemmas.{some_since-latest, carried}
@@ -122,9 +122,9 @@ found_alike : (format : Format) (seen : Seen) (h g : List Item) (mark : Mark) (c
 found_alike format seen h g (Hit ttl) claim Right one other window is = pass_alike format seen h g filter_count anywhere claim one other (omega arith) (omega arith) is
 found_alike format seen h g (Hit ttl) claim (Wrong why) one other window is = first_alike format seen h g _ claim one other is
 found_alike format seen h g (Forwarded collapsed) claim Right one other window is =
-    right_forwarded_alike format seen h g (is_collapsed claim.format collapsed) claim one other window is
+    right_forwarded_alike format seen h g (is_judged_collapsed claim.format collapsed) claim one other window is
 found_alike format seen h g (Forwarded collapsed) claim (Wrong why) one other window is =
-    wrong_forwarded_alike format seen h g (is_collapsed claim.format collapsed) claim why one other window is
+    wrong_forwarded_alike format seen h g (is_judged_collapsed claim.format collapsed) claim why one other window is
 found_alike format seen h g Both claim found one other window is = both claim found is
   where
     both : (claim : Claim) (found : Finding) → IsFoundBy Both claim h found → IsFoundBy Both claim g found

@@ -7,7 +7,7 @@ use Rattle.hc_history.specs.declared.kept.Kept.{Kept}
 use Rattle.hc_history.specs.States.{state_at}
 use Rattle.hc_history.specs.Filters.{filters}
 
--- there is one earlier response, later than that position, of which the first n filters hold
+-- there is one response behind that position, and before the reply, of which the first n filters hold
 pub record Pass (n : ℕ) (since : ℕ) (claim : Claim) (h : List Item) : Type 0 where
   pub position : ℕ
   pub kept : Kept
@@ -27,7 +27,7 @@ filter_count = 9
 abbrev pub forwarded_count : ℕ
 forwarded_count = 7
 
--- how many of them a reply passes that was collapsed: all but the last, since it says no seconds
+-- how many of them a reply passes that was collapsed: all but the last, since the mark of one that went forward has no seconds
 abbrev pub collapsed_count : ℕ
 collapsed_count = 8
 
@@ -41,6 +41,6 @@ pub record IsFirstFailed (n : ℕ) (claim : Claim) (h : List Item) : Type 0 wher
   pub leaves_nobody : Pass n anywhere claim h → ⊥
   pub earlier : (k : ℕ) → 1 ≤ k → k < n → Pass k anywhere claim h
 
--- the reply is one response that came behind its own request, while that waited: of one and the same response of its window the filters hold
+-- of one and the same response in the reply's window all filters hold but that of the seconds
 abbrev pub IsCollapsible : Claim → List Item → Type 0
 IsCollapsible claim h = Pass collapsed_count claim.since claim h

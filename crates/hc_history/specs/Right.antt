@@ -26,18 +26,19 @@ abbrev pub allows_unmarked : UnmarkedReplies → ℕ → Bool
 allows_unmarked Allow status = true
 allows_unmarked ErrorsOnly status = nat_le 400 status
 
--- whether a reply that says that it was collapsed is judged as such: where the transcript tells the cause of each forward, since that of another request may
--- not be told by its own (RFC 9211 section 2.6). In the first format it is judged as any that went forward
-abbrev pub is_collapsed : Format → Bool → Bool
-is_collapsed First collapsed = false
-is_collapsed Second collapsed = collapsed
+-- whether a reply that is marked as collapsed, or not, is judged as collapsed (RFC 9211 section 2.6): in the second format. The first doesn't tell for whom a
+-- forward was made, so there the word is passed over
+abbrev pub is_judged_collapsed : Format → Bool → Bool
+is_judged_collapsed First collapsed = false
+is_judged_collapsed Second collapsed = collapsed
 
--- a reply that went forward is right: a collapsed one carries a response that came while its request waited; another one what the origin answered to a forward
--- of its own, or a stored response in its place
+-- a reply that went forward is right, where it is judged as collapsed (true) and where it isn't: a collapsed one carries a response that came in its window;
+-- another one what the origin answered to a forward of its own, or a stored response in its place
 abbrev pub IsRightForwarded : Bool → Claim → List Item → Type 0
 IsRightForwarded true claim h = IsCollapsible claim h
 IsRightForwarded false claim h = (is_forwarded claim h ≡ true) ⊎ Pass forwarded_count anywhere claim h
 
+-- it is wrong by that reason, likewise
 abbrev pub IsWrongForwarded : Bool → Claim → List Item → Reason → Type 0
 IsWrongForwarded true claim h why = (why ≡ reason.NotCollapsible) × ¬ (IsCollapsible claim h)
 IsWrongForwarded false claim h why = (why ≡ reason.NotForwarded) × ((is_forwarded claim h ≡ false) × ¬ (Pass forwarded_count anywhere claim h))
@@ -45,14 +46,14 @@ IsWrongForwarded false claim h why = (why ≡ reason.NotForwarded) × ((is_forwa
 -- a reply with that mark is right: a hit is reused; one without a mark is right where the settings allow it; one with both marks is never right
 abbrev pub IsRightBy : Mark → Claim → List Item → Type 0
 IsRightBy (Hit ttl) claim h = IsReused claim h
-IsRightBy (Forwarded collapsed) claim h = IsRightForwarded (is_collapsed claim.format collapsed) claim h
+IsRightBy (Forwarded collapsed) claim h = IsRightForwarded (is_judged_collapsed claim.format collapsed) claim h
 IsRightBy Both claim h = ⊥
 IsRightBy Unmarked claim h = allows_unmarked claim.settings.unmarked claim.reply.head.status ≡ true
 
 -- a reply with that mark is wrong by that reason: a hit by the first filter that leaves nobody
 abbrev pub IsWrongBy : Mark → Claim → List Item → Reason → Type 0
 IsWrongBy (Hit ttl) claim h why = IsFirstFailed (reason_number why) claim h
-IsWrongBy (Forwarded collapsed) claim h why = IsWrongForwarded (is_collapsed claim.format collapsed) claim h why
+IsWrongBy (Forwarded collapsed) claim h why = IsWrongForwarded (is_judged_collapsed claim.format collapsed) claim h why
 IsWrongBy Both claim h why = why ≡ reason.BothMarks
 IsWrongBy Unmarked claim h why = (why ≡ reason.Unmarked) × (allows_unmarked claim.settings.unmarked claim.reply.head.status ≡ false)
 

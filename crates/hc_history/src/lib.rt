@@ -32,7 +32,7 @@ pub use laws::{
 };
 pub use marks::{MarkedReply, reply_mark};
 pub use reasons::Reason;
-pub use right::{allows_unmarked, is_collapsed};
+pub use right::{allows_unmarked, is_judged_collapsed};
 pub use settings::{FieldNames, Settings, UnmarkedReplies};
 pub use usable::{age_of, lifetime_of};
 pub use verdicts::{Counts, Finding, Verdict};

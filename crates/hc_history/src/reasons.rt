@@ -28,8 +28,8 @@ pub enum Reason {
     Unmarked,
     /// It is marked as a hit and as forwarded.
     BothMarks,
-    /// It is marked as forwarded together with another request, and no one response that came behind its own request
-    /// passes the filters but that of the seconds left.
+    /// It is marked as collapsed, and no one response that came behind its request passes the filters but that of the
+    /// seconds left.
     NotCollapsible,
 }
 

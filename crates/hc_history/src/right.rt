@@ -1,7 +1,7 @@
 //! How the marks of replies count.
 
 ghost use Rattle.std.specs.Prelude.{◌≡◌};
-ghost use Rattle.hc_history.specs.Right.{allows_unmarked, is_collapsed};
+ghost use Rattle.hc_history.specs.Right.{allows_unmarked, is_judged_collapsed};
 
 use crate::claim::ReplyClaim;
 use crate::settings::UnmarkedReplies;
@@ -20,8 +20,8 @@ pub fn allows_unmarked(unmarked: UnmarkedReplies, status: StatusCode) -> bool
 
 /// Whether a reply that went forward is judged as one that was collapsed, where its mark says so or doesn't:
 /// the first format tells no causes, and passes that over.
-pub fn is_collapsed(claim: &ReplyClaim<'_>, collapsed: bool) -> bool
-    ensures { result ≡ is_collapsed claim.now.format collapsed }
+pub fn is_judged_collapsed(claim: &ReplyClaim<'_>, collapsed: bool) -> bool
+    ensures { result ≡ is_judged_collapsed claim.now.format collapsed }
 {
     match claim.format {
         Format::First => false,

@@ -18,7 +18,7 @@ use Rattle.hc_transcript.specs.Items.{Exchange, Forward}
 use Rattle.hc_framing.specs.declared.message.Message.{Message}
 use Rattle.hc_history.specs.Windows.{may_be_for}
 use Rattle.hc_history.specs.Noting.{live_answered}
-use Rattle.hc_history.specs.Right.{is_collapsed}
+use Rattle.hc_history.specs.Right.{is_judged_collapsed}
 use Rattle.hc_history.specs.Seen.{Live, WindowResponse, response_to, Seen}
 use Rattle.hc_index.specs.declared.kept.LiveResponse.{LiveResponse}
 use Rattle.hc_index.specs.declared.kept.WindowAnswer.{WindowAnswer}
@@ -120,14 +120,14 @@ watched_answered forward cause response seen = record {
 
 -- ---- what a reply carries
 
--- so many are the most, or enough of them
+-- n is the most, or at least enough and no more than the most
 pub record IsMostOrEnough (enough n most : ℕ) : Type 0 where
   pub at_most : n ≤ most
   pub less_is_most : n < enough → n ≡ most
 
--- whether a reply with that mark went forward, isn't judged as collapsed and carries a response of its window
+-- whether it counts that the reply carries a response of its window: only of one that went forward, and isn't judged as collapsed
 abbrev pub carried_by : Format → Mark → Bool → Bool
-carried_by format (Forwarded collapsed) carried = not (is_collapsed format collapsed) && carried
+carried_by format (Forwarded collapsed) carried = not (is_judged_collapsed format collapsed) && carried
 carried_by format mark carried = false
 
 -- ---- all of them

@@ -16,7 +16,7 @@ use crate::kept::{LiveResponse, OpenExchange, WindowAnswer};
 use hc_head::same_target;
 use hc_history::{
     Finding, Mark, MarkedReply, Reason, ReplyClaim, Settings, carries, found_of_collapsed,
-    found_of_forwarded, found_of_hit, found_of_unmarked, is_collapsed, passed, ttl_of,
+    found_of_forwarded, found_of_hit, found_of_unmarked, is_judged_collapsed, passed, ttl_of,
 };
 use hc_transcript::Format;
 use std::alloc::{AllocError, Global};
@@ -175,7 +175,7 @@ fn found_of_collapsed_or_forwarded(
         → carried_by claim.now.format (Mark.Forwarded collapsed) (is_forwarded claim.now h) ≡ carried
         → IfOk result (IsFoundBy (Mark.Forwarded collapsed) claim.now h) }
 {
-    if is_collapsed(claim, collapsed) {
+    if is_judged_collapsed(claim, collapsed) {
         return found_of_collapsed_among(alloc, claim, lives);
     }
     found_of_forwarded_among(alloc, claim, lives, carried)

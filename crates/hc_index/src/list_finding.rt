@@ -13,7 +13,7 @@ use crate::finding::{Latest, carries_one, claim_of, found_by};
 use crate::kept::{WatchedExchange, WindowAnswer};
 use crate::list_index::ListIndex;
 use hc_head::Target;
-use hc_history::{Finding, Mark, MarkedReply, ReplyClaim, Settings, is_collapsed};
+use hc_history::{Finding, Mark, MarkedReply, ReplyClaim, Settings, is_judged_collapsed};
 use hc_transcript::Format;
 use std::alloc::AllocError;
 use std::collections::BTreeMap;
@@ -40,7 +40,7 @@ fn is_carried(mark: Mark, claim: &ReplyClaim<'_>, window: &[WindowAnswer]) -> bo
         (list_any (λ answer. carries claim.now answer.method answer.status answer.body) window.now) }
 {
     match mark {
-        Mark::Forwarded { collapsed } => !is_collapsed(claim, collapsed)
+        Mark::Forwarded { collapsed } => !is_judged_collapsed(claim, collapsed)
             && carries_one(claim, window),
         Mark::Hit { .. } | Mark::Both | Mark::Unmarked => false,
     }

@@ -12,7 +12,7 @@ ghost use Rattle.hc_index.specs.Maps.{answers_behind, carries_told, seen_in};
 use crate::finding::{Latest, claim_of, found_by};
 use crate::map_index::MapIndex;
 use crate::pool::Pool;
-use hc_history::{Finding, Mark, MarkedReply, ReplyClaim, Settings, is_collapsed};
+use hc_history::{Finding, Mark, MarkedReply, ReplyClaim, Settings, is_judged_collapsed};
 use hc_transcript::Format;
 use std::alloc::AllocError;
 
@@ -22,7 +22,7 @@ fn is_carried(mark: Mark, claim: &ReplyClaim<'_>, pool: &Pool, behind: usize) ->
         (list_any (carries_told claim.now) (answers_behind behind pool.now)) }
 {
     match mark {
-        Mark::Forwarded { collapsed } => !is_collapsed(claim, collapsed)
+        Mark::Forwarded { collapsed } => !is_judged_collapsed(claim, collapsed)
             && pool.carries_one(claim, behind),
         Mark::Hit { .. } | Mark::Both | Mark::Unmarked => false,
     }

@@ -16,7 +16,7 @@ use hc_framing::Message;
 use hc_head::ResponseHead;
 use hc_history::{
     Finding, Mark, Reason, ReplyClaim, Settings, found_of_collapsed, found_of_forwarded,
-    found_of_hit, found_of_unmarked, is_collapsed, reply_mark, ttl_of,
+    found_of_hit, found_of_unmarked, is_judged_collapsed, reply_mark, ttl_of,
 };
 use hc_transcript::Format;
 use std::alloc::{AllocError, Global};
@@ -100,7 +100,7 @@ fn found_of_collapsed_or_forwarded(
 ) -> Result<Finding, AllocError>
     ensures { IfOk result (IsFoundBy (Mark.Forwarded collapsed) claim.now (history_of items.now)) }
 {
-    if is_collapsed(claim, collapsed) {
+    if is_judged_collapsed(claim, collapsed) {
         return found_of_collapsed_behind(alloc, claim, items);
     }
     found_of_forwarded_behind(alloc, claim, items)

@@ -14,6 +14,8 @@ use Rattle.hc_store.specs.Entries.{Holdings, knows}
 use Rattle.hc_service.specs.declared.action.Action.{Action}
 use Rattle.hc_service.specs.declared.cases.Cause.{Cause}
 use Rattle.hc_service.specs.declared.numbers.Numbers.{Numbers}
+use Rattle.hc_service.specs.declared.open.ForwardKind.{ForwardKind}
+use Rattle.hc_service.specs.declared.open.ForwardKind.TheVariants.{Conditional, Plain}
 use Rattle.hc_service.specs.declared.open.OpenExchange.{OpenExchange}
 use Rattle.hc_service.specs.declared.open.Purpose.TheVariants as purpose
 use Rattle.hc_service.specs.declared.settings.CoreSettings.{CoreSettings}
@@ -21,23 +23,25 @@ use Rattle.hc_service.specs.Asking.{ends_connection}
 use Rattle.hc_service.specs.Numbers.{asked, noted, one_more, sent}
 use Rattle.hc_service.specs.Cases.{Case, case_before_store, case_by_store}
 use Rattle.hc_service.specs.Cases.Case.{Hit, Forward}
-use Rattle.hc_service.specs.Reactions.{Reaction, Reacts, ReactsBy, bare, chosen_reaction, forward_reaction, is_background, is_validated_behind, most_background, stored_forward}
-use Rattle.hc_service.specs.Reactions.Reaction.{Replies, Sends}
+use Rattle.hc_service.specs.Joining.{IsLeast}
+use Rattle.hc_service.specs.Reactions.{Reaction, Reacts, ReactsBy, ReactsJoined, WholeRequest, would_wait, bare, chosen_reaction, forward_reaction, is_background, is_validated_behind, most_background, stored_forward}
+use Rattle.hc_service.specs.Reactions.Reaction.{Replies, Sends, Waits}
 use Rattle.hc_service.specs.Replying.{Wanted, hit_reply}
 use Rattle.hc_service.specs.Sending.{ask_actions, reply_actions, send_actions}
 use Rattle.hc_service.specs.Serves.Turn.{Asking}
 use Rattle.hc_service.specs.Serving.{is_fresh, while_revalidating}
-use Rattle.hc_service.specs.State.{State, Table, Connection, Awaited}
+use Rattle.hc_service.specs.State.{State, Table, Connection, Awaited, OpenNow, open_now}
 use Rattle.hc_service.specs.Turns.{after_reply, after_request, closes_behind, replied, sent_forward, wanted_now, whole_request}
 use Rattle.hc_reactions.specs.declared.reacting.Reaction.{Reaction as GivenReaction}
 use Rattle.hc_reactions.specs.declared.reacting.OpenBehind.{OpenBehind}
-use Rattle.hc_reactions.specs.Reacting.{IsOpenBehind, owed_reaction}
+use Rattle.hc_reactions.specs.Reacting.{IsOpenBehind, IsUnderway, owed_reaction}
 use Rattle.hc_machine.specs.declared.desk.Desk.{Desk}
 use Rattle.hc_open.specs.declared.links.Client.{Client}
+use Rattle.hc_open.specs.declared.open_exchanges.OpenExchanges.{OpenExchanges}
 use Rattle.hc_open.specs.declared.open_links.OpenLinks.{OpenLinks}
 use Rattle.hc_machine.specs.declared.answering.HeldExchange.{HeldExchange}
 use Rattle.hc_open.specs.Links.{AreClients, AreExchanges, AreLinks, HasPlace, is_behind}
-use Rattle.hc_machine.specs.Reading.{SendsForward, SendsReplies, SendsReply, SendsReplyThenBehind, IsAsked, SendsBehind, opens_behind}
+use Rattle.hc_machine.specs.Reading.{JoinsForward, SendsForward, SendsReplies, SendsReply, SendsReplyThenBehind, IsAsked, SendsBehind, opens_behind}
 use Rattle.hc_machine.specs.Standing.{GivesTurn, DeskStandsFor, without_connection, from_state, at_desk, Reached}
 use Rattle.hc_open.proofs.BehindLemmas.{reply_has_place}
 use Rattle.hc_open.proofs.TableLemmas.{put_back}
@@ -47,12 +51,17 @@ abbrev pub wanted_by : List ℕ → ℕ → RequestHead → Bool → Wanted
 wanted_by name moment request closes = record { name = name; moment = moment; asked = request; closes = closes }
 
 -- a reaction of the code, and the same where it is known which it is; by what it was told of the forwards for the store alone
-pub reacts_as : (wanted : Wanted) (target : Target) (request : Message RequestHead) (old new : Holdings) (links : OpenLinks) (open_behind : OpenBehind) (given known : GivenReaction) → given ≡ known
-    → ((forwards : Table Awaited) → AreLinks links forwards → IsOpenBehind target forwards open_behind)
-    → ((forwards : Table Awaited) → IsOpenBehind target forwards open_behind → Reacts (record { request = request; target = target; wanted = wanted }) forwards old (owed_reaction given) new)
-    → (forwards : Table Awaited) → AreLinks links forwards → Reacts (record { request = request; target = target; wanted = wanted }) forwards old (owed_reaction known) new
-reacts_as wanted target request old new links open_behind given known is counts reacts forwards are =
-    subst (λ (r : GivenReaction). Reacts (record { request = request; target = target; wanted = wanted }) forwards old (owed_reaction r) new) is (reacts forwards (counts forwards are))
+pub reacts_as : (wanted : Wanted) (target : Target) (request : Message RequestHead) (old new : Holdings) (links : OpenLinks) (exchanges : OpenExchanges) (behind : OpenBehind) (joinable : Option ℕ)
+    (given known : GivenReaction) → given ≡ known
+    → ((forwards : Table Awaited) → AreLinks links forwards → IsOpenBehind target forwards behind)
+    → ((underway : OpenNow) → AreLinks links underway.forwards → AreExchanges exchanges underway.exchanges → IsLeast target underway joinable)
+    → ((underway : OpenNow) → IsUnderway target underway (record { behind = behind; least_joinable = joinable })
+    → Reacts (record { request = request; target = target; wanted = wanted }) underway old (owed_reaction given) new)
+    → (underway : OpenNow) → AreLinks links underway.forwards → AreExchanges exchanges underway.exchanges
+    → Reacts (record { request = request; target = target; wanted = wanted }) underway old (owed_reaction known) new
+reacts_as wanted target request old new links exchanges behind joinable given known is counts least reacts underway are open_are =
+    subst (λ (r : GivenReaction). Reacts (record { request = request; target = target; wanted = wanted }) underway old (owed_reaction r) new) is
+    (reacts underway (record { behind = counts underway.forwards are; least_joinable = least underway are open_are }))
 
 -- ---- a validation behind a reply is sent only where it has place
 
@@ -60,7 +69,8 @@ reacts_as wanted target request old new links open_behind given known is counts 
 validates : Reaction → Bool
 validates (Replies reply None) = false
 validates (Replies reply (Some validation)) = true
-validates (Sends forward why conditional) = false
+validates (Sends forward why kind) = false
+validates (Waits forward) = false
 
 false_true : false ≡ true → ⊥
 false_true e = cc
@@ -77,8 +87,11 @@ none_of_three true true false true has = cc
 none_of_three true false few true has = cc
 none_of_three false within few true has = cc
 
-module _ (wanted : Wanted) (target : Target) (request : Message RequestHead) (forwards : Table Awaited) where
-  sends_alone : (why : Cause) (test : Bool) (one other : Message RequestHead) → validates (cond test (Sends one why true) (Sends other why false)) ≡ false
+module _ (wanted : Wanted) (target : Target) (request : Message RequestHead) (underway : OpenNow) where
+  abbrev forwards : Table Awaited
+  forwards = underway.forwards
+
+  sends_alone : (why : Cause) (test : Bool) (one other : Message RequestHead) → validates (cond test (Sends one why Conditional) (Sends other why Plain)) ≡ false
   unfolding validates
   sends_alone why true one other = refl
   sends_alone why false one other = refl
@@ -108,16 +121,25 @@ module _ (wanted : Wanted) (target : Target) (request : Message RequestHead) (fo
       (by_test (is_validated_behind stored wanted.moment target forwards) (hit_reply wanted stored) (bare (conditional_request wanted.name target wanted.asked stored.fields)) does)
   chosen_place chosen (Forward why) does = absurd (never _ (forwards_alone why chosen) does)
 
-  place_by : (why : Option Cause) (old new : Holdings) (reaction : Reaction) → ReactsBy why (record { request = request; target = target; wanted = wanted }) forwards old reaction new → validates reaction ≡ true
+  abbrev whole : WholeRequest
+  whole = record { request = request; target = target; wanted = wanted }
+
+  joined_place : (least : Option ℕ) (old new : Holdings) (reaction : Reaction) → ReactsJoined least whole forwards old reaction new → validates reaction ≡ true
+      → list_any (is_behind target) (values forwards) ≡ false
+  unfolding validates
+  joined_place (Some f) old new reaction reacts does = absurd (never (Waits f) refl (sym (ap validates reacts.0) ∙ does))
+  joined_place None old new reaction reacts does =
+      chosen_place reacts.chosen (case_by_store request.head.fields (knows target old.entries) reacts.chosen wanted.moment) (sym (ap validates reacts.reaction_is) ∙ does)
+
+  place_by : (why : Option Cause) (old new : Holdings) (reaction : Reaction) → ReactsBy why whole underway old reaction new → validates reaction ≡ true
       → list_any (is_behind target) (values forwards) ≡ false
   place_by (Some why) old new reaction reacts does =
       absurd (never _ (forwards_alone why None) (sym (ap validates reacts.0) ∙ does))
-  place_by None old new reaction reacts does =
-      chosen_place reacts.chosen (case_by_store request.head.fields (knows target old.entries) reacts.chosen wanted.moment) (sym (ap validates reacts.reaction_is) ∙ does)
+  place_by None old new reaction reacts does = joined_place (cond (would_wait whole old) reacts.least None) old new reaction reacts.reacts does
 
   -- none is open for the target
   pub validated_in_place : (old new : Holdings) (reply : Message ResponseHead) (validation : Message RequestHead)
-      → Reacts (record { request = request; target = target; wanted = wanted }) forwards old (Replies reply (Some validation)) new → list_any (is_behind target) (values forwards) ≡ false
+      → Reacts whole underway old (Replies reply (Some validation)) new → list_any (is_behind target) (values forwards) ≡ false
   unfolding validates
   validated_in_place old new reply validation reacts = place_by (case_before_store request) old new (Replies reply (Some validation)) reacts refl
 
@@ -128,8 +150,8 @@ module _ (S H : Type 0) (settings : CoreSettings) (d : Desk S H) (s : State) (c 
     pub exchange_is : exchange ≡ one_more d.numbers.exchange
     pub numbers_are : numbers ≡ asked d.numbers
     pub actions_are : after ≡ before ++ ask_actions (one_more d.numbers.exchange) d.numbers.moment request
-    pub reacts : (forwards : Table Awaited) → AreLinks d.links forwards
-        → Reacts (record { request = request; target = target; wanted = wanted_by d.name numbers.moment request.head closes }) forwards d.store reaction store
+    pub reacts : (underway : OpenNow) → AreLinks d.links underway.forwards → AreExchanges d.exchanges underway.exchanges
+        → Reacts (record { request = request; target = target; wanted = wanted_by d.name numbers.moment request.head closes }) underway d.store reaction store
 
   module _ (closes : Bool) (exchange : ℕ) (numbers : Numbers) (before mid : List Action) (reaction : Reaction) (store : Holdings)
       (stands : DeskStandsFor {S = S} {H = H} settings d (without_connection c s)) (there : get s.connections c ≡ Some k) (is : IsAsked client k request target size)
@@ -155,8 +177,9 @@ module _ (S H : Type 0) (settings : CoreSettings) (d : Desk S H) (s : State) (c 
     wanted_is : wanted_by d.name numbers.moment request.head closes ≡ wanted_now settings s request.head k
     wanted_is = λ i. wanted_by (stands.name i) (moment_now i) request.head (closes_now i)
 
-    reacts_now : Reacts (whole_request settings s request target k) s.forwards s.store reaction store
-    reacts_now = subst (λ (w : Wanted × Holdings). Reacts (record { request = request; target = target; wanted = w.0 }) s.forwards w.1 reaction store) (λ i. (wanted_is i, stands.store i)) (has.reacts s.forwards stands.links)
+    reacts_now : Reacts (whole_request settings s request target k) (open_now s) s.store reaction store
+    reacts_now = subst (λ (w : Wanted × Holdings). Reacts (record { request = request; target = target; wanted = w.0 }) (open_now s) w.1 reaction store) (λ i. (wanted_is i, stands.store i))
+        (has.reacts (open_now s) stands.links stands.exchanges)
 
     -- actions behind the record
     behind_asked : (after : List Action) (more more' : List Action) → after ≡ mid ++ more → more ≡ more'
@@ -168,7 +191,7 @@ module _ (S H : Type 0) (settings : CoreSettings) (d : Desk S H) (s : State) (c 
   pub asks_reply : (closes : Bool) (exchange : ℕ) (n : Numbers) (before mid after : List Action) (reply : Message ResponseHead) (store : Holdings) (new : Desk S H)
       → DeskStandsFor {S = S} {H = H} settings d (without_connection c s) → get s.connections c ≡ Some k → IsAsked client k request target size
       → HasReaction closes exchange n before mid (Replies reply None) store
-      → SendsReply {S = S} {H = H} (record { number = exchange; exchange = record { connection = c; request = request.head; target = target }; client = client }) closes reply (at_desk mid (record { alloc = d.alloc; name = d.name; numbers = n; clients = d.clients; exchanges = d.exchanges; links = d.links; store = store })) (at_desk after new)
+      → SendsReply {S = S} {H = H} (record { number = exchange; exchange = record { connection = c; request = request.head; target = target; waits_for = None }; client = client }) closes reply (at_desk mid (record { alloc = d.alloc; name = d.name; numbers = n; clients = d.clients; exchanges = d.exchanges; links = d.links; store = store })) (at_desk after new)
       → GivesTurn {S = S} {H = H} (from_state settings s before) (Asking c) (at_desk after new)
   asks_reply closes exchange n before mid after reply store new stands there is has gives =
       let e = exchange_now closes exchange n before mid (Replies reply None) store stands there is has in
@@ -189,7 +212,7 @@ module _ (S H : Type 0) (settings : CoreSettings) (d : Desk S H) (s : State) (c 
           numbers = gives.replies.numbers ∙ ap noted (numbers_now closes exchange n before mid (Replies reply None) store stands there is has);
           clients = subst (AreClients new.clients) (λ i. cond (b i) (remove s.connections c) (put_back s.connections c (after_reply behind k) i))
               (gives.replies.clients (remove s.connections c) (after_reply behind k) stands.clients (record { reads = is.behind.agrees; exchange = refl; leaves = is.leaves }));
-          exchanges = subst (λ (m : BTreeMap ℕ OpenExchange). AreExchanges m s.exchanges) (sym gives.replies.keeps.exchanges) stands.exchanges;
+          exchanges = subst (λ (m : OpenExchanges). AreExchanges m s.exchanges) (sym gives.replies.keeps.exchanges) stands.exchanges;
           links = subst (λ (m : OpenLinks). AreLinks m s.forwards) (sym gives.replies.keeps.links) stands.links;
           store = gives.store;
           in_time = stands.in_time;
@@ -216,7 +239,7 @@ module _ (S H : Type 0) (settings : CoreSettings) (d : Desk S H) (s : State) (c 
   pub asks_validation : (closes : Bool) (exchange : ℕ) (n : Numbers) (before mid after : List Action) (reply : Message ResponseHead) (validation : Message RequestHead) (store : Holdings) (new : Desk S H)
       → DeskStandsFor {S = S} {H = H} settings d (without_connection c s) → get s.connections c ≡ Some k → IsAsked client k request target size
       → HasReaction closes exchange n before mid (Replies reply (Some validation)) store
-      → SendsReplyThenBehind {S = S} {H = H} (record { number = exchange; exchange = record { connection = c; request = request.head; target = target }; client = client }) closes reply validation (at_desk mid (record { alloc = d.alloc; name = d.name; numbers = n; clients = d.clients; exchanges = d.exchanges; links = d.links; store = store })) (at_desk after new)
+      → SendsReplyThenBehind {S = S} {H = H} (record { number = exchange; exchange = record { connection = c; request = request.head; target = target; waits_for = None }; client = client }) closes reply validation (at_desk mid (record { alloc = d.alloc; name = d.name; numbers = n; clients = d.clients; exchanges = d.exchanges; links = d.links; store = store })) (at_desk after new)
       → GivesTurn {S = S} {H = H} (from_state settings s before) (Asking c) (at_desk after new)
   asks_validation closes exchange n before mid after reply validation store new stands there is has gives =
       let e = exchange_now closes exchange n before mid (Replies reply (Some validation)) store stands there is has in
@@ -240,10 +263,10 @@ module _ (S H : Type 0) (settings : CoreSettings) (d : Desk S H) (s : State) (c 
           numbers = gives.numbers ∙ ap (λ (m : Numbers). sent (noted m)) (numbers_now closes exchange n before mid (Replies reply (Some validation)) store stands there is has);
           clients = subst (AreClients new.clients) (λ i. cond (b i) (remove s.connections c) (put_back s.connections c (after_reply behind k) i))
               (gives.clients (remove s.connections c) (after_reply behind k) stands.clients (record { reads = is.behind.agrees; exchange = refl; leaves = is.leaves }));
-          exchanges = subst (λ (m : BTreeMap ℕ OpenExchange). AreExchanges m s.exchanges) (sym gives.exchanges) stands.exchanges;
+          exchanges = subst (λ (m : OpenExchanges). AreExchanges m s.exchanges) (sym gives.exchanges) stands.exchanges;
           links = subst (AreLinks new.links) (λ i. insert s.forwards (f i) (sent_forward validation.head target (t i) purpose.Background))
               (gives.links s.forwards stands.links
-              (λ for_store. validated_in_place (wanted_now settings s request.head k) target request s.forwards s.store store reply validation reacts));
+              (λ for_store. validated_in_place (wanted_now settings s request.head k) target request (open_now s) s.store store reply validation reacts));
           store = gives.keeps.store;
           in_time = stands.in_time;
         };
@@ -266,42 +289,42 @@ module _ (S H : Type 0) (settings : CoreSettings) (d : Desk S H) (s : State) (c 
         );
       }
 
-  pub asks_forward : (closes : Bool) (exchange : ℕ) (n : Numbers) (before mid after : List Action) (forward : Message RequestHead) (why : Cause) (conditional : Bool) (store : Holdings) (new : Desk S H)
+  pub asks_forward : (closes : Bool) (exchange : ℕ) (n : Numbers) (before mid after : List Action) (forward : Message RequestHead) (why : Cause) (kind : ForwardKind) (store : Holdings) (new : Desk S H)
       → DeskStandsFor {S = S} {H = H} settings d (without_connection c s) → get s.connections c ≡ Some k → IsAsked client k request target size
-      → HasReaction closes exchange n before mid (Sends forward why conditional) store
-      → SendsForward {S = S} {H = H} (record { number = exchange; exchange = record { connection = c; request = request.head; target = target }; client = client }) forward (purpose.Reply exchange why conditional) (at_desk mid (record { alloc = d.alloc; name = d.name; numbers = n; clients = d.clients; exchanges = d.exchanges; links = d.links; store = store })) (at_desk after new)
+      → HasReaction closes exchange n before mid (Sends forward why kind) store
+      → SendsForward {S = S} {H = H} (record { number = exchange; exchange = record { connection = c; request = request.head; target = target; waits_for = None }; client = client }) forward (purpose.Reply exchange why kind) (at_desk mid (record { alloc = d.alloc; name = d.name; numbers = n; clients = d.clients; exchanges = d.exchanges; links = d.links; store = store })) (at_desk after new)
       → GivesTurn {S = S} {H = H} (from_state settings s before) (Asking c) (at_desk after new)
-  asks_forward closes exchange n before mid after forward why conditional store new stands there is has gives =
-      let e = exchange_now closes exchange n before mid (Sends forward why conditional) store stands there is has in
-      let t = moment_now closes exchange n before mid (Sends forward why conditional) store stands there is has in
-      let f = forward_now closes exchange n before mid (Sends forward why conditional) store stands there is has in
+  asks_forward closes exchange n before mid after forward why kind store new stands there is has gives =
+      let e = exchange_now closes exchange n before mid (Sends forward why kind) store stands there is has in
+      let t = moment_now closes exchange n before mid (Sends forward why kind) store stands there is has in
+      let f = forward_now closes exchange n before mid (Sends forward why kind) store stands there is has in
       let behind = drop size k.unread in
       let sends : List Action = send_actions (one_more s.numbers.forward) s.numbers.moment (Some (one_more s.numbers.exchange)) forward in
       record {
         state = record {
           numbers = sent (asked s.numbers);
           connections = insert s.connections c (after_request (one_more s.numbers.exchange) behind k);
-          exchanges = insert s.exchanges (one_more s.numbers.exchange) (record { connection = c; request = request.head; target = target });
+          exchanges = insert s.exchanges (one_more s.numbers.exchange) (record { connection = c; request = request.head; target = target; waits_for = None });
           forwards = insert s.forwards (one_more s.numbers.forward)
-              (sent_forward forward.head target s.numbers.moment (purpose.Reply (one_more s.numbers.exchange) why conditional));
+              (sent_forward forward.head target s.numbers.moment (purpose.Reply (one_more s.numbers.exchange) why kind));
           store = store;
         };
         stands = record {
           name = gives.keeps.name ∙ stands.name;
-          numbers = gives.numbers ∙ ap sent (numbers_now closes exchange n before mid (Sends forward why conditional) store stands there is has);
+          numbers = gives.numbers ∙ ap sent (numbers_now closes exchange n before mid (Sends forward why kind) store stands there is has);
           clients = subst (AreClients new.clients) (put_back s.connections c (after_request exchange behind k)
               ∙ ap (λ (x : ℕ). insert s.connections c (after_request x behind k)) e)
               (gives.clients (remove s.connections c) (after_request exchange behind k) stands.clients (record { reads = is.behind; exchange_is = refl; leaves = is.leaves }));
-          exchanges = subst (λ (x : ℕ). AreExchanges new.exchanges (insert s.exchanges x (record { connection = c; request = request.head; target = target }))) e
+          exchanges = subst (λ (x : ℕ). AreExchanges new.exchanges (insert s.exchanges x (record { connection = c; request = request.head; target = target; waits_for = None }))) e
               (gives.exchanges s.exchanges stands.exchanges);
-          links = subst (AreLinks new.links) (λ i. insert s.forwards (f i) (sent_forward forward.head target (t i) (purpose.Reply (e i) why conditional)))
-              (gives.links s.forwards stands.links (reply_has_place forward.head target n.moment exchange why conditional s.forwards));
+          links = subst (AreLinks new.links) (λ i. insert s.forwards (f i) (sent_forward forward.head target (t i) (purpose.Reply (e i) why kind)))
+              (gives.links s.forwards stands.links (reply_has_place forward.head target n.moment exchange why kind s.forwards));
           store = gives.keeps.store;
           in_time = stands.in_time;
         };
         takes = (
           ask_actions (one_more s.numbers.exchange) s.numbers.moment request ++ sends,
-          behind_asked closes exchange n before mid (Sends forward why conditional) store stands there is has after (send_actions (one_more n.forward) n.moment (Some exchange) forward) sends gives.actions
+          behind_asked closes exchange n before mid (Sends forward why kind) store stands there is has after (send_actions (one_more n.forward) n.moment (Some exchange) forward) sends gives.actions
               (λ i. send_actions (f i) (t i) (Some (e i)) forward),
           record {
             connection = k;
@@ -311,8 +334,55 @@ module _ (S H : Type 0) (settings : CoreSettings) (d : Desk S H) (s : State) (c 
             target = target;
             size = size;
             arrives = is.arrives;
-            reaction = Sends forward why conditional;
-            reacts = reacts_now closes exchange n before mid (Sends forward why conditional) store stands there is has;
+            reaction = Sends forward why kind;
+            reacts = reacts_now closes exchange n before mid (Sends forward why kind) store stands there is has;
+            does = record { numbers = refl; connections = refl; exchanges = refl; forwards = refl; actions_are = refl };
+          },
+        );
+      }
+
+  -- it waits for the forward of another one
+  pub asks_join : (closes : Bool) (exchange : ℕ) (n : Numbers) (before mid : List Action) (forward : ℕ) (store : Holdings) (new : Desk S H)
+      → DeskStandsFor {S = S} {H = H} settings d (without_connection c s) → get s.connections c ≡ Some k → IsAsked client k request target size
+      → HasReaction closes exchange n before mid (Waits forward) store
+      → JoinsForward {S = S} {H = H} (record { number = exchange; exchange = record { connection = c; request = request.head; target = target; waits_for = None }; client = client }) forward (record { alloc = d.alloc; name = d.name; numbers = n; clients = d.clients; exchanges = d.exchanges; links = d.links; store = store }) new
+      → GivesTurn {S = S} {H = H} (from_state settings s before) (Asking c) (at_desk mid new)
+  asks_join closes exchange n before mid forward store new stands there is has gives =
+      let e = exchange_now closes exchange n before mid (Waits forward) store stands there is has in
+      let behind = drop size k.unread in
+      let x : OpenExchange = record { connection = c; request = request.head; target = target; waits_for = Some forward } in
+      record {
+        state = record {
+          numbers = asked s.numbers;
+          connections = insert s.connections c (after_request (one_more s.numbers.exchange) behind k);
+          exchanges = insert s.exchanges (one_more s.numbers.exchange) x;
+          forwards = s.forwards;
+          store = store;
+        };
+        stands = record {
+          name = gives.keeps.name ∙ stands.name;
+          numbers = gives.numbers ∙ numbers_now closes exchange n before mid (Waits forward) store stands there is has;
+          clients = subst (AreClients new.clients) (put_back s.connections c (after_request exchange behind k)
+              ∙ ap (λ (q : ℕ). insert s.connections c (after_request q behind k)) e)
+              (gives.clients (remove s.connections c) (after_request exchange behind k) stands.clients (record { reads = is.behind; exchange_is = refl; leaves = is.leaves }));
+          exchanges = subst (λ (q : ℕ). AreExchanges new.exchanges (insert s.exchanges q x)) e (gives.exchanges s.exchanges stands.exchanges);
+          links = subst (λ (m : OpenLinks). AreLinks m s.forwards) (sym gives.links) stands.links;
+          store = gives.keeps.store;
+          in_time = stands.in_time;
+        };
+        takes = (
+          ask_actions (one_more s.numbers.exchange) s.numbers.moment request,
+          asked_now closes exchange n before mid (Waits forward) store stands there is has,
+          record {
+            connection = k;
+            is_open = there;
+            idle = is.idle;
+            request = request;
+            target = target;
+            size = size;
+            arrives = is.arrives;
+            reaction = Waits forward;
+            reacts = reacts_now closes exchange n before mid (Waits forward) store stands there is has;
             does = record { numbers = refl; connections = refl; exchanges = refl; forwards = refl; actions_are = refl };
           },
         );
@@ -324,7 +394,7 @@ module _ (S H : Type 0) (settings : CoreSettings) (d : Desk S H) (s : State) (c 
       (result : Result A E) (new : Desk S H)
       → DeskStandsFor {S = S} {H = H} settings d (without_connection c s) → get s.connections c ≡ Some k → IsAsked client k request target size
       → HasReaction S H settings d s c k client request target size closes exchange n before mid (Replies reply behind) store
-      → OnOk result (SendsReplies {S = S} {H = H} (record { number = exchange; exchange = record { connection = c; request = request.head; target = target }; client = client }) closes reply behind (at_desk mid (record { alloc = d.alloc; name = d.name; numbers = n; clients = d.clients; exchanges = d.exchanges; links = d.links; store = store })) (at_desk after new))
+      → OnOk result (SendsReplies {S = S} {H = H} (record { number = exchange; exchange = record { connection = c; request = request.head; target = target; waits_for = None }; client = client }) closes reply behind (at_desk mid (record { alloc = d.alloc; name = d.name; numbers = n; clients = d.clients; exchanges = d.exchanges; links = d.links; store = store })) (at_desk after new))
       → OnOk result (GivesTurn {S = S} {H = H} (from_state settings s before) (Asking c) (at_desk after new))
   asks_replies closes exchange n before mid after reply None store (Ok x) new stands there is has gives =
       asks_reply S H settings d s c k client request target size closes exchange n before mid after reply store new stands there is has gives

@@ -15,6 +15,7 @@ use Rattle.hc_service.specs.declared.settings.CoreSettings.{CoreSettings}
 use Rattle.hc_service.specs.Serves.{Turn}
 use Rattle.hc_service.specs.State.{State}
 use Rattle.hc_machine.specs.declared.desk.Desk.{Desk}
+use Rattle.hc_machine.specs.declared.receiving.Progress.{Progress}
 use Rattle.hc_open.specs.declared.links.Client.{Client}
 use Rattle.hc_open.specs.declared.links.Link.{Link}
 use Rattle.hc_open.specs.Links.{IsClient, IsLink}
@@ -53,6 +54,6 @@ module _ (S H : Type 0) (d : Desk S H) where
       → CanServe {S = S} {H = H} d
   can_behind_ending settings turn f client s a z gives = record { settings = settings; state = gives.state; stands = gives.stands }
 
-  pub can_behind_receiving : (settings : CoreSettings) (f : ℕ) (octets : List ℕ) (client : Option ℕ) (s : State) (a z : List Action) → GivesReceiving {S = S} {H = H} (from_state settings s a) f octets client (at_desk z d)
+  pub can_behind_receiving : (settings : CoreSettings) (f : ℕ) (octets : List ℕ) (progress : Progress) (s : State) (a z : List Action) → GivesReceiving {S = S} {H = H} (from_state settings s a) f octets progress (at_desk z d)
       → CanServe {S = S} {H = H} d
-  can_behind_receiving settings f octets client s a z gives = record { settings = settings; state = gives.state; stands = gives.stands }
+  can_behind_receiving settings f octets progress s a z gives = record { settings = settings; state = gives.state; stands = gives.stands }

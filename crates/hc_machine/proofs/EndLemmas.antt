@@ -1,5 +1,5 @@
 -- A forward ends: what that makes of each part.
-use Rattle.std.proofs.Common.{append_assoc, ◌≡◌, ℕ, Bool, false, ◌||◌, cond, List, ◌++◌, Option, Some, None, refl, sym, ap, ◌∙◌, subst}
+use Rattle.std.proofs.Common.{append_assoc, ◌≡◌, ℕ, Bool, ◌||◌, cond, List, ◌++◌, Option, Some, None, refl, sym, ap, ◌∙◌, subst}
 use Rattle.std.specs.BTreeMap.{BTreeMap}
 use Rattle.std.specs.FinMap.{get, insert, remove}
 use Rattle.std.specs.Option.{IsSome, option_map, option_and_then}
@@ -10,6 +10,8 @@ use Rattle.hc_store.specs.Entries.{Holdings}
 use Rattle.hc_service.specs.declared.action.Action.{Action}
 use Rattle.hc_service.specs.declared.cases.Cause.{Cause}
 use Rattle.hc_service.specs.declared.numbers.Numbers.{Numbers}
+use Rattle.hc_service.specs.declared.open.ForwardKind.{ForwardKind}
+use Rattle.hc_service.specs.declared.open.ForwardKind.TheVariants.{Plain}
 use Rattle.hc_service.specs.declared.open.OpenExchange.{OpenExchange}
 use Rattle.hc_service.specs.declared.open.OpenForward.{OpenForward}
 use Rattle.hc_service.specs.declared.open.Purpose.{Purpose}
@@ -22,17 +24,18 @@ use Rattle.hc_service.specs.Numbers.{noted, one_more, sent}
 use Rattle.hc_service.specs.Reactions.{forward_anew}
 use Rattle.hc_service.specs.Replying.{Wanted}
 use Rattle.hc_service.specs.Sending.{reply_actions, send_actions}
-use Rattle.hc_service.specs.Serves.{Turn, Takes, client_by, client_of}
+use Rattle.hc_service.specs.Serves.{Turn, Takes}
 use Rattle.hc_service.specs.State.{State, Awaited}
 use Rattle.hc_service.specs.Turns.{Answers, Breaks, EndsBehind, EndsByFailure, EndsByResponse, EndsFor, Failure, HasFailure, IsAnswer, after_reply, answered_now, closes_behind, failed_now, replied, sent_forward, wanted_now}
 use Rattle.hc_machine.specs.declared.answering.HeldExchange.{HeldExchange}
 use Rattle.hc_machine.specs.declared.desk.Desk.{Desk}
 use Rattle.hc_open.specs.declared.links.Client.{Client}
+use Rattle.hc_open.specs.declared.open_exchanges.OpenExchanges.{OpenExchanges}
 use Rattle.hc_open.specs.declared.open_links.OpenLinks.{OpenLinks}
 use Rattle.hc_machine.specs.Ending.{GivesForwardAnew, GivesReply, IsMissing, IsTaken, is_last, request_anew, wanted_of}
 use Rattle.hc_open.specs.Links.{AreClients, AreExchanges, AreLinks}
 use Rattle.hc_service.specs.Agreement.{HasExchange, IsReady}
-use Rattle.hc_machine.specs.Standing.{GivesEnding, DeskStandsFor, without_forward, from_state, at_desk}
+use Rattle.hc_machine.specs.Standing.{GivesEnding, DeskStandsFor, client_by, client_of, without_forward, from_state, at_desk}
 use Rattle.hc_open.proofs.TableLemmas.{put_back, put_same}
 
 -- what is there is something
@@ -114,7 +117,7 @@ module _ (S H : Type 0) (settings : CoreSettings) (d : Desk S H) (s : State) (f 
           name = ended.name ∙ stands.name;
           numbers = numbers_ended first before after mid ended;
           clients = subst (λ (x : BTreeMap ℕ Client). AreClients x s.connections) (sym clients) stands.clients;
-          exchanges = subst (λ (x : BTreeMap ℕ OpenExchange). AreExchanges x s.exchanges) (sym exchanges) stands.exchanges;
+          exchanges = subst (λ (x : OpenExchanges). AreExchanges x s.exchanges) (sym exchanges) stands.exchanges;
           links = links_ended first before after mid ended;
           store = refl;
           in_time = stands.in_time;
@@ -125,7 +128,7 @@ module _ (S H : Type 0) (settings : CoreSettings) (d : Desk S H) (s : State) (f 
         );
       }
 
-  module _ (e : ℕ) (why : Cause) (conditional : Bool) (is : forward.purpose ≡ purpose.Reply e why conditional) where
+  module _ (e : ℕ) (why : Cause) (kind : ForwardKind) (is : forward.purpose ≡ purpose.Reply e why kind) where
     -- the exchange that it is for isn't there, so that the forward can't end
     pub ends_missing : (turn : Turn) (first before after : List Action) (mid : Desk S H) → HasEnded first before after mid
         → IsMissing e s.exchanges s.connections mid.exchanges mid.clients → GivesEnding {S = S} {H = H} (from_state settings s before) turn f None (at_desk after mid)
@@ -153,7 +156,8 @@ module _ (S H : Type 0) (settings : CoreSettings) (d : Desk S H) (s : State) (f 
         never ready =
             let awaits = there_is (get s.exchanges e)
             (subst (λ (p : Purpose). HasExchange s.exchanges p) (ap (λ (x : OpenForward). x.purpose) same ∙ is) (ready.exchanges f awaited there)) in
-            none_is_some (get s.connections awaits.0.connection) (missing.no_connection awaits.0 awaits.1) (ready.connections e awaits.0 awaits.1)
+            none_is_some (get s.connections awaits.0.connection) (missing.no_connection awaits.0 awaits.1)
+            (subst IsSome (sym (ready.connections e awaits.0 awaits.1).is_open) refl)
 
     -- the exchange that it is for gets its reply
     pub ends_with_reply : (turn : Turn) (decides : Wanted → Outcome → Holdings → Type 0) (first before after last : List Action) (mid new : Desk S H) (w : HeldExchange)
@@ -188,7 +192,7 @@ module _ (S H : Type 0) (settings : CoreSettings) (d : Desk S H) (s : State) (f 
                 (λ i. cond (b i) (remove s.connections x.connection) (put_back s.connections x.connection (after_reply k.unread k) i))
                 (gives.replies.clients (remove s.connections x.connection) (after_reply k.unread k) taken.are_clients
                 (record { reads = taken.is_client.reads; exchange = refl; leaves = taken.is_client.leaves }));
-            exchanges = subst (λ (y : BTreeMap ℕ OpenExchange). AreExchanges y (remove s.exchanges e)) (sym gives.replies.keeps.exchanges) taken.are_exchanges;
+            exchanges = subst (λ (y : OpenExchanges). AreExchanges y (remove s.exchanges e)) (sym gives.replies.keeps.exchanges) taken.are_exchanges;
             links = subst (λ (y : OpenLinks). AreLinks y (remove s.forwards f)) (sym gives.replies.keeps.links) (links_ended first before after mid ended);
             store = refl;
             in_time = stands.in_time;
@@ -208,7 +212,7 @@ module _ (S H : Type 0) (settings : CoreSettings) (d : Desk S H) (s : State) (f 
                 does = record { numbers = refl; connections = refl; exchanges = refl; forwards = refl; actions_are = refl };
               }),
             ),
-            sym (client_is (purpose.Reply e why conditional) is ∙ ap (option_map (λ (y : OpenExchange). y.connection)) taken.is_open),
+            sym (client_is (purpose.Reply e why kind) is ∙ ap (option_map (λ (y : OpenExchange). y.connection)) taken.is_open),
           );
         }
 
@@ -234,7 +238,7 @@ module _ (S H : Type 0) (settings : CoreSettings) (d : Desk S H) (s : State) (f 
           connections = s.connections;
           exchanges = s.exchanges;
           forwards = insert (remove s.forwards f) (one_more s.numbers.forward)
-              (sent_forward request.head x.target s.numbers.moment (purpose.Reply e why false));
+              (sent_forward request.head x.target s.numbers.moment (purpose.Reply e why Plain));
           store = new.store;
         } in
         let sends : List Action = send_actions (one_more s.numbers.forward) s.numbers.moment (Some e) request in
@@ -250,7 +254,7 @@ module _ (S H : Type 0) (settings : CoreSettings) (d : Desk S H) (s : State) (f 
                 (gives.asks.exchanges (remove s.exchanges e) taken.are_exchanges);
             links = subst (AreLinks new.links)
                 (λ i. insert (remove s.forwards f) (next i)
-                (sent_forward (forward_anew (name i) x.target x.request).head x.target (m i) (purpose.Reply (taken.number_is i) why false)))
+                (sent_forward (forward_anew (name i) x.target x.request).head x.target (m i) (purpose.Reply (taken.number_is i) why Plain)))
                 (gives.asks.links (remove s.forwards f) (links_ended first before after mid ended));
             store = refl;
             in_time = stands.in_time;
@@ -270,6 +274,6 @@ module _ (S H : Type 0) (settings : CoreSettings) (d : Desk S H) (s : State) (f 
                 does = record { numbers = refl; keeps = record { connections = refl; exchanges = refl }; forwards = refl; actions_are = refl };
               }),
             ),
-            sym (client_is (purpose.Reply e why conditional) is ∙ ap (option_map (λ (y : OpenExchange). y.connection)) taken.is_open),
+            sym (client_is (purpose.Reply e why kind) is ∙ ap (option_map (λ (y : OpenExchange). y.connection)) taken.is_open),
           );
         }

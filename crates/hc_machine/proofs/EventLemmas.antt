@@ -136,7 +136,7 @@ module _ (S H : Type 0) where
     state = gives.state;
     stands = gives.stands;
     serves = λ ready.
-        let does = gives.does (record { exchanges = ready.exchanges; connections = ready.connections }) in
+        let does = gives.does (record { exchanges = ready.exchanges; alone = ready.alone; connections = ready.connections }) in
         record {
           is_served = none;
           turns = does.turns;

@@ -10,5 +10,7 @@ pub mod CanLemmas
 pub mod ReceiveLemmas
 pub mod EventLemmas
 pub mod LeaveLemmas
+pub mod WaitingLemmas
+pub mod ReleaseLemmas
 pub mod ServeLemmas
 pub mod StepLemmas

@@ -9,7 +9,7 @@ use Rattle.hc_store.specs.Entries.{Holdings}
 use Rattle.hc_service.specs.declared.action.Action.{Action}
 use Rattle.hc_service.specs.declared.cases.Cause.{Cause}
 use Rattle.hc_service.specs.declared.numbers.Numbers.{Numbers}
-use Rattle.hc_service.specs.declared.open.OpenExchange.{OpenExchange}
+use Rattle.hc_service.specs.declared.open.ForwardKind.{ForwardKind}
 use Rattle.hc_service.specs.declared.open.OpenForward.{OpenForward}
 use Rattle.hc_service.specs.declared.open.Purpose.{Purpose}
 use Rattle.hc_service.specs.declared.open.Purpose.TheVariants as purpose
@@ -19,11 +19,12 @@ use Rattle.hc_service.specs.Answers.Outcome.{Replies, GoesAnew}
 use Rattle.hc_service.specs.Numbers.{noted, one_more}
 use Rattle.hc_service.specs.Sending.{failure_actions, response_actions}
 use Rattle.hc_service.specs.Serves.Turn.{Answering, Failing}
-use Rattle.hc_service.specs.State.{State, Awaited}
+use Rattle.hc_service.specs.State.{State, Awaited, is_conditional}
 use Rattle.hc_service.specs.Turns.{Answers, Breaks, EndsByFailure, EndsByResponse, Failure, HasFailure, IsAnswer, answered_now, failed_now, is_closed}
 use Rattle.hc_machine.specs.declared.answering.HeldExchange.{HeldExchange}
 use Rattle.hc_machine.specs.declared.desk.Desk.{Desk}
 use Rattle.hc_open.specs.declared.links.Client.{Client}
+use Rattle.hc_open.specs.declared.open_exchanges.OpenExchanges.{OpenExchanges}
 use Rattle.hc_machine.specs.Ending.{GivesOutcome, GivesReply, IsMissing, IsTaken, wanted_of}
 use Rattle.hc_machine.specs.Standing.{GivesEnding, DeskStandsFor, without_forward, from_state, at_desk}
 use Rattle.hc_machine.proofs.EndLemmas.{answers_by, breaks_by, ends_behind, ends_missing, ends_with_forward, ends_with_reply}
@@ -31,7 +32,7 @@ use Rattle.hc_machine.proofs.EndLemmas.{answers_by, breaks_by, ends_behind, ends
 module _ (S H : Type 0) (settings : CoreSettings) (d : Desk S H) (s : State) (f : ℕ) (awaited : Awaited) (forward : OpenForward)
     (stands : DeskStandsFor {S = S} {H = H} settings d (without_forward f s)) (there : get s.forwards f ≡ Some awaited) (same : awaited.forward ≡ forward) where
   -- what is kept once the end has its record
-  abbrev pub behind_end : Numbers → BTreeMap ℕ Client → BTreeMap ℕ OpenExchange → Holdings → Desk S H
+  abbrev pub behind_end : Numbers → BTreeMap ℕ Client → OpenExchanges → Holdings → Desk S H
   behind_end numbers clients exchanges store =
       record { alloc = d.alloc; name = d.name; numbers = numbers; clients = clients; exchanges = exchanges; links = d.links; store = store }
 
@@ -81,50 +82,50 @@ module _ (S H : Type 0) (settings : CoreSettings) (d : Desk S H) (s : State) (f 
             subst (λ (h : Holdings). StoresBehind forward s.numbers.moment response renewed h) (sym new_is)
             (subst (λ (m : ℕ). StoresBehind forward m response renewed store) moment_answered stores)
 
-    module _ (e : ℕ) (why : Cause) (conditional : Bool) (clients : BTreeMap ℕ Client) (exchanges : BTreeMap ℕ OpenExchange) (is : forward.purpose ≡ purpose.Reply e why conditional) where
+    module _ (e : ℕ) (why : Cause) (kind : ForwardKind) (clients : BTreeMap ℕ Client) (exchanges : OpenExchanges) (is : forward.purpose ≡ purpose.Reply e why kind) where
       -- the exchange that it is for isn't there
       pub answers_nobody : IsMissing e s.exchanges s.connections exchanges clients
           → GivesEnding {S = S} {H = H} (from_state settings s before) (Answering f ended) f None (at_desk after (behind_end numbers clients exchanges renewed))
       answers_nobody missing =
-          ends_missing S H settings d s f awaited forward stands there same e why conditional is (Answering f ended) first_answered before after (behind_end numbers clients exchanges renewed)
+          ends_missing S H settings d s f awaited forward stands there same e why kind is (Answering f ended) first_answered before after (behind_end numbers clients exchanges renewed)
           (record { name = refl; numbers = has.numbers_are; links = refl; actions = actions_answered }) missing
 
       -- the exchange that it is for gets its reply, or its request goes to the origin anew
       pub answers_request : (w : HeldExchange) (last : List Action) (new : Desk S H) → IsTaken e w s.exchanges s.connections exchanges clients
           → GivesOutcome {S = S} {H = H} w why
-          (λ outcome old fresh. Responds (rule_of why conditional forward.request response.head)
+          (λ outcome old fresh. Responds (rule_of why (is_conditional kind) forward.request response.head)
           (record { wanted = wanted_of {S = S} {H = H} (behind_end numbers clients exchanges renewed) w; forward = forward; cause = why; response = response }) numbers.records old outcome fresh)
           (at_desk after (behind_end numbers clients exchanges renewed)) (at_desk last new)
           → GivesEnding {S = S} {H = H} (from_state settings s before) (Answering f ended) f (Some w.exchange.connection) (at_desk last new)
       answers_request w last new taken (inl gives) =
-          ends_with_reply S H settings d s f awaited forward stands there same e why conditional is (Answering f ended)
-          (λ wanted outcome fresh. Responds (rule_of why conditional forward.request response.head)
+          ends_with_reply S H settings d s f awaited forward stands there same e why kind is (Answering f ended)
+          (λ wanted outcome fresh. Responds (rule_of why (is_conditional kind) forward.request response.head)
           (record { wanted = wanted; forward = forward; cause = why; response = response }) (one_more s.numbers.records) renewed outcome fresh)
           first_answered before after last (behind_end numbers clients exchanges renewed) new w
           (record { name = refl; numbers = has.numbers_are; links = refl; actions = actions_answered }) taken
           (record {
             reply = gives.reply;
             decided = subst
-                (λ (p : ℕ). Responds (rule_of why conditional forward.request response.head)
+                (λ (p : ℕ). Responds (rule_of why (is_conditional kind) forward.request response.head)
                 (record { wanted = wanted_of {S = S} {H = H} (behind_end numbers clients exchanges renewed) w; forward = forward; cause = why; response = response }) p renewed (Replies gives.reply) new.store)
                 position_answered gives.decided;
             replies = gives.replies;
           })
-          (λ added s' ends. takes_answer (purpose.Reply e why conditional) added s' is ends)
+          (λ added s' ends. takes_answer (purpose.Reply e why kind) added s' is ends)
       answers_request w last new taken (inr gives) =
-          ends_with_forward S H settings d s f awaited forward stands there same e why conditional is (Answering f ended)
-          (λ wanted outcome fresh. Responds (rule_of why conditional forward.request response.head)
+          ends_with_forward S H settings d s f awaited forward stands there same e why kind is (Answering f ended)
+          (λ wanted outcome fresh. Responds (rule_of why (is_conditional kind) forward.request response.head)
           (record { wanted = wanted; forward = forward; cause = why; response = response }) (one_more s.numbers.records) renewed outcome fresh)
           first_answered before after last (behind_end numbers clients exchanges renewed) new w
           (record { name = refl; numbers = has.numbers_are; links = refl; actions = actions_answered }) taken
           (record {
             decided = subst
-                (λ (p : ℕ). Responds (rule_of why conditional forward.request response.head)
+                (λ (p : ℕ). Responds (rule_of why (is_conditional kind) forward.request response.head)
                 (record { wanted = wanted_of {S = S} {H = H} (behind_end numbers clients exchanges renewed) w; forward = forward; cause = why; response = response }) p renewed GoesAnew new.store)
                 position_answered gives.decided;
             asks = gives.asks;
           })
-          (λ added s' ends. takes_answer (purpose.Reply e why conditional) added s' is ends)
+          (λ added s' ends. takes_answer (purpose.Reply e why kind) added s' is ends)
 
   -- ---- a failure
 
@@ -155,12 +156,12 @@ module _ (S H : Type 0) (settings : CoreSettings) (d : Desk S H) (s : State) (f 
         (record { name = refl; numbers = has.numbers_are; links = refl; actions = actions_broken }) refl refl is
         (λ added s' store_is ends. takes_failure purpose.Background added s' is (store_is ∙ stands.store, ends))
 
-    module _ (e : ℕ) (why : Cause) (conditional : Bool) (clients : BTreeMap ℕ Client) (exchanges : BTreeMap ℕ OpenExchange) (is : forward.purpose ≡ purpose.Reply e why conditional) where
+    module _ (e : ℕ) (why : Cause) (kind : ForwardKind) (clients : BTreeMap ℕ Client) (exchanges : OpenExchanges) (is : forward.purpose ≡ purpose.Reply e why kind) where
       -- the exchange that it is for isn't there
       pub breaks_nobody : IsMissing e s.exchanges s.connections exchanges clients
           → GivesEnding {S = S} {H = H} (from_state settings s before) (Failing f how) f None (at_desk after (behind_end numbers clients exchanges d.store))
       breaks_nobody missing =
-          ends_missing S H settings d s f awaited forward stands there same e why conditional is (Failing f how) first_broken before after (behind_end numbers clients exchanges d.store)
+          ends_missing S H settings d s f awaited forward stands there same e why kind is (Failing f how) first_broken before after (behind_end numbers clients exchanges d.store)
           (record { name = refl; numbers = has.numbers_are; links = refl; actions = actions_broken }) missing
 
       -- the exchange that it is for gets its reply
@@ -170,7 +171,7 @@ module _ (S H : Type 0) (settings : CoreSettings) (d : Desk S H) (s : State) (f 
           (at_desk after (behind_end numbers clients exchanges d.store)) (at_desk last new)
           → GivesEnding {S = S} {H = H} (from_state settings s before) (Failing f how) f (Some w.exchange.connection) (at_desk last new)
       breaks_request w last new taken gives =
-          ends_with_reply S H settings d s f awaited forward stands there same e why conditional is (Failing f how)
+          ends_with_reply S H settings d s f awaited forward stands there same e why kind is (Failing f how)
           (λ wanted outcome fresh. Fails wanted forward.target why s.store outcome fresh)
           first_broken before after last (behind_end numbers clients exchanges d.store) new w
           (record { name = refl; numbers = has.numbers_are; links = refl; actions = actions_broken }) taken
@@ -179,4 +180,4 @@ module _ (S H : Type 0) (settings : CoreSettings) (d : Desk S H) (s : State) (f 
             decided = subst (λ (h : Holdings). Fails (wanted_of {S = S} {H = H} (behind_end numbers clients exchanges d.store) w) forward.target why h (Replies gives.reply) new.store) stands.store gives.decided;
             replies = gives.replies;
           })
-          (λ added s' ends. takes_failure (purpose.Reply e why conditional) added s' is ends)
+          (λ added s' ends. takes_failure (purpose.Reply e why kind) added s' is ends)

@@ -1,5 +1,5 @@
 -- Octets come from the origin: what that gives with what they make of the forward.
-use Rattle.std.proofs.Common.{append-nil, ◌≡◌, ℕ, Bool, true, false, cond, List, [], ◌∷◌, ◌++◌, Option, Some, None, Result, Ok, Err, IfOk, refl, sym, ap, ◌∙◌, subst, inl, inr}
+use Rattle.std.proofs.Common.{append-nil, ◌≡◌, ℕ, Bool, true, false, cond, List, [], ◌∷◌, ◌++◌, Option, Some, None, refl, sym, ap, ◌∙◌, subst, inl, inr}
 use Rattle.std.specs.BTreeMap.{BTreeMap}
 use Rattle.std.specs.Cmp.{nat_cmp_total}
 use Rattle.std.specs.FinMap.{get, insert, remove, get-insert}
@@ -8,20 +8,25 @@ use Rattle.std.specs.Ordering.{nat_cmp, eq_by_cmp}
 use Rattle.hc_head.specs.Methods.{is_head}
 use Rattle.hc_links.specs.Responses.{IsUnfinished}
 use Rattle.hc_service.specs.declared.action.Action.{Action}
+use Rattle.hc_service.specs.declared.open.OpenExchange.{OpenExchange}
 use Rattle.hc_service.specs.declared.settings.CoreSettings.{CoreSettings}
-use Rattle.hc_service.specs.Serves.{Run, Turn, client_by, client_of}
+use Rattle.hc_service.specs.Serves.{Run, Turn}
 use Rattle.hc_service.specs.Serves.Turn.{OriginSending, Answering, Failing}
-use Rattle.hc_service.specs.State.{State, Awaited}
+use Rattle.hc_service.specs.State.{State, Awaited, exchange_for}
 use Rattle.hc_service.specs.Turns.{OriginSends, after_origin_octets}
 use Rattle.hc_service.specs.Turns.Failure.{IsBroken}
 use Rattle.hc_machine.specs.declared.desk.Desk.{Desk}
 use Rattle.hc_open.specs.declared.links.Link.{Link}
 use Rattle.hc_open.specs.declared.open_links.OpenLinks.{OpenLinks}
-use Rattle.hc_open.specs.Links.{AreBehind, AreLinks, IsLink}
+use Rattle.hc_open.specs.Groups.{AreGrouped}
+use Rattle.hc_open.specs.Links.{AreBehind, AreLinks, IsLink, by_target, is_joinable_for}
 use Rattle.hc_open.specs.Tables.{AreAlike}
 use Rattle.hc_service.specs.Agreement.{HasExchange, IsReady}
-use Rattle.hc_machine.specs.Standing.{GivesEnding, GivesReceiving, DeskStandsFor, without_forward, from_state, at_desk}
-use Rattle.hc_open.proofs.BehindLemmas.{received_behind}
+use Rattle.hc_machine.specs.Standing.{GivesEnding, GivesReceiving, DeskStandsFor, client_by, client_of, without_forward, from_state, at_desk}
+use Rattle.hc_machine.specs.declared.receiving.Progress.TheVariants.{HasEnded, IsOpen}
+use Rattle.hc_machine.specs.Waiting.{CanFinish}
+use Rattle.hc_machine.proofs.WaitingLemmas.{answer_finishes, failure_finishes}
+use Rattle.hc_open.proofs.BehindLemmas.{received_behind, received_joinable}
 use Rattle.hc_open.proofs.TableLemmas.{get_put, put_back, remove_put}
 
 one_is : {X : Type 0} (a b : X) → Some a ≡ Some b → a ≡ b
@@ -53,11 +58,13 @@ module _ (S H : Type 0) (settings : CoreSettings) (d : Desk S H) (s : State) (f 
 
   -- the link stays, of the same purpose
   pub received_links : (by_number : BTreeMap ℕ Link) → AreAlike IsLink by_number (insert (remove s.forwards f) f (after_origin_octets octets awaited))
-      → AreLinks (record { by_number = by_number; behind = d.links.behind }) (insert (remove s.forwards f) f (after_origin_octets octets awaited))
+      → AreLinks (record { by_number = by_number; behind = d.links.behind; joinable = d.links.joinable }) (insert (remove s.forwards f) f (after_origin_octets octets awaited))
   received_links by_number are = record {
     by_number = are;
     behind = subst (AreBehind d.links.behind) (sym (put_back s.forwards f (after_origin_octets octets awaited)))
         (received_behind d.links.behind s.forwards f awaited (after_origin_octets octets awaited) stands.links.behind there refl);
+    joinable = subst (AreGrouped by_target is_joinable_for d.links.joinable.sets) (sym (put_back s.forwards f (after_origin_octets octets awaited)))
+        (received_joinable d.links.joinable.sets s.forwards f awaited (after_origin_octets octets awaited) stands.links.joinable there refl);
   }
 
   -- without its link, what is kept is that of this state without the forward
@@ -79,9 +86,20 @@ module _ (S H : Type 0) (settings : CoreSettings) (d : Desk S H) (s : State) (f 
   received_ready ready = record {
     exchanges = λ g a is. each g a (eq_by_cmp nat_cmp g f) refl
         (sym (get-insert nat_cmp_total s.forwards f (after_origin_octets octets awaited) g) ∙ is);
+    alone = λ g e a x is for_it there. single g e a x (eq_by_cmp nat_cmp g f) refl
+        (sym (get-insert nat_cmp_total s.forwards f (after_origin_octets octets awaited) g) ∙ is) for_it there;
     connections = ready.connections;
   }
     where
+      single : (g e : ℕ) (a : Awaited) (x : OpenExchange) (b : Bool) → eq_by_cmp nat_cmp g f ≡ b → cond (eq_by_cmp nat_cmp g f) (Some (after_origin_octets octets awaited)) (get s.forwards g) ≡ Some a
+          → exchange_for a.forward.purpose ≡ Some e → get s.exchanges e ≡ Some x → x.waits_for ≡ None
+      single g e a x true test is for_it there_is =
+          ready.alone f e awaited x there
+          (ap (λ (y : Awaited). exchange_for y.forward.purpose)
+          (one_is (after_origin_octets octets awaited) a (sym (ap (λ (b : Bool). cond b (Some (after_origin_octets octets awaited)) (get s.forwards g)) test) ∙ is)) ∙ for_it) there_is
+      single g e a x false test is for_it there_is =
+          ready.alone g e a x (sym (ap (λ (b : Bool). cond b (Some (after_origin_octets octets awaited)) (get s.forwards g)) test) ∙ is) for_it there_is
+
       each : (g : ℕ) (a : Awaited) (b : Bool) → eq_by_cmp nat_cmp g f ≡ b → cond (eq_by_cmp nat_cmp g f) (Some (after_origin_octets octets awaited)) (get s.forwards g) ≡ Some a
           → HasExchange s.exchanges a.forward.purpose
       each g a true test is =
@@ -101,7 +119,7 @@ module _ (S H : Type 0) (settings : CoreSettings) (d : Desk S H) (s : State) (f 
   -- nothing more yet
   pub receives_on : (links : OpenLinks) (items : List Action) → AreLinks links (insert (remove s.forwards f) f (after_origin_octets octets awaited))
       → IsUnfinished (is_head awaited.forward.request.method) (awaited.received ++ octets)
-      → GivesReceiving {S = S} {H = H} (from_state settings s items) f octets None (at_desk items (record { alloc = d.alloc; name = d.name; numbers = d.numbers; clients = d.clients; exchanges = d.exchanges; links = links; store = d.store }))
+      → GivesReceiving {S = S} {H = H} (from_state settings s items) f octets IsOpen (at_desk items (record { alloc = d.alloc; name = d.name; numbers = d.numbers; clients = d.clients; exchanges = d.exchanges; links = links; store = d.store }))
   receives_on links items are unfinished = record {
     state = state_received;
     stands = record {
@@ -116,17 +134,20 @@ module _ (S H : Type 0) (settings : CoreSettings) (d : Desk S H) (s : State) (f 
     does = λ ready. (
       [],
       sym (append-nil items),
-      inl (
+      (
         (state_received, [], [], sends, refl, (refl, refl)),
-        refl,
         λ a is. subst (λ (x : Awaited). IsUnfinished (is_head x.forward.request.method) x.received) (one_is (after_origin_octets octets awaited) a (sym received_there ∙ is)) unfinished,
       ),
     );
   }
 
+  -- the same exchanges are open
+  finish_seen : (s' : State) → CanFinish f state_received s' → CanFinish f s s'
+  finish_seen s' finish = record { can = finish.can; same = finish.same; there = finish.there }
+
   -- a response ends the forward
   pub receives_answer : (client : Option ℕ) (a z : List Action) (e : Desk S H) → GivesEnding {S = S} {H = H} (from_state settings state_received a) (Answering f false) f client (at_desk z e)
-      → GivesReceiving {S = S} {H = H} (from_state settings s a) f octets client (at_desk z e)
+      → GivesReceiving {S = S} {H = H} (from_state settings s a) f octets (HasEnded client) (at_desk z e)
   receives_answer client a z e gives = record {
     state = gives.state;
     stands = gives.stands;
@@ -134,13 +155,17 @@ module _ (S H : Type 0) (settings : CoreSettings) (d : Desk S H) (s : State) (f 
         let t = gives.takes (received_ready ready) in (
           t.0.0,
           t.0.1,
-          inr (inl (received_then (Answering f false) t.0.0 gives.state (gives.state, t.0.0, [], t.0.2, sym (append-nil t.0.0), (refl, refl)), t.1 ∙ same_client)),
+          (
+            inl (received_then (Answering f false) t.0.0 gives.state (gives.state, t.0.0, [], t.0.2, sym (append-nil t.0.0), (refl, refl))),
+            t.1 ∙ same_client,
+            finish_seen gives.state (answer_finishes f state_received gives.state settings t.0.0 (received_ready ready) false t.0.2),
+          ),
         );
   }
 
   -- a fault ends it
   pub receives_failure : (client : Option ℕ) (a z : List Action) (e : Desk S H) → GivesEnding {S = S} {H = H} (from_state settings state_received a) (Failing f IsBroken) f client (at_desk z e)
-      → GivesReceiving {S = S} {H = H} (from_state settings s a) f octets client (at_desk z e)
+      → GivesReceiving {S = S} {H = H} (from_state settings s a) f octets (HasEnded client) (at_desk z e)
   receives_failure client a z e gives = record {
     state = gives.state;
     stands = gives.stands;
@@ -148,19 +173,10 @@ module _ (S H : Type 0) (settings : CoreSettings) (d : Desk S H) (s : State) (f 
         let t = gives.takes (received_ready ready) in (
           t.0.0,
           t.0.1,
-          inr (inr (received_then (Failing f IsBroken) t.0.0 gives.state (gives.state, t.0.0, [], t.0.2, sym (append-nil t.0.0), (refl, refl)), t.1 ∙ same_client)),
+          (
+            inr (received_then (Failing f IsBroken) t.0.0 gives.state (gives.state, t.0.0, [], t.0.2, sym (append-nil t.0.0), (refl, refl))),
+            t.1 ∙ same_client,
+            finish_seen gives.state (failure_finishes f state_received gives.state settings t.0.0 (received_ready ready) IsBroken t.0.2),
+          ),
         );
   }
-
-  -- the same, unless memory runs out
-  pub receives_answers : {E : Type 0} (r : Result (Option ℕ) E) (a z : List Action) (e : Desk S H)
-      → IfOk r (λ client. GivesEnding {S = S} {H = H} (from_state settings state_received a) (Answering f false) f client (at_desk z e))
-      → IfOk r (λ client. GivesReceiving {S = S} {H = H} (from_state settings s a) f octets client (at_desk z e))
-  receives_answers (Ok client) a z e gives = receives_answer client a z e gives
-  receives_answers (Err fault) a z e gives = tt
-
-  pub receives_failures : {E : Type 0} (r : Result (Option ℕ) E) (a z : List Action) (e : Desk S H)
-      → IfOk r (λ client. GivesEnding {S = S} {H = H} (from_state settings state_received a) (Failing f IsBroken) f client (at_desk z e))
-      → IfOk r (λ client. GivesReceiving {S = S} {H = H} (from_state settings s a) f octets client (at_desk z e))
-  receives_failures (Ok client) a z e gives = receives_failure client a z e gives
-  receives_failures (Err fault) a z e gives = tt

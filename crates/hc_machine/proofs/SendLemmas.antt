@@ -12,7 +12,7 @@ use Rattle.hc_service.specs.declared.action.Action.{Action}
 use Rattle.hc_service.specs.declared.cases.Cause.{Cause}
 use Rattle.hc_service.specs.declared.numbers.Numbers.{Numbers}
 use Rattle.hc_service.specs.Numbers.{noted}
-use Rattle.hc_service.specs.Reactions.{forward_anew}
+use Rattle.hc_service.specs.Reactions.{forward_alone, forward_anew}
 use Rattle.hc_service.specs.Replying.{Wanted}
 use Rattle.hc_service.specs.Sending.{reply_actions}
 use Rattle.hc_service.specs.State.{Connection, Table}
@@ -108,3 +108,7 @@ gives_anew S H w why decides before after d new store decided sends = record {
 pub anew_is : (name name' : List ℕ) (target target' : Target) (asked : RequestHead) (request : Message RequestHead) → request ≡ forward_anew name target asked → name ≡ name'
     → target ≡ target' → request ≡ forward_anew name' target' asked
 anew_is name name' target target' asked request is same-name same-target = is ∙ (λ i. forward_anew (same-name i) (same-target i) asked)
+
+pub alone_is : (name name' : List ℕ) (target : Target) (asked : RequestHead) (request : Message RequestHead) → request ≡ forward_alone name target asked → name ≡ name'
+    → request ≡ forward_alone name' target asked
+alone_is name name' target asked request is same-name = is ∙ (λ i. forward_alone (same-name i) target asked)

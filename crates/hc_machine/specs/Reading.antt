@@ -1,5 +1,5 @@
 -- A whole request that was read of a connection.
-use Rattle.std.specs.Prelude.{◌≡◌, ℕ, Bool, List, ◌++◌, length, drop, Option, Some, None, if◌then◌else◌}
+use Rattle.std.specs.Prelude.{◌≡◌, ℕ, Bool, ◌++◌, length, drop, Option, Some, None, if◌then◌else◌}
 use Rattle.std.specs.BTreeMap.{BTreeMap, get as kept_at}
 use Rattle.std.specs.FinMap.{insert}
 use Rattle.std.specs.Ordering.{nat_cmp}
@@ -10,20 +10,19 @@ use Rattle.hc_head.specs.Methods.{is_head}
 use Rattle.hc_framing.specs.declared.message.Message.{Message}
 use Rattle.hc_links.specs.Requests.{IsRequest}
 use Rattle.hc_links.specs.RequestReading.{HasUnread, unread}
-use Rattle.hc_service.specs.declared.action.Action.{Action}
 use Rattle.hc_service.specs.declared.numbers.Numbers.{Numbers}
 use Rattle.hc_service.specs.declared.open.OpenExchange.{OpenExchange}
 use Rattle.hc_service.specs.declared.open.Purpose.{Purpose}
 use Rattle.hc_service.specs.declared.open.Purpose.TheVariants as purpose
-use Rattle.hc_service.specs.Agreement.{exchange_for}
 use Rattle.hc_service.specs.Numbers.{noted, one_more, sent}
 use Rattle.hc_service.specs.Sending.{reply_actions, send_actions}
-use Rattle.hc_service.specs.State.{Table, Connection, Awaited}
+use Rattle.hc_service.specs.State.{Table, Connection, Awaited, exchange_for}
 use Rattle.hc_service.specs.Turns.{sent_forward}
 use Rattle.hc_machine.specs.declared.answering.HeldExchange.{HeldExchange}
 use Rattle.hc_open.specs.declared.links.Client.{Client}
 use Rattle.hc_open.specs.Links.{AreClients, AreExchanges, AreLinks, HasPlace, IsIdle, WillAwait}
-use Rattle.hc_machine.specs.Standing.{DeskKeepsClients, DeskKeepsOpen, DeskKeepsStore, Reached}
+use Rattle.hc_machine.specs.declared.desk.Desk.{Desk}
+use Rattle.hc_machine.specs.Standing.{DeskKeepsClients, DeskKeepsExchanges, DeskKeepsHoldings, DeskKeepsLinks, DeskKeepsNumbers, DeskKeepsOpen, DeskKeepsStore, Reached}
 
 -- the request begins what was unread of the connection, on which no exchange awaits its reply, and the reader has all behind it still to read
 pub record IsAsked (client : Client) (k : Connection) (request : Message RequestHead) (target : Target) (size : ℕ) : Type 0 where
@@ -46,7 +45,7 @@ pub record RepliesTo {S H : Type 0} (held : HeldExchange) (closes : Bool) (reply
 -- and nothing else changes
 pub record SendsReply {S H : Type 0} (held : HeldExchange) (closes : Bool) (reply : Message ResponseHead) (old new : Reached S H) : Type 0 where
   pub replies : RepliesTo held closes reply old new
-  pub store : new.desk.store ≡ old.desk.store
+  pub store : DeskKeepsHoldings old.desk new.desk
 
 -- a forward for the store alone, as it opens
 abbrev pub opens_behind : Target → Message RequestHead → Numbers → Awaited
@@ -67,7 +66,7 @@ pub record SendsReplyThenBehind {S H : Type 0} (held : HeldExchange) (closes : B
       → AreClients new.desk.clients (if closes then connections else insert connections held.exchange.connection k)
   pub links : (forwards : Table Awaited) → AreLinks old.desk.links forwards → HasPlace (opens_behind held.exchange.target validation old.desk.numbers) forwards
       → AreLinks new.desk.links (insert forwards (one_more old.desk.numbers.forward) (opens_behind held.exchange.target validation old.desk.numbers))
-  pub exchanges : new.desk.exchanges ≡ old.desk.exchanges
+  pub exchanges : DeskKeepsExchanges old.desk new.desk
   pub keeps : DeskKeepsStore old.desk new.desk
   pub actions : new.actions
       ≡ old.actions
@@ -90,6 +89,20 @@ pub record SendsForward {S H : Type 0} (held : HeldExchange) (forward : Message 
       → AreLinks new.desk.links (insert forwards (one_more old.desk.numbers.forward) (sent_forward forward.head held.exchange.target old.desk.numbers.moment aim))
   pub keeps : DeskKeepsStore old.desk new.desk
   pub actions : new.actions ≡ old.actions ++ send_actions (one_more old.desk.numbers.forward) old.desk.numbers.moment (exchange_for aim) forward
+
+-- one that waits for the forward of that number
+abbrev pub waiting_on : ℕ → OpenExchange → OpenExchange
+waiting_on forward x = record { connection = x.connection; request = x.request; target = x.target; waits_for = Some forward }
+
+-- its request waits for the forward of another one, and awaits its reply on its connection
+pub record JoinsForward {S H : Type 0} (held : HeldExchange) (forward : ℕ) (old new : Desk S H) : Type 0 where
+  pub numbers : DeskKeepsNumbers old new
+  pub clients : (connections : Table Connection) (k : Connection) → AreClients old.clients connections → WillAwait held.client held.number k
+      → AreClients new.clients (insert connections held.exchange.connection k)
+  pub exchanges : (table : Table OpenExchange) → AreExchanges old.exchanges table
+      → AreExchanges new.exchanges (insert table held.number (waiting_on forward held.exchange))
+  pub links : DeskKeepsLinks old new
+  pub keeps : DeskKeepsStore old new
 
 -- how many octets are unread on a connection
 abbrev pub unread_of : Option Client → ℕ

@@ -1,7 +1,7 @@
 -- What a cache keeps, and the state that contracts see.
-use Rattle.std.specs.Prelude.{◌≡◌, ◌<◌, ◌⊎◌, ℕ, Bool, false, List, [], ◌∷◌, ◌++◌, Option, None}
+use Rattle.std.specs.Prelude.{◌≡◌, ◌<◌, ◌⊎◌, ℕ, Bool, false, List, [], ◌∷◌, ◌++◌, Option, None, option_map, option_and_then}
 use Rattle.std.specs.BTreeMap.{BTreeMap}
-use Rattle.std.specs.FinMap.{remove}
+use Rattle.std.specs.FinMap.{get, remove}
 use Rattle.std.specs.List.{AllByRecursion}
 use Rattle.hc_fields.specs.Numbers.{end_of_moments}
 use Rattle.hc_store.specs.Entries.{Holdings}
@@ -10,13 +10,19 @@ use Rattle.hc_service.specs.declared.numbers.Numbers.{Numbers}
 use Rattle.hc_service.specs.declared.open.OpenExchange.{OpenExchange}
 use Rattle.hc_service.specs.declared.settings.CoreSettings.{CoreSettings}
 use Rattle.hc_service.specs.Agreement.{IsReady}
-use Rattle.hc_service.specs.State.{State, Connection}
+use Rattle.hc_service.specs.declared.open.Purpose.{Purpose}
+use Rattle.hc_service.specs.declared.open.Purpose.TheVariants as purpose
+use Rattle.hc_service.specs.State.{State, Connection, Table}
 use Rattle.hc_events.specs.declared.Event.{Event}
-use Rattle.hc_service.specs.Serves.{Turn, Takes, Run, Reads, Serves, IsQuietAt, AwaitsStill, OwesEnd, ReadsOn, client_of}
+use Rattle.hc_service.specs.Serves.{Turn, Takes, Run, Reads, Serves, IsQuietAt, AwaitsStill, OwesEnd, ReadsOnAll}
 use Rattle.hc_service.specs.Serves.Turn.{OriginSending, Answering, Failing}
 use Rattle.hc_service.specs.Turns.Failure.{IsBroken}
 use Rattle.hc_machine.specs.declared.desk.Desk.{Desk}
+use Rattle.hc_machine.specs.declared.receiving.Progress.{Progress}
+use Rattle.hc_machine.specs.declared.receiving.Progress.TheVariants.{HasEnded, IsOpen}
+use Rattle.hc_machine.specs.Waiting.{CanFinish}
 use Rattle.hc_open.specs.declared.links.Client.{Client}
+use Rattle.hc_open.specs.declared.open_exchanges.OpenExchanges.{OpenExchanges}
 use Rattle.hc_open.specs.declared.open_links.OpenLinks.{OpenLinks}
 use Rattle.hc_open.specs.Links.{AreClients, AreExchanges, AreLinks}
 
@@ -27,7 +33,7 @@ pub record Kept : Type 0 where
   pub name : List ℕ
   pub numbers : Numbers
   pub clients : BTreeMap ℕ Client
-  pub exchanges : BTreeMap ℕ OpenExchange
+  pub exchanges : OpenExchanges
   pub links : OpenLinks
   pub store : Holdings
 
@@ -120,12 +126,12 @@ pub record GivesReading {S H : Type 0} (start : Start) (c : ℕ) (more : Bool) (
   pub runs : Adds start.actions reached.actions (λ added. Run start.settings turns start.state added state)
   pub quiet : more ≡ false → IsQuietAt c state
 
--- the same on a connection if there is one, until nothing more can be read
-pub record GivesReadingBehind {S H : Type 0} (start : Start) (client : Option ℕ) (reached : Reached S H) : Type 0 where
+-- the same on connections, one after another, until nothing more can be read
+pub record GivesReadings {S H : Type 0} (start : Start) (clients : List ℕ) (reached : Reached S H) : Type 0 where
   pub state : State
   pub stands : DeskStandsFor start.settings reached.desk state
   pub turns : List Turn
-  pub reads : ReadsOn client turns state
+  pub reads : ReadsOnAll clients turns state
   pub runs : Adds start.actions reached.actions (λ added. Run start.settings turns start.state added state)
 
 -- what the client's end owes
@@ -136,6 +142,14 @@ pub record GivesEnd {S H : Type 0} (start : Start) (c : ℕ) (k : Connection) (r
   pub owes : OwesEnd c k.leaves k.exchange turns
   pub runs : Adds start.actions reached.actions (λ added. Run start.settings turns start.state added state)
 
+-- the connection of the exchange that a forward is for
+abbrev pub client_by : Table OpenExchange → Purpose → Option ℕ
+client_by exchanges purpose.Background = None
+client_by exchanges (purpose.Reply e why kind) = option_map (λ x. x.connection) (get exchanges e)
+
+abbrev pub client_of : ℕ → State → Option ℕ
+client_of f s = option_and_then (λ awaited. client_by s.exchanges awaited.forward.purpose) (get s.forwards f)
+
 -- the turn, which ends the forward, leads to a state of the cache where the forward can end, and the client is that of the exchange that it was for
 pub record GivesEnding {S H : Type 0} (start : Start) (turn : Turn) (f : ℕ) (client : Option ℕ) (reached : Reached S H) : Type 0 where
   pub state : State
@@ -144,18 +158,18 @@ pub record GivesEnding {S H : Type 0} (start : Start) (turn : Turn) (f : ℕ) (c
       → Adds start.actions reached.actions (λ added. Takes start.settings turn start.state added state) × (client ≡ client_of f start.state)
 
 -- octets come on a forward: nothing more yet, or they end it with a response or by a fault
-abbrev pub DoesReceiving : CoreSettings → ℕ → List ℕ → Option ℕ → State → List Action → State → Type 0
-DoesReceiving settings f octets client s added s' =
-    (Run settings (OriginSending f octets ∷ []) s added s' × (client ≡ None) × AwaitsStill f s')
-    ⊎ (Run settings (OriginSending f octets ∷ Answering f false ∷ []) s added s' × (client ≡ client_of f s))
-    ⊎ (Run settings (OriginSending f octets ∷ Failing f IsBroken ∷ []) s added s' × (client ≡ client_of f s))
+abbrev pub DoesReceiving : CoreSettings → ℕ → List ℕ → Progress → State → List Action → State → Type 0
+DoesReceiving settings f octets IsOpen s added s' = Run settings (OriginSending f octets ∷ []) s added s' × AwaitsStill f s'
+DoesReceiving settings f octets (HasEnded client) s added s' =
+    (Run settings (OriginSending f octets ∷ Answering f false ∷ []) s added s' ⊎ Run settings (OriginSending f octets ∷ Failing f IsBroken ∷ []) s added s')
+    × (client ≡ client_of f s) × CanFinish f s s'
 
 -- what came on a forward leads to a state of the cache where the forward can end
-pub record GivesReceiving {S H : Type 0} (start : Start) (f : ℕ) (octets : List ℕ) (client : Option ℕ) (reached : Reached S H) : Type 0 where
+pub record GivesReceiving {S H : Type 0} (start : Start) (f : ℕ) (octets : List ℕ) (progress : Progress) (reached : Reached S H) : Type 0 where
   pub state : State
   pub stands : DeskStandsFor start.settings reached.desk state
   pub does : IsReady start.state
-      → Adds start.actions reached.actions (λ added. DoesReceiving start.settings f octets client start.state added state)
+      → Adds start.actions reached.actions (λ added. DoesReceiving start.settings f octets progress start.state added state)
 
 -- ---- events
 
@@ -166,6 +180,22 @@ pub record GivesService {S H : Type 0} (settings : CoreSettings) (event : Event)
   pub serves : IsReady s → Serves settings event s actions state
 
 -- ---- what stays of what is kept
+
+-- one part of it
+abbrev pub DeskKeepsName : {S H : Type 0} → Desk S H → Desk S H → Type 0
+DeskKeepsName old new = new.name ≡ old.name
+
+abbrev pub DeskKeepsNumbers : {S H : Type 0} → Desk S H → Desk S H → Type 0
+DeskKeepsNumbers old new = new.numbers ≡ old.numbers
+
+abbrev pub DeskKeepsExchanges : {S H : Type 0} → Desk S H → Desk S H → Type 0
+DeskKeepsExchanges old new = new.exchanges ≡ old.exchanges
+
+abbrev pub DeskKeepsLinks : {S H : Type 0} → Desk S H → Desk S H → Type 0
+DeskKeepsLinks old new = new.links ≡ old.links
+
+abbrev pub DeskKeepsHoldings : {S H : Type 0} → Desk S H → Desk S H → Type 0
+DeskKeepsHoldings old new = new.store ≡ old.store
 
 -- what is stored; and the name, as always
 pub record DeskKeepsStore {S H : Type 0} (old new : Desk S H) : Type 0 where

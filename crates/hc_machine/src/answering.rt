@@ -11,11 +11,11 @@ use crate::desk::Desk;
 use crate::moving::{reply_on, send_forward};
 use crate::reading::closes_behind;
 use hc_framing::Message;
-use hc_head::{ResponseHead, is_head};
-use hc_open::Client;
+use hc_head::{RequestHead, ResponseHead, is_head};
+use hc_open::{Client, OpenExchanges};
 use hc_reactions::{Addressee, Outcome, fail, forward_anew, respond};
-use hc_service::{Action, Cause, OpenExchange, OpenForward, Purpose, WantedReply};
-use std::alloc::AllocError;
+use hc_service::{Action, Cause, ForwardKind, OpenExchange, OpenForward, Purpose, WantedReply};
+use std::alloc::{AllocError, Global};
 use std::collections::BTreeMap;
 use std::hash::BuildHasher;
 
@@ -32,14 +32,14 @@ pub(crate) struct HeldExchange {
 
 /// Takes out the exchange of that number, with its connection.
 pub(crate) fn take_exchange(
-    exchanges: &mut BTreeMap<u64, OpenExchange>,
+    exchanges: &mut OpenExchanges,
     clients: &mut BTreeMap<u64, Client>,
     number: u64,
 ) -> Option<HeldExchange>
     ensures { (table : Table OpenExchange) (connections : Table Connection) → AreExchanges exchanges.old table
         → AreClients clients.old connections → TakesExchange number result table connections exchanges.new clients.new }
 {
-    let exchange = exchanges.remove(&number)?;
+    let exchange = exchanges.take(number)?;
     let client = clients.remove(&exchange.connection)?;
     Some(HeldExchange {
         number,
@@ -50,7 +50,8 @@ pub(crate) fn take_exchange(
 
 /// Puts back what was taken out.
 fn put_exchange(
-    exchanges: &mut BTreeMap<u64, OpenExchange>,
+    alloc: Global,
+    exchanges: &mut OpenExchanges,
     clients: &mut BTreeMap<u64, Client>,
     held: HeldExchange,
 ) -> Result<(), AllocError>
@@ -60,7 +61,7 @@ fn put_exchange(
         → IsClient held.client k → OnOk result (AreClients clients.new (insert connections held.exchange.connection k)) }
 {
     let connection = held.exchange.connection;
-    exchanges.insert(held.number, held.exchange)?;
+    exchanges.put(alloc, held.number, held.exchange)?;
     clients.insert(connection, held.client)?;
     Ok(())
 }
@@ -80,9 +81,11 @@ fn addressee(held: &HeldExchange, closes: bool) -> Addressee
 impl<S: BuildHasher> Desk<S> {
     ghost use Rattle.std.specs.Prelude.{OnOk, ◌<◌};
     ghost use Rattle.hc_fields.specs.Numbers.{end_of_moments};
+    ghost use Rattle.hc_service.specs.declared.open.Purpose.TheVariants as purpose;
+    ghost use Rattle.hc_service.specs.State.{is_conditional};
     ghost use Rattle.hc_service.specs.Answers.{Fails, Responds, rule_of};
     ghost use Rattle.hc_service.specs.Answers.Outcome.{Replies};
-    ghost use Rattle.hc_machine.specs.Ending.{GivesOutcome, GivesReply, SendsAnew, wanted_of};
+    ghost use Rattle.hc_machine.specs.Ending.{GivesOutcome, GivesReply, SendsAnew, SendsFor, wanted_of};
     ghost use Rattle.hc_machine.specs.Reading.{SendsReply};
     ghost use Rattle.hc_machine.specs.Standing.{at_desk};
 
@@ -92,13 +95,13 @@ impl<S: BuildHasher> Desk<S> {
         held: HeldExchange,
         forward: OpenForward,
         cause: Cause,
-        conditional: bool,
+        kind: ForwardKind,
         response: Message<ResponseHead>,
         actions: &mut Vec<Action>,
     ) -> Result<(), AllocError>
         requires { self.old.numbers.moment < end_of_moments }
         ensures { OnOk result (GivesOutcome held cause
-            (λ outcome old new. Responds (rule_of cause conditional forward.request response.head)
+            (λ outcome old new. Responds (rule_of cause (is_conditional kind) forward.request response.head)
             (record { wanted = wanted_of self.old held; forward = forward; cause = cause; response = response })
             self.old.numbers.records old outcome new)
             (at_desk actions.old.items self.old) (at_desk actions.new.items self.new)) }
@@ -116,7 +119,7 @@ impl<S: BuildHasher> Desk<S> {
             &wanted,
             forward,
             cause,
-            conditional,
+            kind,
             self.numbers.records,
             response,
         )?;
@@ -136,13 +139,32 @@ impl<S: BuildHasher> Desk<S> {
     ) -> Result<(), AllocError>
         ensures { OnOk result (SendsAnew held cause (at_desk actions.old.items self.old) (at_desk actions.new.items self.new)) }
     {
-        let target = held.exchange.target.copy(self.alloc)?;
         let name = self.name.as_slice();
-        let request = forward_anew(self.alloc, name, &target, &held.exchange.request)?;
+        let request = forward_anew(
+            self.alloc,
+            name,
+            &held.exchange.target,
+            &held.exchange.request,
+        )?;
+        self.send_for(held, request, cause, ForwardKind::Plain, actions)
+    }
+
+    /// A request goes to the origin for an exchange that was taken out, and the exchange stays open.
+    pub(crate) fn send_for(
+        &mut self,
+        held: HeldExchange,
+        request: Message<RequestHead>,
+        cause: Cause,
+        kind: ForwardKind,
+        actions: &mut Vec<Action>,
+    ) -> Result<(), AllocError>
+        ensures { OnOk result (SendsFor held request (purpose.Reply held.number cause kind) (at_desk actions.old.items self.old) (at_desk actions.new.items self.new)) }
+    {
+        let target = held.exchange.target.copy(self.alloc)?;
         let purpose = Purpose::Reply {
             exchange: held.number,
             cause,
-            conditional: false,
+            kind,
         };
         send_forward(
             self.alloc,
@@ -153,7 +175,7 @@ impl<S: BuildHasher> Desk<S> {
             purpose,
             actions,
         )?;
-        put_exchange(&mut self.exchanges, &mut self.clients, held)
+        put_exchange(self.alloc, &mut self.exchanges, &mut self.clients, held)
     }
 
     /// A forward failed that was for an exchange that was taken out.
@@ -181,7 +203,7 @@ impl<S: BuildHasher> Desk<S> {
     }
 
     /// Sends the reply of an exchange, whose connection goes on unless it closes.
-    fn reply_to(
+    pub(crate) fn reply_to(
         &mut self,
         held: HeldExchange,
         closes: bool,

@@ -3,8 +3,8 @@
 ghost use Rattle.std.specs.Prelude.{◌≡◌};
 
 use hc_fields::Octets;
-use hc_open::{Client, OpenLinks};
-use hc_service::{Numbers, OpenExchange};
+use hc_open::{Client, OpenExchanges, OpenLinks};
+use hc_service::Numbers;
 use hc_store::Store;
 use std::alloc::Global;
 use std::collections::BTreeMap;
@@ -18,7 +18,7 @@ pub(crate) struct Desk<S: BuildHasher> {
     pub(crate) name: Octets,
     pub(crate) numbers: Numbers,
     pub(crate) clients: BTreeMap<u64, Client>,
-    pub(crate) exchanges: BTreeMap<u64, OpenExchange>,
+    pub(crate) exchanges: OpenExchanges,
     pub(crate) links: OpenLinks,
     pub(crate) store: Store<S>,
 }
@@ -40,7 +40,7 @@ impl<S: BuildHasher> Desk<S> {
             name,
             numbers: Numbers::new(),
             clients: BTreeMap::new(alloc),
-            exchanges: BTreeMap::new(alloc),
+            exchanges: OpenExchanges::new(alloc),
             links: OpenLinks::new(alloc),
             store,
         }

@@ -59,14 +59,14 @@ impl<S: BuildHasher> Desk<S> {
             Purpose::Reply {
                 exchange,
                 cause,
-                conditional,
+                kind,
             } => {
                 let Some(held) = take_exchange(&mut self.exchanges, &mut self.clients, exchange)
                 else {
                     return Ok(None);
                 };
                 let client = held.exchange.connection;
-                self.respond(held, forward, cause, conditional, response, actions)?;
+                self.respond(held, forward, cause, kind, response, actions)?;
                 Ok(Some(client))
             }
         }

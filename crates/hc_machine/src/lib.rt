@@ -12,6 +12,7 @@ mod machine;
 mod moving;
 mod reading;
 mod receiving;
+mod releasing;
 mod serving;
 
 pub use hc_service::CoreFault;

@@ -4,7 +4,7 @@ ghost use Rattle.std.specs.Prelude.{◌≡◌, ◌≤◌, ◌++◌, None, OnOk, 
 ghost use Rattle.std.specs.BTreeMap.{get as kept_at};
 ghost use Rattle.std.specs.Ordering.{nat_cmp};
 ghost use Rattle.std.specs.FinMap.{insert};
-ghost use Rattle.hc_service.specs.Agreement.{exchange_for};
+ghost use Rattle.hc_service.specs.State.{exchange_for};
 ghost use Rattle.hc_service.specs.Numbers.{noted, one_more, sent};
 ghost use Rattle.hc_service.specs.Sending.{reply_actions, send_actions};
 ghost use Rattle.hc_service.specs.declared.open.OpenExchange.{OpenExchange};
@@ -17,7 +17,7 @@ ghost use Rattle.hc_open.specs.Links.{AreClients, AreExchanges, AreLinks, HasPla
 use hc_framing::Message;
 use hc_head::{RequestHead, ResponseHead, Target, is_head};
 use hc_links::ResponseReader;
-use hc_open::{Client, Link, OpenLinks};
+use hc_open::{Client, Link, OpenExchanges, OpenLinks};
 use hc_reactions::{Addressee, send_reply, send_request};
 use hc_service::{Action, Numbers, OpenExchange, OpenForward, Purpose};
 use std::alloc::{AllocError, Global};
@@ -104,7 +104,8 @@ pub(crate) fn send_forward(
 
 /// A request awaits its reply on a connection that was taken out.
 pub(crate) fn await_reply(
-    exchanges: &mut BTreeMap<u64, OpenExchange>,
+    alloc: Global,
+    exchanges: &mut OpenExchanges,
     clients: &mut BTreeMap<u64, Client>,
     number: u64,
     client: Client,
@@ -117,7 +118,7 @@ pub(crate) fn await_reply(
     ensures unread { OnOk result (unread_at exchange.connection clients.new ≤ length (unread client.reader)) }
 {
     let connection = exchange.connection;
-    exchanges.insert(number, exchange)?;
+    exchanges.put(alloc, number, exchange)?;
     let busy = Client {
         reader: client.reader,
         exchange: Some(number),

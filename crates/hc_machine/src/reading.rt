@@ -9,7 +9,7 @@ use hc_framing::Message;
 use hc_head::{RequestHead, ResponseHead, Target, is_head};
 use hc_links::Arrival;
 use hc_open::Client;
-use hc_reactions::{Addressee, Reaction, react, record_request, refuse};
+use hc_reactions::{Addressee, Reaction, Underway, react, record_request, refuse};
 use hc_service::{Action, OpenExchange, Purpose, WantedReply, ends_connection};
 use std::alloc::AllocError;
 use std::hash::BuildHasher;
@@ -33,7 +33,7 @@ impl<S: BuildHasher> Desk<S> {
     ghost use Rattle.hc_service.specs.Serves.Turn.{Asking};
     ghost use Rattle.hc_links.specs.RequestReading.{CanRead, unread};
     ghost use Rattle.hc_open.specs.Links.{IsClient};
-    ghost use Rattle.hc_machine.specs.Reading.{SendsForward, SendsReplies, SendsReply, IsAsked, SendsBehind, unread_at};
+    ghost use Rattle.hc_machine.specs.Reading.{JoinsForward, SendsForward, SendsReplies, SendsReply, IsAsked, SendsBehind, unread_at};
     ghost use Rattle.hc_machine.specs.Standing.{CanServe, GivesReading, GivesTurn, DeskStandsFor, without_connection, from_state, at_desk};
 
     /// Reads a connection until nothing more can be read.
@@ -141,19 +141,23 @@ impl<S: BuildHasher> Desk<S> {
             asked: &request.head,
             closes,
         };
-        let open_behind = self.links.open_behind(&target);
+        let underway = Underway {
+            behind: self.links.open_behind(&target),
+            least_joinable: self.links.least_joinable(&self.exchanges, &target),
+        };
         let reaction = react(
             self.alloc,
             &mut self.store,
             &wanted,
             &target,
             &request,
-            open_behind,
+            underway,
         )?;
         let exchange = OpenExchange {
             connection: c,
             request: request.head,
             target,
+            waits_for: None,
         };
         match reaction {
             Reaction::Replies { reply, behind } => {
@@ -162,15 +166,16 @@ impl<S: BuildHasher> Desk<S> {
             Reaction::Sends {
                 request: forward,
                 cause,
-                conditional,
+                kind,
             } => {
                 let purpose = Purpose::Reply {
                     exchange: number,
                     cause,
-                    conditional,
+                    kind,
                 };
                 self.go_forward(number, exchange, client, forward, purpose, actions)
             }
+            Reaction::Waits { forward } => self.join(number, exchange, client, forward),
         }
     }
 
@@ -278,6 +283,7 @@ impl<S: BuildHasher> Desk<S> {
             actions,
         )?;
         await_reply(
+            self.alloc,
             &mut self.exchanges,
             &mut self.clients,
             number,
@@ -285,5 +291,28 @@ impl<S: BuildHasher> Desk<S> {
             exchange,
         )?;
         Ok(())
+    }
+
+    /// A request that was read of a connection, which was taken out, waits for the forward of another one, and
+    /// awaits its reply.
+    fn join(
+        &mut self,
+        number: u64,
+        mut exchange: OpenExchange,
+        client: Client,
+        forward: u64,
+    ) -> Result<(), AllocError>
+        ensures joins { OnOk result (JoinsForward (record { number = number; exchange = exchange; client = client }) forward self.old self.new) }
+        ensures unread { OnOk result (unread_at exchange.connection self.new.clients ≤ length (unread client.reader)) }
+    {
+        exchange.waits_for = Some(forward);
+        await_reply(
+            self.alloc,
+            &mut self.exchanges,
+            &mut self.clients,
+            number,
+            client,
+            exchange,
+        )
     }
 }

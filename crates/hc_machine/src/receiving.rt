@@ -9,6 +9,18 @@ use hc_service::Action;
 use std::alloc::AllocError;
 use std::hash::BuildHasher;
 
+/// What has become of a forward on which octets came.
+#[derive(Debug)]
+pub(crate) enum Progress {
+    /// It is open still.
+    IsOpen,
+    /// It has ended, and that connection may be read on, if there is one.
+    HasEnded {
+        /// The number of the connection.
+        client: Option<u64>,
+    },
+}
+
 impl<S: BuildHasher> Desk<S> {
     ghost use Rattle.std.specs.Prelude.{true, IfOk, Some};
     ghost use Rattle.std.specs.FinMap.{get};
@@ -18,22 +30,21 @@ impl<S: BuildHasher> Desk<S> {
     ghost use Rattle.hc_service.specs.Turns.Failure.{IsCutOff, IsLost};
     ghost use Rattle.hc_machine.specs.Standing.{CanServe, GivesEnding, GivesReceiving, DeskStandsFor, from_state, at_desk};
 
-    /// Octets come from the origin on an open forward. Answers the connection that may be read on, where
-    /// the forward ends.
+    /// Octets come from the origin on an open forward.
     pub(crate) fn receive_origin(
         &mut self,
         f: u64,
         octets: &[u8],
         actions: &mut Vec<Action>,
-    ) -> Result<Option<u64>, AllocError>
+    ) -> Result<Progress, AllocError>
         requires { CanServe self.old }
         ensures { (settings : CoreSettings) (s : State) (awaited : Awaited) → DeskStandsFor settings self.old s
             → get s.forwards f ≡ Some awaited
-            → IfOk result (λ client. GivesReceiving (from_state settings s actions.old.items) f octets.now client
+            → IfOk result (λ progress. GivesReceiving (from_state settings s actions.old.items) f octets.now progress
             (at_desk actions.new.items self.new)) }
     {
         let Some(link) = self.links.by_number.remove(&f) else {
-            return Ok(None);
+            return Ok(Progress::IsOpen);
         };
         let Link {
             forward,
@@ -43,15 +54,17 @@ impl<S: BuildHasher> Desk<S> {
         match heard {
             Heard::More => {
                 self.links.by_number.insert(f, Link { forward, reader })?;
-                Ok(None)
+                Ok(Progress::IsOpen)
             }
             Heard::Response(response) => {
-                self.links.forget(&forward);
-                self.answer(f, forward, response, actions)
+                self.links.forget(f, &forward);
+                let client = self.answer(f, forward, response, actions)?;
+                Ok(Progress::HasEnded { client })
             }
             Heard::Failed => {
-                self.links.forget(&forward);
-                self.break_off(f, forward, true, actions)
+                self.links.forget(f, &forward);
+                let client = self.break_off(f, forward, true, actions)?;
+                Ok(Progress::HasEnded { client })
             }
         }
     }

@@ -1,19 +1,20 @@
 //! What each event owes.
 
 use crate::desk::Desk;
+use crate::receiving::Progress;
 use hc_events::{Event, Happening};
 use hc_service::Action;
 use std::alloc::AllocError;
 use std::hash::BuildHasher;
 
 impl<S: BuildHasher> Desk<S> {
-    ghost use Rattle.std.specs.Prelude.{◌≡◌, ◌<◌, IfOk, OnOk, None};
+    ghost use Rattle.std.specs.Prelude.{◌≡◌, ◌<◌, IfOk, None};
     ghost use Rattle.hc_fields.specs.Numbers.{end_of_moments};
     ghost use Rattle.hc_events.specs.declared.Happening.TheVariants.{ClientOpened, ClientBytes, ClientEnd, OriginBytes, OriginEnd, OriginFailed};
     ghost use Rattle.hc_service.specs.declared.settings.CoreSettings.{CoreSettings};
     ghost use Rattle.hc_service.specs.State.{State};
     ghost use Rattle.hc_service.specs.Serves.{first_fault};
-    ghost use Rattle.hc_machine.specs.Standing.{CanServe, GivesReadingBehind, GivesService, DeskStandsFor, from_state, at_desk};
+    ghost use Rattle.hc_machine.specs.Standing.{CanServe, GivesService, DeskStandsFor};
     ghost use Rattle.hc_machine.specs.Happenings.{CanTake, TakesOn};
 
     /// Does what an event owes that fails no test.
@@ -77,9 +78,13 @@ impl<S: BuildHasher> Desk<S> {
         ensures { TakesOn (OriginBytes f octets.now) self.old result self.new }
     {
         let mut actions = Vec::new(self.alloc);
-        let client = self.receive_origin(f, octets, &mut actions)?;
-        self.read_behind(client, &mut actions)?;
-        Ok(actions)
+        match self.receive_origin(f, octets, &mut actions)? {
+            Progress::IsOpen => Ok(actions),
+            Progress::HasEnded { client } => {
+                self.finish(f, client, &mut actions)?;
+                Ok(actions)
+            }
+        }
     }
 
     /// The origin sends no more on an open forward.
@@ -89,7 +94,7 @@ impl<S: BuildHasher> Desk<S> {
     {
         let mut actions = Vec::new(self.alloc);
         let client = self.end_origin(f, &mut actions)?;
-        self.read_behind(client, &mut actions)?;
+        self.finish(f, client, &mut actions)?;
         Ok(actions)
     }
 
@@ -100,23 +105,7 @@ impl<S: BuildHasher> Desk<S> {
     {
         let mut actions = Vec::new(self.alloc);
         let client = self.lose(f, &mut actions)?;
-        self.read_behind(client, &mut actions)?;
+        self.finish(f, client, &mut actions)?;
         Ok(actions)
-    }
-
-    /// Reads a connection on behind a reply.
-    fn read_behind(
-        &mut self,
-        client: Option<u64>,
-        actions: &mut Vec<Action>,
-    ) -> Result<(), AllocError>
-        requires { CanServe self.old }
-        ensures { (settings : CoreSettings) (s : State) → DeskStandsFor settings self.old s
-            → OnOk result (GivesReadingBehind (from_state settings s actions.old.items) client (at_desk actions.new.items self.new)) }
-    {
-        match client {
-            None => Ok(()),
-            Some(c) => self.read_on(c, actions),
-        }
     }
 }

@@ -1,6 +1,7 @@
 -- The forwards for the store alone, by target.
 use Rattle.std.proofs.Common.{◌≡◌, ℕ, ◌+◌, Bool, true, false, ◌&&◌, cond, nat_lt, List, length, Option, Some, None, refl, sym, ap, ◌∙◌, subst, arith}
 use Rattle.std.specs.BTreeMap.{BTreeMap, IsEmpty, Updates, btree_map_len, is_at, get as kept_at}
+use Rattle.std.specs.BTreeSet.{BTreeSet}
 use Rattle.std.specs.FinMap.{empty, get, insert, remove, values}
 use Rattle.std.specs.List.{count_by, list_any}
 use Rattle.std.specs.Map.{lookup}
@@ -12,6 +13,7 @@ use Rattle.hc_head.specs.declared.head.Target.{Target}
 use Rattle.hc_head.specs.Targets.{same_target}
 use Rattle.hc_head.proofs.SameTargetLemmas.{same_target_one, same_target_itself}
 use Rattle.hc_service.specs.declared.cases.Cause.{Cause}
+use Rattle.hc_service.specs.declared.open.ForwardKind.{ForwardKind}
 use Rattle.hc_service.specs.declared.open.OpenForward.{OpenForward}
 use Rattle.hc_service.specs.declared.open.Purpose.TheVariants as purpose
 use Rattle.hc_service.specs.Reactions.{is_background, is_for_store}
@@ -20,8 +22,11 @@ use Rattle.hc_service.specs.Turns.{sent_forward}
 use Rattle.hc_reactions.specs.Reacting.{IsOpenBehind}
 use Rattle.hc_open.specs.declared.links.Link.{Link}
 use Rattle.hc_open.specs.declared.open_links.OpenLinks.{OpenLinks}
-use Rattle.hc_open.specs.Links.{AreBehind, AreLinks, HasPlace, IsLink, TakesLink, by_target, is_behind}
+use Rattle.hc_open.specs.Groups.{AddsNumber, AreGrouped, RemovesNumber}
+use Rattle.hc_service.specs.Joining.{may_be_joined}
+use Rattle.hc_open.specs.Links.{AreBehind, AreLinks, HasPlace, IsLink, TakesLink, by_target, is_behind, is_joinable_for}
 use Rattle.hc_open.specs.Tables.{AreAlike}
+use Rattle.hc_open.proofs.GroupLemmas.{grouped_gone, grouped_left, grouped_past, grouped_put, grouped_same}
 use Rattle.hc_open.proofs.CountLemmas.{any_of_count, count_empty, count_gone, count_put, count_same, one_more}
 use Rattle.hc_open.proofs.TableLemmas.{alike_put, alike_taken, found, found_none, get_gone, gone_same, put_back}
 
@@ -178,10 +183,44 @@ received_behind m forwards f a b are there same = record {
   many = count_same is_background forwards f a b there (ap (λ (x : OpenForward). is_for_store x.purpose) same) ∙ are.many;
 }
 
+-- ---- those that were made since nothing was stored of their target
+
+module _ (m : BTreeMap Target (BTreeSet ℕ)) (forwards : Table Awaited) (f : ℕ) (a : Awaited) (forward : OpenForward) (are : AreGrouped by_target is_joinable_for m forwards) (same : a.forward ≡ forward) where
+  not_joinable : may_be_joined forward.purpose ≡ false → (q : Target) → is_joinable_for q a ≡ false
+  not_joinable other q = neither (may_be_joined a.forward.purpose) (same_target a.forward.target q) (ap (λ (x : OpenForward). may_be_joined x.purpose) same ∙ other)
+
+  of_its_target : may_be_joined forward.purpose ≡ true → (q : Target) → is_joinable_for q a ≡ is_eq (by_target forward.target q)
+  of_its_target miss q =
+      ap (λ (b : Bool). b && same_target a.forward.target q) (ap (λ (x : OpenForward). may_be_joined x.purpose) same ∙ miss)
+      ∙ ap (λ (x : OpenForward). same_target x.target q) same ∙ sym (tied forward.target q)
+
+  of_one_target : (q : Target) (b : Awaited) → is_eq (by_target forward.target q) ≡ true → is_joinable_for q b ≡ is_joinable_for forward.target b
+  of_one_target q b at = ap (λ (t : Target). is_joinable_for t b) (sym (same_target_one forward.target q (sym (tied forward.target q) ∙ at)))
+
+  pub keeps_joinable : get forwards f ≡ Some a → may_be_joined forward.purpose ≡ false → AreGrouped by_target is_joinable_for m (remove forwards f)
+  keeps_joinable there other = grouped_left by_target is_joinable_for m forwards f are a there (not_joinable other)
+
+  pub leaves_joinable : get forwards f ≡ Some a → may_be_joined forward.purpose ≡ true → (n : BTreeMap Target (BTreeSet ℕ)) → RemovesNumber by_target m forward.target f n
+      → AreGrouped by_target is_joinable_for n (remove forwards f)
+  leaves_joinable there miss n removes = grouped_gone by_target is_joinable_for m forwards f are n forward.target a there (of_its_target miss) of_one_target removes
+
+  pub stays_joinable : get forwards f ≡ None → may_be_joined forward.purpose ≡ false → AreGrouped by_target is_joinable_for m (insert forwards f a)
+  stays_joinable none other = grouped_past by_target is_joinable_for m forwards f are a none (not_joinable other)
+
+  pub comes_joinable : get forwards f ≡ None → may_be_joined forward.purpose ≡ true → (n : BTreeMap Target (BTreeSet ℕ)) → AddsNumber by_target m forward.target f n
+      → AreGrouped by_target is_joinable_for n (insert forwards f a)
+  comes_joinable none miss n adds = grouped_put by_target is_joinable_for m forwards f are n forward.target a none (of_its_target miss) of_one_target adds
+
+-- another of the same purpose and target in its place
+pub received_joinable : (m : BTreeMap Target (BTreeSet ℕ)) (forwards : Table Awaited) (f : ℕ) (a b : Awaited) → AreGrouped by_target is_joinable_for m forwards → get forwards f ≡ Some a
+    → b.forward ≡ a.forward → AreGrouped by_target is_joinable_for m (insert forwards f b)
+received_joinable m forwards f a b are there same =
+    grouped_same by_target is_joinable_for m forwards f are a b there (λ q. ap (λ (x : OpenForward). may_be_joined x.purpose && same_target x.target q) same)
+
 -- one that is for an exchange has place
-pub reply_has_place : (request : RequestHead) (target : Target) (moment e : ℕ) (why : Cause) (conditional : Bool) (forwards : Table Awaited)
-    → HasPlace (sent_forward request target moment (purpose.Reply e why conditional)) forwards
-reply_has_place request target moment e why conditional forwards for_store = absurd (no_such for_store)
+pub reply_has_place : (request : RequestHead) (target : Target) (moment e : ℕ) (why : Cause) (kind : ForwardKind) (forwards : Table Awaited)
+    → HasPlace (sent_forward request target moment (purpose.Reply e why kind)) forwards
+reply_has_place request target moment e why kind forwards for_store = absurd (no_such for_store)
   where
     no_such : false ≡ true → ⊥
     no_such e = cc
@@ -192,13 +231,14 @@ module _ (links : OpenLinks) (forwards : Table Awaited) (f : ℕ) where
   -- none is there
   pub misses_link : (by_number : BTreeMap ℕ Link) (old : Option Link) → AreLinks links forwards → kept_at nat_cmp links.by_number f ≡ None → Updates nat_cmp links.by_number by_number f None
       → old ≡ kept_at nat_cmp links.by_number f → btree_map_len by_number + cond (is_some old) 1 0 ≡ btree_map_len links.by_number
-      → TakesLink f None forwards (record { by_number = by_number; behind = links.behind })
+      → TakesLink f None forwards (record { by_number = by_number; behind = links.behind; joinable = links.joinable })
   misses_link by_number old are none updates old-is len =
       let absent = found_none IsLink _ _ (are.by_number.at f) none in (
         absent,
         record {
           by_number = subst (AreAlike IsLink by_number) (gone_same forwards f absent) (alike_taken IsLink links.by_number by_number forwards f old are.by_number updates old-is len);
           behind = are.behind;
+          joinable = are.joinable;
         },
       )
 
@@ -206,17 +246,20 @@ module _ (links : OpenLinks) (forwards : Table Awaited) (f : ℕ) where
   pub takes_link : (link : Link) (by_number : BTreeMap ℕ Link) (new : OpenLinks) → AreLinks links forwards → kept_at nat_cmp links.by_number f ≡ Some link
       → Updates nat_cmp links.by_number by_number f None → Some link ≡ kept_at nat_cmp links.by_number f
       → btree_map_len by_number + cond (is_some (Some link)) 1 0 ≡ btree_map_len links.by_number → new.by_number ≡ by_number
-      → ((table : Table Awaited) (g : ℕ) (a : Awaited) → AreBehind links.behind table → get table g ≡ Some a → a.forward ≡ link.forward → AreBehind new.behind (remove table g))
+      → ((table : Table Awaited) (a : Awaited) → AreBehind links.behind table → AreGrouped by_target is_joinable_for links.joinable.sets table → get table f ≡ Some a → a.forward ≡ link.forward
+      → AreBehind new.behind (remove table f) × AreGrouped by_target is_joinable_for new.joinable.sets (remove table f))
       → TakesLink f (Some link) forwards new
   takes_link link by_number new are there updates old-is len by_number-is forgets =
-      let a = found IsLink _ _ link (are.by_number.at f) there in (
+      let a = found IsLink _ _ link (are.by_number.at f) there in
+      let others = forgets forwards a.0 are.behind are.joinable a.1 (sym a.2.forward) in (
         a.0,
         a.1,
         a.2,
         record {
           by_number = subst (λ (m : BTreeMap ℕ Link). AreAlike IsLink m (remove forwards f)) (sym by_number-is)
               (alike_taken IsLink links.by_number by_number forwards f (Some link) are.by_number updates old-is len);
-          behind = forgets forwards f a.0 are.behind a.1 (sym a.2.forward);
+          behind = others.0;
+          joinable = others.1;
         },
       )
 
@@ -249,15 +292,17 @@ place_without forwards f a place for_store = each (get forwards f) refl
 -- one is put in
 pub puts_link : (taken noted : OpenLinks) (forwards : Table Awaited) (f : ℕ) (link : Link) (a : Awaited) (o : Option Link) (by_number : BTreeMap ℕ Link) (old : Option Link)
     → TakesLink f o forwards taken → IsLink link a → HasPlace a forwards → noted.by_number ≡ taken.by_number
-    → ((table : Table Awaited) (b : Awaited) → AreBehind taken.behind table → get table f ≡ None → b.forward ≡ link.forward → HasPlace b table → AreBehind noted.behind (insert table f b))
+    → ((table : Table Awaited) (b : Awaited) → AreBehind taken.behind table → AreGrouped by_target is_joinable_for taken.joinable.sets table → get table f ≡ None → b.forward ≡ link.forward
+    → HasPlace b table → AreBehind noted.behind (insert table f b) × AreGrouped by_target is_joinable_for noted.joinable.sets (insert table f b))
     → Updates nat_cmp noted.by_number by_number f (Some link) → old ≡ kept_at nat_cmp noted.by_number f
     → btree_map_len by_number ≡ btree_map_len noted.by_number + cond (is_some old) 0 1
-    → AreLinks (record { by_number = by_number; behind = noted.behind }) (insert forwards f a)
+    → AreLinks (record { by_number = by_number; behind = noted.behind; joinable = noted.joinable }) (insert forwards f a)
 puts_link taken noted forwards f link a o by_number old takes like place by_number-is notes updates old-is len =
-    let left = taken_left forwards f taken o takes in record {
+    let left = taken_left forwards f taken o takes in
+    let others = notes (remove forwards f) a left.behind left.joinable (get_gone forwards f) (sym like.forward) (place_without forwards f a place) in record {
       by_number = subst (AreAlike IsLink by_number) (put_back forwards f a)
           (alike_put IsLink noted.by_number by_number (remove forwards f) f link a old
           (subst (λ (m : BTreeMap ℕ Link). AreAlike IsLink m (remove forwards f)) (sym by_number-is) left.by_number) like updates old-is len);
-      behind = subst (AreBehind noted.behind) (put_back forwards f a)
-          (notes (remove forwards f) a left.behind (get_gone forwards f) (sym like.forward) (place_without forwards f a place));
+      behind = subst (AreBehind noted.behind) (put_back forwards f a) others.0;
+      joinable = subst (AreGrouped by_target is_joinable_for noted.joinable.sets) (put_back forwards f a) others.1;
     }

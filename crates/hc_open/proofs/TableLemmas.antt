@@ -12,7 +12,7 @@ use Rattle.hc_service.specs.State.{Table}
 use Rattle.hc_open.specs.Tables.{AreAlike, AreAlikeAt}
 
 -- the test of a number is the same from both sides
-test_turned : (k q : ℕ) → eq_by_cmp nat_cmp k q ≡ eq_by_cmp nat_cmp q k
+pub test_turned : (k q : ℕ) → eq_by_cmp nat_cmp k q ≡ eq_by_cmp nat_cmp q k
 test_turned k q = (eq_by_cmp_equiv nat_cmp_total).symm k q
 
 module _ {X Y : Type 0} (IsLike : X → Y → Type 0) where
@@ -104,12 +104,12 @@ module _ {Y : Type 0} where
       twice true new out kept = refl
       twice false new out kept = refl
 
-equal_of : (o : Ordering) → is_eq o ≡ true → o ≡ Equal
+pub equal_of : (o : Ordering) → is_eq o ≡ true → o ≡ Equal
 equal_of Less t = absurd (cc)
 equal_of Equal t = refl
 equal_of Greater t = absurd (cc)
 
-test_same : (k : ℕ) → eq_by_cmp nat_cmp k k ≡ true
+pub test_same : (k : ℕ) → eq_by_cmp nat_cmp k k ≡ true
 test_same k = (eq_by_cmp_equiv nat_cmp_total).refl k
 
 module _ {Y : Type 0} where

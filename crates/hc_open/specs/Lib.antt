@@ -1,2 +1,3 @@
 pub mod Tables
+pub mod Groups
 pub mod Links

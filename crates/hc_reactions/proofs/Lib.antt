@@ -1,2 +1,3 @@
 pub mod ReactingLemmas
 pub mod OutcomeLemmas
+pub mod ReleasingLemmas

@@ -114,7 +114,7 @@ some_none : {X : Type 0} (a : X) → Some a ≡ None → ⊥
 some_none a e = cc
 
 -- what the store is asked for, by the fields of the request
-asked_finds : (target : Target) (asked fields : List Field) (old new : Holdings) (chosen : Option Stored)
+pub asked_finds : (target : Target) (asked fields : List Field) (old new : Holdings) (chosen : Option Stored)
     → asked ≡ fields
     → Finds target asked old chosen new
     → Finds target fields old chosen new

@@ -1,5 +1,5 @@
 -- What a request gets at once.
-use Rattle.std.proofs.Common.{◌≡◌, ◌∙◌, ℕ, Bool, Option, Some, None, IfOk, Ok, Err, Result, ap, sym, subst}
+use Rattle.std.proofs.Common.{◌≡◌, ◌∙◌, ℕ, Bool, Option, Some, None, IfOk, Ok, Err, Result, refl, ap, sym, subst, cond, ◌&&◌, not}
 use Rattle.hc_head.specs.declared.head.RequestHead.{RequestHead}
 use Rattle.hc_head.specs.declared.head.Target.{Target}
 use Rattle.hc_framing.specs.declared.message.Message.{Message}
@@ -9,9 +9,11 @@ use Rattle.hc_service.specs.declared.cases.Case.{Case as GivenCase}
 use Rattle.hc_service.specs.declared.cases.Cause.{Cause}
 use Rattle.hc_service.specs.Cases.{Case, case_before_store, case_by_store, case_of}
 use Rattle.hc_service.specs.Choices.{Finds}
-use Rattle.hc_service.specs.Reactions.{Reacts, ReactsBy, ReactsByStore, chosen_reaction, forward_reaction}
+use Rattle.hc_service.specs.Reactions.{Reacts, ReactsBy, ReactsByStore, ReactsJoined, ReactsUnlessJoined, chosen_reaction, forward_reaction}
+use Rattle.hc_service.specs.Reactions.Reaction.{Waits}
+use Rattle.hc_service.specs.Joining.{is_joinable, IsLeast}
 use Rattle.hc_service.specs.Replying.{Wanted}
-use Rattle.hc_service.specs.State.{Awaited, Table}
+use Rattle.hc_service.specs.State.{Awaited, OpenNow, Table}
 use Rattle.hc_reactions.specs.declared.reacting.Reaction.{Reaction}
 use Rattle.hc_reactions.specs.Reacting.{owed_reaction}
 
@@ -45,22 +47,47 @@ reacts_by_store wanted target request forwards old new chosen known moment case 
 reacts_by_store wanted target request forwards old new chosen known moment case (Err e) finds is this decides gives = gives
 
 -- a case that holds before the store is asked
-pub reacts_before : {E : Type 0} (wanted : Wanted) (target : Target) (request : Message RequestHead) (forwards : Table Awaited) (old new : Holdings)
+pub reacts_before : {E : Type 0} (wanted : Wanted) (target : Target) (request : Message RequestHead) (underway : OpenNow) (old new : Holdings)
     (why : Cause) (answer : Result Reaction E)
     → Some why ≡ case_before_store request
     → new ≡ old
     → IfOk answer (λ reaction. owed_reaction reaction ≡ forward_reaction wanted target request None why)
-    → IfOk answer (λ reaction. Reacts (record { request = request; target = target; wanted = wanted }) forwards old (owed_reaction reaction) new)
-reacts_before wanted target request forwards old new why (Ok reaction) is same gives =
-    subst (λ (case : Option Cause). ReactsBy case (record { request = request; target = target; wanted = wanted }) forwards old (owed_reaction reaction) new) is (gives, same)
-reacts_before wanted target request forwards old new why (Err e) is same gives = gives
+    → IfOk answer (λ reaction. Reacts (record { request = request; target = target; wanted = wanted }) underway old (owed_reaction reaction) new)
+reacts_before wanted target request underway old new why (Ok reaction) is same gives =
+    subst (λ (case : Option Cause). ReactsBy case (record { request = request; target = target; wanted = wanted }) underway old (owed_reaction reaction) new) is (gives, same)
+reacts_before wanted target request underway old new why (Err e) is same gives = gives
 
--- none does, so the store is asked
-pub reacts_asking : {E : Type 0} (wanted : Wanted) (target : Target) (request : Message RequestHead) (forwards : Table Awaited) (old new : Holdings)
+-- none does, so the request waits, or the store is asked
+pub reacts_asking : {E : Type 0} (wanted : Wanted) (target : Target) (request : Message RequestHead) (underway : OpenNow) (old new : Holdings)
     (answer : Result Reaction E)
     → None ≡ case_before_store request
-    → IfOk answer (λ reaction. ReactsByStore (record { request = request; target = target; wanted = wanted }) forwards old (owed_reaction reaction) new)
-    → IfOk answer (λ reaction. Reacts (record { request = request; target = target; wanted = wanted }) forwards old (owed_reaction reaction) new)
-reacts_asking wanted target request forwards old new (Ok reaction) is gives =
-    subst (λ (case : Option Cause). ReactsBy case (record { request = request; target = target; wanted = wanted }) forwards old (owed_reaction reaction) new) is gives
-reacts_asking wanted target request forwards old new (Err e) is gives = gives
+    → IfOk answer (λ reaction. ReactsUnlessJoined (record { request = request; target = target; wanted = wanted }) underway old (owed_reaction reaction) new)
+    → IfOk answer (λ reaction. Reacts (record { request = request; target = target; wanted = wanted }) underway old (owed_reaction reaction) new)
+reacts_asking wanted target request underway old new (Ok reaction) is gives =
+    subst (λ (case : Option Cause). ReactsBy case (record { request = request; target = target; wanted = wanted }) underway old (owed_reaction reaction) new) is gives
+reacts_asking wanted target request underway old new (Err e) is gives = gives
+
+-- it waits for the forward of another one
+pub reacts_joined : (wanted : Wanted) (target : Target) (request : Message RequestHead) (underway : OpenNow) (least : Option ℕ) (old new : Holdings) (f : ℕ)
+    → IsLeast target underway least
+    → Some f ≡ cond (is_joinable request.head && not (knows target old.entries)) least None
+    → new ≡ old
+    → ReactsUnlessJoined (record { request = request; target = target; wanted = wanted }) underway old (Waits f) new
+reacts_joined wanted target request underway least old new f is_least is same = record {
+  least = least;
+  is_least = is_least;
+  reacts = subst (λ (o : Option ℕ). ReactsJoined o (record { request = request; target = target; wanted = wanted }) underway.forwards old (Waits f) new) is (refl, same);
+}
+
+-- it waits for none, and the store is asked
+pub reacts_alone : {E : Type 0} (wanted : Wanted) (target : Target) (request : Message RequestHead) (underway : OpenNow) (least : Option ℕ) (old new : Holdings) (answer : Result Reaction E)
+    → IsLeast target underway least
+    → None ≡ cond (is_joinable request.head && not (knows target old.entries)) least None
+    → IfOk answer (λ reaction. ReactsByStore (record { request = request; target = target; wanted = wanted }) underway.forwards old (owed_reaction reaction) new)
+    → IfOk answer (λ reaction. ReactsUnlessJoined (record { request = request; target = target; wanted = wanted }) underway old (owed_reaction reaction) new)
+reacts_alone wanted target request underway least old new (Ok reaction) is_least is gives = record {
+  least = least;
+  is_least = is_least;
+  reacts = subst (λ (o : Option ℕ). ReactsJoined o (record { request = request; target = target; wanted = wanted }) underway.forwards old (owed_reaction reaction) new) is gives;
+}
+reacts_alone wanted target request underway least old new (Err e) is_least is gives = gives

@@ -1,2 +1,3 @@
 pub mod Reacting
 pub mod Outcomes
+pub mod Releasing

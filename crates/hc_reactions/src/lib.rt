@@ -9,10 +9,12 @@
 mod asking;
 mod outcomes;
 mod reacting;
+mod releasing;
 mod sending;
 
 pub use outcomes::{Outcome, fail, renew, respond, store_behind};
-pub use reacting::{OpenBehind, Reaction, forward_anew, react};
+pub use reacting::{OpenBehind, Reaction, Underway, forward_anew, react};
+pub use releasing::{forward_alone, release};
 pub use sending::{
     Addressee, record_failure, record_request, record_response, refuse, send_reply, send_request,
 };

@@ -8,14 +8,15 @@ ghost use Rattle.hc_service.specs.Cases.{asks_store};
 ghost use Rattle.hc_service.specs.Answers.{Fails, FailsByStore, Passes, Renews, Replaces, Responds, StoresBehind, failed_outcome, has_condition, is_news, is_replaceable, is_unasked, is_validation, replacement, rule_of, validated_outcome};
 ghost use Rattle.hc_service.specs.Answers.Outcome.{Replies};
 ghost use Rattle.hc_service.specs.Choices.{validated_by};
+ghost use Rattle.hc_service.specs.State.{is_conditional};
 ghost use Rattle.hc_reactions.specs.Outcomes.{Answered, GivesReplacement, owed_outcome, replacing};
 
 use hc_framing::Message;
 use hc_head::{RequestHead, ResponseHead, StatusCode, is_error_status, is_get, is_get_or_head};
 use hc_rules::may_store;
 use hc_service::{
-    Cause, OpenForward, WantedReply, failure_status, made_reply, may_replace, passed_reply,
-    replacing_reply,
+    Cause, ForwardKind, OpenForward, WantedReply, failure_status, made_reply, may_replace,
+    passed_reply, replacing_reply,
 };
 use hc_store::{Put, Store};
 use hc_update::{Stored, initial, invalidates};
@@ -191,10 +192,10 @@ fn pass<S: BuildHasher>(
 }
 
 /// Whether a response answers the cache's own condition: that what is stored still holds.
-fn is_validation(conditional: bool, response: &ResponseHead) -> bool
-    ensures { result ≡ is_validation conditional response.now }
+fn is_validation(kind: ForwardKind, response: &ResponseHead) -> bool
+    ensures { result ≡ is_validation (is_conditional kind) response.now }
 {
-    conditional && response.status == StatusCode::NOT_MODIFIED
+    kind.is_conditional() && response.status == StatusCode::NOT_MODIFIED
 }
 
 /// What a request gets once what is stored is validated: the stored response that the record at that
@@ -309,7 +310,7 @@ fn answered<S: BuildHasher>(
 /// What an open exchange gets by the response to its forward, which the store was told of
 /// (`renew`), and whose record stands at that position. The first that holds decides:
 ///
-/// - A 304 that answers the cache's own condition (`conditional`): the stored response that it
+/// - A 304 that answers the cache's own condition: the stored response that it
 ///   validated, or, where that is gone, nothing yet (RFC 9111 section 4.3.3).
 /// - A 304 that the forward didn't ask for: a 502.
 /// - An error that says that the origin can't answer now, where the store was asked before the request
@@ -324,16 +325,16 @@ pub fn respond<S: BuildHasher>(
     wanted: &WantedReply<'_>,
     forward: OpenForward,
     cause: Cause,
-    conditional: bool,
+    kind: ForwardKind,
     position: u64,
     response: Message<ResponseHead>,
 ) -> Result<Outcome, AllocError>
     requires { wanted.now.moment < end_of_moments }
-    ensures { IfOk result (λ outcome. Responds (rule_of cause conditional forward.request response.head)
+    ensures { IfOk result (λ outcome. Responds (rule_of cause (is_conditional kind) forward.request response.head)
         (record { wanted = wanted.now; forward = forward; cause = cause; response = response })
         position store.old (owed_outcome outcome) store.new) }
 {
-    if is_validation(conditional, &response.head) {
+    if is_validation(kind, &response.head) {
         return validated_outcome(alloc, store, wanted, &forward, cause, position);
     }
     Ok(Outcome::Replies(answered(alloc, store, wanted, forward, cause, response)?))

@@ -1,16 +1,18 @@
-//! What a whole request gets at once: a reply, or a forward.
+//! What a whole request gets at once: a reply, a forward, or another request's forward to wait for.
 
-ghost use Rattle.std.specs.Prelude.{◌≡◌, ◌<◌, ◌&&◌, false, not, nat_lt, IfOk};
+ghost use Rattle.std.specs.Prelude.{◌≡◌, ◌<◌, ◌&&◌, false, not, nat_lt, IfOk, None, if◌then◌else◌};
 ghost use Rattle.std.specs.Option.{option_copied};
 ghost use Rattle.hc_fields.specs.Numbers.{end_of_moments};
 ghost use Rattle.hc_head.specs.declared.head.RequestHead.{RequestHead};
 ghost use Rattle.hc_head.specs.declared.head.Target.{Target};
-ghost use Rattle.hc_service.specs.State.{Awaited, Table};
-ghost use Rattle.hc_service.specs.Reactions.{Reacts, ReactsByStore, bare, chosen_reaction, forward_anew, forward_reaction, hit_reaction, is_validated_behind, most_background, plain_forward, stored_forward};
+ghost use Rattle.hc_service.specs.Joining.{is_joinable};
+ghost use Rattle.hc_service.specs.State.{Awaited, OpenNow, Table};
+ghost use Rattle.hc_store.specs.Entries.{knows};
+ghost use Rattle.hc_service.specs.Reactions.{Reacts, ReactsByStore, ReactsUnlessJoined, bare, chosen_reaction, forward_anew, forward_reaction, hit_reaction, is_validated_behind, most_background, plain_forward, stored_forward};
 ghost use Rattle.hc_service.specs.Reactions.Reaction.{Sends};
 ghost use Rattle.hc_service.specs.Cases.{case_of};
 ghost use Rattle.hc_rules.specs.Forwards.{conditional_request};
-ghost use Rattle.hc_reactions.specs.Reacting.{IsOpenBehind, owed_reaction};
+ghost use Rattle.hc_reactions.specs.Reacting.{IsOpenBehind, IsUnderway, owed_reaction};
 
 use crate::asking::{is_asked_after, wants_no_forward};
 use hc_fields::SharedOctets;
@@ -18,8 +20,8 @@ use hc_framing::Message;
 use hc_head::{RequestHead, ResponseHead, StatusCode, Target};
 use hc_rules::{conditional_request, plain_request, unconditional_request};
 use hc_service::{
-    Case, Cause, WantedReply, case_before_store, case_by_store, hit_reply, is_fresh, made_reply,
-    while_revalidating,
+    Case, Cause, ForwardKind, WantedReply, case_before_store, case_by_store, hit_reply, is_fresh,
+    is_joinable, made_reply, plain_kind, while_revalidating,
 };
 use hc_store::Store;
 use hc_update::Stored;
@@ -46,8 +48,13 @@ pub enum Reaction {
         request: Message<RequestHead>,
         /// Why it goes there.
         cause: Cause,
-        /// Whether it asks, by the cache's own condition, whether what is stored still holds.
-        conditional: bool,
+        /// How it goes there.
+        kind: ForwardKind,
+    },
+    /// Nothing yet: it waits for the forward of another request.
+    Waits {
+        /// The number of the forward.
+        forward: u64,
     },
 }
 
@@ -60,8 +67,17 @@ pub struct OpenBehind {
     pub for_target: bool,
 }
 
+/// What is open, as far as a request for a target asks.
+#[derive(Clone, Copy, Debug)]
+pub struct Underway {
+    /// The forwards for the store alone.
+    pub behind: OpenBehind,
+    /// The least forward of another request that one for the target may wait for, if there is one.
+    pub least_joinable: Option<u64>,
+}
+
 /// A request of that head without a body.
-fn bare(head: RequestHead) -> Message<RequestHead>
+pub(crate) fn bare(head: RequestHead) -> Message<RequestHead>
     ensures { result ≡ bare head }
 {
     Message {
@@ -159,13 +175,14 @@ fn plain_reaction(
     target: &Target,
     request: &Message<RequestHead>,
     cause: Cause,
+    kind: ForwardKind,
 ) -> Result<Reaction, AllocError>
-    ensures { IfOk result (λ reaction. owed_reaction reaction ≡ Sends (plain_forward wanted.now target.now request.now) cause false) }
+    ensures { IfOk result (λ reaction. owed_reaction reaction ≡ Sends (plain_forward wanted.now target.now request.now) cause kind) }
 {
     Ok(Reaction::Sends {
         request: plain_forward(alloc, wanted, target, request)?,
         cause,
-        conditional: false,
+        kind,
     })
 }
 
@@ -183,15 +200,16 @@ fn stored_forward(
         ≡ stored_forward wanted.now target.now request.now cause (option_copied chosen.entry)) }
 {
     let Some(stored) = chosen else {
-        return plain_reaction(alloc, wanted, target, request, cause);
+        let kind = plain_kind(cause, &request.head);
+        return plain_reaction(alloc, wanted, target, request, cause, kind);
     };
     if !is_asked_after(&request.head, stored) {
-        return plain_reaction(alloc, wanted, target, request, cause);
+        return plain_reaction(alloc, wanted, target, request, cause, ForwardKind::Plain);
     }
     Ok(Reaction::Sends {
         request: conditional_forward(alloc, wanted, target, &request.head, stored)?,
         cause,
-        conditional: true,
+        kind: ForwardKind::Conditional,
     })
 }
 
@@ -259,25 +277,63 @@ fn react_by_store<S: BuildHasher>(
     chosen_reaction(alloc, wanted, target, request, open_behind, chosen, case)
 }
 
+/// The forward that a request waits for: of those that it may wait for the least, where nothing is stored of its
+/// target, and what answers another request may answer it.
+fn joined<S: BuildHasher>(
+    store: &Store<S>,
+    target: &Target,
+    request: &Message<RequestHead>,
+    least: Option<u64>,
+) -> Option<u64>
+    ensures { result ≡ (if is_joinable request.now.head && not (knows target.now store.now.entries) then least else None) }
+{
+    if is_joinable(&request.head) && !store.knows(target) {
+        least
+    } else {
+        None
+    }
+}
+
+/// What a request gets where no case holds before the store is asked.
+fn react_unless_joined<S: BuildHasher>(
+    alloc: Global,
+    store: &mut Store<S>,
+    wanted: &WantedReply<'_>,
+    target: &Target,
+    request: &Message<RequestHead>,
+    underway: Underway,
+) -> Result<Reaction, AllocError>
+    requires { wanted.now.moment < end_of_moments }
+    ensures { (open_now : OpenNow) → IsUnderway target.now open_now underway → IfOk result
+        (λ reaction. ReactsUnlessJoined (record { request = request.now; target = target.now; wanted = wanted.now }) open_now
+        store.old (owed_reaction reaction) store.new) }
+{
+    match joined(store, target, request, underway.least_joinable) {
+        Some(forward) => Ok(Reaction::Waits { forward }),
+        None => react_by_store(alloc, store, wanted, target, request, underway.behind),
+    }
+}
+
 /// What a request for that target gets: the first case that holds decides, and the store is asked where no
-/// earlier one does. A hit shares the body of the stored response, and behind a stale one what is stored is
-/// validated, where what is open leaves a place for that. The moment of the reply that is wanted is in whole
-/// seconds since 1970, and lies before the year 10000.
+/// earlier one does. Where nothing is stored of the target, it may wait for the forward of another request, in
+/// place of one of its own (RFC 9211 section 2.6). A hit shares the body of the stored response, and behind a
+/// stale one what is stored is validated, where what is open leaves a place for that. The moment of the reply
+/// that is wanted is in whole seconds since 1970, and lies before the year 10000.
 pub fn react<S: BuildHasher>(
     alloc: Global,
     store: &mut Store<S>,
     wanted: &WantedReply<'_>,
     target: &Target,
     request: &Message<RequestHead>,
-    open_behind: OpenBehind,
+    underway: Underway,
 ) -> Result<Reaction, AllocError>
     requires { wanted.now.moment < end_of_moments }
-    ensures { (forwards : Table Awaited) → IsOpenBehind target.now forwards open_behind → IfOk result
-        (λ reaction. Reacts (record { request = request.now; target = target.now; wanted = wanted.now }) forwards
+    ensures { (open_now : OpenNow) → IsUnderway target.now open_now underway → IfOk result
+        (λ reaction. Reacts (record { request = request.now; target = target.now; wanted = wanted.now }) open_now
         store.old (owed_reaction reaction) store.new) }
 {
     match case_before_store(request) {
         Some(cause) => forward_reaction(alloc, wanted, target, request, None, cause),
-        None => react_by_store(alloc, store, wanted, target, request, open_behind),
+        None => react_unless_joined(alloc, store, wanted, target, request, underway),
     }
 }

@@ -11,13 +11,15 @@ use Rattle.hc_framing.specs.declared.message.Message.{Message}
 use Rattle.hc_transcript.specs.Items.{Item, ClientRequest, OriginRequest, ClientReply, Exchange}
 use Rattle.hc_transcript.specs.History.{exchange_of, forward_of, cause_of}
 use Rattle.hc_service.specs.declared.cases.Cause.{Cause}
+use Rattle.hc_service.specs.declared.open.ForwardKind.{ForwardKind}
+use Rattle.hc_service.specs.declared.open.ForwardKind.TheVariants.{Plain}
 use Rattle.hc_service.specs.declared.open.OpenExchange.{OpenExchange}
 use Rattle.hc_service.specs.declared.open.OpenForward.{OpenForward}
 use Rattle.hc_service.specs.declared.open.Purpose.{Purpose}
 use Rattle.hc_service.specs.declared.open.Purpose.TheVariants as purpose
-use Rattle.hc_service.specs.State.{Table, Awaited}
+use Rattle.hc_service.specs.State.{Table, Awaited, exchange_for}
 use Rattle.hc_service.specs.Turns.{sent_forward, after_origin_octets}
-use Rattle.hc_service.specs.Agreement.{IsSeenExchange, AsksFor, KeepsPurpose, exchange_for, AreAsked, seen_forward}
+use Rattle.hc_service.specs.Agreement.{IsSeenExchange, AsksFor, KeepsPurpose, AreAsked, seen_forward}
 use Rattle.hc_service.proofs.TableLemmas.{get_same, get_other, get_out, get_gone, get_left, was_put, was_left}
 use Rattle.hc_service.proofs.LinkLemmas.{none_some}
 
@@ -35,12 +37,12 @@ none_left t n m none = get_out t n m ∙ either (nat_eq n m) (get t m) none
 -- the exchange that a forward is for is open
 for_open : (xs : Table OpenExchange) (forward : OpenForward) (e : ℕ) (p : Purpose) → KeepsPurpose xs p forward → exchange_for p ≡ Some e → (x : OpenExchange) × (get xs e ≡ Some x)
 for_open xs forward e purpose.Background keeps is = absurd (cc)
-for_open xs forward e (purpose.Reply d why conditional) keeps is =
+for_open xs forward e (purpose.Reply d why kind) keeps is =
     let same : d ≡ e = cc in (keeps.exchange, subst (λ (n : ℕ). get xs n ≡ Some keeps.exchange) same keeps.is_open)
 
 keeps_more : (xs : Table OpenExchange) (e : ℕ) (x : OpenExchange) → get xs e ≡ None → (forward : OpenForward) (p : Purpose) → KeepsPurpose xs p forward → KeepsPurpose (insert xs e x) p forward
 keeps_more xs e x fresh forward purpose.Background keeps = keeps
-keeps_more xs e x fresh forward (purpose.Reply d why conditional) keeps = record {
+keeps_more xs e x fresh forward (purpose.Reply d why kind) keeps = record {
   exchange = keeps.exchange;
   is_open = get_other xs e x d (λ same. none_some (get xs e) keeps.exchange fresh (ap (get xs) same ∙ keeps.is_open)) ∙ keeps.is_open;
   asks_for = keeps.asks_for;
@@ -48,9 +50,17 @@ keeps_more xs e x fresh forward (purpose.Reply d why conditional) keeps = record
 
 keeps_less : (xs : Table OpenExchange) (e : ℕ) (forward : OpenForward) (p : Purpose) → (exchange_for p ≡ Some e → ⊥) → KeepsPurpose xs p forward → KeepsPurpose (remove xs e) p forward
 keeps_less xs e forward purpose.Background other keeps = keeps
-keeps_less xs e forward (purpose.Reply d why conditional) other keeps = record {
+keeps_less xs e forward (purpose.Reply d why kind) other keeps = record {
   exchange = keeps.exchange;
   is_open = get_left xs e d (λ same. other (ap Some (sym same))) ∙ keeps.is_open;
+  asks_for = keeps.asks_for;
+}
+
+keeps_others : (xs : Table OpenExchange) (e : ℕ) (x : OpenExchange) (forward : OpenForward) (p : Purpose) → (exchange_for p ≡ Some e → ⊥) → KeepsPurpose xs p forward → KeepsPurpose (insert xs e x) p forward
+keeps_others xs e x forward purpose.Background other keeps = keeps
+keeps_others xs e x forward (purpose.Reply d why kind) other keeps = record {
+  exchange = keeps.exchange;
+  is_open = get_other xs e x d (λ same. other (ap Some (sym same))) ∙ keeps.is_open;
   asks_for = keeps.asks_for;
 }
 
@@ -86,13 +96,13 @@ module _ (E F : ℕ) (xs : Table OpenExchange) (fs : Table Awaited) (items : Lis
   }
 
   -- a request goes to the origin, and awaits its reply
-  module _ (c e f t : ℕ) (q m : Message RequestHead) (g : Target) (why : Cause) (conditional : Bool) (newer : E < e) (further : F < f)
-      (asks : AsksFor (record { connection = c; request = q.head; target = g }) why conditional (sent_forward m.head g t (purpose.Reply e why conditional)).forward) where
+  module _ (c e f t : ℕ) (q m : Message RequestHead) (g : Target) (why : Cause) (kind : ForwardKind) (newer : E < e) (further : F < f)
+      (asks : AsksFor (record { connection = c; request = q.head; target = g; waits_for = None }) why kind (sent_forward m.head g t (purpose.Reply e why kind)).forward) where
     abbrev x : OpenExchange
-    x = record { connection = c; request = q.head; target = g }
+    x = record { connection = c; request = q.head; target = g; waits_for = None }
 
     abbrev a : Awaited
-    a = sent_forward m.head g t (purpose.Reply e why conditional)
+    a = sent_forward m.head g t (purpose.Reply e why kind)
 
     fresh : get xs e ≡ None
     fresh = k.later_exchanges e newer
@@ -143,6 +153,80 @@ module _ (E F : ℕ) (xs : Table OpenExchange) (fs : Table Awaited) (items : Lis
 
         sym_new : (n : ℕ) (b : Awaited) → a ≡ b → exchange_for b.forward.purpose ≡ Some n → Some n ≡ Some e
         sym_new n b same is = sym (ap (λ (b : Awaited). exchange_for b.forward.purpose) same ∙ is)
+
+  -- a request waits for the forward of another one
+  pub asked_joined : (e t : ℕ) (q : Message RequestHead) (g : Target) (x : OpenExchange) → E < e → x.request ≡ q.head → x.target ≡ g
+      → AreAsked e F (insert xs e x) fs (ClientRequest e t q g ∷ items)
+  asked_joined e t q g x newer same_request same_goal = record {
+    exchanges_are = λ d.
+        ⊎_elim
+        (λ (same : e ≡ d). subst (λ (n : ℕ). IsSeenExchange n (get (insert xs e x) n) (exchange_of n (ClientRequest e t q g ∷ items))) same
+        (seen_as e (get (insert xs e x) e) (Some x) (exchange_of e (ClientRequest e t q g ∷ items)) _
+        (get_same xs e x) (rw (eq-eqb e e refl) refl)
+        (length items + 1, λ i. Some (record { number = e; position = length items + 1; request = sym same_request i; target = sym same_goal i }))))
+        (λ (other : e ≡ d → ⊥). seen_as d (get (insert xs e x) d) (get xs d) (exchange_of d (ClientRequest e t q g ∷ items)) (exchange_of d items)
+        (get_other xs e x d other) (rw (ne_eqb e d other) refl) (k.exchanges_are d))
+        (cases_eq e d);
+    forwards_are = k.forwards_are;
+    purposes = λ d b is. keeps_more xs e x (k.later_exchanges e newer) b.forward b.forward.purpose (k.purposes d b is);
+    causes = k.causes;
+    alone = k.alone;
+    later_exchanges = λ d is. get_other xs e x d (λ same. absurd (omega arith)) ∙ k.later_exchanges d (omega arith);
+    later_forwards = k.later_forwards;
+    no_exchange = get_other xs e x 0 (λ same. absurd (omega arith)) ∙ k.no_exchange;
+    no_forward = k.no_forward;
+  }
+
+  -- none was for an exchange that wasn't open yet
+  pub none_for_new : (e : ℕ) → E < e → (g : ℕ) (a : Awaited) → get fs g ≡ Some a → exchange_for a.forward.purpose ≡ Some e → ⊥
+  none_for_new e newer g a is for_e =
+      let awaits = for_open xs a.forward e a.forward.purpose (k.purposes g a is) for_e in
+      none_some (get xs e) awaits.0 (k.later_exchanges e newer) awaits.1
+
+  -- an exchange that no forward is for
+  module _ (e : ℕ) (none : (g : ℕ) (a : Awaited) → get fs g ≡ Some a → exchange_for a.forward.purpose ≡ Some e → ⊥) where
+    -- it has its reply
+    pub asked_shared : (t : ℕ) (reply : Message ResponseHead) → AreAsked E F (remove xs e) fs (ClientReply e t reply ∷ items)
+    asked_shared t reply = record {
+      exchanges_are = λ d.
+          ⊎_elim
+          (λ (same : e ≡ d). seen_as d (get (remove xs e) d) None (exchange_of d (ClientReply e t reply ∷ items)) None
+          (ap (get (remove xs e)) (sym same) ∙ get_gone xs e) (ap (λ (b : Bool). cond b None (exchange_of d items)) (eq-eqb e d same)) refl)
+          (λ (other : e ≡ d → ⊥). seen_as d (get (remove xs e) d) (get xs d) (exchange_of d (ClientReply e t reply ∷ items)) (exchange_of d items)
+          (get_left xs e d other) (ap (λ (b : Bool). cond b None (exchange_of d items)) (ne_eqb e d other)) (k.exchanges_are d))
+          (cases_eq e d);
+      forwards_are = k.forwards_are;
+      purposes = λ d b is. keeps_less xs e b.forward b.forward.purpose (none d b is) (k.purposes d b is);
+      causes = k.causes;
+      alone = k.alone;
+      later_exchanges = λ d is. none_left xs e d (k.later_exchanges d is);
+      later_forwards = k.later_forwards;
+      no_exchange = none_left xs e 0 k.no_exchange;
+      no_forward = k.no_forward;
+    }
+
+    -- it waits no more
+    pub asked_released : (x y : OpenExchange) → get xs e ≡ Some x → y.request ≡ x.request → y.target ≡ x.target → AreAsked E F (insert xs e y) fs items
+    asked_released x y there same_request same_goal = record {
+      exchanges_are = λ d.
+          ⊎_elim
+          (λ (same : e ≡ d). subst (λ (n : ℕ). IsSeenExchange n (get (insert xs e y) n) (exchange_of n items)) same
+          (seen_as e (get (insert xs e y) e) (Some y) (exchange_of e items) (exchange_of e items) (get_same xs e y) refl
+          (now (subst (λ (o : Option OpenExchange). IsSeenExchange e o (exchange_of e items)) there (k.exchanges_are e)))))
+          (λ (other : e ≡ d → ⊥). seen_as d (get (insert xs e y) d) (get xs d) (exchange_of d items) (exchange_of d items) (get_other xs e y d other) refl (k.exchanges_are d))
+          (cases_eq e d);
+      forwards_are = k.forwards_are;
+      purposes = λ d b is. keeps_others xs e y b.forward b.forward.purpose (none d b is) (k.purposes d b is);
+      causes = k.causes;
+      alone = k.alone;
+      later_exchanges = λ d is. get_other xs e y d (λ same. none_some (get xs e) x (ap (get xs) same ∙ k.later_exchanges d is) there) ∙ k.later_exchanges d is;
+      later_forwards = k.later_forwards;
+      no_exchange = get_other xs e y 0 (λ same. none_some (get xs e) x (ap (get xs) same ∙ k.no_exchange) there) ∙ k.no_exchange;
+      no_forward = k.no_forward;
+    }
+      where
+        now : IsSeenExchange e (Some x) (exchange_of e items) → IsSeenExchange e (Some y) (exchange_of e items)
+        now seen = (seen.0, seen.1 ∙ (λ i. Some (record { number = e; position = seen.0; request = sym same_request i; target = sym same_goal i })))
 
   -- another forward is opened, which is for nobody, or for a request for which none other is
   pub asked_more : (f t : ℕ) (m : Message RequestHead) (g : Target) (p : Purpose) → F < f → KeepsPurpose xs p (sent_forward m.head g t p).forward
@@ -283,10 +367,10 @@ asked_validated E F xs fs items k e f t u v q m g reply later further get_method
 pub asked_anew : (E F : ℕ) (xs : Table OpenExchange) (fs : Table Awaited) (items : List Item) → AreAsked E F xs fs items → (f : ℕ) (a : Awaited) (item : Item) → get fs f ≡ Some a
     → ((e : ℕ) → exchange_of e (item ∷ items) ≡ exchange_of e items) → ((d : ℕ) → forward_of d (item ∷ items) ≡ cond (nat_eq f d) None (forward_of d items))
     → ((d : ℕ) → cause_of d (item ∷ items) ≡ cond (nat_eq f d) None (cause_of d items)) → (e n t : ℕ) (m : Message RequestHead) (why : Cause) (x : OpenExchange) → exchange_for a.forward.purpose ≡ Some e → F < n → get xs e ≡ Some x
-    → AsksFor x why false (sent_forward m.head x.target t (purpose.Reply e why false)).forward
-    → AreAsked E n xs (insert (remove fs f) n (sent_forward m.head x.target t (purpose.Reply e why false))) (OriginRequest n t m x.target (Some e) ∷ item ∷ items)
+    → AsksFor x why Plain (sent_forward m.head x.target t (purpose.Reply e why Plain)).forward
+    → AreAsked E n xs (insert (remove fs f) n (sent_forward m.head x.target t (purpose.Reply e why Plain))) (OriginRequest n t m x.target (Some e) ∷ item ∷ items)
 asked_anew E F xs fs items k f a item is_open opens_none closes forgets e n t m why x its further awaits asks =
-    asked_more E F xs (remove fs f) (item ∷ items) (asked_behind E F xs fs items k f a item is_open opens_none closes forgets) n t m x.target (purpose.Reply e why false) further
+    asked_more E F xs (remove fs f) (item ∷ items) (asked_behind E F xs fs items k f a item is_open opens_none closes forgets) n t m x.target (purpose.Reply e why Plain) further
     (record { exchange = x; is_open = awaits; asks_for = asks }) taken
   where
     some_one : (i j : ℕ) → Some i ≡ Some j → i ≡ j

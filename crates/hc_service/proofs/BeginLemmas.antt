@@ -34,6 +34,7 @@ new_agrees settings = record {
       in_range = omega arith;
       in_time = omega arith;
     };
+    since = λ target. 0;
     entries = tt;
     keys = no_keys;
     received = record {
@@ -57,6 +58,12 @@ new_agrees settings = record {
       on_connections = λ e x is. nothing_there e x is;
       busy = λ c e k is. nothing_there c k is;
       later = λ c later. get_none c;
+    };
+    waiting = record {
+      joinable = λ e f x is. nothing_there e x is;
+      own = λ e f g x a is. nothing_there e x is;
+      behind = λ e f x seen is. nothing_there e x is;
+      reached = λ target. omega arith;
     };
     few = rw len-empty (omega arith);
   };

@@ -40,11 +40,12 @@ use Rattle.hc_store.specs.Entries.{Holdings, Entries, variants_of, weight}
 use Rattle.hc_store.specs.Calls.{Puts, Freshens, invalidated}
 use Rattle.hc_store.specs.Changes.{Validation, after_validation, is_validated, renewed, may_stay}
 use Rattle.hc_service.specs.declared.cases.Cause.{Cause}
+use Rattle.hc_service.specs.declared.cases.Cause.TheVariants.{UriMiss}
 use Rattle.hc_service.specs.declared.open.OpenForward.{OpenForward}
 use Rattle.hc_service.specs.Settings.{is_name}
 use Rattle.hc_service.specs.Serving.{ttl_at, has_still}
 use Rattle.hc_service.specs.Cases.{word_of}
-use Rattle.hc_service.specs.Replying.{Wanted, made_reply, entry_reply, entry_status, hit_reply, status_told, replacing_reply, passed_reply}
+use Rattle.hc_service.specs.Replying.{Wanted, made_reply, entry_reply, entry_status, hit_reply, status_told, replacing_reply, collapsed_reply, passed_reply}
 use Rattle.hc_service.specs.Choices.{Finds, PutsResponse, Stores, may_update, validation_by}
 use Rattle.hc_update.specs.States.{invalidates}
 use Rattle.hc_service.specs.Answers.{Renews}
@@ -52,7 +53,7 @@ use Rattle.hc_service.specs.Agreement.{AllHeld, HasSource, CanReply, IsSound}
 use Rattle.hc_service.specs.Laws.{IsReceivedAnswer, IsToldStatus, HasSources}
 use Rattle.hc_service.proofs.StoreLemmas.{all_weaken, choose_held, put_held, without_held, variants_held, held_weaken, left_held, freshen_held}
 use Rattle.hc_service.proofs.SourceLemmas.{on_test}
-use Rattle.hc_service.proofs.NameLemmas.{hit_writable, forward_writable, replacing_writable}
+use Rattle.hc_service.proofs.NameLemmas.{hit_writable, forward_writable, replacing_writable, collapsed_writable}
 
 -- ---- lines with one Date
 
@@ -221,10 +222,10 @@ all_both P Q (e ∷ entries) p q = (each e.1 p.0 q.0, all_both P Q entries p.1 q
     each [] p q = tt
     each (x ∷ xs) p q = ((p.0, q.0), each xs p.1 q.1)
 
-pub sound_parts : (items : List Item) (store : Holdings) → IsDistinct same_target (keys_of store.entries) → AllHeld (IsSound items) store.entries → HasSources items store × all_can_reply store
-sound_parts items store keys sound = (
-  record { keys = keys; sources = held_weaken (IsSound items) (HasSource items) (λ target stored s. s.0) store.entries sound },
-  held_weaken (IsSound items) (λ _ stored. CanReply stored) (λ target stored s. s.1) store.entries sound,
+pub sound_parts : (since : Target → ℕ) (items : List Item) (store : Holdings) → IsDistinct same_target (keys_of store.entries) → AllHeld (IsSound since items) store.entries → HasSources since items store × all_can_reply store
+sound_parts since items store keys sound = (
+  record { keys = keys; sources = held_weaken (IsSound since items) (HasSource since items) (λ target stored s. s.0) store.entries sound },
+  held_weaken (IsSound since items) (λ _ stored. CanReply stored) (λ target stored s. s.1) store.entries sound,
 )
 
 -- ---- replies that can be recorded
@@ -277,6 +278,9 @@ pub replacing_fit : (wanted : Wanted) (why : Cause) (told : Option ℕ) (stored 
     → IsFit (is_head wanted.asked.method) (replacing_reply wanted why told stored)
 replacing_fit wanted why told stored name small can =
     entry_fit wanted (Fwd (word_of why) (status_told told (entry_status wanted stored)) false false) stored (replacing_writable wanted.name why told (entry_status wanted stored) name small) can
+
+pub collapsed_fit : (wanted : Wanted) (stored : Stored) → is_name wanted.name ≡ true → CanReply stored → IsFit (is_head wanted.asked.method) (collapsed_reply wanted stored)
+collapsed_fit wanted stored name can = entry_fit wanted (Fwd (word_of UriMiss) None false true) stored (collapsed_writable wanted.name name) can
 
 pub passed_fit : (wanted : Wanted) (why : Cause) (stored : Bool) (to_head : Bool) (response : Message ResponseHead) → is_name wanted.name ≡ true → wanted.moment < 253402300800
     → IsReceivedAnswer to_head response → IsFit to_head (passed_reply wanted why stored response)

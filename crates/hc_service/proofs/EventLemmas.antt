@@ -1,5 +1,5 @@
 -- A served event keeps agreement: its turns do, what comes with them is what comes with the event, and nothing that can be read is left.
-use Rattle.std.proofs.Common.{◌≡◌, ℕ, ◌≤◌, Bool, true, false, cond, not, List, [], ◌∷◌, nat_lt, Option, Some, None, refl, sym, ap, ◌∙◌, subst, arith, inl, inr, ⊎_elim}
+use Rattle.std.proofs.Common.{◌≡◌, ℕ, ◌≤◌, Bool, true, false, cond, not, List, [], ◌∷◌, ◌++◌, map, option_and_then, nat_lt, Option, Some, None, refl, sym, ap, ◌∙◌, subst, arith, inl, inr, ⊎_elim}
 use Rattle.std.specs.FinMap.{get, insert, remove}
 use Rattle.std.specs.List.{AllByRecursion}
 use Rattle.std.specs.Option.{IsSome}
@@ -17,19 +17,20 @@ use Rattle.hc_service.specs.declared.open.Purpose.TheVariants as purpose
 use Rattle.hc_service.specs.declared.settings.CoreSettings.{CoreSettings}
 use Rattle.hc_service.specs.Settings.{AreGood}
 use Rattle.hc_service.specs.Numbers.{at_moment}
-use Rattle.hc_service.specs.State.{State, Table, Connection, Awaited, new_connection}
+use Rattle.hc_service.specs.State.{State, Table, Connection, Awaited, exchange_for, new_connection}
+use Rattle.hc_service.specs.Joining.{waiting_for}
 use Rattle.hc_service.specs.Turns.{after_client_octets, after_origin_octets, after_leaving, OriginSends, Failure}
 use Rattle.hc_service.specs.Turns.Failure.{IsBroken, IsCutOff, IsLost}
-use Rattle.hc_service.specs.Serves.{Turn, Takes, Run, Reads, ReadsOn, client_by, client_of, IsQuietAt, IsQuietBy, AwaitsStill, OwesEnd, OwesReply, OwesAnswer, Owes, passed_to, is_known, is_full, first_fault, Serves}
-use Rattle.hc_service.specs.Serves.Turn.{Opening, ClientSending, Asking, Refusal, Dropping, Leaving, Closing, OriginSending, Answering, Failing}
+use Rattle.hc_service.specs.Serves.{Turn, Takes, Run, Reads, ReadsOn, ReadsOnAll, clients_of, connections_of, listed, IsQuietAt, IsQuietBy, AwaitsStill, OwesEnd, OwesReply, OwesAnswer, Owes, passed_to, is_known, is_full, first_fault, Serves}
+use Rattle.hc_service.specs.Serves.Turn.{Opening, ClientSending, Asking, Refusal, Dropping, Leaving, Closing, OriginSending, Answering, Failing, Releasing}
 use Rattle.hc_service.specs.Agreement.{History, AreCounted, KeepsPurpose, IsConsistent, IsQuiet, IsAwaiting, Agrees, HasExchange, IsReady}
-use Rattle.hc_service.specs.Runs.{client_octets_by, origin_octets_by}
+use Rattle.hc_service.specs.Runs.{client_octets_by, client_octets_with, origin_octets_by, origin_octets_with}
 use Rattle.hc_service.specs.LowerLaws.{ForwardLaws}
 use Rattle.hc_service.specs.Laws.{client_octets_all, origin_octets_all, KeepsAgreement}
 use Rattle.hc_service.proofs.TableLemmas.{get_same, get_gone, was_put}
 use Rattle.hc_service.proofs.LinkLemmas.{none_some, one_of}
 use Rattle.hc_service.proofs.StepLemmas.{run_keeps}
-use Rattle.hc_service.proofs.QuietLemmas.{nothing_read, KeepsOthers, KeepsBeside, IsAwaitingBut, others_put, others_out, others_then, forwards_same, ended_then, client_keeps, client_is, answering_keeps, failing_keeps, quiet_by, read_quietly, awaiting_by, awaiting_without}
+use Rattle.hc_service.proofs.QuietLemmas.{nothing_read, KeepsOthers, KeepsBeside, IsAwaitingBut, others_put, others_out, others_then, forwards_same, ended_then, readings_keep, run_split, clients_keep, answering_keeps, failing_keeps, releases_keep, waiters_among, quiet_by, read_quietly, awaiting_by, awaiting_without}
 
 -- ---- the moment has come
 
@@ -57,11 +58,13 @@ passed_counted moment s h le a = record {
 passed_consistent : (moment : ℕ) (s : State) (h : History) → moment ≤ greatest_moment → IsConsistent s h → IsConsistent (passed_to moment s) h
 passed_consistent moment s h le a = record {
   counted = passed_counted moment s h le a.counted;
+  since = a.since;
   entries = a.entries;
   keys = a.keys;
   received = a.received;
   asked = a.asked;
   linked = a.linked;
+  waiting = a.waiting;
   few = a.few;
 }
 
@@ -82,10 +85,34 @@ readings_bring c (Closing d ∷ turns) reads = absurd reads.0
 readings_bring c (OriginSending f octets ∷ turns) reads = absurd reads.0
 readings_bring c (Answering f ended ∷ turns) reads = absurd reads.0
 readings_bring c (Failing f how ∷ turns) reads = absurd reads.0
+readings_bring c (Releasing e ∷ turns) reads = absurd reads.0
 
-client_brings : (client : Option ℕ) (turns : List Turn) (s' : State) → ReadsOn client turns s' → BringNothing turns
-client_brings None turns s' reads = subst BringNothing (sym reads) (λ before. refl, λ before. refl)
-client_brings (Some c) turns s' reads = readings_bring c turns reads.0
+both_bring : (turns more : List Turn) → BringNothing turns → BringNothing more → BringNothing (turns ++ more)
+both_bring turns more one other = (
+  λ before. client_append turns more before ∙ ap (client_octets_all more) (one.0 before) ∙ other.0 before,
+  λ before. origin_append turns more before ∙ ap (origin_octets_all more) (one.1 before) ∙ other.1 before,
+)
+  where
+    client_append : (turns more : List Turn) (before : ℕ → List ℕ) → client_octets_all (turns ++ more) before ≡ client_octets_all more (client_octets_all turns before)
+    client_append [] more before = refl
+    client_append (turn ∷ turns) more before = client_append turns more (client_octets_with turn before)
+
+    origin_append : (turns more : List Turn) (before : ℕ → List ℕ) → origin_octets_all (turns ++ more) before ≡ origin_octets_all more (origin_octets_all turns before)
+    origin_append [] more before = refl
+    origin_append (turn ∷ turns) more before = origin_append turns more (origin_octets_with turn before)
+
+clients_bring : (clients : List ℕ) (turns : List Turn) (s' : State) → ReadsOnAll clients turns s' → BringNothing turns
+clients_bring [] turns s' reads = subst BringNothing (sym reads) (λ before. refl, λ before. refl)
+clients_bring (c ∷ clients) turns s' reads =
+    subst BringNothing (sym reads.2) (both_bring reads.0 reads.1 (readings_bring c reads.0 reads.3.0) (clients_bring clients reads.1 s' reads.4))
+
+releases_bring : (numbers : List ℕ) → BringNothing (map Releasing numbers)
+releases_bring [] = (λ before. refl, λ before. refl)
+releases_bring (e ∷ numbers) = releases_bring numbers
+
+rest_brings : (f : ℕ) (readings : List Turn) (s s' : State) → ReadsOnAll (clients_of f s) readings s' → BringNothing (map Releasing (waiting_for f s.exchanges) ++ readings)
+rest_brings f readings s s' reads =
+    both_bring (map Releasing (waiting_for f s.exchanges)) readings (releases_bring (waiting_for f s.exchanges)) (clients_bring (clients_of f s) readings s' reads)
 
 -- the turns bring what has happened
 record BringThat (happening : Happening) (turns : List Turn) : Type 0 where
@@ -99,10 +126,10 @@ end_brings c false None turns (inl owes) = subst BringNothing (sym owes) (λ bef
 end_brings c false None turns (inr owes) = subst BringNothing (sym owes.1) (λ before. refl, λ before. refl)
 
 answer_brings : (f : ℕ) (ended : Bool) (turns : List Turn) (s s' : State) → OwesReply f (Answering f ended) turns s s' → BringNothing turns
-answer_brings f ended turns s s' owes = subst BringNothing (sym owes.1) (let more = client_brings (client_of f s) owes.0 s' owes.2 in (more.0, more.1))
+answer_brings f ended turns s s' owes = subst BringNothing (sym owes.1) (let more = rest_brings f owes.0 s s' owes.2 in (more.0, more.1))
 
 failure_brings : (f : ℕ) (how : Failure) (turns : List Turn) (s s' : State) → OwesReply f (Failing f how) turns s s' → BringNothing turns
-failure_brings f how turns s s' owes = subst BringNothing (sym owes.1) (let more = client_brings (client_of f s) owes.0 s' owes.2 in (more.0, more.1))
+failure_brings f how turns s s' owes = subst BringNothing (sym owes.1) (let more = rest_brings f owes.0 s s' owes.2 in (more.0, more.1))
 
 more_brings : (f : ℕ) (turns : List Turn) (s s' : State) → OwesAnswer f turns s s' → BringNothing turns
 more_brings f turns s s' (inl none) = subst BringNothing (sym none.0) (λ before. refl, λ before. refl)
@@ -147,8 +174,9 @@ quiet_put c k s s' same quiet q is =
 quiet_out : (c : ℕ) (s s' : State) → s'.connections ≡ remove s.connections c → IsQuietAt c s'
 quiet_out c s s' same q is = absurd (none_some (get (remove s.connections c) c) q (get_gone s.connections c) (sym (ap (λ (t : Table Connection). get t c) same) ∙ is))
 
-quiet_at : (c : ℕ) (s s' : State) → KeepsOthers (Some c) s s' → IsQuiet s → IsQuietAt c s' → IsQuiet s'
-quiet_at c s s' keeps quiet there = quiet_by (Some c) s s' keeps quiet (λ d is. subst (λ (n : ℕ). IsQuietAt n s') (one_of (Some c) c d refl is) there)
+quiet_at : (c : ℕ) (s s' : State) → KeepsOthers (c ∷ []) s s' → IsQuiet s → IsQuietAt c s' → IsQuiet s'
+quiet_at c s s' keeps quiet there =
+    quiet_by (c ∷ []) s s' keeps quiet (λ d is. ⊎_elim (λ (same : c ≡ d). subst (λ (n : ℕ). IsQuietAt n s') same there) (λ (none : ⊥). absurd none) is)
 
 -- a connection opens
 opened_read : (settings : CoreSettings) (c : ℕ) (turns : List Turn) (s : State) (actions : List Action) (s' : State) → turns ≡ Opening c ∷ [] → Run settings turns s actions s'
@@ -160,11 +188,11 @@ opened_read settings c turns s actions s' is r quiet awaiting =
     )
 
 -- octets come on it
-client_sent_read : (settings : CoreSettings) (c : ℕ) (octets : List ℕ) (readings : List Turn) (s : State) (actions : List Action) (s' : State) → ReadsOn (Some c) readings s'
+client_sent_read : (settings : CoreSettings) (c : ℕ) (octets : List ℕ) (readings : List Turn) (s : State) (actions : List Action) (s' : State) → ReadsOn c readings s'
     → Run settings (ClientSending c octets ∷ readings) s actions s' → IsQuiet s → IsAwaiting s → IsRead s'
 client_sent_read settings c octets readings s actions s' reads r quiet awaiting =
-    let more = client_keeps settings (Some c) readings r.0 r.2 s' reads r.5 in (
-      quiet_at c s s' (others_then (Some c) s r.0 s' (others_put c (after_client_octets octets r.3.connection) s r.0 r.3.connections) more.0) quiet reads.1,
+    let more = readings_keep settings c readings r.0 r.2 s' reads.0 r.5 in (
+      quiet_at c s s' (others_then (c ∷ []) s r.0 s' (others_put c (after_client_octets octets r.3.connection) s r.0 r.3.connections) more.0) quiet reads.1,
       awaiting_by r.0 s' more.1 (awaiting_by s r.0 (forwards_same s r.0 r.3.keeps.forwards) awaiting),
     )
 
@@ -185,28 +213,31 @@ left_read settings c false None turns s actions s' (inr owes) r quiet awaiting =
     let t = (one_turn settings (Refusal c owes.0) turns s actions s' owes.1 r).1 in
     (quiet_at c s s' (others_out c s s' t.connections) quiet (quiet_out c s s' t.connections), awaiting_by s s' (forwards_same s s' t.keeps.forwards) awaiting)
 
--- a forward ends, and behind it the client of its exchange is read
+-- a forward ends, those that waited for it are released, and behind that the clients of all whom it answers are read
 ended_read : (settings : CoreSettings) (f : ℕ) (turn : Turn) (readings : List Turn) (s : State) (actions : List Action) (s' : State)
-    → ((first : List Action) (mid : State) → Takes settings turn s first mid → KeepsBeside f s mid) → ReadsOn (client_of f s) readings s' → Run settings (turn ∷ readings) s actions s'
-    → IsQuiet s → IsAwaitingBut f s → IsRead s'
+    → ((first : List Action) (mid : State) → Takes settings turn s first mid → KeepsBeside f s mid) → ReadsOnAll (clients_of f s) readings s'
+    → Run settings (turn ∷ (map Releasing (waiting_for f s.exchanges) ++ readings)) s actions s' → IsQuiet s → IsAwaitingBut f s → IsRead s'
 ended_read settings f turn readings s actions s' ends reads r quiet awaiting =
+    let clients = clients_of f s in
     let one = ends r.1 r.0 r.3 in
-    let more = client_keeps settings (client_of f s) readings r.0 r.2 s' reads r.5 in (
-      quiet_by (client_of f s) s s' (others_then (client_of f s) s r.0 s' one.0 more.0) quiet (read_quietly (client_of f s) readings s' reads),
-      awaiting_without f s s' (ended_then f s r.0 s' one.1 more.1) awaiting,
+    let parts = run_split settings (map Releasing (waiting_for f s.exchanges)) readings r.0 r.2 s' r.5 in
+    let freed = releases_keep settings clients (waiting_for f s.exchanges) s r.0 parts.1 parts.0 (waiters_among f s) one.on parts.3 in
+    let more = clients_keep settings clients readings parts.0 parts.2 s' reads parts.4 in (
+      quiet_by clients s s' (others_then clients s r.0 s' one.others (others_then clients r.0 parts.0 s' freed.0 more.0)) quiet (read_quietly clients readings s' reads),
+      awaiting_without f s s' (ended_then f s parts.0 s' (ended_then f s r.0 parts.0 one.ends freed.1) more.1) awaiting,
     )
 
-answered_read : (settings : CoreSettings) (f : ℕ) (ended : Bool) (turns readings : List Turn) (s : State) (actions : List Action) (s' : State) → turns ≡ Answering f ended ∷ readings
-    → ReadsOn (client_of f s) readings s' → Run settings turns s actions s' → IsQuiet s → IsAwaitingBut f s → IsRead s'
-answered_read settings f ended turns readings s actions s' is reads r quiet awaiting =
-    ended_read settings f (Answering f ended) readings s actions s' (λ first mid t. answering_keeps settings f ended s first mid t) reads
-    (subst (λ (turns : List Turn). Run settings turns s actions s') is r) quiet awaiting
+answered_read : (settings : CoreSettings) (f : ℕ) (ended : Bool) (turns : List Turn) (s : State) (actions : List Action) (s' : State) → OwesReply f (Answering f ended) turns s s'
+    → Run settings turns s actions s' → IsQuiet s → IsAwaitingBut f s → IsRead s'
+answered_read settings f ended turns s actions s' owes r quiet awaiting =
+    ended_read settings f (Answering f ended) owes.0 s actions s' (λ first mid t. answering_keeps settings f ended s first mid t) owes.2
+    (subst (λ (turns : List Turn). Run settings turns s actions s') owes.1 r) quiet awaiting
 
-failed_read : (settings : CoreSettings) (f : ℕ) (how : Failure) (turns readings : List Turn) (s : State) (actions : List Action) (s' : State) → turns ≡ Failing f how ∷ readings
-    → ReadsOn (client_of f s) readings s' → Run settings turns s actions s' → IsQuiet s → IsAwaitingBut f s → IsRead s'
-failed_read settings f how turns readings s actions s' is reads r quiet awaiting =
-    ended_read settings f (Failing f how) readings s actions s' (λ first mid t. failing_keeps settings f how s first mid t) reads
-    (subst (λ (turns : List Turn). Run settings turns s actions s') is r) quiet awaiting
+failed_read : (settings : CoreSettings) (f : ℕ) (how : Failure) (turns : List Turn) (s : State) (actions : List Action) (s' : State) → OwesReply f (Failing f how) turns s s'
+    → Run settings turns s actions s' → IsQuiet s → IsAwaitingBut f s → IsRead s'
+failed_read settings f how turns s actions s' owes r quiet awaiting =
+    ended_read settings f (Failing f how) owes.0 s actions s' (λ first mid t. failing_keeps settings f how s first mid t) owes.2
+    (subst (λ (turns : List Turn). Run settings turns s actions s') owes.1 r) quiet awaiting
 
 -- octets come from the origin
 module _ (f : ℕ) (octets : List ℕ) (s : State) (given : List Action) (mid : State) (t : OriginSends f octets s given mid) where
@@ -220,11 +251,22 @@ module _ (f : ℕ) (octets : List ℕ) (s : State) (given : List Action) (mid : 
       (λ (p : (f ≡ g → ⊥) × (get s.forwards g ≡ Some a)). awaiting g a p.1)
       (was_put s.forwards f (after_origin_octets octets t.awaited) g a (sym (ap (λ (t : Table Awaited). get t g) t.forwards) ∙ is))
 
-  origin_sent_client : client_of f s ≡ client_of f mid
-  origin_sent_client =
-      client_is f s t.awaited t.is_open
-      ∙ sym (client_is f mid (after_origin_octets octets t.awaited) (ap (λ (t : Table Awaited). get t f) t.forwards ∙ get_same s.forwards f (after_origin_octets octets t.awaited))
-      ∙ ap (λ (xs : Table OpenExchange). client_by xs t.awaited.forward.purpose) t.keeps.exchanges)
+  -- whom its end answers
+  origin_sent_clients : clients_of f s ≡ clients_of f mid
+  origin_sent_clients =
+      let now : get mid.forwards f ≡ Some (after_origin_octets octets t.awaited) =
+      ap (λ (t : Table Awaited). get t f) t.forwards ∙ get_same s.forwards f (after_origin_octets octets t.awaited) in
+      ap (λ (o : Option Awaited). connections_of s.exchanges (listed (option_and_then (λ (awaited : Awaited). exchange_for awaited.forward.purpose) o) ++ waiting_for f s.exchanges)) t.is_open
+      ∙ sym (ap (λ (o : Option Awaited). connections_of s.exchanges (listed (option_and_then (λ (awaited : Awaited). exchange_for awaited.forward.purpose) o) ++ waiting_for f s.exchanges)) now)
+      ∙ ap (λ (xs : Table OpenExchange). connections_of xs (listed (option_and_then (λ (awaited : Awaited). exchange_for awaited.forward.purpose) (get mid.forwards f)) ++ waiting_for f xs))
+      (sym t.keeps.exchanges)
+
+  origin_sent_owes : (turn : Turn) (turns : List Turn) (s' : State) → OwesReply f turn turns s s' → OwesReply f turn turns mid s'
+  origin_sent_owes turn turns s' owes = (
+    owes.0,
+    owes.1 ∙ ap (λ (xs : Table OpenExchange). turn ∷ (map Releasing (waiting_for f xs) ++ owes.0)) (sym t.keeps.exchanges),
+    subst (λ (clients : List ℕ). ReadsOnAll clients owes.0 s') origin_sent_clients owes.2,
+  )
 
   -- what is owed then
   origin_sent_then : (settings : CoreSettings) (more : List Turn) (rest : List Action) (s' : State) → OwesAnswer f more s s' → Run settings more mid rest s' → IsQuiet s → IsAwaiting s → IsRead s'
@@ -238,9 +280,9 @@ module _ (f : ℕ) (octets : List ℕ) (s : State) (given : List Action) (mid : 
             (cases_eq f g),
       )
   origin_sent_then settings more rest s' (inr (inl owes)) r quiet awaiting =
-      answered_read settings f false more owes.0 mid rest s' owes.1 (subst (λ (client : Option ℕ). ReadsOn client owes.0 s') origin_sent_client owes.2) r (origin_sent_quiet quiet) (origin_sent_awaiting awaiting)
+      answered_read settings f false more mid rest s' (origin_sent_owes (Answering f false) more s' owes) r (origin_sent_quiet quiet) (origin_sent_awaiting awaiting)
   origin_sent_then settings more rest s' (inr (inr owes)) r quiet awaiting =
-      failed_read settings f IsBroken more owes.0 mid rest s' owes.1 (subst (λ (client : Option ℕ). ReadsOn client owes.0 s') origin_sent_client owes.2) r (origin_sent_quiet quiet) (origin_sent_awaiting awaiting)
+      failed_read settings f IsBroken more mid rest s' (origin_sent_owes (Failing f IsBroken) more s' owes) r (origin_sent_quiet quiet) (origin_sent_awaiting awaiting)
 
 event_read : (settings : CoreSettings) (moment : ℕ) (happening : Happening) (turns : List Turn) (s : State) (actions : List Action) (s' : State) → Owes happening turns s s'
     → Run settings turns (passed_to moment s) actions s' → IsQuiet s → IsAwaiting s → IsRead s'
@@ -253,11 +295,11 @@ event_read settings moment (OriginBytes f octets) turns s actions s' owes r quie
     let run = subst (λ (turns : List Turn). Run settings turns (passed_to moment s) actions s') owes.1 r in
     origin_sent_then f octets (passed_to moment s) run.1 run.0 run.3 settings owes.0 run.2 s' owes.2 run.5 quiet awaiting
 event_read settings moment (OriginEnd f) turns s actions s' (inl owes) r quiet awaiting =
-    answered_read settings f true turns owes.0 (passed_to moment s) actions s' owes.1 owes.2 r quiet (λ g other. awaiting g)
+    answered_read settings f true turns (passed_to moment s) actions s' owes r quiet (λ g other. awaiting g)
 event_read settings moment (OriginEnd f) turns s actions s' (inr owes) r quiet awaiting =
-    failed_read settings f IsCutOff turns owes.0 (passed_to moment s) actions s' owes.1 owes.2 r quiet (λ g other. awaiting g)
+    failed_read settings f IsCutOff turns (passed_to moment s) actions s' owes r quiet (λ g other. awaiting g)
 event_read settings moment (OriginFailed f) turns s actions s' owes r quiet awaiting =
-    failed_read settings f IsLost turns owes.0 (passed_to moment s) actions s' owes.1 owes.2 r quiet (λ g other. awaiting g)
+    failed_read settings f IsLost turns (passed_to moment s) actions s' owes r quiet (λ g other. awaiting g)
 
 -- ---- all
 
@@ -282,9 +324,14 @@ event_keeps settings good laws event s actions s' h a v le =
 pub agreement_ready : (s : State) (h : History) → Agrees s h → IsReady s
 agreement_ready s h a = record {
   exchanges = λ f w is. by_purpose w.forward.purpose w.forward (a.consistent.asked.purposes f w is);
-  connections = λ e x is. let on = a.consistent.linked.on_connections e x is in subst IsSome (sym on.is_open) refl;
+  alone = λ f e w x is for_it there. waits_not x.waits_for (λ g waits. a.consistent.waiting.own e g f x w there waits is for_it);
+  connections = λ e x is. let on = a.consistent.linked.on_connections e x is in record { connection = on.connection; is_open = on.is_open; awaits = on.awaits };
 }
   where
+    waits_not : (o : Option ℕ) → ((g : ℕ) → o ≡ Some g → ⊥) → o ≡ None
+    waits_not None none = refl
+    waits_not (Some g) none = absurd (none g refl)
+
     by_purpose : (p : Purpose) (forward : OpenForward) → KeepsPurpose s.exchanges p forward → HasExchange s.exchanges p
     by_purpose purpose.Background forward keeps = tt
-    by_purpose (purpose.Reply e why conditional) forward keeps = subst IsSome (sym keeps.is_open) refl
+    by_purpose (purpose.Reply e why kind) forward keeps = subst IsSome (sym keeps.is_open) refl

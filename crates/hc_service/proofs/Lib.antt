@@ -12,6 +12,7 @@ pub mod ReceivedLemmas
 pub mod RecordLemmas
 pub mod LinkLemmas
 pub mod AskedLemmas
+pub mod WaitingLemmas
 pub mod UnreadLemmas
 pub mod EntryLemmas
 pub mod OutcomeLemmas

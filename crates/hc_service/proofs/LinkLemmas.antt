@@ -2,6 +2,7 @@
 use Rattle.std.proofs.Common.{◌≡◌, ℕ, ◌<◌, Bool, true, false, List, Option, Some, None, refl, sym, ap, ◌∙◌, subst, arith, ⊎_elim}
 use Rattle.std.specs.FinMap.{get, insert, remove}
 use Rattle.std.proofs.lemmas.Bool.{ltb-true, lt-ltb, cases_eq}
+use Rattle.hc_head.specs.declared.head.RequestHead.{RequestHead}
 use Rattle.hc_rules.specs.Laws.{IsForwardable}
 use Rattle.hc_service.specs.declared.open.OpenExchange.{OpenExchange}
 use Rattle.hc_service.specs.Numbers.{is_later}
@@ -143,6 +144,35 @@ module _ (last : Option ℕ) (ks : Table Connection) (xs : Table OpenExchange) (
     where
       some_same : (a b : ℕ) → Some a ≡ Some b → a ≡ b
       some_same a b e = cc
+
+  -- an exchange changes that stays on its connection
+  pub linked_released : (e : ℕ) (x y : OpenExchange) → get xs e ≡ Some x → y.connection ≡ x.connection → y.request ≡ x.request → y.target ≡ x.target → AreLinked last ks (insert xs e y)
+  linked_released e x y there same_connection same_request same_goal = record {
+    on_connections = λ e' x' is.
+        ⊎_elim
+        (λ (p : (e ≡ e') × (y ≡ x')).
+        let w = l.on_connections e x there in
+        subst (λ (n : ℕ). AwaitsOn ks n x') p.0
+        (subst (AwaitsOn ks e) p.1 (record {
+          connection = w.connection;
+          is_open = ap (get ks) same_connection ∙ w.is_open;
+          awaits = w.awaits;
+          forwardable = subst (λ (r : RequestHead). IsForwardable r y.target) (sym same_request) (subst (IsForwardable x.request) (sym same_goal) w.forwardable);
+        })))
+        (λ (p : (e ≡ e' → ⊥) × (get xs e' ≡ Some x')). l.on_connections e' x' p.1)
+        (was_put xs e y e' x' is);
+    busy = λ d e' q is at_e.
+        let b = l.busy d e' q is at_e in
+        ⊎_elim
+        (λ (same : e ≡ e'). record {
+          exchange = y;
+          is_open = subst (λ (n : ℕ). get (insert xs e y) n ≡ Some y) same (get_same xs e y);
+          is_its = same_connection ∙ ap (λ (z : OpenExchange). z.connection) (one_of (get xs e) x b.exchange there (ap (get xs) same ∙ b.is_open)) ∙ b.is_its;
+        })
+        (λ (other : e ≡ e' → ⊥). record { exchange = b.exchange; is_open = get_other xs e y e' other ∙ b.is_open; is_its = b.is_its })
+        (cases_eq e e');
+    later = l.later;
+  }
 
   -- an exchange has its reply
   module _ (e : ℕ) (x : OpenExchange) (k : Connection) (awaits : get xs e ≡ Some x) (at : get ks x.connection ≡ Some k) where

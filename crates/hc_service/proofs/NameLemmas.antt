@@ -182,3 +182,13 @@ cache_name (first ∷ rest) is =
     three_parts true true false e = absurd (cc)
     three_parts true false c e = absurd (cc)
     three_parts false b c e = absurd (cc)
+
+-- and where they say that the request was collapsed
+pub collapsed_writable : (name : List ℕ) → is_name name ≡ true → IsWritableStatus name (Fwd (word_of UriMiss) None false true)
+collapsed_writable name is =
+    let token = name_is_token name is in
+    record {
+      plain = record { name = token.0; handling = (word_is_token UriMiss, tt) };
+      short_name = token.1;
+      short_word = word_is_short UriMiss;
+    }

@@ -24,6 +24,8 @@ use Rattle.hc_store.specs.Entries.{Holdings, knows}
 use Rattle.hc_store.specs.Choosing.{is_selected}
 use Rattle.hc_service.specs.declared.cases.Cause.{Cause}
 use Rattle.hc_service.specs.declared.cases.Cause.TheVariants.{Method, Bypass, NoStore, UriMiss, VaryMiss, Stale, Request}
+use Rattle.hc_service.specs.declared.open.ForwardKind.{ForwardKind}
+use Rattle.hc_service.specs.declared.open.ForwardKind.TheVariants.{Conditional, Joinable, Plain}
 use Rattle.hc_service.specs.declared.open.OpenForward.{OpenForward}
 use Rattle.hc_service.specs.Sending.{recorded_format}
 use Rattle.hc_service.specs.Settings.{is_name}
@@ -31,11 +33,12 @@ use Rattle.hc_service.specs.Asking.{is_answered_by_store}
 use Rattle.hc_service.specs.Cases.Case.{Hit, Forward}
 use Rattle.hc_service.specs.Cases.{asks_store, is_of_stored, case_before_store, case_by_store, has_other_method, asks_origin, forbids_storing, cause_of_stored}
 use Rattle.hc_service.specs.Serving.{is_fresh, may_be_served, may_replace}
-use Rattle.hc_service.specs.State.{Table, Awaited}
+use Rattle.hc_service.specs.State.{Table, Awaited, OpenNow, is_conditional}
+use Rattle.hc_service.specs.Joining.{is_joinable, is_of_miss, plain_kind}
 use Rattle.hc_service.specs.Replying.{Wanted, made_reply, hit_reply, replacing_reply, passed_reply, failure_status, bad_gateway, gateway_timeout}
 use Rattle.hc_service.specs.Choices.{OnTest, Finds, validated_by, PutsResponse, Stores}
-use Rattle.hc_service.specs.Reactions.{Reaction, Reacts, ReactsBy, bare, is_validated_behind, validation_behind, hit_reaction, wants_no_forward, plain_forward, stored_forward, forward_reaction, chosen_reaction}
-use Rattle.hc_service.specs.Reactions.Reaction.{Replies as RepliesAtOnce, Sends}
+use Rattle.hc_service.specs.Reactions.{Reaction, Reacts, ReactsBy, ReactsByStore, ReactsJoined, bare, is_validated_behind, validation_behind, hit_reaction, wants_no_forward, plain_forward, stored_forward, forward_reaction, chosen_reaction}
+use Rattle.hc_service.specs.Reactions.Reaction.{Replies as RepliesAtOnce, Sends, Waits}
 use Rattle.hc_service.specs.Answers.Rule.{Validates, IsUnasked, MayBeReplaced, IsPassedOn}
 use Rattle.hc_service.specs.Answers.{Answer, Outcome, Responds, Passes, Replaces, RepliesInPlace, FailsByStore, Fails, is_validation, validated_outcome, is_unasked, is_replaceable, failed_outcome, replacement, rule_of}
 use Rattle.hc_service.specs.Answers.Outcome.{Replies, GoesAnew}
@@ -52,14 +55,14 @@ use Rattle.hc_service.proofs.PassedLemmas.{exchange_place, passed_right, made_ri
 use Rattle.hc_service.proofs.ReplacingLemmas.{error_is_small, validated_right, error_right, failure_right}
 
 -- all that a store holds is sound
-abbrev pub SoundStore : List Item → Holdings → Type 0
-SoundStore items store = HasSources items store × all_can_reply store
+abbrev pub SoundStore : (Target → ℕ) → List Item → Holdings → Type 0
+SoundStore since items store = HasSources since items store × all_can_reply store
 
-pub still_sound : (items : List Item) (item : Item) (store : Holdings) → is_response item ≡ false → SoundStore items store → SoundStore (item ∷ items) store
-still_sound items item store is h = (still_sources items item store is h.0, h.1)
+pub still_sound : (since : Target → ℕ) (items : List Item) (item : Item) (store : Holdings) → is_response item ≡ false → SoundStore since items store → SoundStore since (item ∷ items) store
+still_sound since items item store is h = (still_sources since items item store is h.0, h.1)
 
-found_sound : (items : List Item) (target : Target) (asked : List Field) (old : Holdings) (chosen : Option Stored) (new : Holdings) → SoundStore items old → Finds target asked old chosen new → SoundStore items new
-found_sound items target asked old chosen new h finds = (found_sources items target asked old chosen new h.0 finds, found_can_reply target asked old chosen new h.1 finds)
+pub found_sound : (since : Target → ℕ) (items : List Item) (target : Target) (asked : List Field) (old : Holdings) (chosen : Option Stored) (new : Holdings) → SoundStore since items old → Finds target asked old chosen new → SoundStore since items new
+found_sound since items target asked old chosen new h finds = (found_sources since items target asked old chosen new h.0 finds, found_can_reply target asked old chosen new h.1 finds)
 
 -- ---- a whole request
 
@@ -87,7 +90,7 @@ not_options method is same = false_true (sym (ap is_answered_by_store same) ∙ 
     false_true : false ≡ true → ⊥
     false_true e = cc
 
-module _ (laws : ForwardLaws) (name : List ℕ) (good : is_name name ≡ true) (t : ℕ) (early : t < 253402300800) (closes : Bool) (items : List Item) (e : ℕ) (request : Message RequestHead) (target : Target)
+module _ (since : Target → ℕ) (laws : ForwardLaws) (name : List ℕ) (good : is_name name ≡ true) (t : ℕ) (early : t < 253402300800) (closes : Bool) (items : List Item) (e : ℕ) (request : Message RequestHead) (target : Target)
     (ask : IsReceivedAsk request target) where
   abbrev wanted : Wanted
   wanted = record { name = name; moment = t; asked = request.head; closes = closes }
@@ -120,12 +123,20 @@ module _ (laws : ForwardLaws) (name : List ℕ) (good : is_name name ≡ true) (
   pub record GetsForward (reaction : Reaction) : Type 0 where
     pub why : Cause
     pub forward : Message RequestHead
-    pub conditional : Bool
-    pub reaction_is : reaction ≡ Sends forward why conditional
+    pub kind : ForwardKind
+    pub reaction_is : reaction ≡ Sends forward why kind
     pub method : forward.head.method ≡ request.head.method
     pub by_store : asks_store why ≡ true → is_answered_by_store request.head.method ≡ true
-    pub asks_after : (c : ℕ) → conditional ≡ true → AsksAfter (record { connection = c; request = request.head; target = target }) why forward.head
+    pub asks_after : (c : ℕ) → is_conditional kind ≡ true → AsksAfter (record { connection = c; request = request.head; target = target; waits_for = None }) why forward.head
     pub writable : IsWritableAsk forward target
+
+  -- it waits for the forward of another request, and nothing changes of what is stored
+  pub record GetsJoined (old new : Holdings) (reaction : Reaction) : Type 0 where
+    pub forward : ℕ
+    pub reaction_is : reaction ≡ Waits forward
+    pub may : is_joinable request.head ≡ true
+    pub unknown : knows target old.entries ≡ false
+    pub same : new ≡ old
 
   made_at_once : (reaction : Reaction) → reaction ≡ RepliesAtOnce (made_reply (record { name = name; moment = t; asked = request.head; closes = closes }) gateway_timeout) None → GetsReply reaction
   made_at_once reaction is = record {
@@ -152,16 +163,23 @@ module _ (laws : ForwardLaws) (name : List ℕ) (good : is_name name ≡ true) (
     target_is = laws.conditional_keeps name target request.head stored.fields ask.forwardable.has_target (not_options request.head.method method);
   }
 
-  sends_plain : (why : Cause) → (asks_store why ≡ true → is_answered_by_store request.head.method ≡ true)
-      → GetsForward (Sends (plain_forward (record { name = name; moment = t; asked = request.head; closes = closes }) target request) why false)
-  sends_plain why by_store = record {
+  plain_asks_nothing : (why : Cause) → is_conditional (plain_kind why request.head) ≡ false
+  plain_asks_nothing why = by (is_of_miss why && is_joinable request.head)
+    where
+      by : (b : Bool) → is_conditional (cond b Joinable Plain) ≡ false
+      by true = refl
+      by false = refl
+
+  sends_plain : (why : Cause) (kind : ForwardKind) → is_conditional kind ≡ false → (asks_store why ≡ true → is_answered_by_store request.head.method ≡ true)
+      → GetsForward (Sends (plain_forward (record { name = name; moment = t; asked = request.head; closes = closes }) target request) why kind)
+  sends_plain why kind plain by_store = record {
     why = why;
     forward = plain_forward wanted target request;
-    conditional = false;
+    kind = kind;
     reaction_is = refl;
     method = refl;
     by_store = by_store;
-    asks_after = λ c is. absurd (false_true is);
+    asks_after = λ c is. absurd (false_true (sym plain ∙ is));
     writable = plain_ask;
   }
     where
@@ -170,25 +188,25 @@ module _ (laws : ForwardLaws) (name : List ℕ) (good : is_name name ≡ true) (
 
   sends : (chosen : Option Stored) (why : Cause) → (asks_store why ≡ true → is_answered_by_store request.head.method ≡ true) → CanAskAfter chosen why
       → GetsForward (stored_forward (record { name = name; moment = t; asked = request.head; closes = closes }) target request why chosen)
-  sends None why by_store can = sends_plain why by_store
+  sends None why by_store can = sends_plain why (plain_kind why request.head) (plain_asks_nothing why) by_store
   sends (Some stored) why by_store can = go (is_get request.head.method && has_validator stored.fields) refl
     where
       go : (b : Bool) → (is_get request.head.method && has_validator stored.fields) ≡ b
-          → GetsForward (cond b (Sends (bare (conditional_request name target request.head stored.fields)) why true) (Sends (plain_forward wanted target request) why false))
+          → GetsForward (cond b (Sends (bare (conditional_request name target request.head stored.fields)) why Conditional) (Sends (plain_forward wanted target request) why Plain))
       go true is =
           let parts = and_parts (is_get request.head.method) (has_validator stored.fields) is in
           let get : request.head.method ≡ codes "GET" = (bytes_eq-Decides request.head.method (codes "GET")).0 parts.0 in
           record {
             why = why;
             forward = bare (conditional_request name target request.head stored.fields);
-            conditional = true;
+            kind = Conditional;
             reaction_is = refl;
             method = sym get;
             by_store = by_store;
             asks_after = λ c is. record { method = get; reason = can.1; name = name; stored = stored.fields; validator = parts.1; request_is = refl };
             writable = conditional_ask stored can.0 can.2;
           }
-      go false is = sends_plain why by_store
+      go false is = sends_plain why Plain refl by_store
 
   forwarded : (chosen : Option Stored) (why : Cause) (reaction : Reaction) → (asks_store why ≡ true → is_answered_by_store request.head.method ≡ true) → CanAskAfter chosen why
       → reaction ≡ forward_reaction (record { name = name; moment = t; asked = request.head; closes = closes }) target request chosen why
@@ -202,7 +220,7 @@ module _ (laws : ForwardLaws) (name : List ℕ) (good : is_name name ≡ true) (
       (cases_Bool (wants_no_forward why request.head))
 
   -- a hit
-  hits : (forwards : Table Awaited) (stored : Stored) (reaction : Reaction) → HasSource items target stored → CanReply stored → is_answered_by_store request.head.method ≡ true
+  hits : (forwards : Table Awaited) (stored : Stored) (reaction : Reaction) → HasSource since items target stored → CanReply stored → is_answered_by_store request.head.method ≡ true
       → is_selected request.head.fields stored ≡ true → may_be_served request.head.fields stored t ≡ true
       → reaction ≡ hit_reaction (record { name = name; moment = t; asked = request.head; closes = closes }) target forwards stored
       → GetsReply reaction ⊎ (GetsBehind reaction ⊎ GetsForward reaction)
@@ -212,7 +230,7 @@ module _ (laws : ForwardLaws) (name : List ℕ) (good : is_name name ≡ true) (
       fits = hit_fit wanted stored good can
 
       right : IsRight recorded_format strict (ClientRequest e t request target ∷ items) (ClientReply e t (hit_reply (record { name = name; moment = t; asked = request.head; closes = closes }) stored))
-      right = hit_right the_items the_exchange t name closes stored (still_source items (ClientRequest e t request target) refl target stored source) can method selected it_awaits served
+      right = hit_right the_items the_exchange t name closes stored (still_source since items (ClientRequest e t request target) refl target stored source) can method selected it_awaits served
           (hit_writable name stored t good).plain
 
       go : (b : Bool) → reaction ≡ RepliesAtOnce (hit_reply wanted stored) (cond b (validation_behind wanted target stored) None) → GetsReply reaction ⊎ (GetsBehind reaction ⊎ GetsForward reaction)
@@ -227,14 +245,14 @@ module _ (laws : ForwardLaws) (name : List ℕ) (good : is_name name ≡ true) (
       }))
       go false is = inl (record { reply = hit_reply wanted stored; reaction_is = is; fit = fits; right = right })
 
-  by_case : (forwards : Table Awaited) (known : Bool) (old new : Holdings) (chosen : Option Stored) (reaction : Reaction) → SoundStore items old → is_answered_by_store request.head.method ≡ true
+  by_case : (forwards : Table Awaited) (known : Bool) (old new : Holdings) (chosen : Option Stored) (reaction : Reaction) → SoundStore since items old → is_answered_by_store request.head.method ≡ true
       → Finds target request.head.fields old chosen new
       → reaction ≡ chosen_reaction (record { name = name; moment = t; asked = request.head; closes = closes }) target request forwards chosen (case_by_store request.head.fields known chosen t)
       → GetsReply reaction ⊎ (GetsBehind reaction ⊎ GetsForward reaction)
   by_case forwards true old new None reaction h method finds is = forwarded None VaryMiss reaction (λ _. method) tt is
   by_case forwards false old new None reaction h method finds is = forwarded None UriMiss reaction (λ _. method) tt is
   by_case forwards known old new (Some stored) reaction h method finds is =
-      let source = chosen_held (HasSource items) target request.head.fields old.entries stored h.0.sources finds.0 in
+      let source = chosen_held (HasSource since items) target request.head.fields old.entries stored h.0.sources finds.0 in
       let can = (chosen_held (λ _ stored. CanReply stored) target request.head.fields old.entries stored h.1 finds.0).0 in
       ⊎_elim
       (λ (served : may_be_served request.head.fields stored t ≡ true).
@@ -249,10 +267,10 @@ module _ (laws : ForwardLaws) (name : List ℕ) (good : is_name name ≡ true) (
       cause_is_of_stored true = refl
       cause_is_of_stored false = refl
 
-  pub reaction_right : (forwards : Table Awaited) (old new : Holdings) (reaction : Reaction) → SoundStore items old
-      → Reacts (record { request = request; target = target; wanted = record { name = name; moment = t; asked = request.head; closes = closes } }) forwards old reaction new
-      → SoundStore items new × (GetsReply reaction ⊎ (GetsBehind reaction ⊎ GetsForward reaction))
-  reaction_right forwards old new reaction h reacts = go (case_before_store request) refl reacts
+  pub reaction_right : (underway : OpenNow) (old new : Holdings) (reaction : Reaction) → SoundStore since items old
+      → Reacts (record { request = request; target = target; wanted = record { name = name; moment = t; asked = request.head; closes = closes } }) underway old reaction new
+      → SoundStore since items new × ((GetsReply reaction ⊎ (GetsBehind reaction ⊎ GetsForward reaction)) ⊎ GetsJoined old new reaction)
+  reaction_right underway old new reaction h reacts = go (case_before_store request) refl reacts
     where
       never : (why : Cause) → asks_store why ≡ false → asks_store why ≡ true → is_answered_by_store request.head.method ≡ true
       never why none it = absurd (false_true (sym none ∙ it))
@@ -260,13 +278,30 @@ module _ (laws : ForwardLaws) (name : List ℕ) (good : is_name name ≡ true) (
           false_true : false ≡ true → ⊥
           false_true e = cc
 
-      go : (before : Option Cause) → case_before_store request ≡ before → ReactsBy before (record { request = request; target = target; wanted = wanted }) forwards old reaction new
-          → SoundStore items new × (GetsReply reaction ⊎ (GetsBehind reaction ⊎ GetsForward reaction))
-      go (Some why) is r = (subst (SoundStore items) (sym r.1) h, forwarded None why reaction (never why (before_store request why is)) tt r.0)
-      go None is r = (
-        found_sound items target request.head.fields old r.chosen new h r.finds,
-        by_case forwards (knows target old.entries) old new r.chosen reaction h (by_store_method request is) r.finds r.reaction_is,
+      asks : is_answered_by_store request.head.method ≡ true → ReactsByStore (record { request = request; target = target; wanted = wanted }) underway.forwards old reaction new
+          → SoundStore since items new × ((GetsReply reaction ⊎ (GetsBehind reaction ⊎ GetsForward reaction)) ⊎ GetsJoined old new reaction)
+      asks method r = (
+        found_sound since items target request.head.fields old r.chosen new h r.finds,
+        inl (by_case underway.forwards (knows target old.entries) old new r.chosen reaction h method r.finds r.reaction_is),
       )
+
+      joins : is_answered_by_store request.head.method ≡ true → (b : Bool) → (is_joinable request.head && not (knows target old.entries)) ≡ b → (least : Option ℕ)
+          → ReactsJoined (cond b least None) (record { request = request; target = target; wanted = wanted }) underway.forwards old reaction new
+          → SoundStore since items new × ((GetsReply reaction ⊎ (GetsBehind reaction ⊎ GetsForward reaction)) ⊎ GetsJoined old new reaction)
+      joins method false is least r = asks method r
+      joins method true is None r = asks method r
+      joins method true is (Some f) r =
+          let parts = and_parts (is_joinable request.head) (not (knows target old.entries)) is in
+          (subst (SoundStore since items) (sym r.1) h, inr (record { forward = f; reaction_is = r.0; may = parts.0; unknown = none_known (knows target old.entries) parts.1; same = r.1 }))
+        where
+          none_known : (b : Bool) → not b ≡ true → b ≡ false
+          none_known true e = absurd (cc)
+          none_known false e = refl
+
+      go : (before : Option Cause) → case_before_store request ≡ before → ReactsBy before (record { request = request; target = target; wanted = wanted }) underway old reaction new
+          → SoundStore since items new × ((GetsReply reaction ⊎ (GetsBehind reaction ⊎ GetsForward reaction)) ⊎ GetsJoined old new reaction)
+      go (Some why) is r = (subst (SoundStore since items) (sym r.1) h, inl (forwarded None why reaction (never why (before_store request why is)) tt r.0))
+      go None is r = joins (by_store_method request is) (is_joinable request.head && not (knows target old.entries)) refl r.least r.reacts
 
 -- ---- what answers a forward
 
@@ -282,11 +317,12 @@ stored_is_get forward response may = subst (λ (m : List ℕ). is_head m ≡ fal
     get = (and_parts (is_get forward.method) _ (first (asks_for_storable forward) (is_storable response.status) (is_understood_if_asked response) (no_store_permits response.fields)
         (is_not_private response.fields) (not (has_authorization forward) || permits_authorized response.fields) (invites_storing response) may)).0
 
-pub stored_sound : (items : List Item) (f t : ℕ) (response : Message ResponseHead) (forward : OpenForward) (old : Holdings) (stored : Bool) (new : Holdings)
+pub stored_sound : (since : Target → ℕ) (items : List Item) (f t : ℕ) (response : Message ResponseHead) (forward : OpenForward) (old : Holdings) (stored : Bool) (new : Holdings)
     → forward_of f items ≡ Some (recorded_forward forward) → IsReceivedAnswer (is_head forward.request.method) response → t < 253402300800
-    → SoundStore (OriginResponse f t response ∷ items) old → Stores forward t response old stored new → SoundStore (OriginResponse f t response ∷ items) new
-stored_sound items f t response forward old stored new is_open r early h stores = (
-  put_sources items f t response forward is_open old new stored h.0 stores,
+    → since forward.target ≤ length items
+    → SoundStore since (OriginResponse f t response ∷ items) old → Stores forward t response old stored new → SoundStore since (OriginResponse f t response ∷ items) new
+stored_sound since items f t response forward old stored new is_open r early reached h stores = (
+  put_sources since items f t response forward is_open (omega (arith, reached)) old new stored h.0 stores,
   ⊎_elim
       (λ (may : may_store forward.request response.head ≡ true).
       put_can_reply forward t response old stored new (subst (λ (b : Bool). IsReceivedAnswer b response) (stored_is_get forward.request response.head may) r) early h.1 stores)
@@ -306,9 +342,9 @@ of_stored_asks VaryMiss is = absurd (cc)
 of_stored_asks Stale is = refl
 of_stored_asks Request is = refl
 
-module _ (name : List ℕ) (good : is_name name ≡ true) (t : ℕ) (early : t < 253402300800) (closes : Bool) (items : List Item) (f : ℕ) (forward : OpenForward) (x : Exchange) (why : Cause)
+module _ (since : Target → ℕ) (name : List ℕ) (good : is_name name ≡ true) (t : ℕ) (early : t < 253402300800) (closes : Bool) (items : List Item) (f : ℕ) (forward : OpenForward) (x : Exchange) (why : Cause)
     (is_open : forward_of f items ≡ Some (recorded_forward forward)) (awaits : exchange_of x.number items ≡ Some x) (method : forward.request.method ≡ x.request.method) (target : forward.target ≡ x.target)
-    (by_store : asks_store why ≡ true → is_answered_by_store x.request.method ≡ true) where
+    (by_store : asks_store why ≡ true → is_answered_by_store x.request.method ≡ true) (reached : since forward.target ≤ length items) where
   abbrev wants : Wanted
   wants = record { name = name; moment = t; asked = x.request; closes = closes }
 
@@ -318,8 +354,8 @@ module _ (name : List ℕ) (good : is_name name ≡ true) (t : ℕ) (early : t <
     pub fit : IsFit (is_head x.request.method) reply
     pub right : IsRight recorded_format strict items' (ClientReply x.number t reply)
 
-  of_exchange : (items' : List Item) (stored : Stored) → HasSource items' forward.target stored → HasSource items' x.target stored
-  of_exchange items' stored source = subst (λ (g : Target). HasSource items' g stored) target source
+  of_exchange : (items' : List Item) (stored : Stored) → HasSource since items' forward.target stored → HasSource since items' x.target stored
+  of_exchange items' stored source = subst (λ (g : Target). HasSource since items' g stored) target source
 
   module _ (response : Message ResponseHead) (r : IsReceivedAnswer (is_head forward.request.method) response) (cause : cause_of f items ≡ Some x.number) where
     same_head : is_head forward.request.method ≡ is_head x.request.method
@@ -331,12 +367,12 @@ module _ (name : List ℕ) (good : is_name name ≡ true) (t : ℕ) (early : t <
     abbrev answer : Answer
     answer = record { wanted = wants; forward = forward; cause = why; response = response }
 
-    passes : (old new : Holdings) (outcome : Outcome) → SoundStore (OriginResponse f t response ∷ items) old → Passes answer old outcome new
-        → SoundStore (OriginResponse f t response ∷ items) new × GetsAnswer (OriginResponse f t response ∷ items) outcome
+    passes : (old new : Holdings) (outcome : Outcome) → SoundStore since (OriginResponse f t response ∷ items) old → Passes answer old outcome new
+        → SoundStore since (OriginResponse f t response ∷ items) new × GetsAnswer (OriginResponse f t response ∷ items) outcome
     passes old new outcome h p = (
       ⊎_elim
-          (λ (q : (asks_store why ≡ true) × Stores forward t response old p.stored new). stored_sound items f t response forward old p.stored new is_open r early h q.1)
-          (λ (q : (asks_store why ≡ false) × ((p.stored ≡ false) × (new ≡ old))). subst (SoundStore (OriginResponse f t response ∷ items)) (sym q.1.1) h)
+          (λ (q : (asks_store why ≡ true) × Stores forward t response old p.stored new). stored_sound since items f t response forward old p.stored new is_open r early reached h q.1)
+          (λ (q : (asks_store why ≡ false) × ((p.stored ≡ false) × (new ≡ old))). subst (SoundStore since (OriginResponse f t response ∷ items)) (sym q.1.1) h)
           (on_test (asks_store why) _ _ p.puts),
       record {
         reply = passed_reply wants why p.stored response;
@@ -347,7 +383,7 @@ module _ (name : List ℕ) (good : is_name name ≡ true) (t : ℕ) (early : t <
     )
 
     -- a 304 that answers the cache's own condition
-    validates : (position : ℕ) → position ≡ next_position items → asks_store why ≡ true → (old : Holdings) (outcome : Outcome) → SoundStore (OriginResponse f t response ∷ items) old
+    validates : (position : ℕ) → position ≡ next_position items → asks_store why ≡ true → (old : Holdings) (outcome : Outcome) → SoundStore since (OriginResponse f t response ∷ items) old
         → outcome ≡ validated_outcome wants why (validated_by forward.target x.request.fields position old)
         → GetsAnswer (OriginResponse f t response ∷ items) outcome ⊎ (outcome ≡ GoesAnew)
     validates position at asks old outcome h is = go (validated_by forward.target x.request.fields position old) refl is
@@ -359,7 +395,7 @@ module _ (name : List ℕ) (good : is_name name ≡ true) (t : ℕ) (early : t <
             → GetsAnswer (OriginResponse f t response ∷ items) outcome ⊎ (outcome ≡ GoesAnew)
         go None same is = inr is
         go (Some stored) same is =
-            let source = validated_held (HasSource (OriginResponse f t response ∷ items)) forward.target x.request.fields position old.entries stored h.0.sources same in
+            let source = validated_held (HasSource since (OriginResponse f t response ∷ items)) forward.target x.request.fields position old.entries stored h.0.sources same in
             let can = (validated_held (λ _ stored. CanReply stored) forward.target x.request.fields position old.entries stored h.1 same).0 in
             inl (record {
               reply = replacing_reply wants why (Some not_modified) stored;
@@ -369,31 +405,31 @@ module _ (name : List ℕ) (good : is_name name ≡ true) (t : ℕ) (early : t <
             })
 
     -- an error, in whose place a stored response may be the reply
-    replaces : asks_store why ≡ true → is_error_status response.head.status ≡ true → (old new : Holdings) (outcome : Outcome) → SoundStore (OriginResponse f t response ∷ items) old
+    replaces : asks_store why ≡ true → is_error_status response.head.status ≡ true → (old new : Holdings) (outcome : Outcome) → SoundStore since (OriginResponse f t response ∷ items) old
         → Replaces answer old outcome new
-        → SoundStore (OriginResponse f t response ∷ items) new × GetsAnswer (OriginResponse f t response ∷ items) outcome
+        → SoundStore since (OriginResponse f t response ∷ items) new × GetsAnswer (OriginResponse f t response ∷ items) outcome
     replaces asks is_error old new outcome h p = go p.chosen p.finds p.ends
       where
-        between : (chosen : Option Stored) → Finds forward.target x.request.fields old chosen p.between → SoundStore (OriginResponse f t response ∷ items) p.between
-        between chosen finds = found_sound (OriginResponse f t response ∷ items) forward.target x.request.fields old chosen p.between h finds
+        between : (chosen : Option Stored) → Finds forward.target x.request.fields old chosen p.between → SoundStore since (OriginResponse f t response ∷ items) p.between
+        between chosen finds = found_sound since (OriginResponse f t response ∷ items) forward.target x.request.fields old chosen p.between h finds
 
         go : (chosen : Option Stored) → Finds forward.target x.request.fields old chosen p.between
             → RepliesInPlace (replacement wants chosen) answer p.between outcome new
-            → SoundStore (OriginResponse f t response ∷ items) new × GetsAnswer (OriginResponse f t response ∷ items) outcome
+            → SoundStore since (OriginResponse f t response ∷ items) new × GetsAnswer (OriginResponse f t response ∷ items) outcome
         go None finds ends = passes p.between new outcome (between None finds) ends
         go (Some stored) finds ends = by_test (may_replace x.request.fields stored t) refl ends
           where
-            source : HasSource (OriginResponse f t response ∷ items) forward.target stored × (is_selected x.request.fields stored ≡ true)
-            source = chosen_held (HasSource (OriginResponse f t response ∷ items)) forward.target x.request.fields old.entries stored h.0.sources finds.0
+            source : HasSource since (OriginResponse f t response ∷ items) forward.target stored × (is_selected x.request.fields stored ≡ true)
+            source = chosen_held (HasSource since (OriginResponse f t response ∷ items)) forward.target x.request.fields old.entries stored h.0.sources finds.0
 
             can : CanReply stored
             can = (chosen_held (λ _ stored. CanReply stored) forward.target x.request.fields old.entries stored h.1 finds.0).0
 
             by_test : (b : Bool) → may_replace x.request.fields stored t ≡ b → RepliesInPlace (cond b (Some stored) None) answer p.between outcome new
-                → SoundStore (OriginResponse f t response ∷ items) new × GetsAnswer (OriginResponse f t response ∷ items) outcome
+                → SoundStore since (OriginResponse f t response ∷ items) new × GetsAnswer (OriginResponse f t response ∷ items) outcome
             by_test false none ends = passes p.between new outcome (between (Some stored) finds) ends
             by_test true may ends = (
-              subst (SoundStore (OriginResponse f t response ∷ items)) (sym ends.1) (between (Some stored) finds),
+              subst (SoundStore since (OriginResponse f t response ∷ items)) (sym ends.1) (between (Some stored) finds),
               record {
                 reply = replacing_reply wants why (Some response.head.status) stored;
                 outcome_is = ends.0;
@@ -403,27 +439,27 @@ module _ (name : List ℕ) (good : is_name name ≡ true) (t : ℕ) (early : t <
             )
 
     pub response_outcome : (conditional : Bool) → (conditional ≡ true → is_of_stored why ≡ true) → (position : ℕ) → position ≡ next_position items → (old new : Holdings) (outcome : Outcome)
-        → SoundStore (OriginResponse f t response ∷ items) old
+        → SoundStore since (OriginResponse f t response ∷ items) old
         → Responds (rule_of why conditional forward.request response.head)
         (record { wanted = record { name = name; moment = t; asked = x.request; closes = closes }; forward = forward; cause = why; response = response }) position old outcome new
-        → SoundStore (OriginResponse f t response ∷ items) new × (GetsAnswer (OriginResponse f t response ∷ items) outcome ⊎ (outcome ≡ GoesAnew))
+        → SoundStore since (OriginResponse f t response ∷ items) new × (GetsAnswer (OriginResponse f t response ∷ items) outcome ⊎ (outcome ≡ GoesAnew))
     response_outcome conditional of_stored position at old new outcome h responds =
         go (is_validation conditional response.head) (is_unasked forward.request response.head) (is_replaceable why response.head) refl refl responds
       where
-        got : SoundStore (OriginResponse f t response ∷ items) new × GetsAnswer (OriginResponse f t response ∷ items) outcome
-            → SoundStore (OriginResponse f t response ∷ items) new × (GetsAnswer (OriginResponse f t response ∷ items) outcome ⊎ (outcome ≡ GoesAnew))
+        got : SoundStore since (OriginResponse f t response ∷ items) new × GetsAnswer (OriginResponse f t response ∷ items) outcome
+            → SoundStore since (OriginResponse f t response ∷ items) new × (GetsAnswer (OriginResponse f t response ∷ items) outcome ⊎ (outcome ≡ GoesAnew))
         got p = (p.0, inl p.1)
 
         -- by the first rule that holds
         go : (validation unasked replaceable : Bool) → is_validation conditional response.head ≡ validation → is_replaceable why response.head ≡ replaceable
             → Responds (cond validation Validates (cond unasked IsUnasked (cond replaceable MayBeReplaced IsPassedOn))) answer position old outcome new
-            → SoundStore (OriginResponse f t response ∷ items) new × (GetsAnswer (OriginResponse f t response ∷ items) outcome ⊎ (outcome ≡ GoesAnew))
+            → SoundStore since (OriginResponse f t response ∷ items) new × (GetsAnswer (OriginResponse f t response ∷ items) outcome ⊎ (outcome ≡ GoesAnew))
         go true unasked replaceable is may r = (
-          subst (SoundStore (OriginResponse f t response ∷ items)) (sym r.1) h,
+          subst (SoundStore since (OriginResponse f t response ∷ items)) (sym r.1) h,
           validates position at (of_stored_asks why (of_stored (and_parts conditional (response.head.status == not_modified) is).0)) old outcome h r.0,
         )
         go false true replaceable is may r = got (
-          subst (SoundStore (OriginResponse f t response ∷ items)) (sym r.1) h,
+          subst (SoundStore since (OriginResponse f t response ∷ items)) (sym r.1) h,
           record {
             reply = made_reply wants bad_gateway;
             outcome_is = r.0;
@@ -451,7 +487,7 @@ module _ (name : List ℕ) (good : is_name name ≡ true) (t : ℕ) (early : t <
     right = made_right items' x wants status still is_error;
   }
 
-  failed_by_store : asks_store why ≡ true → (old new : Holdings) (outcome : Outcome) → SoundStore items old → FailsByStore wants forward.target why old outcome new
+  failed_by_store : asks_store why ≡ true → (old new : Holdings) (outcome : Outcome) → SoundStore since items old → FailsByStore wants forward.target why old outcome new
       → GetsAnswer (OriginFailure f t ∷ items) outcome
   failed_by_store asks old new outcome h p = go p.chosen p.finds p.outcome_is
     where
@@ -469,26 +505,26 @@ module _ (name : List ℕ) (good : is_name name ≡ true) (t : ℕ) (early : t <
               → GetsAnswer (OriginFailure f t ∷ items) outcome
           by_test false none is = none_stands (Some stored) is
           by_test true may is =
-              let source = chosen_held (HasSource items) forward.target x.request.fields old.entries stored h.0.sources finds.0 in
+              let source = chosen_held (HasSource since items) forward.target x.request.fields old.entries stored h.0.sources finds.0 in
               let can = (chosen_held (λ _ stored. CanReply stored) forward.target x.request.fields old.entries stored h.1 finds.0).0 in
               record {
                 reply = replacing_reply wants why None stored;
                 outcome_is = is;
                 fit = replacing_fit wants why None stored good tt can;
                 right = failure_right name good t closes x why stored can (by_store asks) items f t forward is_open target awaits source.1 may
-                    (of_exchange _ stored (still_source items (OriginFailure f t) refl forward.target stored source.0));
+                    (of_exchange _ stored (still_source since items (OriginFailure f t) refl forward.target stored source.0));
               }
 
-  pub failure_outcome : (old new : Holdings) (outcome : Outcome) → SoundStore items old → Fails (record { name = name; moment = t; asked = x.request; closes = closes }) forward.target why old outcome new
-      → SoundStore (OriginFailure f t ∷ items) new × GetsAnswer (OriginFailure f t ∷ items) outcome
+  pub failure_outcome : (old new : Holdings) (outcome : Outcome) → SoundStore since items old → Fails (record { name = name; moment = t; asked = x.request; closes = closes }) forward.target why old outcome new
+      → SoundStore since (OriginFailure f t ∷ items) new × GetsAnswer (OriginFailure f t ∷ items) outcome
   failure_outcome old new outcome h fails =
       ⊎_elim
       (λ (q : (asks_store why ≡ true) × FailsByStore wants forward.target why old outcome new). (
-        still_sound items (OriginFailure f t) new refl (found_sound items forward.target x.request.fields old q.1.chosen new h q.1.finds),
+        still_sound since items (OriginFailure f t) new refl (found_sound since items forward.target x.request.fields old q.1.chosen new h q.1.finds),
         failed_by_store q.0 old new outcome h q.1,
       ))
       (λ (q : (asks_store why ≡ false) × ((outcome ≡ Replies (made_reply wants bad_gateway)) × (new ≡ old))). (
-        subst (SoundStore (OriginFailure f t ∷ items)) (sym q.1.1) (still_sound items (OriginFailure f t) old refl h),
+        subst (SoundStore since (OriginFailure f t ∷ items)) (sym q.1.1) (still_sound since items (OriginFailure f t) old refl h),
         made_answer (OriginFailure f t ∷ items) bad_gateway outcome awaits (omega arith) (omega arith) q.1.0,
       ))
       (on_test (asks_store why) _ _ fails)

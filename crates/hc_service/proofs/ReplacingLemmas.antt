@@ -64,7 +64,7 @@ module _ (name : List ℕ) (good : is_name name ≡ true) (t : ℕ) (closes : Bo
   wants = record { name = name; moment = t; asked = x.request; closes = closes }
 
   -- it was validated in the window
-  pub validated_right : (items : List Item) → exchange_of x.number items ≡ Some x → HasSource items x.target stored → (position : ℕ)
+  pub validated_right : {since : Target → ℕ} (items : List Item) → exchange_of x.number items ≡ Some x → HasSource since items x.target stored → (position : ℕ)
       → is_selected_validated x.request.fields position stored ≡ true → x.position < position
       → IsRight recorded_format strict items (ClientReply x.number t (replacing_reply (record { name = name; moment = t; asked = x.request; closes = closes }) why (Some not_modified) stored))
   validated_right items awaits source position validated later =
@@ -73,10 +73,10 @@ module _ (name : List ℕ) (good : is_name name ≡ true) (t : ℕ) (closes : Bo
       (replacing_writable name why (Some not_modified) (entry_status wants stored) good (omega arith)).plain
       (validated_usable items x t (replacing_reply wants why (Some not_modified) stored) stored position (validated_is stored.validated_at position parts.0) later)
 
-  module _ (items : List Item) (f moment : ℕ) (forward : OpenForward) (is_open : forward_of f items ≡ Some (recorded_forward forward)) (target : forward.target ≡ x.target)
+  module _ {since : Target → ℕ} (items : List Item) (f moment : ℕ) (forward : OpenForward) (is_open : forward_of f items ≡ Some (recorded_forward forward)) (target : forward.target ≡ x.target)
       (awaits : exchange_of x.number items ≡ Some x) (selected : is_selected x.request.fields stored ≡ true) (may : may_replace x.request.fields stored t ≡ true) where
     -- an error stands in the window
-    pub error_right : (response : Message ResponseHead) → is_error_status response.head.status ≡ true → HasSource (OriginResponse f moment response ∷ items) x.target stored
+    pub error_right : (response : Message ResponseHead) → is_error_status response.head.status ≡ true → HasSource since (OriginResponse f moment response ∷ items) x.target stored
         → IsRight recorded_format strict (OriginResponse f moment response ∷ items)
         (ClientReply x.number t (replacing_reply (record { name = name; moment = t; asked = x.request; closes = closes }) why (Some response.head.status) stored))
     error_right response is source =
@@ -88,7 +88,7 @@ module _ (name : List ℕ) (good : is_name name ≡ true) (t : ℕ) (closes : Bo
         (and_from _ _ is (of_its_target items f forward x.target is_open target)))))
 
     -- a failure does
-    pub failure_right : HasSource (OriginFailure f moment ∷ items) x.target stored
+    pub failure_right : HasSource since (OriginFailure f moment ∷ items) x.target stored
         → IsRight recorded_format strict (OriginFailure f moment ∷ items)
         (ClientReply x.number t (replacing_reply (record { name = name; moment = t; asked = x.request; closes = closes }) why None stored))
     failure_right source =

@@ -1,5 +1,5 @@
 -- The replies of a cache from what it stores are right.
-use Rattle.std.proofs.Common.{◌≡◌, ℕ, ◌+◌, Bool, true, false, cond, ◌&&◌, ◌||◌, List, [], ◌∷◌, ◌++◌, length, take, ℤ, pos, ◌-ℤ◌, nat_abs, Option, Some, refl, sym, ap, ◌∙◌, subst, arith, inr, ⊎_elim}
+use Rattle.std.proofs.Common.{◌≡◌, ℕ, ◌+◌, ◌≤◌, Bool, true, false, cond, ◌&&◌, ◌||◌, List, [], ◌∷◌, ◌++◌, length, take, ℤ, pos, ◌-ℤ◌, nat_abs, Option, Some, None, refl, sym, ap, ◌∙◌, subst, arith, inr, ⊎_elim}
 use Rattle.std.specs.Prelude.{◌==◌, nat_le, not, codes, option_and_then, if◌then◌else◌}
 use Rattle.std.specs.Cmp.Lexicographic.{pointwise}
 use Rattle.std.specs.List.{list_all}
@@ -11,6 +11,7 @@ use Rattle.hc_fields.specs.declared.fields.Field.{Field}
 use Rattle.hc_fields.specs.Numbers.{number_of}
 use Rattle.hc_fields.specs.Values.{values_of, only_value, has_name}
 use Rattle.hc_head.specs.declared.head.ResponseHead.{ResponseHead}
+use Rattle.hc_head.specs.declared.head.Target.{Target}
 use Rattle.hc_head.specs.Methods.{is_get, is_head}
 use Rattle.hc_head.specs.Statuses.{partial_content}
 use Rattle.hc_framing.specs.declared.message.Message.{Message}
@@ -30,7 +31,7 @@ use Rattle.hc_transcript.specs.History.{exchange_of}
 use Rattle.hc_history.specs.Claims.{claim_of, ttl_of}
 use Rattle.hc_history.specs.Filters.{within, is_age, is_ttl, is_exempt, same_values, compared_names, names_of, has_its_body, has_its_fields, has_its_age, has_its_ttl}
 use Rattle.hc_history.specs.Marks.{reply_mark, judged_mark}
-use Rattle.hc_history.specs.Reused.{Pass, IsReused, anywhere, forwarded_count}
+use Rattle.hc_history.specs.Reused.{Pass, IsReused, anywhere, collapsed_count, forwarded_count}
 use Rattle.hc_history.specs.Right.{IsRight, IsRightTo, IsRightBy}
 use Rattle.hc_history.specs.Usable.{age_at, lifetime_of, is_usable}
 use Rattle.hc_history.proofs.StateLemmas.{place_of}
@@ -38,10 +39,13 @@ use Rattle.hc_head.proofs.SameTargetLemmas.{same_target_itself}
 use Rattle.hc_store.specs.Choosing.{is_selected}
 use Rattle.hc_service.specs.Sending.{recorded_format}
 use Rattle.hc_service.specs.Agreement.{HasSource, CanReply}
-use Rattle.hc_service.specs.Replying.{Wanted, entry_reply, hit_reply}
+use Rattle.hc_service.specs.Replying.{Wanted, collapsed_reply, entry_reply, hit_reply}
 use Rattle.hc_service.specs.Runs.{strict}
+use Rattle.hc_service.specs.declared.cases.Cause.TheVariants.{UriMiss}
+use Rattle.hc_service.specs.Cases.{word_of}
+use Rattle.hc_service.specs.Joining.{may_be_shared}
 use Rattle.hc_service.specs.Serving.{ttl_at, has_still, may_be_served}
-use Rattle.hc_service.proofs.UsableLemmas.{served_usable}
+use Rattle.hc_service.proofs.UsableLemmas.{served_usable, shared_usable}
 
 -- ---- small facts
 
@@ -93,6 +97,10 @@ all_nine a b c d e f g h i ea eb ec ed ee ef eg eh ei = rw (ea, eb, ec, ed, ee, 
 all_seven : (a b c d e f g h i : Bool) → a ≡ true → b ≡ true → c ≡ true → d ≡ true → e ≡ true → f ≡ true → g ≡ true
     → list_all (λ x. x) (take 7 (a ∷ b ∷ c ∷ d ∷ e ∷ f ∷ g ∷ h ∷ i ∷ [])) ≡ true
 all_seven a b c d e f g h i ea eb ec ed ee ef eg = rw (ea, eb, ec, ed, ee, ef, eg) refl
+
+all_eight : (a b c d e f g h i : Bool) → a ≡ true → b ≡ true → c ≡ true → d ≡ true → e ≡ true → f ≡ true → g ≡ true → h ≡ true
+    → list_all (λ x. x) (take 8 (a ∷ b ∷ c ∷ d ∷ e ∷ f ∷ g ∷ h ∷ i ∷ [])) ≡ true
+all_eight a b c d e f g h i ea eb ec ed ee ef eg eh = rw (ea, eb, ec, ed, ee, ef, eg, eh) refl
 
 within_itself : (n : ℕ) → within 0 n n ≡ true
 within_itself n = and_from _ _ (le-leb n (n + 0) (omega arith)) (le-leb n (n + 0) (omega arith))
@@ -203,7 +211,7 @@ module _ (items : List Item) (x : Exchange) (moment : ℕ) (name : List ℕ) (cl
 
   -- ---- what each reply from the store passes
 
-  module _ (source : HasSource items x.target stored) (can : CanReply stored) (method : (is_get x.request.method || is_head x.request.method) ≡ true)
+  module _ {since : Target → ℕ} (source : HasSource since items x.target stored) (can : CanReply stored) (method : (is_get x.request.method || is_head x.request.method) ≡ true)
       (selected : is_selected x.request.fields stored ≡ true) (reply : Message ResponseHead) (carries : Carries reply)
       (usable : is_usable (claim_of recorded_format strict x moment reply items) stored ≡ true) where
     pub passes_seven : Pass forwarded_count anywhere (claim_of recorded_format strict x moment reply items) items
@@ -217,6 +225,18 @@ module _ (items : List Item) (x : Exchange) (moment : ℕ) (name : List ℕ) (cl
           holds = all_seven _ _ _ _ _ _ _ (has_its_age (claim_of recorded_format strict x moment reply items) stored) (has_its_ttl (claim_of recorded_format strict x moment reply items) stored)
               (and_from _ _ method (same_target_itself x.target)) selected (ap not source.is_valid) (or_right _ _ usable) usable carries.body carries.fields;
         }
+
+    -- all but the last, where the stored response lies behind the request
+    pub passes_eight : x.position ≤ since x.target → Pass collapsed_count x.position (claim_of recorded_format strict x moment reply items) items
+    passes_eight behind = record {
+      position = source.position;
+      kept = record { target = x.target; state = stored };
+      is_later = omega (arith, behind, source.is_later);
+      is_its_state = source.is_its_state;
+      holds = all_eight _ _ _ _ _ _ _ _ (has_its_ttl (claim_of recorded_format strict x moment reply items) stored)
+          (and_from _ _ method (same_target_itself x.target)) selected (ap not source.is_valid) (or_right _ _ usable) usable carries.body carries.fields
+          (subst (λ (o : Option ℕ). is_age (claim_of recorded_format strict x moment reply items) (age_at stored moment) o ≡ true) (sym carries.age) (within_itself (age_at stored moment)));
+    }
 
     pub passes_nine : reply_mark reply ≡ mark.Hit (Some (ttl_at stored moment)) → IsReused (claim_of recorded_format strict x moment reply items) items
     passes_nine marked =
@@ -233,8 +253,8 @@ module _ (items : List Item) (x : Exchange) (moment : ℕ) (name : List ℕ) (cl
               (no_difference (pos (lifetime_of stored) -ℤ pos (age_at stored moment))));
         }
 
-module _ (items : List Item) (x : Exchange) (moment : ℕ) (name : List ℕ) (closes : Bool) (stored : Stored)
-    (source : HasSource items x.target stored) (can : CanReply stored) (method : (is_get x.request.method || is_head x.request.method) ≡ true)
+module _ {since : Target → ℕ} (items : List Item) (x : Exchange) (moment : ℕ) (name : List ℕ) (closes : Bool) (stored : Stored)
+    (source : HasSource since items x.target stored) (can : CanReply stored) (method : (is_get x.request.method || is_head x.request.method) ≡ true)
     (selected : is_selected x.request.fields stored ≡ true) (is_open : exchange_of x.number items ≡ Some x) where
   -- a hit is reused
   pub hit_right : may_be_served x.request.fields stored moment ≡ true → IsPlainStatus name (Hit (Some (ttl_at stored moment)))
@@ -250,6 +270,18 @@ module _ (items : List Item) (x : Exchange) (moment : ℕ) (name : List ℕ) (cl
       hit_mark : (reply : Message ResponseHead) → Carries items x moment name closes (Hit (Some (ttl_at stored moment))) stored reply → reply_mark reply ≡ mark.Hit (Some (ttl_at stored moment))
       hit_mark reply carries =
           ap (judged_mark reply.head.status) carries.marked ∙ ap (λ (b : Bool). cond b mark.Unmarked (mark.Hit (Some (ttl_at stored moment)))) carries.is_whole
+
+  -- so is what is served to one that waited for the forward of another request, where it lies behind its own
+  pub shared_right : x.position ≤ since x.target → may_be_shared stored moment ≡ true → IsPlainStatus name (Fwd (word_of UriMiss) None false true)
+      → IsRight recorded_format strict items (ClientReply x.number moment (collapsed_reply (record { name = name; moment = moment; asked = x.request; closes = closes }) stored))
+  shared_right behind may plain =
+      let reply = collapsed_reply (record { name = name; moment = moment; asked = x.request; closes = closes }) stored in
+      let carries = entry_carries items x moment name closes (Fwd (word_of UriMiss) None false true) stored can plain in
+      let marked : reply_mark reply ≡ mark.Forwarded true = ap (judged_mark reply.head.status) carries.marked in
+      subst (λ (o : Option Exchange). IsRightTo recorded_format strict o moment reply items) (sym is_open)
+      (subst (λ (m : Mark). IsRightBy m (claim_of recorded_format strict x moment reply items) items) (sym marked)
+      (passes_eight items x moment name closes (Fwd (word_of UriMiss) None false true) stored source can method selected reply carries
+      (shared_usable items x moment reply stored may) behind))
 
   -- so is what stands in the place of what the origin answered, where it may be used
   pub entry_right : (word : List ℕ) (told : Option ℕ) (put : Bool) → IsPlainStatus name (Fwd word told put false)

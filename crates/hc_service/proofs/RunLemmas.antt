@@ -19,15 +19,18 @@ use Rattle.hc_service.specs.declared.open.Purpose.TheVariants as purpose
 use Rattle.hc_service.specs.declared.settings.CoreSettings.{CoreSettings}
 use Rattle.hc_service.specs.Settings.{AreGood}
 use Rattle.hc_service.specs.Numbers.{one_more}
+use Rattle.hc_service.specs.Replying.{collapsed_reply}
 use Rattle.hc_service.specs.State.{State, new_state}
 use Rattle.hc_service.specs.Sending.{recorded_format, records_of, ask_actions, send_actions, reply_actions, response_actions, failure_actions}
 use Rattle.hc_service.specs.Reactions.{Reaction, forward_anew}
-use Rattle.hc_service.specs.Reactions.Reaction.{Replies as RepliesAtOnce, Sends}
+use Rattle.hc_service.specs.Reactions.Reaction.{Replies as RepliesAtOnce, Sends, Waits}
 use Rattle.hc_service.specs.Answers.{Outcome}
 use Rattle.hc_service.specs.Answers.Outcome.{Replies, GoesAnew}
-use Rattle.hc_service.specs.Turns.{Asker, Ended, DoesReaction, DoesOutcome, EndsByResponse, EndsByFailure, answered_now, arrived_on, asker_now, failed_now, is_closed, wanted_now, whole_request}
+use Rattle.hc_service.specs.Turns.{Asker, Ended, DoesReaction, DoesOutcome, EndsByResponse, EndsByFailure, answered_now, arrived_on, asker_now, failed_now, is_closed, wanted_now, whole_request, DoesRelease}
 use Rattle.hc_service.specs.Serves.{Turn, Takes, Run, Serves, passed_to}
-use Rattle.hc_service.specs.Serves.Turn.{Opening, ClientSending, Asking, Refusal, Dropping, Leaving, Closing, OriginSending, Answering, Failing}
+use Rattle.hc_service.specs.Joining.{shared}
+use Rattle.hc_update.specs.declared.stored.Stored.{Stored}
+use Rattle.hc_service.specs.Serves.Turn.{Opening, ClientSending, Asking, Refusal, Dropping, Leaving, Closing, OriginSending, Answering, Failing, Releasing}
 use Rattle.hc_service.specs.Agreement.{History, Agrees, IsReady}
 use Rattle.hc_service.specs.Runs.{Records, AllRightBehind, behind, strict, nothing_yet, StepResult, Runs, RunsOn, RunsTo, Steps, records_given, GoesOnWith, EndAgrees, IsJudgedRight}
 use Rattle.hc_service.specs.LowerLaws.{ForwardLaws}
@@ -118,7 +121,8 @@ turn_counts settings (Asking c) s actions s' t = by_reaction t.reaction t.does
         let last : count sends ≡ 1 = refl in
         let all : count (first ++ sends) ≡ 3 = omega arith in
         counts_three s.numbers s'.numbers actions (count_of actions (first ++ sends) d.actions_are ∙ all) (records_in s'.numbers _ d.numbers)
-    by_reaction (Sends forward why conditional) d = counts_two s.numbers s'.numbers actions (count_of actions _ d.actions_are) (records_in s'.numbers _ d.numbers)
+    by_reaction (Sends forward why kind) d = counts_two s.numbers s'.numbers actions (count_of actions _ d.actions_are) (records_in s'.numbers _ d.numbers)
+    by_reaction (Waits f) d = counts_one s.numbers s'.numbers actions (count_of actions _ d.actions_are) (records_in s'.numbers _ d.numbers)
 turn_counts settings (Refusal c status) s actions s' t = counts_none s.numbers s'.numbers actions (count_of actions _ t.actions_are) (records_in s'.numbers _ t.keeps.numbers)
 turn_counts settings (Dropping c) s actions s' t = counts_none s.numbers s'.numbers actions (count_of actions [] t.actions_are) (records_in s'.numbers _ t.keeps.numbers)
 turn_counts settings (Leaving c) s actions s' t = counts_none s.numbers s'.numbers actions (count_of actions [] t.actions_are) (records_in s'.numbers _ t.keeps.numbers)
@@ -131,7 +135,7 @@ turn_counts settings (Answering f ended) s actions s' t = by_purpose t.awaited.f
 
     by_purpose : (p : Purpose) → EndsByResponse p settings (answered_now f t.awaited.forward t.response t.renewed s) s actions s' → Counts s.numbers s'.numbers actions
     by_purpose purpose.Background d = counts_one s.numbers s'.numbers actions (count_of actions given d.1.actions_are) (records_in s'.numbers _ d.1.numbers)
-    by_purpose (purpose.Reply e why conditional) d =
+    by_purpose (purpose.Reply e why kind) d =
         outcome_counts (record { forward = f; exchange = e; why = why; first = given }) (asker_now settings s d.exchange d.connection) d.outcome s actions s' refl d.does
 turn_counts settings (Failing f how) s actions s' t = by_purpose t.awaited.forward.purpose t.ends
   where
@@ -141,8 +145,17 @@ turn_counts settings (Failing f how) s actions s' t = by_purpose t.awaited.forwa
     by_purpose : (p : Purpose) → EndsByFailure p settings (failed_now f t.awaited.forward.target how s) s actions s' → Counts s.numbers s'.numbers actions
     by_purpose purpose.Background d =
         counts_one s.numbers s'.numbers actions (count_of actions given d.1.actions_are ∙ count_failure f s.numbers.moment (is_closed how)) (records_in s'.numbers _ d.1.numbers)
-    by_purpose (purpose.Reply e why conditional) d =
+    by_purpose (purpose.Reply e why kind) d =
         outcome_counts (record { forward = f; exchange = e; why = why; first = given }) (asker_now settings s d.exchange d.connection) d.outcome s actions s' (count_failure f s.numbers.moment (is_closed how)) d.does
+turn_counts settings (Releasing e) s actions s' t = by_choice (shared s.numbers.moment t.chosen) t.does
+  where
+    by_choice : (o : Option Stored) → DoesRelease o e (asker_now settings s t.exchange t.connection) s actions s' → Counts s.numbers s'.numbers actions
+    by_choice (Some stored) d =
+        let wanted = wanted_now settings s t.exchange.request t.connection in
+        counts_one s.numbers s'.numbers actions
+        (count_of actions _ d.actions_are ∙ count_reply e s.numbers.moment (is_head t.exchange.request.method) t.exchange.connection wanted.closes (collapsed_reply wanted stored))
+        (records_in s'.numbers _ d.numbers)
+    by_choice None d = counts_one s.numbers s'.numbers actions (count_of actions _ d.actions_are) (records_in s'.numbers _ d.numbers)
 
 run_counts : (settings : CoreSettings) (turns : List Turn) (s : State) (actions : List Action) (s' : State) → Run settings turns s actions s' → Counts s.numbers s'.numbers actions
 run_counts settings [] s actions s' r = counts_none s.numbers s'.numbers actions (count_of actions [] r.0) (ap (λ (s : State). s.numbers.records) r.1)

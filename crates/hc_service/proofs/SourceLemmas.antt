@@ -1,5 +1,5 @@
 -- What a store holds stays what the records say of it.
-use Rattle.std.proofs.Common.{◌≡◌, ℕ, ◌+◌, Bool, true, false, cond, ◌&&◌, List, ◌∷◌, length, Option, Some, refl, sym, ap, ◌∙◌, subst, inl, inr, ⊎_elim}
+use Rattle.std.proofs.Common.{◌≡◌, ℕ, ◌+◌, ◌<◌, Bool, true, false, cond, ◌&&◌, List, ◌∷◌, length, Option, Some, refl, sym, ap, ◌∙◌, subst, inl, inr, ⊎_elim}
 use Rattle.std.specs.Prelude.{◌⊎◌, ◌==◌, codes}
 use Rattle.std.specs.Option.{option_map}
 use Rattle.std.specs.List.{IsDistinct}
@@ -42,12 +42,13 @@ on_test true P Q h = inl (refl, h)
 on_test false P Q h = inr (refl, h)
 
 -- what is so of a response goes on to what the next item makes of it
-pub moved : (items : List Item) (item : Item) (target : Target) (old new : Stored) → HasSource items target old
-    → state_after items item (record { target = target; state = old }) ≡ record { target = target; state = new } → new.invalid ≡ false → HasSource (item ∷ items) target new
-moved items item target old new source steps valid =
+pub moved : (since : Target → ℕ) (items : List Item) (item : Item) (target : Target) (old new : Stored) → HasSource since items target old
+    → state_after items item (record { target = target; state = old }) ≡ record { target = target; state = new } → new.invalid ≡ false → HasSource since (item ∷ items) target new
+moved since items item target old new source steps valid =
     let place = place_of source.position items _ source.is_its_state in
     record {
       position = source.position;
+      is_later = source.is_later;
       is_its_state = earlier_at items item source.position place.1 ∙ ap (option_map (state_after items item)) source.is_its_state ∙ ap Some steps;
       is_valid = valid;
     }
@@ -62,20 +63,20 @@ stays items (OriginResponse number moment response) kept is = absurd (cc)
 stays items (OriginFailure number moment) kept is = refl
 stays items (ClientReply number moment reply) kept is = refl
 
-pub still_source : (items : List Item) (item : Item) → is_response item ≡ false → (target : Target) (stored : Stored) → HasSource items target stored → HasSource (item ∷ items) target stored
-still_source items item is target stored source = moved items item target stored stored source (stays items item _ is) source.is_valid
+pub still_source : (since : Target → ℕ) (items : List Item) (item : Item) → is_response item ≡ false → (target : Target) (stored : Stored) → HasSource since items target stored → HasSource since (item ∷ items) target stored
+still_source since items item is target stored source = moved since items item target stored stored source (stays items item _ is) source.is_valid
 
-pub still_sources : (items : List Item) (item : Item) (store : Holdings) → is_response item ≡ false → HasSources items store → HasSources (item ∷ items) store
-still_sources items item store is h =
-    record { keys = h.keys; sources = held_weaken (HasSource items) (HasSource (item ∷ items)) (still_source items item is) store.entries h.sources }
+pub still_sources : (since : Target → ℕ) (items : List Item) (item : Item) (store : Holdings) → is_response item ≡ false → HasSources since items store → HasSources since (item ∷ items) store
+still_sources since items item store is h =
+    record { keys = h.keys; sources = held_weaken (HasSource since items) (HasSource since (item ∷ items)) (still_source since items item is) store.entries h.sources }
 
 -- ---- choosing
 
-pub found_sources : (items : List Item) (target : Target) (asked : List Field) (old : Holdings) (chosen : Option Stored) (new : Holdings)
-    → HasSources items old → Finds target asked old chosen new → HasSources items new
-found_sources items target asked old chosen new h finds =
-    subst (HasSources items) (sym finds.1)
-    (record { keys = distinct_choose target old.entries h.keys; sources = choose_held (HasSource items) target old.entries h.sources })
+pub found_sources : (since : Target → ℕ) (items : List Item) (target : Target) (asked : List Field) (old : Holdings) (chosen : Option Stored) (new : Holdings)
+    → HasSources since items old → Finds target asked old chosen new → HasSources since items new
+found_sources since items target asked old chosen new h finds =
+    subst (HasSources since items) (sym finds.1)
+    (record { keys = distinct_choose target old.entries h.keys; sources = choose_held (HasSource since items) target old.entries h.sources })
 
 -- ---- a response
 
@@ -105,7 +106,7 @@ get_invalidates_none forward response may =
     let get = (and_parts (response.status == not_modified) (is_get forward.request.method) may).1 in
     subst (λ (m : List ℕ). invalidates m response.status ≡ false) (sym ((bytes_eq-Decides forward.request.method (codes "GET")).0 get)) refl
 
-module _ (items : List Item) (number moment : ℕ) (response : Message ResponseHead) (forward : OpenForward) (is_open : forward_of number items ≡ Some (recorded_forward forward)) where
+module _ (since : Target → ℕ) (items : List Item) (number moment : ℕ) (response : Message ResponseHead) (forward : OpenForward) (is_open : forward_of number items ≡ Some (recorded_forward forward)) where
   -- a response of another target
   other_stays : (kept : Kept) → same_target forward.target kept.target ≡ false → state_after items (OriginResponse number moment response) kept ≡ kept
   unfolding state_after
@@ -120,13 +121,13 @@ module _ (items : List Item) (number moment : ℕ) (response : Message ResponseH
   -- what a response leaves in a store: others, or all where it changes none
   LeavesIt : Target → Stored → Type 0
   LeavesIt target stored =
-      HasSource items target stored
+      HasSource since items target stored
       × ((same_target forward.target target ≡ false) ⊎ ((invalidates forward.request.method response.head.status ≡ false) × (may_update forward response.head ≡ false)))
 
-  left_source : (target : Target) (stored : Stored) → LeavesIt target stored → HasSource (OriginResponse number moment response ∷ items) target stored
+  left_source : (target : Target) (stored : Stored) → LeavesIt target stored → HasSource since (OriginResponse number moment response ∷ items) target stored
   unfolding LeavesIt
   left_source target stored h =
-      moved items (OriginResponse number moment response) target stored stored h.0 (steps h.1) h.0.is_valid
+      moved since items (OriginResponse number moment response) target stored stored h.0 (steps h.1) h.0.is_valid
     where
       steps : (same_target forward.target target ≡ false) ⊎ ((invalidates forward.request.method response.head.status ≡ false) × (may_update forward response.head ≡ false))
           → state_after items (OriginResponse number moment response) (record { target = target; state = stored }) ≡ record { target = target; state = stored }
@@ -139,24 +140,24 @@ module _ (items : List Item) (number moment : ℕ) (response : Message ResponseH
           (cases_Bool (same_target forward.target target))
 
   -- taken away
-  gone : (old new : Holdings) → HasSources items old → new.entries ≡ without forward.target old.entries → HasSources (OriginResponse number moment response ∷ items) new
+  gone : (old new : Holdings) → HasSources since items old → new.entries ≡ without forward.target old.entries → HasSources since (OriginResponse number moment response ∷ items) new
   unfolding LeavesIt
   gone old new h are =
       record {
         keys = subst (λ (e : Entries). IsDistinct same_target (keys_of e)) (sym are) (distinct_without forward.target old.entries h.keys);
-        sources = subst (AllHeld (HasSource (OriginResponse number moment response ∷ items))) (sym are)
+        sources = subst (AllHeld (HasSource since (OriginResponse number moment response ∷ items))) (sym are)
             (held_weaken _ _ (λ target stored p. left_source target stored (p.0, inl p.1)) (without forward.target old.entries)
-            (without_others (HasSource items) forward.target old.entries h.keys h.sources));
+            (without_others (HasSource since items) forward.target old.entries h.keys h.sources));
       }
 
   -- what a 304 to a GET makes of a stored response of the target
   freshens_one : (stored : Stored) → invalidates forward.request.method response.head.status ≡ false → (now : Stored)
-      → now ≡ after_validation (validation_by forward moment (next_position items) response.head) stored → HasSource items forward.target stored
-      → HasSource (OriginResponse number moment response ∷ items) forward.target now
+      → now ≡ after_validation (validation_by forward moment (next_position items) response.head) stored → HasSource since items forward.target stored
+      → HasSource since (OriginResponse number moment response ∷ items) forward.target now
   unfolding state_after
   freshens_one stored valid now is source =
-      subst (HasSource (OriginResponse number moment response ∷ items) forward.target) (sym is)
-      (moved items (OriginResponse number moment response) forward.target stored (after_validation v stored) source (steps stored valid) (stays_valid (is_validated v stored)))
+      subst (HasSource since (OriginResponse number moment response ∷ items) forward.target) (sym is)
+      (moved since items (OriginResponse number moment response) forward.target stored (after_validation v stored) source (steps stored valid) (stays_valid (is_validated v stored)))
     where
       v : Validation
       v = validation_by forward moment (next_position items) response.head
@@ -171,26 +172,26 @@ module _ (items : List Item) (number moment : ℕ) (response : Message ResponseH
       steps stored valid = rw is_open (rw (same_target_itself forward.target) (rw valid refl))
 
   -- freshened: what stays is what the records make of it
-  pub freshened_sources : (old new : Holdings) → HasSources items old → may_update forward response.head ≡ true
-      → Freshens (validation_by forward moment (next_position items) response.head) forward.target old new → HasSources (OriginResponse number moment response ∷ items) new
+  pub freshened_sources : (old new : Holdings) → HasSources since items old → may_update forward response.head ≡ true
+      → Freshens (validation_by forward moment (next_position items) response.head) forward.target old new → HasSources since (OriginResponse number moment response ∷ items) new
   unfolding LeavesIt
   freshened_sources old new h may f =
-      subst (HasSources (OriginResponse number moment response ∷ items)) (sym f.becomes)
+      subst (HasSources since (OriginResponse number moment response ∷ items)) (sym f.becomes)
       (record {
         keys = distinct_freshen old.bytes v forward.target f.left old.entries h.keys;
-        sources = freshen_held (HasSource (OriginResponse number moment response ∷ items)) old.bytes v forward.target f.left old.entries
+        sources = freshen_held (HasSource since (OriginResponse number moment response ∷ items)) old.bytes v forward.target f.left old.entries
             (held_weaken _ _ (λ target stored p. left_source target stored (p.0, inl p.1)) (without forward.target old.entries)
-            (without_others (HasSource items) forward.target old.entries h.keys h.sources))
-            (all_weaken _ (λ variant. HasSource (OriginResponse number moment response ∷ items) forward.target (after_validation v variant))
+            (without_others (HasSource since items) forward.target old.entries h.keys h.sources))
+            (all_weaken _ (λ variant. HasSource since (OriginResponse number moment response ∷ items) forward.target (after_validation v variant))
             (λ variant p. freshens_one variant (get_invalidates_none forward response.head may) (after_validation v variant) refl p.0) f.left
-            (left_held (HasSource items forward.target) v (variants_of forward.target old.entries) f.left (variants_held (HasSource items) forward.target old.entries h.sources) f.leaves));
+            (left_held (HasSource since items forward.target) v (variants_of forward.target old.entries) f.left (variants_held (HasSource since items) forward.target old.entries h.sources) f.leaves));
       })
     where
       v : Validation
       v = validation_by forward moment (next_position items) response.head
 
-  pub renewed_sources : (old new : Holdings) → HasSources items old → Renews forward moment (next_position items) response.head old new
-      → HasSources (OriginResponse number moment response ∷ items) new
+  pub renewed_sources : (old new : Holdings) → HasSources since items old → Renews forward moment (next_position items) response.head old new
+      → HasSources since (OriginResponse number moment response ∷ items) new
   unfolding LeavesIt
   renewed_sources old new h renews =
       ⊎_elim
@@ -202,52 +203,53 @@ module _ (items : List Item) (number moment : ℕ) (response : Message ResponseH
       v = validation_by forward moment (next_position items) response.head
 
       after_invalidation : invalidates forward.request.method response.head.status ≡ true → renews.between ≡ invalidated forward.target old
-          → HasSources (OriginResponse number moment response ∷ items) new
+          → HasSources since (OriginResponse number moment response ∷ items) new
       after_invalidation unsafe is =
           let k = gone old renews.between h (ap (λ (s : Holdings). s.entries) is) in
           ⊎_elim
           (λ (p : (may_update forward response.head ≡ true) × Freshens v forward.target renews.between new).
           absurd (true_false (sym unsafe ∙ get_invalidates_none forward response.head p.0)))
-          (λ (p : (may_update forward response.head ≡ false) × (new ≡ renews.between)). subst (HasSources (OriginResponse number moment response ∷ items)) (sym p.1) k)
+          (λ (p : (may_update forward response.head ≡ false) × (new ≡ renews.between)). subst (HasSources since (OriginResponse number moment response ∷ items)) (sym p.1) k)
           (on_test (may_update forward response.head) _ _ renews.updates)
         where
           true_false : true ≡ false → ⊥
           true_false e = cc
 
-      without_invalidation : invalidates forward.request.method response.head.status ≡ false → renews.between ≡ old → HasSources (OriginResponse number moment response ∷ items) new
+      without_invalidation : invalidates forward.request.method response.head.status ≡ false → renews.between ≡ old → HasSources since (OriginResponse number moment response ∷ items) new
       without_invalidation valid is =
           ⊎_elim
           (λ (p : (may_update forward response.head ≡ true) × Freshens v forward.target renews.between new).
           freshened_sources old new h p.0 (subst (λ (s : Holdings). Freshens v forward.target s new) is p.1))
           (λ (p : (may_update forward response.head ≡ false) × (new ≡ renews.between)).
-          subst (HasSources (OriginResponse number moment response ∷ items)) (sym (p.1 ∙ is))
+          subst (HasSources since (OriginResponse number moment response ∷ items)) (sym (p.1 ∙ is))
           (record { keys = h.keys; sources = held_weaken _ _ (λ target stored s. left_source target stored (s, inr (valid, p.0))) old.entries h.sources }))
           (on_test (may_update forward response.head) _ _ renews.updates)
 
   -- what it begins, where it may be stored
-  pub begun_source : may_store forward.request response.head ≡ true
-      → HasSource (OriginResponse number moment response ∷ items) forward.target (initial_state forward.request forward.moment response moment)
-  begun_source may = record {
+  pub begun_source : since forward.target < next_position items → may_store forward.request response.head ≡ true
+      → HasSource since (OriginResponse number moment response ∷ items) forward.target (initial_state forward.request forward.moment response moment)
+  begun_source behind may = record {
     position = next_position items;
+    is_later = behind;
     is_its_state = rw (eq-eqb (length items + 1) (length items + 1) refl) (rw is_open (rw may refl));
     is_valid = refl;
   }
 
-  pub put_sources : (old new : Holdings) (stored : Bool) → HasSources (OriginResponse number moment response ∷ items) old → Stores forward moment response old stored new
-      → HasSources (OriginResponse number moment response ∷ items) new
-  put_sources old new stored h stores =
+  pub put_sources : since forward.target < next_position items → (old new : Holdings) (stored : Bool) → HasSources since (OriginResponse number moment response ∷ items) old → Stores forward moment response old stored new
+      → HasSources since (OriginResponse number moment response ∷ items) new
+  put_sources behind old new stored h stores =
       ⊎_elim
       (λ (p : (may_store forward.request response.head ≡ true) × PutsResponse forward moment response old stored new). by_answer p.0 p.1.answer p.1.puts)
-      (λ (p : (may_store forward.request response.head ≡ false) × ((stored ≡ false) × (new ≡ old))). subst (HasSources (OriginResponse number moment response ∷ items)) (sym p.1.1) h)
+      (λ (p : (may_store forward.request response.head ≡ false) × ((stored ≡ false) × (new ≡ old))). subst (HasSources since (OriginResponse number moment response ∷ items)) (sym p.1.1) h)
       (on_test (may_store forward.request response.head) _ _ stores)
     where
       by_answer : may_store forward.request response.head ≡ true → (answer : Put) → Puts forward.target (initial_state forward.request forward.moment response moment) old answer new
-          → HasSources (OriginResponse number moment response ∷ items) new
+          → HasSources since (OriginResponse number moment response ∷ items) new
       by_answer may put.Stored p =
-          subst (HasSources (OriginResponse number moment response ∷ items)) (sym p.1)
+          subst (HasSources since (OriginResponse number moment response ∷ items)) (sym p.1)
           (record {
             keys = distinct_put old.keys old.bytes forward.target _ old.entries h.keys;
-            sources = put_held (HasSource (OriginResponse number moment response ∷ items)) old.keys old.bytes forward.target _ old.entries h.sources (begun_source may);
+            sources = put_held (HasSource since (OriginResponse number moment response ∷ items)) old.keys old.bytes forward.target _ old.entries h.sources (begun_source behind may);
           })
-      by_answer may put.TooLarge p = subst (HasSources (OriginResponse number moment response ∷ items)) (sym p.1) h
-      by_answer may put.NoMemory p = subst (HasSources (OriginResponse number moment response ∷ items)) (sym p.2) h
+      by_answer may put.TooLarge p = subst (HasSources since (OriginResponse number moment response ∷ items)) (sym p.1) h
+      by_answer may put.NoMemory p = subst (HasSources since (OriginResponse number moment response ∷ items)) (sym p.2) h

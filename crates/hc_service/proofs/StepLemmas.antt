@@ -1,5 +1,5 @@
 -- Each step keeps what the cache has to do with what has happened: its turns do, and all that can be read is read.
-use Rattle.std.proofs.Common.{◌≡◌, ◌≤◌, List, [], ◌∷◌, ◌++◌, Some, None, refl, sym, ap, ◌∙◌, subst, arith, append_assoc}
+use Rattle.std.proofs.Common.{◌≡◌, ◌≤◌, List, [], ◌∷◌, ◌++◌, Option, Some, None, refl, sym, ap, ◌∙◌, subst, arith, append_assoc}
 use Rattle.hc_transcript.specs.declared.record.Record.{Record}
 use Rattle.hc_transcript.specs.Limits.{greatest_number}
 use Rattle.hc_transcript.specs.Items.{Item}
@@ -13,14 +13,16 @@ use Rattle.hc_service.specs.declared.settings.CoreSettings.{CoreSettings}
 use Rattle.hc_service.specs.Settings.{AreGood}
 use Rattle.hc_service.specs.Numbers.{one_more}
 use Rattle.hc_service.specs.State.{State}
+use Rattle.hc_service.specs.Joining.{shared}
+use Rattle.hc_update.specs.declared.stored.Stored.{Stored}
 use Rattle.hc_service.specs.Sending.{recorded_format, records_of, failure_actions}
 use Rattle.hc_service.specs.Reactions.{Reaction}
-use Rattle.hc_service.specs.Reactions.Reaction.{Replies as RepliesAtOnce, Sends}
+use Rattle.hc_service.specs.Reactions.Reaction.{Replies as RepliesAtOnce, Sends, Waits}
 use Rattle.hc_service.specs.Answers.{Outcome}
 use Rattle.hc_service.specs.Answers.Outcome.{Replies, GoesAnew}
-use Rattle.hc_service.specs.Turns.{Asker, Ended, DoesReaction, DoesOutcome, EndsByResponse, EndsByFailure, answered_now, arrived_on, asker_now, failed_now, is_closed, whole_request}
+use Rattle.hc_service.specs.Turns.{Asker, Ended, DoesReaction, DoesRelease, DoesOutcome, EndsByResponse, EndsByFailure, answered_now, arrived_on, asker_now, failed_now, is_closed, whole_request}
 use Rattle.hc_service.specs.Serves.{Turn, Takes, Run}
-use Rattle.hc_service.specs.Serves.Turn.{Opening, ClientSending, Asking, Refusal, Dropping, Leaving, Closing, OriginSending, Answering, Failing}
+use Rattle.hc_service.specs.Serves.Turn.{Opening, ClientSending, Asking, Refusal, Dropping, Leaving, Closing, OriginSending, Answering, Failing, Releasing}
 use Rattle.hc_service.specs.Agreement.{History, IsConsistent}
 use Rattle.hc_service.specs.Runs.{Records, AllRightBehind, behind, strict}
 use Rattle.hc_service.specs.LowerLaws.{ForwardLaws}
@@ -56,7 +58,8 @@ turn_rises settings (Asking c) s actions s' le t = by_reaction t.reaction t.does
     by_reaction : (r : Reaction) → DoesReaction r (arrived_on c t.connection t.size (whole_request settings s t.request t.target t.connection)) s actions s' → Rises s.numbers s'.numbers
     by_reaction (RepliesAtOnce reply None) d = two_counts s.numbers s'.numbers le (count_of s'.numbers _ d.numbers)
     by_reaction (RepliesAtOnce reply (Some validation)) d = three_counts s.numbers s'.numbers le (count_of s'.numbers _ d.numbers)
-    by_reaction (Sends forward why conditional) d = two_counts s.numbers s'.numbers le (count_of s'.numbers _ d.numbers)
+    by_reaction (Sends forward why kind) d = two_counts s.numbers s'.numbers le (count_of s'.numbers _ d.numbers)
+    by_reaction (Waits f) d = one_count s.numbers s'.numbers le (count_of s'.numbers _ d.numbers)
 turn_rises settings (Refusal c status) s actions s' le t = same_count s.numbers s'.numbers le (count_of s'.numbers _ t.keeps.numbers)
 turn_rises settings (Dropping c) s actions s' le t = same_count s.numbers s'.numbers le (count_of s'.numbers _ t.keeps.numbers)
 turn_rises settings (Leaving c) s actions s' le t = same_count s.numbers s'.numbers le (count_of s'.numbers _ t.keeps.numbers)
@@ -70,7 +73,7 @@ turn_rises settings (Answering f ended) s actions s' le t = by_purpose t.awaited
 
     by_purpose : (p : Purpose) → EndsByResponse p settings (answered_now f t.awaited.forward t.response t.renewed s) s actions s' → Rises s.numbers s'.numbers
     by_purpose purpose.Background d = one_count s.numbers s'.numbers le (count_of s'.numbers _ d.1.numbers)
-    by_purpose (purpose.Reply e why conditional) d =
+    by_purpose (purpose.Reply e why kind) d =
         by_outcome (record { forward = f; exchange = e; why = why; first = (answered_now f t.awaited.forward t.response t.renewed s).first }) (asker_now settings s d.exchange d.connection) d.outcome d.does
 turn_rises settings (Failing f how) s actions s' le t = by_purpose t.awaited.forward.purpose t.ends
   where
@@ -80,8 +83,13 @@ turn_rises settings (Failing f how) s actions s' le t = by_purpose t.awaited.for
 
     by_purpose : (p : Purpose) → EndsByFailure p settings (failed_now f t.awaited.forward.target how s) s actions s' → Rises s.numbers s'.numbers
     by_purpose purpose.Background d = one_count s.numbers s'.numbers le (count_of s'.numbers _ d.1.numbers)
-    by_purpose (purpose.Reply e why conditional) d =
+    by_purpose (purpose.Reply e why kind) d =
         by_outcome (record { forward = f; exchange = e; why = why; first = failure_actions f s.numbers.moment (is_closed how) }) (asker_now settings s d.exchange d.connection) d.outcome d.does
+turn_rises settings (Releasing e) s actions s' le t = by_choice (shared s.numbers.moment t.chosen) t.does
+  where
+    by_choice : (o : Option Stored) → DoesRelease o e (asker_now settings s t.exchange t.connection) s actions s' → Rises s.numbers s'.numbers
+    by_choice (Some stored) d = one_count s.numbers s'.numbers le (count_of s'.numbers _ d.numbers)
+    by_choice None d = one_count s.numbers s'.numbers le (count_of s'.numbers _ d.numbers)
 
 run_rises : (settings : CoreSettings) (turns : List Turn) (s : State) (actions : List Action) (s' : State) → s.numbers.records ≤ 18446744073709551615 → Run settings turns s actions s' → Rises s.numbers s'.numbers
 run_rises settings [] s actions s' le r = same_count s.numbers s'.numbers le (ap (λ (s : State). s.numbers.records) r.1)

@@ -12,6 +12,7 @@ use Rattle.hc_history.specs.Claims.{Claim, claim_of}
 use Rattle.hc_history.specs.Usable.{age_at, is_usable, permits_by_request, permits_on_error, permits_stale, validated_since}
 use Rattle.hc_service.specs.Sending.{recorded_format}
 use Rattle.hc_service.specs.Asking.{allows_age, asks_for_fresh}
+use Rattle.hc_service.specs.Joining.{may_be_shared}
 use Rattle.hc_service.specs.Runs.{strict}
 use Rattle.hc_service.specs.Serving.{is_fresh, while_revalidating, may_be_used, is_fresh_enough, is_permitted_stale, may_be_served, may_replace}
 
@@ -115,6 +116,10 @@ module _ (items : List Item) (x : Exchange) (moment : ℕ) (reply : Message Resp
           permitted_by parts.0
           (third_of_four asked_for meanwhile in_place the_claim.has_failure
           (and_from (the_claim.has_error || the_claim.has_failure) (permits_on_error 0 x.request.fields stored moment) stands parts.1))
+
+  -- what may be served to one that waited for the forward of another request
+  pub shared_usable : may_be_shared stored moment ≡ true → is_usable the_claim stored ≡ true
+  shared_usable may = let parts = and_parts (is_fresh stored moment) (not (says (codes "no-cache") stored.fields)) may in usable_by parts.1 (inl parts.0)
 
   -- what was validated in the window
   pub validated_usable : (position : ℕ) → stored.validated_at ≡ Some position → x.position < position → is_usable the_claim stored ≡ true

@@ -1,5 +1,5 @@
 -- What a cache has to do with what has happened so far, which it doesn't keep.
-use Rattle.std.specs.Prelude.{◌≡◌, ℕ, zero, suc, ◌<◌, ◌≤◌, ◌==◌, Bool, true, false, List, [], length, drop, Option, Some, None, option_map, codes}
+use Rattle.std.specs.Prelude.{◌≡◌, ℕ, zero, suc, ◌<◌, ◌≤◌, ◌==◌, true, false, List, [], length, drop, Option, Some, None, option_map, codes}
 use Rattle.std.specs.FinMap.{get, len}
 use Rattle.std.specs.List.{AllByRecursion, IsDistinct}
 use Rattle.std.specs.Map.{keys_of}
@@ -28,6 +28,7 @@ use Rattle.hc_links.specs.Requests.{IsRequest}
 use Rattle.hc_store.specs.Entries.{Entries}
 use Rattle.hc_service.specs.declared.cases.Cause.{Cause}
 use Rattle.hc_service.specs.declared.numbers.Numbers.{Numbers}
+use Rattle.hc_service.specs.declared.open.ForwardKind.{ForwardKind}
 use Rattle.hc_service.specs.declared.open.OpenExchange.{OpenExchange}
 use Rattle.hc_service.specs.declared.open.OpenForward.{OpenForward}
 use Rattle.hc_service.specs.declared.open.Purpose.{Purpose}
@@ -36,7 +37,8 @@ use Rattle.hc_service.specs.Asking.{is_answered_by_store}
 use Rattle.hc_service.specs.Cases.{asks_store, is_of_stored}
 use Rattle.hc_service.specs.Numbers.{is_later}
 use Rattle.hc_service.specs.Sending.{recorded_format}
-use Rattle.hc_service.specs.State.{State, Table, Connection, Awaited}
+use Rattle.hc_service.specs.State.{State, Table, Connection, Awaited, exchange_for, is_conditional}
+use Rattle.hc_service.specs.Joining.{is_joinable}
 use Rattle.hc_service.specs.Choices.{OnTest}
 use Rattle.hc_service.specs.Serves.{IsQuietAt, AwaitsStill}
 use Rattle.hc_service.specs.Turns.{most_connections}
@@ -69,9 +71,10 @@ pub record AreCounted (n : Numbers) (h : History) : Type 0 where
 abbrev pub AllHeld : (Target → Stored → Type 0) → Entries → Type 0
 AllHeld P entries = AllByRecursion (λ entry. AllByRecursion (P entry.0) entry.1) entries
 
--- it is a response of that target that may be stored, as the records have left it, and is valid
-pub record HasSource (items : List Item) (target : Target) (stored : Stored) : Type 0 where
+-- it is a response of that target that may be stored, as the records have left it, and is valid; and it lies behind the position that is told of the target
+pub record HasSource (since : Target → ℕ) (items : List Item) (target : Target) (stored : Stored) : Type 0 where
   pub position : ℕ
+  pub is_later : since target < position
   pub is_its_state : state_at position items ≡ Some (record { target = target; state = stored })
   pub is_valid : stored.invalid ≡ false
 
@@ -87,8 +90,8 @@ pub record CanReply (stored : Stored) : Type 0 where
   pub short : length stored.body ≤ longest_body
   pub bare : ends_with_head false stored.status ≡ true → stored.body ≡ []
 
-abbrev pub IsSound : List Item → Target → Stored → Type 0
-IsSound items target stored = HasSource items target stored × CanReply stored
+abbrev pub IsSound : (Target → ℕ) → List Item → Target → Stored → Type 0
+IsSound since items target stored = HasSource since items target stored × CanReply stored
 
 -- ---- 3: what came on links, and what of it is unread
 
@@ -138,26 +141,21 @@ pub record AsksAfter (x : OpenExchange) (why : Cause) (request : RequestHead) : 
   pub request_is : request ≡ conditional_request name x.target x.request stored
 
 -- the forward asks for what the request asks for, the store was asked for methods that it answers alone, and the cache's own condition is there where it is said to be
-pub record AsksFor (x : OpenExchange) (why : Cause) (conditional : Bool) (forward : OpenForward) : Type 0 where
+pub record AsksFor (x : OpenExchange) (why : Cause) (kind : ForwardKind) (forward : OpenForward) : Type 0 where
   pub method : forward.request.method ≡ x.request.method
   pub target : forward.target ≡ x.target
   pub by_store : asks_store why ≡ true → is_answered_by_store x.request.method ≡ true
-  pub asks_after : conditional ≡ true → AsksAfter x why forward.request
+  pub asks_after : is_conditional kind ≡ true → AsksAfter x why forward.request
 
 -- the exchange that the forward is for is open
-pub record IsFor (exchanges : Table OpenExchange) (e : ℕ) (why : Cause) (conditional : Bool) (forward : OpenForward) : Type 0 where
+pub record IsFor (exchanges : Table OpenExchange) (e : ℕ) (why : Cause) (kind : ForwardKind) (forward : OpenForward) : Type 0 where
   pub exchange : OpenExchange
   pub is_open : get exchanges e ≡ Some exchange
-  pub asks_for : AsksFor exchange why conditional forward
+  pub asks_for : AsksFor exchange why kind forward
 
 abbrev pub KeepsPurpose : Table OpenExchange → Purpose → OpenForward → Type 0
 KeepsPurpose exchanges purpose.Background forward = forward.request.method ≡ codes "GET"
-KeepsPurpose exchanges (purpose.Reply e why conditional) forward = IsFor exchanges e why conditional forward
-
--- the exchange that a forward is for
-abbrev pub exchange_for : Purpose → Option ℕ
-exchange_for purpose.Background = None
-exchange_for (purpose.Reply e why conditional) = Some e
+KeepsPurpose exchanges (purpose.Reply e why kind) forward = IsFor exchanges e why kind forward
 
 -- what is open is what the records leave open, by the numbers of the last exchange and the last forward
 pub record AreAsked (exchange forward : ℕ) (exchanges : Table OpenExchange) (forwards : Table Awaited) (items : List Item) : Type 0 where
@@ -194,27 +192,41 @@ pub record AreLinked (last : Option ℕ) (connections : Table Connection) (excha
   pub busy : (c e : ℕ) (k : Connection) → get connections c ≡ Some k → k.exchange ≡ Some e → HasItsExchange exchanges c e
   pub later : (c : ℕ) → is_later c last ≡ true → get connections c ≡ None
 
+-- ---- 5: who waits for the forward of another request
+
+-- each is a request that may, and no forward is for it; and what is stored of its target lies behind it, where that lies behind what is told of the target
+pub record AreWaiting (since : Target → ℕ) (exchanges : Table OpenExchange) (forwards : Table Awaited) (items : List Item) : Type 0 where
+  pub joinable : (e f : ℕ) (x : OpenExchange) → get exchanges e ≡ Some x → x.waits_for ≡ Some f → is_joinable x.request ≡ true
+  pub own : (e f g : ℕ) (x : OpenExchange) (a : Awaited) → get exchanges e ≡ Some x → x.waits_for ≡ Some f → get forwards g ≡ Some a
+      → exchange_for a.forward.purpose ≡ Some e → ⊥
+  pub behind : (e f : ℕ) (x : OpenExchange) (seen : Exchange) → get exchanges e ≡ Some x → x.waits_for ≡ Some f → exchange_of e items ≡ Some seen
+      → seen.position ≤ since x.target
+  pub reached : (target : Target) → since target ≤ length items
+
 -- ---- all
 
--- 1 to 4, which hold in the middle of an event too
+-- 1 to 5, which hold in the middle of an event too
 pub record IsConsistent (s : State) (h : History) : Type 0 where
   pub counted : AreCounted s.numbers h
-  pub entries : AllHeld (IsSound h.items) s.store.entries
+  -- behind which position what is stored of a target lies
+  pub since : Target → ℕ
+  pub entries : AllHeld (IsSound since h.items) s.store.entries
   pub keys : IsDistinct same_target (keys_of s.store.entries)
   pub received : AreReceived s.numbers.connection s.numbers.forward s.connections s.forwards h.client_octets h.origin_octets
   pub asked : AreAsked s.numbers.exchange s.numbers.forward s.exchanges s.forwards h.items
   pub linked : AreLinked s.numbers.connection s.connections s.exchanges
+  pub waiting : AreWaiting since s.exchanges s.forwards h.items
   pub few : len s.connections ≤ most_connections
 
--- 5: nothing that has come can be read yet, and while an exchange awaits its reply no more octets are unread than may be
+-- 6: nothing that has come can be read yet, and while an exchange awaits its reply no more octets are unread than may be
 abbrev pub IsQuiet : State → Type 0
 IsQuiet s = (c : ℕ) → IsQuietAt c s
 
--- 6: on no open forward has a whole response come, or what makes it fail
+-- 7: on no open forward has a whole response come, or what makes it fail
 abbrev pub IsAwaiting : State → Type 0
 IsAwaiting s = (f : ℕ) → AwaitsStill f s
 
--- all six: the cache agrees with what has happened, between events
+-- all seven: the cache agrees with what has happened, between events
 pub record Agrees (s : State) (h : History) : Type 0 where
   pub consistent : IsConsistent s h
   pub quiet : IsQuiet s
@@ -225,9 +237,16 @@ pub record Agrees (s : State) (h : History) : Type 0 where
 -- the exchange for which a forward is open is open
 abbrev pub HasExchange : Table OpenExchange → Purpose → Type 0
 HasExchange exchanges purpose.Background = Unit {0}
-HasExchange exchanges (purpose.Reply e cause conditional) = IsSome (get exchanges e)
+HasExchange exchanges (purpose.Reply e why kind) = IsSome (get exchanges e)
 
--- the exchange that a forward is for is open, and so is the connection of each exchange
+-- the exchange awaits its reply on its connection, which is open
+pub record AwaitsThere (connections : Table Connection) (e : ℕ) (x : OpenExchange) : Type 0 where
+  pub connection : Connection
+  pub is_open : get connections x.connection ≡ Some connection
+  pub awaits : connection.exchange ≡ Some e
+
+-- the exchange that a forward is for is open and waits for no other one, and each exchange awaits its reply on its connection
 pub record IsReady (s : State) : Type 0 where
   pub exchanges : (f : ℕ) (a : Awaited) → get s.forwards f ≡ Some a → HasExchange s.exchanges a.forward.purpose
-  pub connections : (e : ℕ) (x : OpenExchange) → get s.exchanges e ≡ Some x → IsSome (get s.connections x.connection)
+  pub alone : (f e : ℕ) (a : Awaited) (x : OpenExchange) → get s.forwards f ≡ Some a → exchange_for a.forward.purpose ≡ Some e → get s.exchanges e ≡ Some x → x.waits_for ≡ None
+  pub connections : (e : ℕ) (x : OpenExchange) → get s.exchanges e ≡ Some x → AwaitsThere s.connections e x

@@ -1,5 +1,5 @@
 -- The cases of a whole request. The first that holds decides; the store is asked from the fourth on.
-use Rattle.std.specs.Prelude.{ℕ, Bool, true, false, ◌||◌, not, List, Option, Some, None, codes, if◌then◌else◌}
+use Rattle.std.specs.Prelude.{ℕ, Bool, true, false, ◌&&◌, ◌||◌, not, List, Option, Some, None, codes, if◌then◌else◌}
 use Rattle.hc_fields.specs.declared.fields.Field.{Field}
 use Rattle.hc_head.specs.declared.head.RequestHead.{RequestHead}
 use Rattle.hc_framing.specs.declared.message.Message.{Message}
@@ -10,6 +10,7 @@ use Rattle.hc_service.specs.declared.cases.Cause.TheVariants.{Method, Bypass, No
 use Rattle.hc_service.specs.declared.cases.Case.{Case as GivenCase}
 use Rattle.hc_service.specs.declared.cases.Case.TheVariants as given
 use Rattle.hc_service.specs.Asking.{is_answered_by_store, is_bypass}
+use Rattle.hc_service.specs.Joining.{is_joinable}
 use Rattle.hc_service.specs.Serving.{is_fresh, may_be_served}
 
 -- what becomes of a request once the store was asked
@@ -36,6 +37,10 @@ forbids_storing request = says (codes "no-store") request.head.fields
 -- 4: nothing is stored of its target
 abbrev pub has_no_entry : Bool → Bool
 has_no_entry known = not known
+
+-- 4, where another request's forward is open that it may wait for: what answers that one may answer it too
+abbrev pub may_wait : RequestHead → Bool → Bool
+may_wait asked known = is_joinable asked && has_no_entry known
 
 -- 5: of its target something is stored, but nothing that selects it
 abbrev pub is_selected_by_none : Option Stored → Bool

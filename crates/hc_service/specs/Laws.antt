@@ -35,10 +35,10 @@ is_response item = false
 abbrev pub recorded_forward : OpenForward → Forward
 recorded_forward forward = record { moment = forward.moment; request = forward.request; target = forward.target }
 
--- all that a store holds are responses of the records, each under one key
-pub record HasSources (items : List Item) (store : Holdings) : Type 0 where
+-- all that a store holds are responses of the records, each under one key and behind the position that is told of its target
+pub record HasSources (since : Target → ℕ) (items : List Item) (store : Holdings) : Type 0 where
   pub keys : IsDistinct same_target (keys_of store.entries)
-  pub sources : AllHeld (HasSource items) store.entries
+  pub sources : AllHeld (HasSource since items) store.entries
 
 -- an answer of the origin as it was received: its lines are few and plain and frame no body, its body is within the limit, and none where it ends with its head
 pub record IsReceivedAnswer (to_head : Bool) (response : Message ResponseHead) : Type 0 where

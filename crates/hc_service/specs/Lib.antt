@@ -6,6 +6,7 @@ pub mod Asking
 pub mod Serving
 pub mod Cases
 pub mod State
+pub mod Joining
 pub mod Sending
 pub mod Replying
 pub mod Choices

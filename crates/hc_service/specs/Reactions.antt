@@ -1,4 +1,4 @@
--- What a whole request gets at once: a reply, or a forward.
+-- What a whole request gets at once: a reply, a forward, or a forward of another request to wait for.
 use Rattle.std.specs.Prelude.{◌≡◌, ℕ, Bool, true, false, ◌&&◌, not, nat_lt, List, [], Option, Some, None, codes, if◌then◌else◌}
 use Rattle.std.specs.FinMap.{values}
 use Rattle.std.specs.List.{list_any, count_by}
@@ -15,21 +15,26 @@ use Rattle.hc_update.specs.declared.stored.Stored.{Stored}
 use Rattle.hc_store.specs.Entries.{Holdings, knows}
 use Rattle.hc_service.specs.declared.cases.Cause.{Cause}
 use Rattle.hc_service.specs.declared.cases.Cause.TheVariants as cause
+use Rattle.hc_service.specs.declared.open.ForwardKind.{ForwardKind}
+use Rattle.hc_service.specs.declared.open.ForwardKind.TheVariants.{Conditional, Plain}
 use Rattle.hc_service.specs.declared.open.Purpose.{Purpose}
 use Rattle.hc_service.specs.declared.open.Purpose.TheVariants as purpose
-use Rattle.hc_service.specs.Cases.{Case, case_before_store, case_by_store}
+use Rattle.hc_service.specs.Cases.{Case, case_before_store, case_by_store, may_wait}
 use Rattle.hc_service.specs.Cases.Case.{Hit, Forward}
 use Rattle.hc_service.specs.Serving.{is_fresh, while_revalidating}
 use Rattle.hc_service.specs.Replying.{Wanted, gateway_timeout, made_reply, hit_reply}
 use Rattle.hc_service.specs.Choices.{Finds}
-use Rattle.hc_service.specs.State.{Table, Awaited}
+use Rattle.hc_service.specs.State.{Table, Awaited, OpenNow}
+use Rattle.hc_service.specs.Joining.{plain_kind, IsLeast}
 
 -- what a whole request gets at once
 pub data Reaction : Type 0 where
   -- a reply, and behind it perhaps a request to the origin for the store alone
   Replies : (reply : Message ResponseHead) (behind : Option (Message RequestHead)) → Reaction
-  -- a request to the origin, why, and whether it has the cache's own condition
-  Sends : (request : Message RequestHead) (why : Cause) (conditional : Bool) → Reaction
+  -- a request to the origin, why it goes there, and how
+  Sends : (request : Message RequestHead) (why : Cause) (kind : ForwardKind) → Reaction
+  -- nothing of its own: it waits for the forward of that number, which is another request's
+  Waits : (forward : ℕ) → Reaction
 
 -- a request of that head without a body
 abbrev pub bare : RequestHead → Message RequestHead
@@ -43,7 +48,7 @@ most_background = 1024
 
 abbrev pub is_for_store : Purpose → Bool
 is_for_store purpose.Background = true
-is_for_store (purpose.Reply exchange why conditional) = false
+is_for_store (purpose.Reply e why kind) = false
 
 abbrev pub is_background : Awaited → Bool
 is_background awaited = is_for_store awaited.forward.purpose
@@ -86,11 +91,11 @@ is_asked_after asked (Some stored) = is_get asked.method && has_validator stored
 
 -- a forward that asks after it, or a plain one
 abbrev pub stored_forward : Wanted → Target → Message RequestHead → Cause → Option Stored → Reaction
-stored_forward wanted target request why None = Sends (plain_forward wanted target request) why false
+stored_forward wanted target request why None = Sends (plain_forward wanted target request) why (plain_kind why request.head)
 stored_forward wanted target request why (Some stored) =
     if is_asked_after request.head (Some stored)
-    then Sends (bare (conditional_request wanted.name target request.head stored.fields)) why true
-    else Sends (plain_forward wanted target request) why false
+    then Sends (bare (conditional_request wanted.name target request.head stored.fields)) why Conditional
+    else Sends (plain_forward wanted target request) why Plain
 
 -- that no forward is wanted, or a forward
 abbrev pub forward_reaction : Wanted → Target → Message RequestHead → Option Stored → Cause → Reaction
@@ -101,6 +106,10 @@ forward_reaction wanted target request chosen why =
 -- a forward anew, for a request that was answered by a 304 which validated nothing: without the client's own conditions
 abbrev pub forward_anew : List ℕ → Target → RequestHead → Message RequestHead
 forward_anew name target asked = bare (unconditional_request name target asked)
+
+-- a forward of its own, for a request that has waited for another one's: as it came, but for what is for its connection
+abbrev pub forward_alone : List ℕ → Target → RequestHead → Message RequestHead
+forward_alone name target asked = bare (plain_request name target asked)
 
 -- ---- the first case that holds
 
@@ -123,11 +132,25 @@ pub record ReactsByStore (whole : WholeRequest) (forwards : Table Awaited) (old 
       ≡ chosen_reaction whole.wanted whole.target whole.request forwards chosen
       (case_by_store whole.request.head.fields (knows whole.target old.entries) chosen whole.wanted.moment)
 
--- the store is asked where no earlier case holds
-abbrev pub ReactsBy : Option Cause → WholeRequest → Table Awaited → Holdings → Reaction → Holdings → Type 0
-ReactsBy (Some why) whole forwards old reaction new =
-    (reaction ≡ forward_reaction whole.wanted whole.target whole.request None why) × (new ≡ old)
-ReactsBy None whole forwards old reaction new = ReactsByStore whole forwards old reaction new
+-- it waits for the forward of another request, if there is one for it to wait for; else the store is asked
+abbrev pub ReactsJoined : Option ℕ → WholeRequest → Table Awaited → Holdings → Reaction → Holdings → Type 0
+ReactsJoined (Some f) whole forwards old reaction new = (reaction ≡ Waits f) × (new ≡ old)
+ReactsJoined None whole forwards old reaction new = ReactsByStore whole forwards old reaction new
 
-abbrev pub Reacts : WholeRequest → Table Awaited → Holdings → Reaction → Holdings → Type 0
-Reacts whole forwards old reaction new = ReactsBy (case_before_store whole.request) whole forwards old reaction new
+-- whether it waits where it can
+abbrev pub would_wait : WholeRequest → Holdings → Bool
+would_wait whole old = may_wait whole.request.head (knows whole.target old.entries)
+
+pub record ReactsUnlessJoined (whole : WholeRequest) (underway : OpenNow) (old : Holdings) (reaction : Reaction) (new : Holdings) : Type 0 where
+  pub least : Option ℕ
+  pub is_least : IsLeast whole.target underway least
+  pub reacts : ReactsJoined (if would_wait whole old then least else None) whole underway.forwards old reaction new
+
+-- the store is asked where no earlier case holds
+abbrev pub ReactsBy : Option Cause → WholeRequest → OpenNow → Holdings → Reaction → Holdings → Type 0
+ReactsBy (Some why) whole underway old reaction new =
+    (reaction ≡ forward_reaction whole.wanted whole.target whole.request None why) × (new ≡ old)
+ReactsBy None whole underway old reaction new = ReactsUnlessJoined whole underway old reaction new
+
+abbrev pub Reacts : WholeRequest → OpenNow → Holdings → Reaction → Holdings → Type 0
+Reacts whole underway old reaction new = ReactsBy (case_before_store whole.request) whole underway old reaction new

@@ -1,5 +1,5 @@
 -- The replies that a request gets, each for itself, with what Cache-Status says of it.
-use Rattle.std.specs.Prelude.{ℕ, Bool, false, ◌==◌, List, Option, Some, None, if◌then◌else◌}
+use Rattle.std.specs.Prelude.{ℕ, Bool, true, false, ◌==◌, List, Option, Some, None, if◌then◌else◌}
 use Rattle.hc_head.specs.declared.head.RequestHead.{RequestHead}
 use Rattle.hc_head.specs.declared.head.ResponseHead.{ResponseHead}
 use Rattle.hc_head.specs.Methods.{is_head}
@@ -11,6 +11,7 @@ use Rattle.hc_status.specs.declared.cache_status.Handling.TheVariants.{Hit, Fwd}
 use Rattle.hc_update.specs.declared.stored.Stored.{Stored}
 use Rattle.hc_replies.specs.Replies.{forwarded_reply, stored_reply, not_modified_reply, generated_reply}
 use Rattle.hc_service.specs.declared.cases.Cause.{Cause}
+use Rattle.hc_service.specs.declared.cases.Cause.TheVariants.{UriMiss}
 use Rattle.hc_service.specs.Cases.{word_of}
 use Rattle.hc_service.specs.Serving.{ttl_at, has_still}
 
@@ -59,6 +60,10 @@ status_told (Some origin) status = if origin == status then None else Some origi
 abbrev pub replacing_reply : Wanted → Cause → Option ℕ → Stored → Message ResponseHead
 replacing_reply wanted cause origin stored =
     entry_reply wanted (Fwd (word_of cause) (status_told origin (entry_status wanted stored)) false false) stored
+
+-- a stored response to a request that waited for the forward of another one (RFC 9211 section 2.6)
+abbrev pub collapsed_reply : Wanted → Stored → Message ResponseHead
+collapsed_reply wanted stored = entry_reply wanted (Fwd (word_of UriMiss) None false true) stored
 
 -- ---- what the origin answered, which was stored or wasn't (RFC 9211 sections 2.2 and 2.5)
 abbrev pub passed_reply : Wanted → Cause → Bool → Message ResponseHead → Message ResponseHead

@@ -1,5 +1,5 @@
 -- What a cache owes for each event: the turns that arise from it, in their order.
-use Rattle.std.specs.Prelude.{◌≡◌, ℕ, ◌≤◌, ◌⊎◌, Bool, true, false, not, nat_lt, nat_le, List, [], ◌∷◌, ◌++◌, length, Option, Some, None, option_map, option_and_then, is_some, if◌then◌else◌}
+use Rattle.std.specs.Prelude.{◌≡◌, ℕ, ◌≤◌, ◌⊎◌, Bool, true, false, not, nat_lt, nat_le, List, [], ◌∷◌, ◌++◌, length, map, Option, Some, None, option_map, option_and_then, is_some, if◌then◌else◌}
 use Rattle.std.specs.FinMap.{get, len}
 use Rattle.std.specs.List.{AllByRecursion}
 use Rattle.hc_head.specs.Methods.{is_head}
@@ -13,12 +13,11 @@ use Rattle.hc_service.specs.declared.action.Action.{Action}
 use Rattle.hc_service.specs.declared.fault.StepFault.{StepFault}
 use Rattle.hc_service.specs.declared.fault.StepFault.TheVariants.{MomentTooLarge, UnknownNumber, TooManyConnections}
 use Rattle.hc_service.specs.declared.open.OpenExchange.{OpenExchange}
-use Rattle.hc_service.specs.declared.open.Purpose.{Purpose}
-use Rattle.hc_service.specs.declared.open.Purpose.TheVariants as purpose
 use Rattle.hc_service.specs.declared.settings.CoreSettings.{CoreSettings}
 use Rattle.hc_service.specs.Numbers.{at_moment, is_later}
-use Rattle.hc_service.specs.State.{State, Table, Connection, Awaited}
-use Rattle.hc_service.specs.Turns.{most_connections, most_unread, Failure, Opens, ClientSends, Drops, Leaves, Closes, Refuses, Asks, OriginSends, Answers, Breaks}
+use Rattle.hc_service.specs.Joining.{waiting_for}
+use Rattle.hc_service.specs.State.{State, Table, Connection, Awaited, exchange_for}
+use Rattle.hc_service.specs.Turns.{most_connections, most_unread, Failure, Opens, ClientSends, Drops, Leaves, Closes, Refuses, Asks, OriginSends, Answers, Breaks, Releases}
 use Rattle.hc_service.specs.Turns.Failure.{IsBroken, IsCutOff, IsLost}
 
 -- ---- turns
@@ -43,6 +42,8 @@ pub data Turn : Type 0 where
   Answering : (f : ℕ) (ended : Bool) → Turn
   -- a forward fails
   Failing : (f : ℕ) (how : Failure) → Turn
+  -- an exchange is released that waited for a forward, which has ended
+  Releasing : (e : ℕ) → Turn
 
 -- what a turn does
 abbrev pub Takes : CoreSettings → Turn → State → List Action → State → Type 0
@@ -56,6 +57,7 @@ Takes settings (Closing c) s actions s' = Closes c s actions s'
 Takes settings (OriginSending f octets) s actions s' = OriginSends f octets s actions s'
 Takes settings (Answering f ended) s actions s' = Answers settings f ended s actions s'
 Takes settings (Failing f how) s actions s' = Breaks settings f how s actions s'
+Takes settings (Releasing e) s actions s' = Releases settings e s actions s'
 
 -- turns, one after another
 abbrev pub Run : CoreSettings → List Turn → State → List Action → State → Type 0
@@ -81,18 +83,33 @@ IsQuietBy None unread = IsUnfinished unread
 abbrev pub IsQuietAt : ℕ → State → Type 0
 IsQuietAt c s = (k : Connection) → get s.connections c ≡ Some k → IsQuietBy k.exchange k.unread
 
--- what came on the connection, if one is meant, is read until nothing more can be
-abbrev pub ReadsOn : Option ℕ → List Turn → State → Type 0
-ReadsOn None turns s' = turns ≡ []
-ReadsOn (Some c) turns s' = AllByRecursion (Reads c) turns × IsQuietAt c s'
+-- what came on the connection is read until nothing more can be
+abbrev pub ReadsOn : ℕ → List Turn → State → Type 0
+ReadsOn c turns s' = AllByRecursion (Reads c) turns × IsQuietAt c s'
 
--- the connection of the exchange that the forward is for
-abbrev pub client_by : Table OpenExchange → Purpose → Option ℕ
-client_by exchanges purpose.Background = None
-client_by exchanges (purpose.Reply e why conditional) = option_map (λ x. x.connection) (get exchanges e)
+-- the same on connections, one after another
+abbrev pub ReadsOnAll : List ℕ → List Turn → State → Type 0
+ReadsOnAll [] turns s' = turns ≡ []
+ReadsOnAll (c ∷ connections) turns s' =
+    (own : List Turn) × (more : List Turn) × (turns ≡ own ++ more) × ReadsOn c own s' × ReadsOnAll connections more s'
 
-abbrev pub client_of : ℕ → State → Option ℕ
-client_of f s = option_and_then (λ awaited. client_by s.exchanges awaited.forward.purpose) (get s.forwards f)
+-- ---- whom the end of a forward answers
+
+abbrev pub listed : Option ℕ → List ℕ
+listed None = []
+listed (Some n) = n ∷ []
+
+-- the exchange that it is for, and then those that wait for it
+abbrev pub answered_by : ℕ → State → List ℕ
+answered_by f s = listed (option_and_then (λ awaited. exchange_for awaited.forward.purpose) (get s.forwards f)) ++ waiting_for f s.exchanges
+
+-- the connections of exchanges
+abbrev pub connections_of : Table OpenExchange → List ℕ → List ℕ
+connections_of exchanges [] = []
+connections_of exchanges (e ∷ more) = listed (option_map (λ x. x.connection) (get exchanges e)) ++ connections_of exchanges more
+
+abbrev pub clients_of : ℕ → State → List ℕ
+clients_of f s = connections_of s.exchanges (answered_by f s)
 
 -- ---- what each event owes
 
@@ -106,9 +123,11 @@ OwesEnd c false None turns = (turns ≡ Closing c ∷ []) ⊎ ((status : ℕ) ×
 abbrev pub AwaitsStill : ℕ → State → Type 0
 AwaitsStill f s = (awaited : Awaited) → get s.forwards f ≡ Some awaited → IsAwaitedStill (is_head awaited.forward.request.method) awaited.received
 
--- the turn, and behind it what came meanwhile on the connection of the exchange that it was for is read
+-- the turn, which ends the forward; behind it those that waited for it are released by rising number; and then what came meanwhile on the connections of all of them
+-- is read, in the same order
 abbrev pub OwesReply : ℕ → Turn → List Turn → State → State → Type 0
-OwesReply f turn turns s s' = (readings : List Turn) × (turns ≡ turn ∷ readings) × ReadsOn (client_of f s) readings s'
+OwesReply f turn turns s s' =
+    (readings : List Turn) × (turns ≡ turn ∷ (map Releasing (waiting_for f s.exchanges) ++ readings)) × ReadsOnAll (clients_of f s) readings s'
 
 abbrev pub OwesAnswer : ℕ → List Turn → State → State → Type 0
 OwesAnswer f turns s s' =
@@ -117,7 +136,7 @@ OwesAnswer f turns s s' =
 -- the turns that an event owes
 abbrev pub Owes : Happening → List Turn → State → State → Type 0
 Owes (ClientOpened c) turns s s' = turns ≡ Opening c ∷ []
-Owes (ClientBytes c octets) turns s s' = (readings : List Turn) × (turns ≡ ClientSending c octets ∷ readings) × ReadsOn (Some c) readings s'
+Owes (ClientBytes c octets) turns s s' = (readings : List Turn) × (turns ≡ ClientSending c octets ∷ readings) × ReadsOn c readings s'
 Owes (ClientEnd c) turns s s' = (k : Connection) × (get s.connections c ≡ Some k) × OwesEnd c k.leaves k.exchange turns
 Owes (OriginBytes f octets) turns s s' = (more : List Turn) × (turns ≡ OriginSending f octets ∷ more) × OwesAnswer f more s s'
 Owes (OriginEnd f) turns s s' = OwesReply f (Answering f true) turns s s' ⊎ OwesReply f (Failing f IsCutOff) turns s s'

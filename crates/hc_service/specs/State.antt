@@ -1,11 +1,15 @@
 -- What a cache knows, as contracts see it.
-use Rattle.std.specs.Prelude.{ℕ, Bool, false, List, [], Option, None}
+use Rattle.std.specs.Prelude.{ℕ, Bool, true, false, List, [], Option, Some, None}
 use Rattle.std.specs.FinMap.{FinMap, empty}
 use Rattle.std.specs.Ordering.{nat_cmp}
 use Rattle.hc_store.specs.Entries.{Holdings}
 use Rattle.hc_service.specs.declared.numbers.Numbers.{Numbers}
+use Rattle.hc_service.specs.declared.open.ForwardKind.{ForwardKind}
+use Rattle.hc_service.specs.declared.open.ForwardKind.TheVariants.{Conditional}
 use Rattle.hc_service.specs.declared.open.OpenExchange.{OpenExchange}
 use Rattle.hc_service.specs.declared.open.OpenForward.{OpenForward}
+use Rattle.hc_service.specs.declared.open.Purpose.{Purpose}
+use Rattle.hc_service.specs.declared.open.Purpose.TheVariants as purpose
 use Rattle.hc_service.specs.declared.settings.CoreSettings.{CoreSettings}
 use Rattle.hc_service.specs.Numbers.{no_numbers}
 
@@ -26,6 +30,16 @@ pub record Connection : Type 0 where
 abbrev pub new_connection : Connection
 new_connection = record { unread = []; exchange = None; leaves = false }
 
+-- the exchange that a forward is for
+abbrev pub exchange_for : Purpose → Option ℕ
+exchange_for purpose.Background = None
+exchange_for (purpose.Reply e why kind) = Some e
+
+-- whether a forward asks, by the cache's own condition, whether what is stored still holds
+abbrev pub is_conditional : ForwardKind → Bool
+is_conditional Conditional = true
+is_conditional kind = false
+
 -- a forward that is open, and the octets that came from the origin
 pub record Awaited : Type 0 where
   pub forward : OpenForward
@@ -38,6 +52,14 @@ pub record State : Type 0 where
   pub exchanges : Table OpenExchange
   pub forwards : Table Awaited
   pub store : Holdings
+
+-- the exchanges and the forwards that are open
+pub record OpenNow : Type 0 where
+  pub exchanges : Table OpenExchange
+  pub forwards : Table Awaited
+
+abbrev pub open_now : State → OpenNow
+open_now s = record { exchanges = s.exchanges; forwards = s.forwards }
 
 -- an empty store of so many keys and octets
 abbrev pub empty_store : CoreSettings → Holdings

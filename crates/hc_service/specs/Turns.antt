@@ -1,5 +1,5 @@
 -- The turns of a cache, each with what it makes of each part of what the cache knows.
-use Rattle.std.specs.Prelude.{◌≡◌, ℕ, ◌<◌, Bool, true, false, ◌||◌, List, [], ◌∷◌, ◌++◌, length, drop, Some, None, if◌then◌else◌}
+use Rattle.std.specs.Prelude.{◌≡◌, ℕ, ◌<◌, Bool, true, false, ◌||◌, List, [], ◌∷◌, ◌++◌, length, drop, Option, Some, None, if◌then◌else◌}
 use Rattle.std.specs.FinMap.{get, insert, remove, len}
 use Rattle.hc_head.specs.declared.head.RequestHead.{RequestHead}
 use Rattle.hc_head.specs.declared.head.ResponseHead.{ResponseHead}
@@ -13,6 +13,9 @@ use Rattle.hc_store.specs.Entries.{Holdings}
 use Rattle.hc_service.specs.declared.action.Action.{Action}
 use Rattle.hc_service.specs.declared.action.Action.TheVariants.{CloseClient}
 use Rattle.hc_service.specs.declared.cases.Cause.{Cause}
+use Rattle.hc_service.specs.declared.cases.Cause.TheVariants.{UriMiss}
+use Rattle.hc_update.specs.declared.stored.Stored.{Stored}
+use Rattle.hc_service.specs.declared.open.ForwardKind.TheVariants.{Joinable, Plain}
 use Rattle.hc_service.specs.declared.open.OpenExchange.{OpenExchange}
 use Rattle.hc_service.specs.declared.open.OpenForward.{OpenForward}
 use Rattle.hc_service.specs.declared.open.Purpose.{Purpose}
@@ -20,11 +23,13 @@ use Rattle.hc_service.specs.declared.open.Purpose.TheVariants as purpose
 use Rattle.hc_service.specs.declared.settings.CoreSettings.{CoreSettings}
 use Rattle.hc_service.specs.Asking.{ends_connection}
 use Rattle.hc_service.specs.Numbers.{one_more, after_opening, asked, sent, noted, is_later}
-use Rattle.hc_service.specs.State.{State, Table, Connection, Awaited, new_connection}
+use Rattle.hc_service.specs.State.{State, Table, Connection, Awaited, is_conditional, new_connection, open_now}
+use Rattle.hc_service.specs.Joining.{shared}
+use Rattle.hc_service.specs.Choices.{Finds}
 use Rattle.hc_service.specs.Sending.{ask_actions, send_actions, reply_actions, response_actions, failure_actions, refusal_actions}
-use Rattle.hc_service.specs.Replying.{Wanted}
-use Rattle.hc_service.specs.Reactions.{Reaction, Reacts, WholeRequest, forward_anew}
-use Rattle.hc_service.specs.Reactions.Reaction.{Replies as RepliesAtOnce, Sends}
+use Rattle.hc_service.specs.Replying.{Wanted, collapsed_reply}
+use Rattle.hc_service.specs.Reactions.{Reaction, Reacts, WholeRequest, forward_alone, forward_anew}
+use Rattle.hc_service.specs.Reactions.Reaction.{Replies as RepliesAtOnce, Sends, Waits}
 use Rattle.hc_service.specs.Answers.{Outcome, Renews, StoresBehind, Responds, Fails, rule_of}
 use Rattle.hc_service.specs.Answers.Outcome.{Replies, GoesAnew}
 
@@ -84,9 +89,17 @@ wanted_now settings s request k =
 abbrev pub KeepsStore : State → State → Type 0
 KeepsStore s s' = s'.store ≡ s.store
 
+-- the connections stay
+abbrev pub KeepsConnections : State → State → Type 0
+KeepsConnections s s' = s'.connections ≡ s.connections
+
 -- the exchanges stay
 abbrev pub KeepsExchanges : State → State → Type 0
 KeepsExchanges s s' = s'.exchanges ≡ s.exchanges
+
+-- the forwards stay
+abbrev pub KeepsForwards : State → State → Type 0
+KeepsForwards s s' = s'.forwards ≡ s.forwards
 
 -- the exchanges and the forwards stay
 pub record KeepsOpen (s s' : State) : Type 0 where
@@ -190,6 +203,15 @@ whole_request settings s request target k = record { request = request; target =
 abbrev pub arrived_on : ℕ → Connection → ℕ → WholeRequest → Arrived
 arrived_on c k size whole = record { number = c; connection = k; behind = drop size k.unread; whole = whole }
 
+-- its exchange, where it gets no reply at once: it waits for the forward of that number, or has one of its own
+abbrev pub opened : Arrived → Option ℕ → OpenExchange
+opened arrived forward = record {
+  connection = arrived.number;
+  request = arrived.whole.request.head;
+  target = arrived.whole.target;
+  waits_for = forward;
+}
+
 -- it gets a reply at once, and nothing goes to the origin
 pub record RepliesAlone (arrived : Arrived) (reply : Message ResponseHead) (s : State) (actions : List Action) (s' : State) : Type 0 where
   pub numbers : s'.numbers ≡ noted (asked s.numbers)
@@ -218,19 +240,29 @@ pub record GoesForward (arrived : Arrived) (forward : Message RequestHead) (aim 
       ≡ insert s.connections arrived.number (after_request (one_more s.numbers.exchange) arrived.behind arrived.connection)
   pub exchanges : s'.exchanges
       ≡ insert s.exchanges (one_more s.numbers.exchange)
-      (record { connection = arrived.number; request = arrived.whole.request.head; target = arrived.whole.target })
+      (opened arrived None)
   pub forwards : s'.forwards
       ≡ insert s.forwards (one_more s.numbers.forward) (sent_forward forward.head arrived.whole.target s.numbers.moment aim)
   pub actions_are : actions
       ≡ ask_actions (one_more s.numbers.exchange) s.numbers.moment arrived.whole.request
       ++ send_actions (one_more s.numbers.forward) s.numbers.moment (Some (one_more s.numbers.exchange)) forward
 
+-- it waits for the forward of that number, which is another request's
+pub record Joins (arrived : Arrived) (f : ℕ) (s : State) (actions : List Action) (s' : State) : Type 0 where
+  pub numbers : s'.numbers ≡ asked s.numbers
+  pub connections : s'.connections
+      ≡ insert s.connections arrived.number (after_request (one_more s.numbers.exchange) arrived.behind arrived.connection)
+  pub exchanges : s'.exchanges ≡ insert s.exchanges (one_more s.numbers.exchange) (opened arrived (Some f))
+  pub forwards : KeepsForwards s s'
+  pub actions_are : actions ≡ ask_actions (one_more s.numbers.exchange) s.numbers.moment arrived.whole.request
+
 -- what the reaction makes of each part but the store
 abbrev pub DoesReaction : Reaction → Arrived → State → List Action → State → Type 0
 DoesReaction (RepliesAtOnce reply None) arrived s actions s' = RepliesAlone arrived reply s actions s'
 DoesReaction (RepliesAtOnce reply (Some validation)) arrived s actions s' = RepliesAndValidates arrived reply validation s actions s'
-DoesReaction (Sends forward why conditional) arrived s actions s' =
-    GoesForward arrived forward (purpose.Reply (one_more s.numbers.exchange) why conditional) s actions s'
+DoesReaction (Sends forward why kind) arrived s actions s' =
+    GoesForward arrived forward (purpose.Reply (one_more s.numbers.exchange) why kind) s actions s'
+DoesReaction (Waits f) arrived s actions s' = Joins arrived f s actions s'
 
 -- a whole request is read, where no exchange awaits its reply on the connection, and gets the first case that holds
 pub record Asks (settings : CoreSettings) (c : ℕ) (s : State) (actions : List Action) (s' : State) : Type 0 where
@@ -242,7 +274,7 @@ pub record Asks (settings : CoreSettings) (c : ℕ) (s : State) (actions : List 
   pub size : ℕ
   pub arrives : IsRequest connection.unread request target size
   pub reaction : Reaction
-  pub reacts : Reacts (whole_request settings s request target connection) s.forwards s.store reaction s'.store
+  pub reacts : Reacts (whole_request settings s request target connection) (open_now s) s.store reaction s'.store
   pub does : DoesReaction reaction (arrived_on c connection size (whole_request settings s request target connection)) s actions s'
 
 -- ---- what comes from the origin
@@ -281,11 +313,15 @@ pub record Asker : Type 0 where
 abbrev pub asker_now : CoreSettings → State → OpenExchange → Connection → Asker
 asker_now settings s x k = record { exchange = x; connection = k; wanted = wanted_now settings s x.request k }
 
+-- the connections once its reply has gone out
+abbrev pub replied_to : Asker → Table Connection → Table Connection
+replied_to asker connections =
+    replied asker.wanted.closes asker.exchange.connection asker.connection.unread asker.connection connections
+
 -- the exchange gets its reply
 pub record EndsWithReply (ended : Ended) (asker : Asker) (reply : Message ResponseHead) (s : State) (actions : List Action) (s' : State) : Type 0 where
   pub numbers : s'.numbers ≡ noted (noted s.numbers)
-  pub connections : s'.connections
-      ≡ replied asker.wanted.closes asker.exchange.connection asker.connection.unread asker.connection s.connections
+  pub connections : s'.connections ≡ replied_to asker s.connections
   pub exchanges : s'.exchanges ≡ remove s.exchanges ended.exchange
   pub forwards : s'.forwards ≡ remove s.forwards ended.forward
   pub actions_are : actions
@@ -298,7 +334,7 @@ pub record EndsWithForward (ended : Ended) (asker : Asker) (forward : Message Re
   pub keeps : KeepsClients s s'
   pub forwards : s'.forwards
       ≡ insert (remove s.forwards ended.forward) (one_more s.numbers.forward)
-      (sent_forward forward.head asker.exchange.target s.numbers.moment (purpose.Reply ended.exchange ended.why false))
+      (sent_forward forward.head asker.exchange.target s.numbers.moment (purpose.Reply ended.exchange ended.why Plain))
   pub actions_are : actions ≡ ended.first ++ send_actions (one_more s.numbers.forward) s.numbers.moment (Some ended.exchange) forward
 
 -- what the outcome makes of each part but the store
@@ -316,6 +352,51 @@ pub record EndsFor (settings : CoreSettings) (decides : Wanted → Outcome → H
   pub outcome : Outcome
   pub decided : decides (wanted_now settings s exchange.request connection) outcome s'.store
   pub does : DoesOutcome outcome ended (asker_now settings s exchange connection) s actions s'
+
+-- ---- and those that waited for it are released
+
+-- one that waited is as one that has a forward of its own
+abbrev pub released : OpenExchange → OpenExchange
+released x = record { connection = x.connection; request = x.request; target = x.target; waits_for = None }
+
+-- it gets its reply from what is stored now
+pub record RepliesShared (e : ℕ) (asker : Asker) (stored : Stored) (s : State) (actions : List Action) (s' : State) : Type 0 where
+  pub numbers : s'.numbers ≡ noted s.numbers
+  pub connections : s'.connections ≡ replied_to asker s.connections
+  pub exchanges : s'.exchanges ≡ remove s.exchanges e
+  pub forwards : KeepsForwards s s'
+  pub actions_are : actions
+      ≡ reply_actions e s.numbers.moment (is_head asker.exchange.request.method) asker.exchange.connection asker.wanted.closes
+      (collapsed_reply asker.wanted stored)
+
+-- it goes to the origin by a forward of its own, and waits no more
+pub record GoesAlone (e : ℕ) (asker : Asker) (s : State) (actions : List Action) (s' : State) : Type 0 where
+  pub numbers : s'.numbers ≡ sent s.numbers
+  pub connections : KeepsConnections s s'
+  pub exchanges : s'.exchanges ≡ insert s.exchanges e (released asker.exchange)
+  pub forwards : s'.forwards
+      ≡ insert s.forwards (one_more s.numbers.forward)
+      (sent_forward (forward_alone asker.wanted.name asker.exchange.target asker.exchange.request).head asker.exchange.target s.numbers.moment
+      (purpose.Reply e UriMiss Joinable))
+  pub actions_are : actions
+      ≡ send_actions (one_more s.numbers.forward) s.numbers.moment (Some e)
+      (forward_alone asker.wanted.name asker.exchange.target asker.exchange.request)
+
+abbrev pub DoesRelease : Option Stored → ℕ → Asker → State → List Action → State → Type 0
+DoesRelease (Some stored) e asker s actions s' = RepliesShared e asker stored s actions s'
+DoesRelease None e asker s actions s' = GoesAlone e asker s actions s'
+
+-- the exchange waited for a forward, which has ended: the store is asked now
+pub record Releases (settings : CoreSettings) (e : ℕ) (s : State) (actions : List Action) (s' : State) : Type 0 where
+  pub exchange : OpenExchange
+  pub awaits : get s.exchanges e ≡ Some exchange
+  pub forward : ℕ
+  pub waits : exchange.waits_for ≡ Some forward
+  pub connection : Connection
+  pub is_open : get s.connections exchange.connection ≡ Some connection
+  pub chosen : Option Stored
+  pub finds : Finds exchange.target exchange.request.fields s.store chosen s'.store
+  pub does : DoesRelease (shared s.numbers.moment chosen) e (asker_now settings s exchange connection) s actions s'
 
 -- ---- with a whole response
 
@@ -341,9 +422,9 @@ answered_now f forward response renewed s = record {
 abbrev pub EndsByResponse : Purpose → CoreSettings → Answered → State → List Action → State → Type 0
 EndsByResponse purpose.Background settings a s actions s' =
     StoresBehind a.forward s.numbers.moment a.response a.renewed s'.store × EndsBehind a.number a.first s actions s'
-EndsByResponse (purpose.Reply e why conditional) settings a s actions s' =
+EndsByResponse (purpose.Reply e why kind) settings a s actions s' =
     EndsFor settings
-    (λ wanted outcome new. Responds (rule_of why conditional a.forward.request a.response.head)
+    (λ wanted outcome new. Responds (rule_of why (is_conditional kind) a.forward.request a.response.head)
     (record { wanted = wanted; forward = a.forward; cause = why; response = a.response }) (one_more s.numbers.records) a.renewed outcome new)
     (record { forward = a.number; exchange = e; why = why; first = a.first }) s actions s'
 
@@ -393,7 +474,7 @@ failed_now f target how s = record { number = f; target = target; first = failur
 -- for the store alone, or for an exchange
 abbrev pub EndsByFailure : Purpose → CoreSettings → Failed → State → List Action → State → Type 0
 EndsByFailure purpose.Background settings a s actions s' = KeepsStore s s' × EndsBehind a.number a.first s actions s'
-EndsByFailure (purpose.Reply e why conditional) settings a s actions s' =
+EndsByFailure (purpose.Reply e why kind) settings a s actions s' =
     EndsFor settings (λ wanted outcome new. Fails wanted a.target why s.store outcome new)
     (record { forward = a.number; exchange = e; why = why; first = a.first }) s actions s'
 

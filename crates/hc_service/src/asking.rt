@@ -14,7 +14,7 @@ use hc_head::{RequestHead, Version};
 const BYPASS_NAMES: [&[u8]; 4] = [b"range", b"if-range", b"if-match", b"if-unmodified-since"];
 
 /// Whether a line has one of the names.
-fn has_any(fields: &Fields, names: &[&[u8]]) -> bool
+pub(crate) fn has_any(fields: &Fields, names: &[&[u8]]) -> bool
     ensures { result ≡ list_any (λ name. has_name name.now fields.now) names.now }
 {
     names.iter().any(|name| fields.contains(name))

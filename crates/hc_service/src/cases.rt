@@ -20,7 +20,7 @@ pub enum Cause {
     Bypass,
     /// It says that nothing of it may be stored.
     NoStore,
-    /// Nothing is stored of its target.
+    /// Nothing was stored of its target when it came.
     UriMiss,
     /// Of its target something is stored, but nothing that it selects.
     VaryMiss,

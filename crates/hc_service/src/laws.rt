@@ -39,12 +39,13 @@ ghost use Rattle.hc_service.specs.declared.settings.CoreSettings.{CoreSettings};
 ghost use Rattle.std.specs.FinMap.{get, insert, remove};
 ghost use Rattle.hc_rules.specs.Laws.{IsForwardable};
 ghost use Rattle.hc_service.specs.declared.open.OpenExchange.{OpenExchange};
-ghost use Rattle.hc_service.specs.State.{Awaited, Connection, State, Table, new_connection, new_state};
-ghost use Rattle.hc_service.specs.Agreement.{AllHeld, CanReply, AreAsked, AreCounted, AreReceived, AreLinked, Agrees, History, IsReadOf, IsReady, IsSound, IsConsistent, exchange_for};
+ghost use Rattle.hc_service.specs.State.{Awaited, Connection, State, Table, exchange_for, new_connection, new_state};
+ghost use Rattle.hc_service.specs.Agreement.{AllHeld, CanReply, AreAsked, AreCounted, AreReceived, AreLinked, Agrees, History, IsReadOf, IsReady, IsSound, IsConsistent};
 ghost use Rattle.hc_service.specs.Runs.{Runs, RunsOn, RunsTo, nothing_yet, records_given, IsJudgedRight, StepResult, Steps, strict, with_octets};
 ghost use Rattle.hc_service.specs.Asking.{allows_age, asks_for_fresh, is_answered_by_store};
-ghost use Rattle.hc_service.specs.Replying.{Wanted, hit_reply, made_reply, passed_reply, replacing_reply};
+ghost use Rattle.hc_service.specs.Replying.{Wanted, collapsed_reply, hit_reply, made_reply, passed_reply, replacing_reply};
 ghost use Rattle.hc_history.specs.Usable.{age_at};
+ghost use Rattle.hc_service.specs.Joining.{may_be_shared};
 ghost use Rattle.hc_service.specs.Serving.{is_fresh, may_be_served, may_replace};
 ghost use Rattle.hc_service.specs.Turns.{IsAnswer, after_origin_octets, after_client_octets, after_request, replied};
 ghost use Rattle.hc_service.specs.Settings.{AreGood, is_name};
@@ -66,37 +67,37 @@ pub fn runs_begin_with_agreement()
 /// What is stored stays what the records say of it: valid responses of their target that may be stored,
 /// as the records have left them, whatever the next record is and whatever the store is asked.
 pub fn stored_responses_are_those_of_the_records()
-    ensures other { (items : List Item) (item : Item) (store : Holdings) → is_response item ≡ false
-        → HasSources items store → HasSources (item ∷ items) store }
-    ensures chosen { (items : List Item) (target : Target) (asked : List Field) (old : Holdings)
-        (chosen : Option Stored) (new : Holdings) → HasSources items old → Finds target asked old chosen new
-        → HasSources items new }
+    ensures other { (since : Target → ℕ) (items : List Item) (item : Item) (store : Holdings) → is_response item ≡ false
+        → HasSources since items store → HasSources since (item ∷ items) store }
+    ensures chosen { (since : Target → ℕ) (items : List Item) (target : Target) (asked : List Field) (old : Holdings)
+        (chosen : Option Stored) (new : Holdings) → HasSources since items old → Finds target asked old chosen new
+        → HasSources since items new }
     // A response that invalidates leaves nothing that the records see otherwise.
-    ensures renewed { (items : List Item) (number moment : ℕ) (response : Message ResponseHead)
+    ensures renewed { (since : Target → ℕ) (items : List Item) (number moment : ℕ) (response : Message ResponseHead)
         (forward : OpenForward) (old new : Holdings)
-        → forward_of number items ≡ Some (recorded_forward forward) → HasSources items old
+        → forward_of number items ≡ Some (recorded_forward forward) → HasSources since items old
         → Renews forward moment (next_position items) response.head old new
-        → HasSources (OriginResponse number moment response ∷ items) new }
+        → HasSources since (OriginResponse number moment response ∷ items) new }
     // What a 304 is about is then what the records make of it, whatever memory takes away.
-    ensures freshened { (items : List Item) (number moment : ℕ) (response : Message ResponseHead)
+    ensures freshened { (since : Target → ℕ) (items : List Item) (number moment : ℕ) (response : Message ResponseHead)
         (forward : OpenForward) (old new : Holdings)
-        → forward_of number items ≡ Some (recorded_forward forward) → HasSources items old
+        → forward_of number items ≡ Some (recorded_forward forward) → HasSources since items old
         → may_update forward response.head ≡ true
         → Freshens (validation_by forward moment (next_position items) response.head) forward.target old new
-        → HasSources (OriginResponse number moment response ∷ items) new }
-    ensures put { (items : List Item) (number moment : ℕ) (response : Message ResponseHead)
+        → HasSources since (OriginResponse number moment response ∷ items) new }
+    ensures put { (since : Target → ℕ) (items : List Item) (number moment : ℕ) (response : Message ResponseHead)
         (forward : OpenForward) (old new : Holdings) (stored : Bool)
-        → forward_of number items ≡ Some (recorded_forward forward)
-        → HasSources (OriginResponse number moment response ∷ items) old
+        → forward_of number items ≡ Some (recorded_forward forward) → since forward.target < next_position items
+        → HasSources since (OriginResponse number moment response ∷ items) old
         → Stores forward moment response old stored new
-        → HasSources (OriginResponse number moment response ∷ items) new }
+        → HasSources since (OriginResponse number moment response ∷ items) new }
 {}
 
 /// A hit is right in the strictest audit: a stored response that the request selects and that may be
 /// served is reused, whatever has happened besides.
 pub fn hits_are_right()
-    ensures { (items : List Item) (x : Exchange) (wanted : Wanted) (stored : Stored) → is_name wanted.name ≡ true
-        → exchange_of x.number items ≡ Some x → wanted.asked ≡ x.request → IsSound items x.target stored
+    ensures { (since : Target → ℕ) (items : List Item) (x : Exchange) (wanted : Wanted) (stored : Stored) → is_name wanted.name ≡ true
+        → exchange_of x.number items ≡ Some x → wanted.asked ≡ x.request → IsSound since items x.target stored
         → is_answered_by_store x.request.method ≡ true → is_selected x.request.fields stored ≡ true
         → may_be_served x.request.fields stored wanted.moment ≡ true
         → IsRight recorded_format strict items (ClientReply x.number wanted.moment (hit_reply wanted stored)) }
@@ -139,31 +140,38 @@ pub fn other_replies_are_right()
     ensures made { (items : List Item) (x : Exchange) (wanted : Wanted) (status : ℕ)
         → exchange_of x.number items ≡ Some x → 400 ≤ status
         → IsRight recorded_format strict items (ClientReply x.number wanted.moment (made_reply wanted status)) }
-    ensures validated { (items : List Item) (x : Exchange) (wanted : Wanted) (why : Cause) (position : ℕ)
+    ensures validated { (since : Target → ℕ) (items : List Item) (x : Exchange) (wanted : Wanted) (why : Cause) (position : ℕ)
         (stored : Stored) → is_name wanted.name ≡ true → exchange_of x.number items ≡ Some x
-        → wanted.asked ≡ x.request → IsSound items x.target stored → is_answered_by_store x.request.method ≡ true
+        → wanted.asked ≡ x.request → IsSound since items x.target stored → is_answered_by_store x.request.method ≡ true
         → is_selected_validated x.request.fields position stored ≡ true → x.position < position
         → IsRight recorded_format strict items
         (ClientReply x.number wanted.moment (replacing_reply wanted why (Some not_modified) stored)) }
-    ensures in_place_of_error { (items : List Item) (f moment : ℕ) (response : Message ResponseHead)
+    ensures in_place_of_error { (since : Target → ℕ) (items : List Item) (f moment : ℕ) (response : Message ResponseHead)
         (forward : OpenForward) (x : Exchange) (wanted : Wanted) (why : Cause) (stored : Stored)
         → is_name wanted.name ≡ true → forward_of f items ≡ Some (recorded_forward forward)
         → forward.target ≡ x.target → is_error_status response.head.status ≡ true
         → exchange_of x.number items ≡ Some x → wanted.asked ≡ x.request
-        → IsSound (OriginResponse f moment response ∷ items) x.target stored
+        → IsSound since (OriginResponse f moment response ∷ items) x.target stored
         → is_answered_by_store x.request.method ≡ true → is_selected x.request.fields stored ≡ true
         → may_replace x.request.fields stored wanted.moment ≡ true
         → IsRight recorded_format strict (OriginResponse f moment response ∷ items)
         (ClientReply x.number wanted.moment (replacing_reply wanted why (Some response.head.status) stored)) }
-    ensures in_place_of_failure { (items : List Item) (f moment : ℕ) (forward : OpenForward) (x : Exchange)
+    ensures in_place_of_failure { (since : Target → ℕ) (items : List Item) (f moment : ℕ) (forward : OpenForward) (x : Exchange)
         (wanted : Wanted) (why : Cause) (stored : Stored)
         → is_name wanted.name ≡ true → forward_of f items ≡ Some (recorded_forward forward)
         → forward.target ≡ x.target → exchange_of x.number items ≡ Some x → wanted.asked ≡ x.request
-        → IsSound (OriginFailure f moment ∷ items) x.target stored
+        → IsSound since (OriginFailure f moment ∷ items) x.target stored
         → is_answered_by_store x.request.method ≡ true → is_selected x.request.fields stored ≡ true
         → may_replace x.request.fields stored wanted.moment ≡ true
         → IsRight recorded_format strict (OriginFailure f moment ∷ items)
         (ClientReply x.number wanted.moment (replacing_reply wanted why None stored)) }
+    // What answered another request is one to a request that waited for it, where it lies behind that.
+    ensures shared { (since : Target → ℕ) (items : List Item) (x : Exchange) (wanted : Wanted) (stored : Stored)
+        → is_name wanted.name ≡ true → exchange_of x.number items ≡ Some x → wanted.asked ≡ x.request
+        → IsSound since items x.target stored → x.position ≤ since x.target
+        → is_answered_by_store x.request.method ≡ true → is_selected x.request.fields stored ≡ true
+        → may_be_shared stored wanted.moment ≡ true
+        → IsRight recorded_format strict items (ClientReply x.number wanted.moment (collapsed_reply wanted stored)) }
 {}
 
 /// What is read off a connection can be recorded and passed on.
@@ -276,6 +284,8 @@ pub fn what_is_stored_can_be_a_reply()
     ensures replacing { (wanted : Wanted) (why : Cause) (origin : Option ℕ) (stored : Stored)
         → is_name wanted.name ≡ true → IsToldStatus origin → CanReply stored
         → IsWritableAnswer (is_head wanted.asked.method) (replacing_reply wanted why origin stored) }
+    ensures shared { (wanted : Wanted) (stored : Stored) → is_name wanted.name ≡ true → CanReply stored
+        → IsWritableAnswer (is_head wanted.asked.method) (collapsed_reply wanted stored) }
 {}
 
 /// Each turn keeps what a cache has to do with what has happened, whatever that is, and each reply among

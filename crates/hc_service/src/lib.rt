@@ -6,6 +6,7 @@ mod action;
 mod asking;
 mod cases;
 mod fault;
+mod joining;
 mod laws;
 mod numbers;
 mod open;
@@ -18,6 +19,7 @@ pub use action::Action;
 pub use asking::{ends_connection, is_bypass};
 pub use cases::{Case, Cause, case_before_store, case_by_store};
 pub use fault::StepFault;
+pub use joining::{is_joinable, may_be_joined, may_be_shared, plain_kind};
 pub use laws::{
     agreement_is_ready, events_keep_agreement, hits_are_right, new_cache_agrees,
     open_exchanges_are_those_of_the_connections, other_replies_are_right,
@@ -29,9 +31,10 @@ pub use laws::{
     what_is_open_is_that_of_the_records, what_is_stored_can_be_a_reply,
 };
 pub use numbers::Numbers;
-pub use open::{OpenExchange, OpenForward, Purpose};
+pub use open::{ForwardKind, OpenExchange, OpenForward, Purpose};
 pub use replying::{
-    WantedReply, failure_status, hit_reply, made_reply, passed_reply, replacing_reply,
+    WantedReply, collapsed_reply, failure_status, hit_reply, made_reply, passed_reply,
+    replacing_reply,
 };
 pub use serving::{
     age_at, has_still, is_fresh, may_be_served, may_replace, ttl_at, while_revalidating,

@@ -1,7 +1,8 @@
 //! What is open: exchanges with clients, and forwards to the origin.
 
 ghost use Rattle.std.specs.Prelude.{◌≡◌};
-ghost use Rattle.hc_service.specs.Agreement.{exchange_for};
+ghost use Rattle.hc_service.specs.Joining.{is_joinable_kind};
+ghost use Rattle.hc_service.specs.State.{exchange_for, is_conditional};
 
 use crate::cases::Cause;
 use hc_head::{RequestHead, Target};
@@ -15,6 +16,9 @@ pub struct OpenExchange {
     pub request: RequestHead,
     /// What it asks for.
     pub target: Target,
+    /// The number of the forward of another request that it waits for, in place of one of its own (RFC 9211
+    /// section 2.6); `None` where a forward was made for it.
+    pub waits_for: Option<u64>,
 }
 
 /// A request that was sent to the origin and isn't answered yet.
@@ -30,6 +34,39 @@ pub struct OpenForward {
     pub purpose: Purpose,
 }
 
+/// How a request goes to the origin.
+#[derive(Clone, Copy, Debug, PartialEq, Eq)]
+pub enum ForwardKind {
+    /// As it came, but for what is for its connection; nobody else may wait for what comes of it.
+    Plain,
+    /// Likewise, and other requests for its target may wait for what comes of it (RFC 9211 section 2.6).
+    Joinable,
+    /// With the cache's own condition, which asks whether what is stored still holds.
+    Conditional,
+}
+
+impl ForwardKind {
+    /// Whether it asks, by the cache's own condition, whether what is stored still holds.
+    pub fn is_conditional(self) -> bool
+        ensures { result ≡ is_conditional self }
+    {
+        match self {
+            ForwardKind::Conditional => true,
+            ForwardKind::Plain | ForwardKind::Joinable => false,
+        }
+    }
+
+    /// Whether other requests may wait for what comes of it.
+    pub fn is_joinable(self) -> bool
+        ensures { result ≡ is_joinable_kind self }
+    {
+        match self {
+            ForwardKind::Joinable => true,
+            ForwardKind::Plain | ForwardKind::Conditional => false,
+        }
+    }
+}
+
 /// Whom the answer to a forward is for.
 #[derive(Clone, Copy, Debug, PartialEq, Eq)]
 pub enum Purpose {
@@ -39,8 +76,8 @@ pub enum Purpose {
         exchange: u64,
         /// Why the request went to the origin.
         cause: Cause,
-        /// Whether it asks, by the cache's own condition, whether what is stored still holds.
-        conditional: bool,
+        /// How it went there.
+        kind: ForwardKind,
     },
     /// The store alone: it validates what was served stale (RFC 5861 section 3).
     Background,

@@ -1,8 +1,9 @@
 //! The replies that a request gets, each for itself, with what Cache-Status says of it.
 
-ghost use Rattle.std.specs.Prelude.{◌≡◌, ◌<◌, IfOk, option_copied};
+ghost use Rattle.std.specs.Prelude.{◌≡◌, ◌<◌, IfOk, false, option_copied};
 ghost use Rattle.hc_fields.specs.Numbers.{end_of_moments};
-ghost use Rattle.hc_service.specs.Replying.{entry_reply, entry_status, failure_status, hit_reply, made_reply, passed_reply, replacing_reply, status_told};
+ghost use Rattle.hc_service.specs.Cases.{word_of};
+ghost use Rattle.hc_service.specs.Replying.{entry_reply, entry_status, failure_status, hit_reply, made_reply, passed_reply, replacing_reply, status_told, collapsed_reply};
 
 use crate::cases::Cause;
 use crate::serving::{has_still, ttl_at};
@@ -114,6 +115,23 @@ pub fn hit_reply(
     entry_reply(alloc, wanted, Handling::Hit { ttl }, stored)
 }
 
+/// That a request went forward, and what is stored is its reply.
+fn forwarded(
+    alloc: Global,
+    cause: Cause,
+    fwd_status: Option<u16>,
+    collapsed: bool,
+) -> Result<Handling, AllocError>
+    ensures { IfOk result (λ handling. handling ≡ Handling.Fwd (word_of cause) fwd_status false collapsed) }
+{
+    Ok(Handling::Fwd {
+        word: Octets::from_slice(alloc, cause.word().as_bytes())?,
+        fwd_status,
+        stored: false,
+        collapsed,
+    })
+}
+
 /// A stored response, once the origin's answer of that status has validated it, or in place of an error of
 /// that status, or of a failure. The body is shared.
 pub fn replacing_reply(
@@ -125,12 +143,20 @@ pub fn replacing_reply(
 ) -> Result<Message<ResponseHead>, AllocError>
     ensures { IfOk result (λ reply. reply ≡ replacing_reply wanted.now cause origin stored.now) }
 {
-    let handling = Handling::Fwd {
-        word: Octets::from_slice(alloc, cause.word().as_bytes())?,
-        fwd_status: status_told(origin, entry_status(wanted, stored)),
-        stored: false,
-        collapsed: false,
-    };
+    let told = status_told(origin, entry_status(wanted, stored));
+    let handling = forwarded(alloc, cause, told, false)?;
+    entry_reply(alloc, wanted, handling, stored)
+}
+
+/// A stored response, for a request that waited for the forward of another one. The body is shared.
+pub fn collapsed_reply(
+    alloc: Global,
+    wanted: &WantedReply<'_>,
+    stored: &Stored,
+) -> Result<Message<ResponseHead>, AllocError>
+    ensures { IfOk result (λ reply. reply ≡ collapsed_reply wanted.now stored.now) }
+{
+    let handling = forwarded(alloc, Cause::UriMiss, None, true)?;
     entry_reply(alloc, wanted, handling, stored)
 }
 

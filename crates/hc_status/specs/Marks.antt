@@ -33,8 +33,8 @@ names_cache (Str name) = true
 names_cache (Token name) = true
 names_cache _ = false
 
--- the mark, by whether the request was a hit (RFC 9211 section 2.1) and went forward (section 2.2), by the seconds left, and by whether it went forward together
--- with another one (section 2.6)
+-- the mark, by whether the request was a hit (RFC 9211 section 2.1) and went forward (section 2.2), by the seconds left, and by whether it waited for the forward
+-- of another one (section 2.6)
 abbrev pub mark_by : Bool → Bool → Option ℤ → Bool → Mark
 mark_by true true ttl collapsed = Both
 mark_by true false ttl collapsed = Hit ttl

@@ -25,7 +25,7 @@ fwd_status_text (Some status) = codes ";fwd-status=" ++ decimal status
 abbrev pub stored_text : Bool → List ℕ
 stored_text stored = if stored then codes ";stored" else []
 
--- whether the request went forward together with another one (RFC 9211 section 2.6)
+-- whether the request waited for the forward of another one (RFC 9211 section 2.6)
 abbrev pub collapsed_text : Bool → List ℕ
 collapsed_text collapsed = if collapsed then codes ";collapsed" else []
 

@@ -10,8 +10,7 @@ pub enum Mark {
     },
     /// The request went forward (RFC 9211 section 2.2).
     Forwarded {
-        /// Whether it did together with another one: it waited for the forward of that one, in place of a forward of
-        /// its own (RFC 9211 section 2.6).
+        /// Whether it waited for the forward of another one, in place of a forward of its own (RFC 9211 section 2.6).
         collapsed: bool,
     },
     /// Both are said, which contradict each other.

@@ -14,7 +14,7 @@ pub events-preserved : goal.events-preserved
 events-preserved g c = record {
   recorded = λ settings good stands.
       let on : c.in_ok-take_step.field-0 ≡ true = search rules in
-      went_on settings (c.steps_end_ready.ensures settings good) c.in-Some.event c.events.yielded _ _ _ _ _ _ c.in_ok-take_step.field-0
+      went_on settings (c.steps_end_ready.ensures settings good) c.in-Some.event c.events.yielded _ _ _ _ c.in_ok-take_step.field-0
       (c.events.invariant.recorded settings good stands) c.in_ok-take_step.ensures on;
   left = append_assoc c.events.yielded (c.in-Some.event ∷ []) c.next.new.self.rest.items
       ∙ ap (λ (xs : List Event). c.events.yielded ++ xs) (sym c.in-Some.ensures.steps.0) ∙ c.events.invariant.left;
@@ -24,7 +24,7 @@ pub returns-then-not-branch : goal.returns-then-not-branch
 returns-then-not-branch g c = λ settings good stands.
     let left : c.events.yielded ++ c.in-Some.event ∷ c.next.new.self.rest.items ≡ c.args.events.items =
     ap (λ (xs : List Event). c.events.yielded ++ xs) (sym c.in-Some.ensures.steps.0) ∙ c.events.invariant.left in
-    let all = was_cut_off settings (c.steps_end_ready.ensures settings good) c.in-Some.event c.events.yielded _ _ _ _ _ _ c.in_ok-take_step.field-0
+    let all = was_cut_off settings (c.steps_end_ready.ensures settings good) c.in-Some.event c.events.yielded _ _ _ _ c.in_ok-take_step.field-0
     (c.events.invariant.recorded settings good stands) c.in_ok-take_step.ensures c.next.new.self.rest.items good
     (leads_to_runs settings (c.steps_are_runs.ensures settings good)) c.if-not-branch.true in
     rw (c.finished.ensures.results, c.finished.ensures.transcript) (subst (λ (xs : List Event).

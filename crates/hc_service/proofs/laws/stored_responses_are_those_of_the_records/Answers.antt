@@ -8,13 +8,13 @@ pub returns-clause-chosen : goal.returns-clause-chosen
 returns-clause-chosen c = found_sources
 
 pub returns-clause-renewed : goal.returns-clause-renewed
-returns-clause-renewed c = λ items number moment response forward old new is_open h renews.
-    renewed_sources items number moment response forward is_open old new h renews
+returns-clause-renewed c = λ since items number moment response forward old new is_open h renews.
+    renewed_sources since items number moment response forward is_open old new h renews
 
 pub returns-clause-freshened : goal.returns-clause-freshened
-returns-clause-freshened c = λ items number moment response forward old new is_open h may freshens.
-    freshened_sources items number moment response forward is_open old new h may freshens
+returns-clause-freshened c = λ since items number moment response forward old new is_open h may freshens.
+    freshened_sources since items number moment response forward is_open old new h may freshens
 
 pub returns-clause-put : goal.returns-clause-put
-returns-clause-put c = λ items number moment response forward old new stored is_open h stores.
-    put_sources items number moment response forward is_open old new stored h stores
+returns-clause-put c = λ since items number moment response forward old new stored is_open behind h stores.
+    put_sources since items number moment response forward is_open behind old new stored h stores

@@ -1,4 +1,4 @@
-use Rattle.hc_service.proofs.EntryLemmas.{put_can_reply, freshen_can_reply, hit_fit, replacing_fit}
+use Rattle.hc_service.proofs.EntryLemmas.{put_can_reply, freshen_can_reply, collapsed_fit, hit_fit, replacing_fit}
 use Rattle.hc_service.proofs.laws.what_is_stored_can_be_a_reply.Goals as goal
 
 pub returns-clause-put : goal.returns-clause-put
@@ -12,3 +12,6 @@ returns-clause-hit c = λ wanted stored name can. (hit_fit wanted stored name ca
 
 pub returns-clause-replacing : goal.returns-clause-replacing
 returns-clause-replacing c = λ wanted why origin stored name told can. (replacing_fit wanted why origin stored name told can).writable
+
+pub returns-clause-shared : goal.returns-clause-shared
+returns-clause-shared c = λ wanted stored name can. (collapsed_fit wanted stored name can).writable

@@ -11,7 +11,7 @@ returns-in_default g c = λ settings s awaited ended stands there same arrives.
       actions_are = c.in_ok-record_response.ensures.actions;
       renews = c.renew.ensures;
     })
-    c.in-Reply.exchange c.in-Reply.cause c.in-Reply.conditional c.take_exchange.new.clients c.take_exchange.new.exchanges c.in-Reply.is
+    c.in-Reply.exchange c.in-Reply.cause c.in-Reply.kind c.take_exchange.new.clients c.take_exchange.new.exchanges c.in-Reply.is
     (c.in_default.ensures s.exchanges s.connections stands.exchanges stands.clients)
 
 pub returns-in_ok-store_behind-in-Background : goal.returns-in_ok-store_behind-in-Background
@@ -36,6 +36,6 @@ returns-in_ok-respond-in-Reply g c = λ settings s awaited ended stands there sa
       actions_are = c.in_ok-record_response.ensures.actions;
       renews = c.renew.ensures;
     })
-    c.in-Reply.exchange c.in-Reply.cause c.in-Reply.conditional c.take_exchange.new.clients c.take_exchange.new.exchanges c.in-Reply.is
+    c.in-Reply.exchange c.in-Reply.cause c.in-Reply.kind c.take_exchange.new.clients c.take_exchange.new.exchanges c.in-Reply.is
     c.in-Some.held c.respond.new.actions.items c.respond.new.self
     (c.in-Some.ensures s.exchanges s.connections stands.exchanges stands.clients) c.in_ok-respond-in-Reply.ensures

@@ -1,6 +1,5 @@
 use Rattle.std.proofs.Common.{lit<}
 use Rattle.hc_open.specs.Links.{IsClient}
-use Rattle.hc_open.specs.Tables.{IsSame}
 use Rattle.hc_open.proofs.StartLemmas.{none_alike}
 use Rattle.hc_machine.proofs.desk.Desk.new.Goals as goal
 
@@ -9,7 +8,7 @@ returns g c = λ settings name-is store-is. record {
   name = name-is;
   numbers = c.new.ensures;
   clients = none_alike IsClient c.new-2.result c.new-2.ensures.empty;
-  exchanges = none_alike IsSame c.new-3.result c.new-3.ensures.empty;
+  exchanges = c.new-3.ensures;
   links = c.new-4.ensures;
   store = store-is;
   in_time = lit< tt;

@@ -2,6 +2,7 @@ use Rattle.std.proofs.Common.{inl, inr}
 use Rattle.hc_service.specs.Answers.{Responds, rule_of}
 use Rattle.hc_service.specs.Answers.Outcome.{Replies, GoesAnew}
 use Rattle.hc_service.specs.Replying.{Wanted}
+use Rattle.hc_service.specs.State.{is_conditional}
 use Rattle.hc_machine.specs.Ending.{wanted_of}
 use Rattle.hc_machine.proofs.SendLemmas.{gives_anew, gives_reply, on_ok_by, wanted_with}
 use Rattle.hc_machine.proofs.desk.Desk.respond.Goals as goal
@@ -12,11 +13,11 @@ returns-in-Replies g c =
     let w = c.args.held in
     on_ok_by c.reply_to.result _ _
     (λ sends. inl (gives_reply g.row.S.Denot g.row.S-Hasher.Denot w
-    (λ reply old new. Responds (rule_of c.args.cause c.args.conditional c.args.forward.request c.args.response.head)
+    (λ reply old new. Responds (rule_of c.args.cause (is_conditional c.args.kind) c.args.forward.request c.args.response.head)
     (record { wanted = wanted_of {S = g.row.S.Denot} {H = g.row.S-Hasher.Denot} d w; forward = c.args.forward; cause = c.args.cause; response = c.args.response }) d.numbers.records old (Replies reply) new)
     c.args.actions.now.items c.reply_to.new.actions.items d c.reply_to.new.self c.respond.new.store c.closes_behind-closes.result c.in-Replies.reply c.closes_behind-closes.ensures
     (wanted_with g.row.S.Denot g.row.S-Hasher.Denot d w
-    (λ (wanted : Wanted). Responds (rule_of c.args.cause c.args.conditional c.args.forward.request c.args.response.head)
+    (λ (wanted : Wanted). Responds (rule_of c.args.cause (is_conditional c.args.kind) c.args.forward.request c.args.response.head)
     (record { wanted = wanted; forward = c.args.forward; cause = c.args.cause; response = c.args.response }) d.numbers.records d.store (Replies c.in-Replies.reply) c.respond.new.store)
     c.closes_behind-closes.result c.closes_behind-closes.ensures (rw c.in-Replies.is at c.in_ok-outcome.ensures)) sends))
     c.reply_to.ensures
@@ -27,11 +28,11 @@ returns-in-GoesAnew g c =
     let w = c.args.held in
     on_ok_by c.go_anew.result _ _
     (λ sends. inr (gives_anew g.row.S.Denot g.row.S-Hasher.Denot w c.args.cause
-    (λ old new. Responds (rule_of c.args.cause c.args.conditional c.args.forward.request c.args.response.head)
+    (λ old new. Responds (rule_of c.args.cause (is_conditional c.args.kind) c.args.forward.request c.args.response.head)
     (record { wanted = wanted_of {S = g.row.S.Denot} {H = g.row.S-Hasher.Denot} d w; forward = c.args.forward; cause = c.args.cause; response = c.args.response }) d.numbers.records old GoesAnew new)
     c.args.actions.now.items c.go_anew.new.actions.items d c.go_anew.new.self c.respond.new.store
     (wanted_with g.row.S.Denot g.row.S-Hasher.Denot d w
-    (λ (wanted : Wanted). Responds (rule_of c.args.cause c.args.conditional c.args.forward.request c.args.response.head)
+    (λ (wanted : Wanted). Responds (rule_of c.args.cause (is_conditional c.args.kind) c.args.forward.request c.args.response.head)
     (record { wanted = wanted; forward = c.args.forward; cause = c.args.cause; response = c.args.response }) d.numbers.records d.store GoesAnew c.respond.new.store)
     c.closes_behind-closes.result c.closes_behind-closes.ensures (rw c.in-GoesAnew.is at c.in_ok-outcome.ensures)) sends))
     c.go_anew.ensures

@@ -1,12 +1,11 @@
-use Rattle.std.proofs.Common.{sym, ◌∙◌}
-use Rattle.hc_open.proofs.BehindLemmas.{keeps_behind, leaves_behind}
+use Rattle.std.proofs.Common.{sym, subst}
+use Rattle.hc_open.specs.Groups.{AreGrouped}
+use Rattle.hc_open.specs.Links.{AreBehind, by_target, is_joinable_for}
+use Rattle.std.specs.FinMap.{remove}
 use Rattle.hc_open.proofs.open_links.OpenLinks.forget.Goals as goal
 
-pub returns-then-not-is_for_store-clause-behind : goal.returns-then-not-is_for_store-clause-behind
-returns-then-not-is_for_store-clause-behind c = λ forwards f a are there same.
-    keeps_behind forwards f a c.args.forward.now same c.args.self.now.behind are there (sym c.is_for_store.ensures ∙ c.if-not-is_for_store.true)
-
-pub returns-clause-behind : goal.returns-clause-behind
-returns-clause-behind c = λ forwards f a are there same.
-    leaves_behind forwards f a c.args.forward.now same c.args.self.now.behind are there (sym c.is_for_store.ensures ∙ c.if-not-is_for_store.false)
-    c.remove.new.self c.remove.result c.remove.ensures.updates c.remove.ensures.value c.remove.ensures.len
+pub returns-clause-others : goal.returns-clause-others
+returns-clause-others c = λ forwards a behind miss there same. (
+  subst (λ m. AreBehind m (remove forwards c.args.number)) (sym c.forget_joinable.ensures.behind) (c.forget_behind.ensures.behind forwards c.args.number a behind there same),
+  c.forget_joinable.ensures.joinable forwards a (subst (λ g. AreGrouped by_target is_joinable_for g.sets forwards) (sym c.forget_behind.ensures.joinable) miss) there same,
+)

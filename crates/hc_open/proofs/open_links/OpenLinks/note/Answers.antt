@@ -1,18 +1,12 @@
-use Rattle.std.proofs.Common.{Some, sym, ap, ◌∙◌, subst}
-use Rattle.std.specs.BTreeMap.{Updates, get as kept_at}
-use Rattle.hc_head.specs.declared.head.Target.{Target}
-use Rattle.hc_open.specs.Links.{by_target}
-use Rattle.hc_open.proofs.BehindLemmas.{comes_behind, stays_behind}
+use Rattle.std.proofs.Common.{sym, subst}
+use Rattle.std.specs.FinMap.{insert}
+use Rattle.hc_open.specs.Groups.{AreGrouped}
+use Rattle.hc_open.specs.Links.{AreBehind, by_target, is_joinable_for}
+use Rattle.hc_open.proofs.WaitLemmas.{with_both}
 use Rattle.hc_open.proofs.open_links.OpenLinks.note.Goals as goal
 
-pub returns-then-not-is_for_store-clause-behind : goal.returns-then-not-is_for_store-clause-behind
-returns-then-not-is_for_store-clause-behind c = λ forwards a are none same place.
-    stays_behind forwards c.args.number a c.args.forward.now same c.args.self.now.behind are none (sym c.is_for_store.ensures ∙ c.if-not-is_for_store.true)
-
-pub returns-clause-behind : goal.returns-clause-behind
-returns-clause-behind c = λ forwards a are none same place.
-    let m = c.args.self.now.behind in
-    comes_behind forwards c.args.number a c.args.forward.now same m are none (sym c.is_for_store.ensures ∙ c.if-not-is_for_store.false) place
-    c.insert.new.self c.in_ok-insert.field-0
-    (subst (λ (t : Target). Updates by_target m c.insert.new.self t (Some c.args.number)) c.in_ok-target.ensures c.in_ok-insert.ensures.updates)
-    (c.in_ok-insert.ensures.old ∙ ap (kept_at by_target m) c.in_ok-target.ensures) c.in_ok-insert.ensures.len
+pub returns-clause-others : goal.returns-clause-others
+returns-clause-others c = λ forwards a behind miss none same place.
+    with_both _ c.note_joinable.result
+    (subst (λ m. AreBehind m (insert forwards c.args.number a)) (sym c.note_joinable.ensures.behind) (c.in_ok-note_behind.ensures.behind forwards a behind none same place))
+    (c.note_joinable.ensures.joinable forwards a (subst (λ g. AreGrouped by_target is_joinable_for g.sets forwards) (sym c.in_ok-note_behind.ensures.joinable) miss) none same)

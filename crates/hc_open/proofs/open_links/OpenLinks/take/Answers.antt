@@ -9,4 +9,4 @@ returns-in_err-link c = rw c.from_residual.ensures (λ forwards are.
 pub returns : goal.returns
 returns c = λ forwards are.
     takes_link c.args.self.now forwards c.args.number c.in_ok-link.link c.remove.new.self c.forget.new.self are (sym c.in_ok-link.ensures.value)
-    c.in_ok-link.ensures.updates c.in_ok-link.ensures.value c.in_ok-link.ensures.len c.forget.ensures.by_number c.forget.ensures.behind
+    c.in_ok-link.ensures.updates c.in_ok-link.ensures.value c.in_ok-link.ensures.len c.forget.ensures.by_number c.forget.ensures.others
