@@ -1,5 +1,5 @@
 -- What one record more makes of a judgement, and what its end.
-use Rattle.std.proofs.Common.{◌≡◌, ◌≢◌, ℕ, ◌+◌, List, [], ◌∷◌, ◌++◌, Option, Some, None, IfOk, Result, Ok, refl, sym, ap, subst, ◌∙◌, ◌⊎◌, inl, inr}
+use Rattle.std.proofs.Common.{◌≡◌, ◌≢◌, ℕ, ◌+◌, List, [], arith, ◌∷◌, ◌++◌, Option, Some, None, IfOk, Result, Ok, refl, sym, ap, subst, ◌∙◌, ◌⊎◌, inl, inr}
 use Rattle.std.specs.declared.alloc.AllocError.{AllocError}
 use Rattle.hc_transcript.specs.declared.fault.RecordFault.{RecordFault}
 use Rattle.hc_transcript.specs.declared.fault.RecordFault.TheVariants as fault
@@ -13,7 +13,7 @@ use Rattle.hc_transcript.specs.History.{next_position, last_moment, last_exchang
 use Rattle.hc_transcript.specs.Checks.{line_fault}
 use Rattle.hc_transcript.specs.Transcript.{Splits, IsTranscript}
 use Rattle.hc_transcript.specs.Malformed.{IsUnfinishedOpening, IsUnfinished, BreaksAfter}
-use Rattle.hc_transcript.specs.Reader.{Agrees, ReadsTo, WaitsBy, Waits, MeetsFault, HasUnread, HasUnreadBy, format_read, position_by, reader_position}
+use Rattle.hc_transcript.specs.Reader.{Agrees, ReadsTo, WaitsBy, Waits, MeetsFault, HasUnread, HasUnreadBy, format_read, position_by, reader_position, records_read}
 use Rattle.hc_transcript.proofs.CheckLemmas.{no_torn_check}
 use Rattle.hc_transcript.proofs.OnceLemmas.{one_opening, broken_more, no_opening_more}
 use Rattle.hc_history.specs.declared.reasons.Reason.{Reason}
@@ -31,8 +31,9 @@ use Rattle.hc_history.specs.Verdicts.{IsVerdict}
 use Rattle.hc_history.proofs.FoundLemmas.{found_right, found_wrong, follows_open}
 use Rattle.hc_history.proofs.VerdictLemmas.{no_stays, one_verdict}
 use Rattle.hc_audit.specs.declared.judge.Judge.{Judge}
+use Rattle.hc_audit.specs.declared.next.Next.{Next}
 use Rattle.hc_audit.specs.Standing.{MayChange, Stands}
-use Rattle.hc_audit.specs.Judging.{MayBeOf, AreRight, IsJudging, IsWaiting, stopped}
+use Rattle.hc_audit.specs.Judging.{MayBeOf, AreRight, HasRead, IsAhead, IsJudging, IsWaiting, GivesNext, next_behind}
 
 -- ---- nothing read yet
 
@@ -62,7 +63,7 @@ pub may_be_read : (read : Option Format) (format : Format) → read ≡ Some for
 may_be_read read format is = subst (λ (o : Option Format). MayBeOf o format) (sym is) refl
 
 -- records that are read of the octets are of a format that they may be of
-may_be_split : (r : RecordReader) (octets : List ℕ) (records others : List Record) (h g : List Item) (rest : List ℕ) (format : Format) → Agrees r octets records h
+pub may_be_split : (r : RecordReader) (octets : List ℕ) (records others : List Record) (h g : List Item) (rest : List ℕ) (format : Format) → Agrees r octets records h
     → Splits format octets others g rest → MayBeOf (format_read r) format
 may_be_split r octets records others h g rest format agrees splits = go r.format agrees.reads
   where
@@ -83,7 +84,7 @@ malformed r octets settings h f right (inr behind) = inr (record {
   position_is = behind.position_is;
 })
 
-met_more : (r : RecordReader) (octets more : List ℕ) (h : List Item) (f : RecordFault) → MeetsFault r octets h f → MeetsFault r (octets ++ more) h f
+pub met_more : (r : RecordReader) (octets more : List ℕ) (h : List Item) (f : RecordFault) → MeetsFault r octets h f → MeetsFault r (octets ++ more) h f
 met_more r octets more h f (inl begins) = inl (no_opening_more octets more begins.0, begins.1)
 met_more r octets more h f (inr behind) = inr (record {
   format = behind.format;
@@ -95,34 +96,37 @@ met_more r octets more h f (inr behind) = inr (record {
 torn_breaks_nothing : (format : Format) (octets : List ℕ) (h : List Item) → ¬ (BreaksAfter format octets h fault.Torn)
 torn_breaks_nothing format octets h b = no_torn_check b.breaks.line (last_moment h) (last_exchange h) (last_forward h) _ _ _ b.breaks.fails
 
-not_torn : (r : RecordReader) (octets : List ℕ) (h : List Item) (f : RecordFault) → MeetsFault r octets h f → f ≢ fault.Torn
+pub not_torn : (r : RecordReader) (octets : List ℕ) (h : List Item) (f : RecordFault) → MeetsFault r octets h f → f ≢ fault.Torn
 not_torn r octets h f (inl begins) torn = let other : fault.Opening ≡ fault.Torn = sym begins.1.0 ∙ torn in cc
 not_torn r octets h f (inr behind) torn =
     torn_breaks_nothing behind.format octets h (subst (λ (g : RecordFault). BreaksAfter behind.format octets h g) torn behind.breaks)
 
-met_stands : (r : RecordReader) (octets : List ℕ) (settings : Settings) (h : List Item) (f : RecordFault) → AreRight (format_read r) settings h → MeetsFault r octets h f
-    → Stands (Malformed (reader_position r) f) settings octets
-met_stands r octets settings h f right met = record {
+-- the fault that ends the reading
+pub met_stands : (r : RecordReader) (octets : List ℕ) (settings : Settings) (h : List Item) (f : RecordFault) (position : ℕ) → AreRight (format_read r) settings h → MeetsFault r octets h f
+    → position ≡ reader_position r → Stands (Malformed position f) settings octets
+met_stands r octets settings h f position right met is = subst (λ (n : ℕ). Stands (Malformed n f) settings octets) (sym is) (record {
   is_final = not_torn r octets h f met;
   holds = λ more. malformed r (octets ++ more) settings h f right (met_more r octets more h f met);
-}
+})
 
 -- a fault that isn't memory
-pub stopped_stands : (r : RecordReader) (octets : List ℕ) (settings : Settings) (h : List Item) (f : RecordFault) → AreRight (format_read r) settings h → (f ≢ fault.Memory → MeetsFault r octets h f)
-    → IfOk (stopped f (reader_position r)) (λ verdict. Stands verdict settings octets)
-stopped_stands r octets settings h fault.Memory right meets = tt
-stopped_stands r octets settings h fault.Opening right meets = met_stands r octets settings h fault.Opening right (meets (λ e. cc))
-stopped_stands r octets settings h fault.Line right meets = met_stands r octets settings h fault.Line right (meets (λ e. cc))
-stopped_stands r octets settings h fault.Torn right meets = met_stands r octets settings h fault.Torn right (meets (λ e. cc))
-stopped_stands r octets settings h fault.MomentBack right meets = met_stands r octets settings h fault.MomentBack right (meets (λ e. cc))
-stopped_stands r octets settings h fault.Number right meets = met_stands r octets settings h fault.Number right (meets (λ e. cc))
-stopped_stands r octets settings h fault.NothingOpen right meets = met_stands r octets settings h fault.NothingOpen right (meets (λ e. cc))
-stopped_stands r octets settings h fault.Message right meets = met_stands r octets settings h fault.Message right (meets (λ e. cc))
-stopped_stands r octets settings h fault.TooLong right meets = met_stands r octets settings h fault.TooLong right (meets (λ e. cc))
-stopped_stands r octets settings h fault.Cause right meets = met_stands r octets settings h fault.Cause right (meets (λ e. cc))
+next_gives : {I : Type 0} (seen : I → Seen) (j : Judge I) (settings : Settings) (octets : List ℕ) (h : List Item) (f : RecordFault) (position : ℕ) → position ≡ reader_position j.reader
+    → (f ≢ fault.Memory → MeetsFault j.reader octets h f) → GivesNext seen (next_behind f position) j settings octets h
+next_gives seen j settings octets h fault.Memory position is meets = tt
+next_gives seen j settings octets h fault.Opening position is meets = (meets (λ e. cc), is)
+next_gives seen j settings octets h fault.Line position is meets = (meets (λ e. cc), is)
+next_gives seen j settings octets h fault.Torn position is meets = (meets (λ e. cc), is)
+next_gives seen j settings octets h fault.MomentBack position is meets = (meets (λ e. cc), is)
+next_gives seen j settings octets h fault.Number position is meets = (meets (λ e. cc), is)
+next_gives seen j settings octets h fault.NothingOpen position is meets = (meets (λ e. cc), is)
+next_gives seen j settings octets h fault.Message position is meets = (meets (λ e. cc), is)
+next_gives seen j settings octets h fault.TooLong position is meets = (meets (λ e. cc), is)
+next_gives seen j settings octets h fault.Cause position is meets = (meets (λ e. cc), is)
 
-pub told : (r : Result Verdict AllocError) (verdict : Verdict) (octets : List ℕ) (settings : Settings) → r ≡ Ok verdict → IfOk r (λ v. Stands v settings octets) → Stands verdict settings octets
-told r verdict octets settings is stands = subst (λ (s : Result Verdict AllocError). IfOk s (λ v. Stands v settings octets)) is stands
+pub next_is : {I : Type 0} (seen : I → Seen) (j : Judge I) (settings : Settings) (octets : List ℕ) (h : List Item) (f : RecordFault) (position : ℕ) (next : Result Next AllocError)
+    → next ≡ next_behind f position → position ≡ reader_position j.reader → (f ≢ fault.Memory → MeetsFault j.reader octets h f) → GivesNext seen next j settings octets h
+next_is seen j settings octets h f position next is position-is meets =
+    subst (λ (n : Result Next AllocError). GivesNext seen n j settings octets h) (sym is) (next_gives seen j settings octets h f position position-is meets)
 
 -- ---- a record more
 
@@ -132,54 +136,51 @@ found_here format given settings held item h finding found settings-are item-is 
     subst (λ (s : Settings). IsFound format s h item found) settings-are
     (subst (λ (i : Item). IsFound format given h i found) item-is (subst (λ (f : Finding). IsFound format given h held f) found-is is))
 
-not_empty : (one : Record) (records : List Record) → one ∷ records ≡ [] → ⊥
-not_empty one records e = cc
-
 -- what a reader has read of the octets that told the format
 splits_of : (r : RecordReader) (format : Format) (octets : List ℕ) (records : List Record) (h : List Item) → format_read r ≡ Some format → Agrees r octets records h
     → Splits format octets records h r.held
 splits_of r format octets records h is agrees = subst (λ (o : Option Format). ReadsTo o octets records h r.held) is agrees.reads
 
-answers_open : (r : RecordReader) (format : Format) (octets : List ℕ) (one : Record) (records : List Record) (item : Item) (h : List Item) → format_read r ≡ Some format
-    → Agrees r octets (one ∷ records) (item ∷ h) → AnswersOpen h item
-answers_open r format octets one records item h is agrees = follows_open format h one item (splits_of r format octets (one ∷ records) (item ∷ h) is agrees).are_read.1
-
--- the reader has read one record more, of which this is found
-pub wrong_stands : (r : RecordReader) (format : Format) (octets : List ℕ) (settings : Settings) (one : Record) (records : List Record) (item : Item) (h : List Item) (why : Reason) (position : ℕ)
-    → format_read r ≡ Some format → Agrees r octets (one ∷ records) (item ∷ h) → AllRight format settings h → IsFound format settings h item (Wrong why) → position ≡ next_position h
-    → Stands (No position why) settings octets
-wrong_stands r format octets settings one records item h why position is agrees right found position-is = record {
-  is_final = tt;
-  holds = λ more. no_stays octets more settings position why (record {
-    format = format;
-    records = one ∷ records;
-    history = h;
-    item = item;
-    rest = r.held;
-    splits = splits_of r format octets (one ∷ records) (item ∷ h) is agrees;
-    all_right = right;
-    is_wrong = found_wrong format settings h item why (answers_open r format octets one records item h is agrees) found;
-    position_is = position-is;
-  });
-}
+-- what holds in the formats that the octets might be of before holds in the one that was read since
+pub in_the_read : (P : Format → Type 0) (old new : Option Format) (format : Format) → ((k : Format) → old ≡ Some k → new ≡ Some k) → new ≡ Some format → ((k : Format) → MayBeOf old k → P k) → P format
+in_the_read P old new format keeps is holds = holds format (might_be_of old new keeps format (may_be_read new format is))
 
 -- what holds of the format that was read holds of all that the octets may be of
-of_the_read : (P : Format → Type 0) (read : Option Format) (format : Format) → read ≡ Some format → P format → (other : Format) → MayBeOf read other → P other
+pub of_the_read : (P : Format → Type 0) (read : Option Format) (format : Format) → read ≡ Some format → P format → (other : Format) → MayBeOf read other → P other
 of_the_read P read format is holds other may = subst P (subst (λ (o : Option Format). MayBeOf o other) is may) holds
 
-pub right_goes_on : {I : Type 0} (seen : I → Seen) (j : Judge I) (format : Format) (octets : List ℕ) (settings : Settings) (one : Record) (records : List Record) (item : Item) (h : List Item)
-    → format_read j.reader ≡ Some format → Agrees j.reader octets (one ∷ records) (item ∷ h) → AllRight format settings h → IsFound format settings h item Right
-    → IsSeenAs format (seen j.index) (item ∷ h) → j.counts ≡ counts_of (item ∷ h) → j.settings ≡ settings → IsJudging seen j settings octets
-right_goes_on seen j format octets settings one records item h is agrees right found index counts settings-are = record {
-  records = one ∷ records;
-  history = item ∷ h;
-  reads = agrees;
-  index = of_the_read (λ (k : Format). IsSeenAs k (seen j.index) (item ∷ h)) (format_read j.reader) format is index;
-  counts = counts;
-  settings_are = settings-are;
-  right = of_the_read (λ (k : Format). AllRight k settings (item ∷ h)) (format_read j.reader) format is
-      (right, found_right format settings h item (answers_open j.reader format octets one records item h is agrees) found);
-}
+-- one record more, of which the index and the counts don't know yet
+module _ {I : Type 0} (seen : I → Seen) (j : Judge I) (settings : Settings) (octets : List ℕ) (h : List Item) (format : Format) (a : IsAhead seen j settings octets h format) where
+  pub ahead_open : AnswersOpen h a.item
+  ahead_open = follows_open format h a.one a.item (splits_of j.reader format octets (a.one ∷ a.records) (a.item ∷ h) a.format_is a.reads).are_read.1
+
+  pub ahead_position : records_read j.reader ≡ next_position h
+  ahead_position = omega (arith, a.reads.stands.records)
+
+  pub wrong_stands : (why : Reason) (position : ℕ) → AllRight format settings h → IsFound format settings h a.item (Wrong why) → position ≡ records_read j.reader → Stands (No position why) settings octets
+  wrong_stands why position right found position-is = record {
+    is_final = tt;
+    holds = λ more. no_stays octets more settings position why (record {
+      format = format;
+      records = a.one ∷ a.records;
+      history = h;
+      item = a.item;
+      rest = j.reader.held;
+      splits = splits_of j.reader format octets (a.one ∷ a.records) (a.item ∷ h) a.format_is a.reads;
+      all_right = right;
+      is_wrong = found_wrong format settings h a.item why ahead_open found;
+      position_is = position-is ∙ ahead_position;
+    });
+  }
+
+  pub right_goes_on : (k : Judge I) → AllRight format settings h → IsFound format settings h a.item Right → format_read k.reader ≡ format_read j.reader → HasRead seen k settings octets (a.item ∷ h)
+      → IsJudging seen k settings octets
+  right_goes_on k right found same read = record {
+    history = a.item ∷ h;
+    read = read;
+    right = of_the_read (λ (f : Format). AllRight f settings (a.item ∷ h)) (format_read k.reader) format (same ∙ a.format_is)
+        (right, found_right format settings h a.item ahead_open found);
+  }
 
 -- ---- the end
 
@@ -211,7 +212,7 @@ torn_of r octets settings records h agrees right waits unread = go r.format agre
           position_is = ap (λ (n : ℕ). n + 1) agrees.stands.records;
         })
 
-none_is_some : (o : Option RecordFault) (f : RecordFault) → o ≡ None → o ≡ Some f → ⊥
+pub none_is_some : (o : Option RecordFault) (f : RecordFault) → o ≡ None → o ≡ Some f → ⊥
 none_is_some o f none some = cc
 
 pub end_is : (r : RecordReader) (octets : List ℕ) (settings : Settings) (records : List Record) (h : List Item) (f : RecordFault) (position : ℕ)
@@ -267,5 +268,5 @@ pub may_change : {I : Type 0} (seen : I → Seen) (j : Judge I) (octets : List �
     → MayChange verdict
 may_change seen j octets settings verdict w is =
     let k = w.judging in
-    let other = may_go_on j.reader octets settings k.records k.history k.reads k.right w.waits in
+    let other = may_go_on j.reader octets settings k.read.records k.history k.read.reads k.right w.waits in
     subst MayChange (one_verdict octets settings other.verdict verdict other.is is) other.may

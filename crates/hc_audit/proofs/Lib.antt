@@ -1,3 +1,4 @@
 pub mod JudgeLemmas
 pub mod AuditorLemmas
 pub mod ConversionLemmas
+pub mod SurveyLemmas

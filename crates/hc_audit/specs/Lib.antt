@@ -1,4 +1,7 @@
 pub mod Names
 pub mod Standing
+pub mod Endings
+pub mod Told
 pub mod Judging
 pub mod Agreement
+pub mod Surveying

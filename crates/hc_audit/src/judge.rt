@@ -1,10 +1,10 @@
 //! The judging of a transcript, a record at a time.
 
-ghost use Rattle.std.specs.Prelude.{◌≡◌, ◌<◌, ◌≤◌, ◌++◌, ℕ, List, [], IfOk, Ok, None};
+ghost use Rattle.std.specs.Prelude.{◌≡◌, ◌<◌, ◌≤◌, ◌++◌, ◌∷◌, ℕ, List, [], IfOk, IfSome, OnOk, Ok, None};
 ghost use Rattle.hc_transcript.specs.declared.format.Format.{Format};
 ghost use Rattle.hc_transcript.specs.Items.{Item, item_of};
 ghost use Rattle.hc_transcript.specs.Limits.{longest_unfinished};
-ghost use Rattle.hc_transcript.specs.Reader.{unread, records_read};
+ghost use Rattle.hc_transcript.specs.Reader.{KeepsFormat, format_read, unread, records_read};
 ghost use Rattle.hc_history.specs.declared.settings.Settings.{Settings};
 ghost use Rattle.hc_history.specs.Counting.{AreAtMost};
 ghost use Rattle.hc_history.specs.Found.{IsFound};
@@ -12,7 +12,8 @@ ghost use Rattle.hc_history.specs.Marks.{item_mark};
 ghost use Rattle.hc_history.specs.Seen.{IsSeenAs};
 ghost use Rattle.hc_history.specs.Verdicts.{IsVerdict};
 
-use crate::stops::stopped;
+use crate::next::{Next, next_behind};
+use crate::witness::JudgedReply;
 use hc_history::{Counts, Finding, Mark, MarkedReply, Settings, Verdict};
 use hc_index::Index;
 use hc_transcript::{Format, Meaning, OwnedItem, RecordReader};
@@ -29,11 +30,11 @@ pub(crate) enum Step {
     Settled(Verdict),
 }
 
-/// The records that were read and judged so far, all of them right, and what is still to be read.
+/// The records that were read and judged so far, and what is still to be read.
 #[derive(Drop)]
 pub(crate) struct Judge<I> {
     alloc: Global,
-    reader: RecordReader,
+    pub(crate) reader: RecordReader,
     index: I,
     settings: Settings,
     counts: Counts,
@@ -42,7 +43,7 @@ pub(crate) struct Judge<I> {
 }
 
 impl<I: Index + Drop> Judge<I> {
-    ghost use Rattle.hc_audit.specs.Judging.{IsJudging, IsWaiting, GivesStep, GivesJudged};
+    ghost use Rattle.hc_audit.specs.Judging.{HasRead, IsAhead, IsJudging, IsWaiting, GivesNext, GivesStep, GivesJudged, LendsNext, MovesOn, finding_told, mark_told};
 
     pub(crate) fn new(alloc: Global, index: I, settings: Settings) -> Self
         ensures { ((format : Format) → IsSeenAs format (I.seen index) []) → IsWaiting I.seen result settings [] }
@@ -63,6 +64,75 @@ impl<I: Index + Drop> Judge<I> {
         self.reader.rest()
     }
 
+    /// Takes a piece, of which nothing is read yet.
+    pub(crate) fn take(&mut self, piece: &[u8]) -> Result<(), AllocError>
+        ensures read { (settings : Settings) (octets : List ℕ) (h : List Item) → HasRead I.seen self.old settings octets h
+            → OnOk result (HasRead I.seen self.new settings (octets ++ piece.now) h) }
+        ensures format { format_read self.new.reader ≡ format_read self.old.reader }
+    {
+        if self.reader.feed(piece).is_err() {
+            return Err(AllocError);
+        }
+        Ok(())
+    }
+
+    /// Reads the next record, if it is whole. Nothing is judged or noted of it yet.
+    pub(crate) fn advance(&mut self) -> Result<Next, AllocError>
+        ensures gives { (settings : Settings) (octets : List ℕ) (h : List Item) → HasRead I.seen self.old settings octets h
+            → GivesNext I.seen result self.new settings octets h }
+        ensures format { KeepsFormat self.old.reader self.new.reader }
+        ensures moves { MovesOn result self.old self.new }
+    {
+        match self.reader.advance() {
+            Err(fault) => next_behind(fault, self.reader.position()),
+            Ok(false) => Ok(Next::Waiting),
+            Ok(true) => Ok(Next::Record(self.reader.format().unwrap())),
+        }
+    }
+
+    /// What is found of the record that was read last and is that item, where it is a reply.
+    pub(crate) fn judged<'a>(
+        &'a self,
+        item: &'a OwnedItem,
+        format: Format,
+    ) -> Result<Option<JudgedReply<'a, I>>, AllocError>
+        ensures position { IfOk result (λ judged. IfSome judged (λ reply. reply.position ≡ records_read self.now.reader)) }
+        ensures finding { (h : List Item) → IsSeenAs format (I.seen self.now.index) h
+            → IfOk result (λ judged. IsFound format self.now.settings h (item_of item.now) (finding_told judged)) }
+        ensures mark { IfOk result (λ judged. mark_told judged ≡ item_mark (item_of item.now)) }
+    {
+        let Meaning::ClientReply(reply) = &item.of else {
+            return Ok(None);
+        };
+        let reply = MarkedReply::read(self.alloc, reply)?;
+        let finding = self
+            .index
+            .find(item.number, &reply, item.moment, &self.settings, format)?;
+        Ok(Some(JudgedReply {
+            position: self.reader.records(),
+            exchange: item.number,
+            moment: item.moment,
+            format,
+            reply,
+            finding,
+            index: &self.index,
+        }))
+    }
+
+    /// Counts the record that was read last, and notes it in the index. It has that mark, if it is a reply.
+    pub(crate) fn note(&mut self, format: Format, mark: Option<Mark>) -> Result<(), AllocError>
+        requires { LendsNext self.old }
+        ensures read { (settings : Settings) (octets : List ℕ) (h : List Item) (ahead : IsAhead I.seen self.old settings octets h format)
+            → mark ≡ item_mark ahead.item → OnOk result (HasRead I.seen self.new settings octets (ahead.item ∷ h)) }
+        ensures unread { unread self.new.reader ≡ unread self.old.reader }
+        ensures format { format_read self.new.reader ≡ format_read self.old.reader }
+    {
+        let position = self.reader.records();
+        self.counts.count(mark);
+        self.index.note(position, self.reader.take_item(), format)?;
+        Ok(())
+    }
+
     /// Takes a piece, and judges each record that is whole then. It answers the verdict that stands, if
     /// there is one now.
     pub(crate) fn feed(&mut self, piece: &[u8]) -> Result<Option<Verdict>, AllocError>
@@ -70,9 +140,7 @@ impl<I: Index + Drop> Judge<I> {
             → GivesJudged I.seen result self.new settings (octets ++ piece.now) }
         ensures rest { result ≡ Ok None → unread self.new.reader ≤ longest_unfinished }
     {
-        if self.reader.feed(piece).is_err() {
-            return Err(AllocError);
-        }
+        self.take(piece)?;
         self.judge_whole()
     }
 
@@ -98,36 +166,31 @@ impl<I: Index + Drop> Judge<I> {
         ensures shrinks { result ≡ Ok Step.Right → unread self.new.reader < unread self.old.reader }
         ensures rest { result ≡ Ok Step.Waiting → unread self.new.reader ≤ longest_unfinished }
     {
-        match self.reader.advance() {
-            Err(fault) => return Ok(Step::Settled(stopped(fault, self.reader.position())?)),
-            Ok(false) => return Ok(Step::Waiting),
-            Ok(true) => {}
-        }
-        let format = self.reader.format().unwrap();
-        let position = self.reader.records();
+        let format = match self.advance()? {
+            Next::Waiting => return Ok(Step::Waiting),
+            Next::Broken(position, fault) => {
+                return Ok(Step::Settled(Verdict::Malformed(position, fault)));
+            }
+            Next::Record(format) => format,
+        };
         let (finding, mark) = self.found(self.reader.item(), format)?;
         if let Finding::Wrong(reason) = finding {
-            return Ok(Step::Settled(Verdict::No(position, reason)));
+            return Ok(Step::Settled(Verdict::No(self.reader.records(), reason)));
         }
-        self.counts.count(mark);
-        self.index.note(position, self.reader.take_item(), format)?;
+        self.note(format, mark)?;
         Ok(Step::Right)
     }
 
-    /// What is found of the next record, and its mark: that it is right, where it is no reply.
+    /// What is found of that item, which was read last, and its mark: that it is right, where it is no reply.
     fn found(&self, item: &OwnedItem, format: Format) -> Result<(Finding, Option<Mark>), AllocError>
         ensures finding { (h : List Item) → IsSeenAs format (I.seen self.now.index) h
             → IfOk result (λ found. IsFound format self.now.settings h (item_of item.now) found.0) }
         ensures mark { IfOk result (λ found. found.1 ≡ item_mark (item_of item.now)) }
     {
-        let Meaning::ClientReply(reply) = &item.of else {
+        let Some(judged) = self.judged(item, format)? else {
             return Ok((Finding::Right, None));
         };
-        let reply = MarkedReply::read(self.alloc, reply)?;
-        let finding = self
-            .index
-            .find(item.number, &reply, item.moment, &self.settings, format)?;
-        Ok((finding, Some(reply.mark())))
+        Ok((judged.finding, Some(judged.reply.mark())))
     }
 
     /// The verdict where the octets end.

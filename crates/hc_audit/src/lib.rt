@@ -1,15 +1,24 @@
-//! The auditor: it reads a transcript in pieces, and answers the verdict on it, by whatever index.
+//! The auditor: it reads a transcript in pieces, and answers the verdict on it, by whatever index. A survey goes on
+//! behind a wrong reply, and tells of all of them.
 #![tactic(auto)]
 
 mod auditor;
 mod fault;
 mod judge;
 mod laws;
-mod stops;
+mod next;
+mod survey;
+mod surveying;
+mod witness;
 
 pub use auditor::Auditor;
 pub use fault::AuditFault;
-pub use hc_history::{Counts, FieldNames, Reason, Settings, UnmarkedReplies, Verdict};
+pub use hc_history::{
+    Counts, Ending, FieldNames, Finding, Mark, MarkedReply, Reason, Settings, UnmarkedReplies,
+    Verdict, WrongReply,
+};
 pub use hc_index::Index;
-pub use hc_transcript::RecordFault;
+pub use hc_transcript::{Format, RecordFault};
 pub use laws::converting_keeps_a_yes;
+pub use survey::Survey;
+pub use witness::{JudgedReply, Witness};

@@ -20,7 +20,7 @@ hold_to [] (suc n) le = refl
 hold_to (true ∷ tests) (suc n) le = hold_to tests n (omega arith)
 hold_to (false ∷ tests) (suc n) le = absurd (omega arith)
 
-hold_from : (tests : List Bool) (n : ℕ) → n ≤ length tests → list_all (λ b. b) (take n tests) ≡ true → n ≤ passed tests
+pub hold_from : (tests : List Bool) (n : ℕ) → n ≤ length tests → list_all (λ b. b) (take n tests) ≡ true → n ≤ passed tests
 hold_from tests zero le h = omega arith
 hold_from [] (suc n) le h = absurd (omega arith)
 hold_from (true ∷ tests) (suc n) le h = omega (arith, hold_from tests n (omega arith) h)
@@ -63,7 +63,7 @@ passed_there : (since : ℕ) (claim : Claim) (position : ℕ) (o : Option Kept) 
     → passed_later since claim position o ≡ passed (filters claim kept)
 passed_there since claim position o kept lt is = rw (lt-ltb since position lt, is) refl
 
-passed_up_to : (since : ℕ) (claim : Claim) (h : List Item) (position m : ℕ) (kept : Kept) → since < position → state_at position h ≡ Some kept → position ≤ m
+pub passed_up_to : (since : ℕ) (claim : Claim) (h : List Item) (position m : ℕ) (kept : Kept) → since < position → state_at position h ≡ Some kept → position ≤ m
     → passed (filters claim kept) ≤ furthest_up_to since claim m h
 passed_up_to since claim h position zero kept later is le = absurd (omega arith)
 passed_up_to since claim h position (suc m) kept later is le =

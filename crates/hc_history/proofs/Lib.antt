@@ -6,7 +6,9 @@ pub mod ReasonLemmas
 pub mod ForgetLemmas
 pub mod LiveLemmas
 pub mod NoteLemmas
+pub mod CandidateLemmas
 pub mod VerdictLemmas
+pub mod WrongLemmas
 pub mod ComparedLemmas
 pub mod SeenLemmas
 pub mod CountLemmas

@@ -33,7 +33,7 @@ right_to_wrong format settings None moment reply h why right wrong = right
 right_to_wrong format settings (Some exchange) moment reply h why right wrong =
     not_both (reply_mark reply) (claim_of format settings exchange moment reply h) h why right wrong
 
-right_wrong : (format : Format) (settings : Settings) (h : List Item) (item : Item) (why : Reason) → IsRight format settings h item → ¬ (IsWrong format settings h item why)
+pub right_wrong : (format : Format) (settings : Settings) (h : List Item) (item : Item) (why : Reason) → IsRight format settings h item → ¬ (IsWrong format settings h item why)
 right_wrong format settings h (ClientReply number moment reply) why right wrong = right_to_wrong format settings (exchange_of number h) moment reply h why right wrong
 right_wrong format settings h item why right wrong = wrong
 
@@ -43,7 +43,7 @@ wrong_to_once format settings None moment reply h why other one two = absurd one
 wrong_to_once format settings (Some exchange) moment reply h why other one two =
     one_reason (reply_mark reply) (claim_of format settings exchange moment reply h) h why other one two
 
-wrong_once : (format : Format) (settings : Settings) (h : List Item) (item : Item) (why other : Reason) → IsWrong format settings h item why → IsWrong format settings h item other → why ≡ other
+pub wrong_once : (format : Format) (settings : Settings) (h : List Item) (item : Item) (why other : Reason) → IsWrong format settings h item why → IsWrong format settings h item other → why ≡ other
 wrong_once format settings h (ClientReply number moment reply) why other one two = wrong_to_once format settings (exchange_of number h) moment reply h why other one two
 wrong_once format settings h item why other one two = absurd one
 
@@ -59,7 +59,7 @@ never_within format settings h items g item why all is wrong =
 
 -- ---- where the octets stop
 
-nothing_unfinished : (format : Format) (h : List Item) → IsUnfinished format (line_fault h) []
+pub nothing_unfinished : (format : Format) (h : List Item) → IsUnfinished format (line_fault h) []
 nothing_unfinished format h = inl (record { short = omega arith; none = λ text begins. no_line text begins.after begins.octets_are })
   where
     no_line : (text after : List ℕ) → [] ≡ text ++ 10 ∷ after → ⊥
@@ -67,7 +67,7 @@ nothing_unfinished format h = inl (record { short = omega arith; none = λ text 
     no_line (c ∷ text) after is = cc
 
 -- what the octets break behind is the last history that is read of them
-last_read : (format other : Format) (octets : List ℕ) (h : List Item) (f : RecordFault) (records : List Record) (g : List Item) (rest : List ℕ)
+pub last_read : (format other : Format) (octets : List ℕ) (h : List Item) (f : RecordFault) (records : List Record) (g : List Item) (rest : List ℕ)
     → IsMalformedAfter format octets h f → Splits other octets records g rest → (items : List Item) × (h ≡ items ++ g)
 last_read format other octets h f records g rest (inl broken) splits = break_last format other octets h f records g rest broken splits
 last_read format other octets h f records g rest (inr torn) splits =
@@ -77,17 +77,17 @@ pub break_read : (format : Format) (octets : List ℕ) (h : List Item) (f : Reco
 break_read format octets h f (inl broken) = (broken.records, broken.rest, broken.splits)
 break_read format octets h f (inr torn) = (torn.1.records, torn.1.rest, torn.1.splits)
 
-opening_unread : (octets : List ℕ) (f : RecordFault) (format : Format) (records : List Record) (h : List Item) (rest : List ℕ) → BreaksOpening octets f → ¬ (Splits format octets records h rest)
+pub opening_unread : (octets : List ℕ) (f : RecordFault) (format : Format) (records : List Record) (h : List Item) (rest : List ℕ) → BreaksOpening octets f → ¬ (Splits format octets records h rest)
 opening_unread octets f format records h rest (inl none) splits = no_opening_no_records octets format records h rest none.0 splits
 opening_unread octets f format records h rest (inr short) splits = unfinished_opening_no_records format octets records h rest short.0 splits
 
-one_opening_fault : (octets : List ℕ) (f e : RecordFault) → BreaksOpening octets f → BreaksOpening octets e → f ≡ e
+pub one_opening_fault : (octets : List ℕ) (f e : RecordFault) → BreaksOpening octets f → BreaksOpening octets e → f ≡ e
 one_opening_fault octets f e (inl none) (inl other) = none.1 ∙ sym other.1
 one_opening_fault octets f e (inl none) (inr short) = absurd (no_opening_is_hopeless octets none.0 short.0)
 one_opening_fault octets f e (inr short) (inl none) = absurd (no_opening_is_hopeless octets none.0 short.0)
 one_opening_fault octets f e (inr short) (inr other) = short.1 ∙ sym other.1
 
-one_break_behind : (format other : Format) (octets : List ℕ) (h g : List Item) (f e : RecordFault) → IsMalformedAfter format octets h f → IsMalformedAfter other octets g e → (h ≡ g) × (f ≡ e)
+pub one_break_behind : (format other : Format) (octets : List ℕ) (h g : List Item) (f e : RecordFault) → IsMalformedAfter format octets h f → IsMalformedAfter other octets g e → (h ≡ g) × (f ≡ e)
 one_break_behind format other octets h g f e (inl one) (inl two) = let same = one_break format other octets h g f e one two in (same.1, same.2)
 one_break_behind format other octets h g f e (inl one) (inr torn) =
     absurd (unfinished_is_unbroken other format octets torn.1.records g h torn.1.rest f torn.1.splits torn.1.torn one)
@@ -97,7 +97,7 @@ one_break_behind format other octets h g f e (inr torn) (inr two) =
     let same = one_unfinished format other octets torn.1.records two.1.records h g torn.1.rest two.1.rest torn.1.splits torn.1.torn two.1.splits two.1.torn in
     (same.1, torn.0 ∙ sym two.0)
 
-behind_is_no_transcript : (format other : Format) (octets : List ℕ) (h : List Item) (f : RecordFault) (records : List Record) (g : List Item) → IsMalformedAfter format octets h f
+pub behind_is_no_transcript : (format other : Format) (octets : List ℕ) (h : List Item) (f : RecordFault) (records : List Record) (g : List Item) → IsMalformedAfter format octets h f
     → ¬ (IsTranscript other octets records g)
 behind_is_no_transcript format other octets h f records g (inl broken) whole = broken_is_no_transcript format other octets h f records g broken whole
 behind_is_no_transcript format other octets h f records g (inr torn) whole =

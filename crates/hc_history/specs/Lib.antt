@@ -10,7 +10,9 @@ pub mod Forwarded
 pub mod Right
 pub mod Counting
 pub mod Verdicts
+pub mod WrongReplies
 pub mod Seen
 pub mod Noting
 pub mod Furthest
 pub mod Found
+pub mod Candidates

@@ -16,12 +16,17 @@ ghost use Rattle.hc_transcript.specs.declared.fault.RecordFault.TheVariants.{Tor
 ghost use Rattle.hc_transcript.specs.declared.format.Format.{Format};
 ghost use Rattle.hc_transcript.specs.Items.{Item, OriginResponse, Forward};
 ghost use Rattle.hc_transcript.specs.History.{next_position, exchange_of, forward_of};
+ghost use Rattle.hc_history.specs.declared.candidates.Candidate.{Candidate};
 ghost use Rattle.hc_history.specs.declared.reasons.Reason.{Reason};
 ghost use Rattle.hc_history.specs.declared.settings.Settings.{Settings};
+ghost use Rattle.hc_history.specs.declared.verdicts.Counts.{Counts};
 ghost use Rattle.hc_history.specs.declared.verdicts.Finding.{Finding};
 ghost use Rattle.hc_history.specs.declared.verdicts.Verdict.{Verdict};
-ghost use Rattle.hc_history.specs.declared.verdicts.Verdict.TheVariants.{No, Malformed};
+ghost use Rattle.hc_history.specs.declared.verdicts.Verdict.TheVariants.{Yes, No, Malformed};
 ghost use Rattle.hc_history.specs.declared.kept.Kept.{Kept};
+ghost use Rattle.hc_history.specs.declared.wrong.WrongReply.{WrongReply};
+ghost use Rattle.hc_history.specs.declared.wrong.Ending.{Ending};
+ghost use Rattle.hc_history.specs.declared.wrong.Ending.TheVariants.{Whole, Broken};
 ghost use Rattle.hc_history.specs.States.{state_at, state_answered};
 ghost use Rattle.hc_history.specs.Windows.{some_since, latest};
 ghost use Rattle.hc_history.specs.Claims.{Claim};
@@ -30,9 +35,11 @@ ghost use Rattle.hc_history.specs.Reused.{Pass, IsFirstFailed, anywhere, filter_
 ghost use Rattle.hc_history.specs.Forwarded.{carries, is_forwarded};
 ghost use Rattle.hc_history.specs.Right.{IsRightBy, IsWrongBy, IsFinding};
 ghost use Rattle.hc_history.specs.Verdicts.{IsVerdict};
+ghost use Rattle.hc_history.specs.WrongReplies.{AreWrongReplies};
 ghost use Rattle.hc_history.specs.Seen.{Seen, IsSeenAs, remaining, live_of, responses_since};
 ghost use Rattle.hc_history.specs.Noting.{Notes};
 ghost use Rattle.hc_history.specs.Furthest.{passed, furthest, furthest_live};
+ghost use Rattle.hc_history.specs.Candidates.{AreCandidates};
 
 /// A later 304 that identifies a stored response freshens it, so that one that was invalidated is valid
 /// again.
@@ -94,6 +101,20 @@ pub fn forgotten_changes_no_reason()
         → furthest_live since claim (live_of claim.target h) ≡ furthest since claim h }
 {}
 
+/// After a history a claim has one list of candidates at most.
+pub fn one_list_of_candidates()
+    ensures { (claim : Claim) (h : List Item) (candidates others : List Candidate)
+        → AreCandidates claim h candidates → AreCandidates claim h others → candidates ≡ others }
+{}
+
+/// The first of the candidates passes the most filters that one earlier response passes; where there is none,
+/// no response passes any.
+pub fn first_candidate_is_the_furthest()
+    ensures first { (claim : Claim) (h : List Item) (candidate : Candidate) (others : List Candidate)
+        → AreCandidates claim h (candidate ∷ others) → candidate.passed ≡ furthest anywhere claim h }
+    ensures none { (claim : Claim) (h : List Item) → AreCandidates claim h [] → furthest anywhere claim h ≡ 0 }
+{}
+
 /// It may be forgotten before an item as well as after it.
 pub fn forgetting_and_noting_commute()
     ensures { (forward : Forward) (position moment : ℕ) (response : Message ResponseHead) (state : Stored)
@@ -136,4 +157,29 @@ pub fn standing_verdict_stays()
     ensures malformed { (octets more : List ℕ) (settings : Settings) (position : ℕ) (fault : RecordFault)
         → fault ≢ Torn
         → IsVerdict octets settings (Malformed position fault) → IsVerdict (octets ++ more) settings (Malformed position fault) }
+{}
+
+/// The first of all wrong replies of octets is that of their no. Where there is none, they have a yes if they
+/// are whole, and are malformed where they break.
+pub fn wrong_replies_begin_with_the_verdict()
+    ensures first { (octets : List ℕ) (settings : Settings) (wrong : WrongReply) (later : List WrongReply) (ending : Ending)
+        → AreWrongReplies octets settings (wrong ∷ later) ending → IsVerdict octets settings (No wrong.position wrong.reason) }
+    ensures whole { (octets : List ℕ) (settings : Settings)
+        → AreWrongReplies octets settings [] Whole → (counts : Counts) × IsVerdict octets settings (Yes counts) }
+    ensures broken { (octets : List ℕ) (settings : Settings) (position : ℕ) (fault : RecordFault)
+        → AreWrongReplies octets settings [] (Broken position fault) → IsVerdict octets settings (Malformed position fault) }
+{}
+
+/// Octets have one list of all wrong replies at most, and their reading ends in one way.
+pub fn one_list_of_wrong_replies()
+    ensures { (octets : List ℕ) (settings : Settings) (wrongs others : List WrongReply) (ending other : Ending)
+        → AreWrongReplies octets settings wrongs ending → AreWrongReplies octets settings others other
+        → (wrongs ≡ others) × (ending ≡ other) }
+{}
+
+/// All wrong replies of a front of octets are the first of those of the octets, however either ends.
+pub fn wrong_replies_of_a_front_come_first()
+    ensures { (octets more : List ℕ) (settings : Settings) (wrongs others : List WrongReply) (ending other : Ending)
+        → AreWrongReplies octets settings wrongs ending → AreWrongReplies (octets ++ more) settings others other
+        → (later : List WrongReply) × (others ≡ wrongs ++ later) }
 {}

@@ -2,6 +2,7 @@
 //! one passes, right and wrong replies, the verdict, and what has to be known of a history to judge.
 #![tactic(auto)]
 
+mod candidates;
 mod claim;
 mod compared;
 mod filters;
@@ -15,7 +16,9 @@ mod right;
 mod settings;
 mod usable;
 mod verdicts;
+mod wrong;
 
+pub use candidates::Candidate;
 pub use claim::{ReplyClaim, ttl_of};
 pub use filters::passed;
 pub use finding::{
@@ -25,10 +28,11 @@ pub use forwarded::{carries, may_be_for};
 pub use hc_status::Mark;
 pub use kept::Kept;
 pub use laws::{
-    forgetting_and_noting_commute, forgotten_changes_no_reason, later_update_clears_the_mark,
-    least_reason_by_the_furthest, memory_breaks_nothing, noting_goes_on, one_verdict,
-    seen_is_enough, standing_verdict_stays, window_is_what_is_later_than_the_request,
-    wrong_by_one_reason,
+    first_candidate_is_the_furthest, forgetting_and_noting_commute, forgotten_changes_no_reason,
+    later_update_clears_the_mark, least_reason_by_the_furthest, memory_breaks_nothing,
+    noting_goes_on, one_list_of_candidates, one_list_of_wrong_replies, one_verdict, seen_is_enough,
+    standing_verdict_stays, window_is_what_is_later_than_the_request, wrong_by_one_reason,
+    wrong_replies_begin_with_the_verdict, wrong_replies_of_a_front_come_first,
 };
 pub use marks::{MarkedReply, reply_mark};
 pub use reasons::Reason;
@@ -36,3 +40,4 @@ pub use right::{allows_unmarked, is_judged_collapsed};
 pub use settings::{FieldNames, Settings, UnmarkedReplies};
 pub use usable::{age_of, lifetime_of};
 pub use verdicts::{Counts, Finding, Verdict};
+pub use wrong::{Ending, WrongReply};

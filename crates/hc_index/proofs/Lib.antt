@@ -4,6 +4,7 @@ pub mod LiveLemmas
 pub mod NoteLemmas
 pub mod PositionLemmas
 pub mod FindLemmas
+pub mod CandidateLemmas
 pub mod PoolLemmas
 pub mod TargetsLemmas
 pub mod MapLemmas

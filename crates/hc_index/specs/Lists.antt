@@ -16,6 +16,10 @@ use Rattle.hc_transcript.specs.declared.format.Format.{Format}
 use Rattle.hc_transcript.specs.declared.line.ToldCause.{ToldCause}
 use Rattle.hc_transcript.specs.Items.{Exchange, Forward}
 use Rattle.hc_framing.specs.declared.message.Message.{Message}
+use Rattle.hc_history.specs.declared.candidates.Candidate.{Candidate}
+use Rattle.hc_history.specs.Claims.{Claim}
+use Rattle.hc_history.specs.Filters.{filters}
+use Rattle.hc_history.specs.Furthest.{passed}
 use Rattle.hc_history.specs.Windows.{may_be_for}
 use Rattle.hc_history.specs.Noting.{live_answered}
 use Rattle.hc_history.specs.Right.{is_judged_collapsed}
@@ -119,6 +123,14 @@ watched_answered forward cause response seen = record {
 }
 
 -- ---- what a reply carries
+
+-- how far a live response gets, of whatever target
+abbrev pub candidate_of : Claim → LiveResponse → Candidate
+candidate_of claim live = record { position = live.position; passed = passed (filters claim (record { target = live.target; state = live.state })) }
+
+-- how far each of the claim's target gets, in their order
+abbrev pub candidates_in : Claim → List LiveResponse → List Candidate
+candidates_in claim lives = map (candidate_of claim) (filter (λ live. same_target live.target claim.target) lives)
 
 -- n is the most, or at least enough and no more than the most
 pub record IsMostOrEnough (enough n most : ℕ) : Type 0 where

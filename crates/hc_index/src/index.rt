@@ -5,8 +5,9 @@ ghost use Rattle.hc_transcript.specs.Items.{Item, item_of};
 ghost use Rattle.hc_transcript.specs.History.{next_position, exchange_of};
 ghost use Rattle.hc_history.specs.Seen.{Seen, IsSeenAs};
 ghost use Rattle.hc_history.specs.Right.{IsFinding};
+ghost use Rattle.hc_history.specs.Candidates.{AreCandidatesOf};
 
-use hc_history::{Finding, MarkedReply, Settings};
+use hc_history::{Candidate, Finding, MarkedReply, Settings};
 use hc_transcript::{Format, OwnedItem};
 use std::alloc::AllocError;
 
@@ -35,4 +36,20 @@ pub trait Index {
     ) -> Result<Finding, AllocError>
         ensures { (h : List Item) → IsSeenAs format (seen self.now) h
             → IfOk result (IsFinding format settings.now (exchange_of exchange h) moment reply.now h) };
+
+    /// How far the responses get that a reply to the open exchange of that number may carry, which comes next
+    /// in a transcript of that format, at that moment: all earlier responses of its target that may be stored,
+    /// invalidated ones too, each with its position and the number of filters that it passes one after another;
+    /// the furthest first, and of equals the newest first. Where no exchange of that number is open, there are
+    /// none. It fails only where memory is refused.
+    fn candidates(
+        &self,
+        exchange: u64,
+        reply: &MarkedReply<'_>,
+        moment: u64,
+        settings: &Settings,
+        format: Format,
+    ) -> Result<Vec<Candidate>, AllocError>
+        ensures { (h : List Item) → IsSeenAs format (seen self.now) h
+            → IfOk result (λ candidates. AreCandidatesOf format settings.now (exchange_of exchange h) moment reply.now h candidates.items) };
 }

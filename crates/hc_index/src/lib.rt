@@ -3,6 +3,7 @@
 #![tactic(auto)]
 
 mod at_target;
+mod candidates;
 mod exchanges;
 mod finding;
 mod index;
@@ -16,7 +17,7 @@ mod noting;
 mod pool;
 mod targets;
 
-pub use hc_history::{Finding, MarkedReply, Reason, Settings};
+pub use hc_history::{Candidate, Finding, MarkedReply, Reason, Settings};
 pub use index::Index;
 pub use list_index::ListIndex;
 pub use map_index::MapIndex;

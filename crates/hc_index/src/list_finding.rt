@@ -4,16 +4,20 @@ ghost use Rattle.std.specs.Prelude.{◌≡◌, List, IfOk, option_copied};
 ghost use Rattle.std.specs.List.{list_any};
 ghost use Rattle.hc_transcript.specs.Items.{Item};
 ghost use Rattle.hc_transcript.specs.History.{exchange_of};
+ghost use Rattle.hc_history.specs.Candidates.{AreCandidatesOf};
 ghost use Rattle.hc_history.specs.Forwarded.{carries};
 ghost use Rattle.hc_history.specs.Right.{IsFinding};
 ghost use Rattle.hc_history.specs.Seen.{IsSeenAs};
 ghost use Rattle.hc_index.specs.Lists.{carried_by, open_in, position_in, seen_in};
 
+use crate::candidates::candidates_among;
 use crate::finding::{Latest, carries_one, claim_of, found_by};
 use crate::kept::{WatchedExchange, WindowAnswer};
 use crate::list_index::ListIndex;
 use hc_head::Target;
-use hc_history::{Finding, Mark, MarkedReply, ReplyClaim, Settings, is_judged_collapsed};
+use hc_history::{
+    Candidate, Finding, Mark, MarkedReply, ReplyClaim, Settings, is_judged_collapsed,
+};
 use hc_transcript::Format;
 use std::alloc::AllocError;
 use std::collections::BTreeMap;
@@ -71,4 +75,28 @@ pub(crate) fn finding(
     let mark = reply.mark();
     let carried = is_carried(mark, &claim, watched.window.as_slice());
     found_by(index.alloc, mark, &claim, index.lives.as_slice(), carried)
+}
+
+/// The candidates of a reply to the open exchange of that number. Where there is none, there are none.
+pub(crate) fn candidates(
+    index: &ListIndex,
+    number: u64,
+    reply: &MarkedReply<'_>,
+    moment: u64,
+    settings: &Settings,
+    format: Format,
+) -> Result<Vec<Candidate>, AllocError>
+    ensures { (h : List Item) → IsSeenAs format (seen_in index.now) h
+        → IfOk result (λ candidates. AreCandidatesOf format settings.now (exchange_of number h) moment reply.now h candidates.items) }
+{
+    let Some(watched) = open_exchange(index.exchanges.as_slice(), number) else {
+        return Ok(Vec::new(index.alloc));
+    };
+    let exchange = &watched.exchange;
+    let latest = Latest {
+        error: position_of(&index.errors, &exchange.target),
+        failure: position_of(&index.failures, &exchange.target),
+    };
+    let claim = claim_of(exchange, latest, moment, reply, settings, format);
+    candidates_among(index.alloc, &claim, index.lives.as_slice())
 }

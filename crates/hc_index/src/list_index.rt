@@ -15,12 +15,12 @@ ghost use Rattle.hc_index.specs.Lists.{by_target, position_in, seen_in};
 use crate::exchanges::{add_to_windows, close_exchange, open_exchange};
 use crate::index::Index;
 use crate::kept::{LiveResponse, OpenExchange, OpenForward, WatchedExchange};
-use crate::list_finding::finding;
+use crate::list_finding::{candidates, finding};
 use crate::lives::{answer_lives, begin_live};
 use crate::noting::{Noting, note_item};
 use hc_framing::Message;
 use hc_head::{RequestHead, ResponseHead, Target, is_error_status};
-use hc_history::{Finding, MarkedReply, Settings};
+use hc_history::{Candidate, Finding, MarkedReply, Settings};
 use hc_transcript::{Format, OwnedItem, ToldCause};
 use std::alloc::{AllocError, Global};
 use std::collections::BTreeMap;
@@ -164,5 +164,16 @@ impl Index for ListIndex {
         format: Format,
     ) -> Result<Finding, AllocError> {
         finding(self, exchange, reply, moment, settings, format)
+    }
+
+    fn candidates(
+        &self,
+        exchange: u64,
+        reply: &MarkedReply<'_>,
+        moment: u64,
+        settings: &Settings,
+        format: Format,
+    ) -> Result<Vec<Candidate>, AllocError> {
+        candidates(self, exchange, reply, moment, settings, format)
     }
 }

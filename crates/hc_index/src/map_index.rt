@@ -11,12 +11,12 @@ ghost use Rattle.hc_index.specs.Maps.{seen_in};
 use crate::at_target::AtTarget;
 use crate::index::Index;
 use crate::kept::{OpenExchange, OpenForward, PooledExchange};
-use crate::map_finding::finding;
+use crate::map_finding::{candidates, finding};
 use crate::noting::{Noting, note_item};
 use crate::targets::{answer_at, close_at, fail_at, open_at};
 use hc_framing::Message;
 use hc_head::{RequestHead, ResponseHead, Target};
-use hc_history::{Finding, MarkedReply, Settings};
+use hc_history::{Candidate, Finding, MarkedReply, Settings};
 use hc_transcript::{Format, OwnedItem, ToldCause};
 use std::alloc::{AllocError, Global};
 use std::collections::BTreeMap;
@@ -126,5 +126,16 @@ impl Index for MapIndex {
         format: Format,
     ) -> Result<Finding, AllocError> {
         finding(self, exchange, reply, moment, settings, format)
+    }
+
+    fn candidates(
+        &self,
+        exchange: u64,
+        reply: &MarkedReply<'_>,
+        moment: u64,
+        settings: &Settings,
+        format: Format,
+    ) -> Result<Vec<Candidate>, AllocError> {
+        candidates(self, exchange, reply, moment, settings, format)
     }
 }

@@ -91,6 +91,13 @@ impl Pool {
         self.windows.is_empty()
     }
 
+    /// Whether the window of the exchange of that number is open behind so many answers.
+    pub(crate) fn is_open(&self, behind: usize, number: u64) -> bool
+        ensures { result ≡ is_open behind number self.now }
+    {
+        self.windows.contains(&(behind, number))
+    }
+
     /// Opens the window of the exchange of that number, and says how many answers there were before it.
     pub(crate) fn open(&mut self, number: u64) -> Result<usize, AllocError>
         ensures { IfOk result (λ behind. OpensWindow number self.old behind self.new) }

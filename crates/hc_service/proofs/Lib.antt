@@ -21,3 +21,5 @@ pub mod StepLemmas
 pub mod QuietLemmas
 pub mod EventLemmas
 pub mod RunLemmas
+pub mod LeftLemmas
+pub mod FewLemmas

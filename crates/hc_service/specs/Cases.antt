@@ -1,4 +1,4 @@
--- The cases of a whole request. The first that holds decides; the store is asked from the fourth on.
+-- The cases of a whole request. The first that holds decides; the store is asked from the fourth on, but for whoever waits there.
 use Rattle.std.specs.Prelude.{ℕ, Bool, true, false, ◌&&◌, ◌||◌, not, List, Option, Some, None, codes, if◌then◌else◌}
 use Rattle.hc_fields.specs.declared.fields.Field.{Field}
 use Rattle.hc_head.specs.declared.head.RequestHead.{RequestHead}

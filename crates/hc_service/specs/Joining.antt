@@ -2,6 +2,7 @@
 use Rattle.std.specs.Prelude.{◌≡◌, ℕ, ◌<◌, ◌≤◌, ◌==◌, Bool, true, false, ◌&&◌, not, List, [], ◌∷◌, length, map, filter, Option, Some, None, codes, if◌then◌else◌}
 use Rattle.std.specs.FinMap.{get, entries}
 use Rattle.std.specs.List.{list_any}
+use Rattle.std.specs.Option.{IsSome}
 use Rattle.hc_fields.specs.Values.{has_name}
 use Rattle.hc_fresh.specs.Lifetimes.{says}
 use Rattle.hc_head.specs.declared.head.RequestHead.{RequestHead}
@@ -17,7 +18,7 @@ use Rattle.hc_service.specs.declared.open.OpenExchange.{OpenExchange}
 use Rattle.hc_service.specs.declared.open.Purpose.{Purpose}
 use Rattle.hc_service.specs.declared.open.Purpose.TheVariants as purpose
 use Rattle.hc_service.specs.Serving.{is_fresh}
-use Rattle.hc_service.specs.State.{Table, Awaited, OpenNow}
+use Rattle.hc_service.specs.State.{State, Table, Awaited, OpenNow}
 
 -- ---- who may wait, and for what
 
@@ -43,7 +44,7 @@ abbrev pub is_joinable_kind : ForwardKind → Bool
 is_joinable_kind Joinable = true
 is_joinable_kind kind = false
 
--- and by whom it is for
+-- whether they may wait for a forward of that purpose
 abbrev pub may_be_joined : Purpose → Bool
 may_be_joined purpose.Background = false
 may_be_joined (purpose.Reply e why kind) = is_joinable_kind kind
@@ -61,6 +62,14 @@ waiting_for f exchanges = map (λ e. e.0) (filter (λ e. waits_for f e.1.waits_f
 -- the most that wait for one
 abbrev pub most_waiting : ℕ
 most_waiting = 64
+
+-- each that waits, waits for a forward that is open
+abbrev pub WaitForOpen : State → Type 0
+WaitForOpen s = (e f : ℕ) (x : OpenExchange) → get s.exchanges e ≡ Some x → x.waits_for ≡ Some f → IsSome (get s.forwards f)
+
+-- for no forward more wait than may
+abbrev pub FewWait : State → Type 0
+FewWait s = (f : ℕ) → length (waiting_for f s.exchanges) ≤ most_waiting
 
 -- a request for the target may wait for the forward of that number
 pub record MayJoin (target : Target) (underway : OpenNow) (f : ℕ) : Type 0 where

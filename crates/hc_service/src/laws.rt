@@ -45,7 +45,7 @@ ghost use Rattle.hc_service.specs.Runs.{Runs, RunsOn, RunsTo, nothing_yet, recor
 ghost use Rattle.hc_service.specs.Asking.{allows_age, asks_for_fresh, is_answered_by_store};
 ghost use Rattle.hc_service.specs.Replying.{Wanted, collapsed_reply, hit_reply, made_reply, passed_reply, replacing_reply};
 ghost use Rattle.hc_history.specs.Usable.{age_at};
-ghost use Rattle.hc_service.specs.Joining.{may_be_shared};
+ghost use Rattle.hc_service.specs.Joining.{may_be_shared, FewWait, WaitForOpen};
 ghost use Rattle.hc_service.specs.Serving.{is_fresh, may_be_served, may_replace};
 ghost use Rattle.hc_service.specs.Turns.{IsAnswer, after_origin_octets, after_client_octets, after_request, replied};
 ghost use Rattle.hc_service.specs.Settings.{AreGood, is_name};
@@ -400,3 +400,20 @@ pub fn steps_end_ready()
     forwards_are_writable();
     forwards_keep_the_target();
 }
+
+/// Nobody is left waiting: behind each event, and so wherever steps have led a new cache, each request that
+/// waits for the forward of another one waits for a forward that is open. At its end its release is owed.
+pub fn nobody_is_left_waiting()
+    ensures event { (settings : CoreSettings) (event : Event) (s : State) (actions : List Action) (other : State)
+        → WaitForOpen s → Serves settings event s actions other → WaitForOpen other }
+    ensures run { (settings : CoreSettings) (events : List Event) (results : List StepResult) (s : State)
+        → Steps settings (new_state settings) events results (Some s) → WaitForOpen s }
+{}
+
+/// For each forward no more requests wait than may, behind each event and wherever steps have led a new cache.
+pub fn few_wait_for_each_forward()
+    ensures event { (settings : CoreSettings) (event : Event) (s : State) (actions : List Action) (other : State)
+        → FewWait s → Serves settings event s actions other → FewWait other }
+    ensures run { (settings : CoreSettings) (events : List Event) (results : List StepResult) (s : State)
+        → Steps settings (new_state settings) events results (Some s) → FewWait s }
+{}

@@ -21,11 +21,11 @@ pub use cases::{Case, Cause, case_before_store, case_by_store};
 pub use fault::StepFault;
 pub use joining::{is_joinable, may_be_joined, may_be_shared, plain_kind};
 pub use laws::{
-    agreement_is_ready, events_keep_agreement, hits_are_right, new_cache_agrees,
-    open_exchanges_are_those_of_the_connections, other_replies_are_right,
-    received_messages_can_be_recorded, records_given_out_are_counted, records_keep_to_the_format,
-    right_runs_join, runs_are_judged_right, runs_begin_with_agreement, runs_go_on,
-    runs_keep_agreement, runs_of_turns_keep_agreement, steps_are_runs, steps_end_ready,
+    agreement_is_ready, events_keep_agreement, few_wait_for_each_forward, hits_are_right,
+    new_cache_agrees, nobody_is_left_waiting, open_exchanges_are_those_of_the_connections,
+    other_replies_are_right, received_messages_can_be_recorded, records_given_out_are_counted,
+    records_keep_to_the_format, right_runs_join, runs_are_judged_right, runs_begin_with_agreement,
+    runs_go_on, runs_keep_agreement, runs_of_turns_keep_agreement, steps_are_runs, steps_end_ready,
     steps_go_on, stored_responses_are_those_of_the_records, turns_keep_agreement,
     unread_octets_are_those_that_came, what_forbids_serving_is_obeyed,
     what_is_open_is_that_of_the_records, what_is_stored_can_be_a_reply,

@@ -5,12 +5,8 @@ use Rattle.hc_audit.proofs.judge.Judge.new.Goals as goal
 pub returns : goal.returns
 returns g c = λ seen. record {
   judging = record {
-    records = [];
     history = [];
-    reads = c.new.ensures;
-    index = λ format may. seen format;
-    counts = c.new-2.ensures;
-    settings_are = refl;
+    read = record { records = []; reads = c.new.ensures; index = λ format may. seen format; counts = c.new-2.ensures; settings_are = refl };
     right = λ format may. tt;
   };
   waits = fresh_waits c.new.result c.new.ensures;

@@ -1,0 +1,236 @@
+-- What one record more makes of a survey, and what its end.
+use Rattle.std.proofs.Common.{◌≡◌, ◌≢◌, ℕ, ◌+◌, List, [], ◌∷◌, ◌++◌, Option, Some, None, IfSome, refl, sym, ap, subst, ◌∙◌, ◌⊎◌, inl, inr, append-nil, append_assoc}
+use Rattle.hc_transcript.specs.declared.fault.RecordFault.{RecordFault}
+use Rattle.hc_transcript.specs.declared.fault.RecordFault.TheVariants as fault
+use Rattle.hc_transcript.specs.declared.format.Format.{Format}
+use Rattle.hc_transcript.specs.declared.format.Format.TheVariants.{First}
+use Rattle.hc_transcript.specs.declared.reader.RecordReader.{RecordReader}
+use Rattle.hc_transcript.specs.declared.record.Record.{Record}
+use Rattle.hc_transcript.specs.Items.{Item}
+use Rattle.hc_transcript.specs.History.{next_position}
+use Rattle.hc_transcript.specs.Transcript.{IsTranscript, Splits}
+use Rattle.hc_transcript.specs.Malformed.{IsUnfinishedOpening, IsUnfinished}
+use Rattle.hc_transcript.specs.Checks.{line_fault}
+use Rattle.hc_transcript.specs.Reader.{Agrees, ReadsTo, WaitsBy, Waits, MeetsFault, HasUnread, HasUnreadBy, format_read, position_by, reader_position}
+use Rattle.hc_history.specs.declared.reasons.Reason.{Reason}
+use Rattle.hc_history.specs.declared.settings.Settings.{Settings}
+use Rattle.hc_history.specs.declared.verdicts.Finding.{Finding}
+use Rattle.hc_history.specs.declared.verdicts.Finding.TheVariants.{Right, Wrong}
+use Rattle.hc_history.specs.declared.wrong.WrongReply.{WrongReply}
+use Rattle.hc_history.specs.declared.wrong.Ending.{Ending}
+use Rattle.hc_history.specs.declared.wrong.Ending.TheVariants.{Whole, Broken}
+use Rattle.hc_history.specs.Found.{IsFound, AnswersOpen}
+use Rattle.hc_history.specs.Seen.{Seen}
+use Rattle.hc_history.specs.WrongReplies.{wrong_after, AreWrongIn, AreWrongReplies}
+use Rattle.hc_history.proofs.FoundLemmas.{found_right, found_wrong}
+use Rattle.hc_history.proofs.WrongLemmas.{one_list}
+use Rattle.hc_audit.specs.declared.judge.Judge.{Judge}
+use Rattle.hc_audit.specs.declared.survey.Reach.{Reach}
+use Rattle.hc_audit.specs.declared.survey.Reach.TheVariants.{Open, Ended, Failed}
+use Rattle.hc_audit.specs.declared.witness.JudgedReply.{JudgedReply}
+use Rattle.hc_audit.specs.Endings.{EndsSo, MayGoOn}
+use Rattle.hc_audit.specs.Told.{wrong_of}
+use Rattle.hc_audit.specs.Judging.{HasRead, finding_told}
+use Rattle.hc_audit.specs.Surveying.{AreWrong, GoOnBy, IsSurveying, IsSurveyed, IsAheadOf, SurveysBy, ended_by}
+use Rattle.hc_audit.proofs.JudgeLemmas.{might_be_of, may_be_read, may_be_split, met_more, not_torn, none_is_some, of_the_read}
+
+-- ---- a record more
+
+-- what the witness was told of it
+pub told_of : (format : Format) (settings : Settings) (h : List Item) (item : Item) (found : Finding) (position : ℕ) (old new : List WrongReply) → AnswersOpen h item
+    → IsFound format settings h item found → position ≡ next_position h → new ≡ old ++ wrong_of position found → GoOnBy format settings h item old new
+told_of format settings h item Right position old new opens is position-is told = inl (found_right format settings h item opens is, told ∙ append-nil old)
+told_of format settings h item (Wrong why) position old new opens is position-is told =
+    inr (why, found_wrong format settings h item why opens is, told ∙ ap (λ (n : ℕ). old ++ record { position = n; reason = why } ∷ []) position-is)
+
+pub told_nothing : {I : Type 0} (format : Format) (settings : Settings) (h : List Item) (item : Item) (judged : Option (JudgedReply I)) (old : List WrongReply) → AnswersOpen h item
+    → IsFound format settings h item (finding_told judged) → judged ≡ None → GoOnBy format settings h item old old
+told_nothing {I} format settings h item judged old opens is none =
+    inl (found_right format settings h item opens (subst (λ (o : Option (JudgedReply I)). IsFound format settings h item (finding_told o)) none is), refl)
+
+pub told_reply : {I : Type 0} (format : Format) (settings : Settings) (h : List Item) (item : Item) (judged : Option (JudgedReply I)) (reply : JudgedReply I) (count : ℕ) (old : List WrongReply)
+    → AnswersOpen h item → IsFound format settings h item (finding_told judged) → judged ≡ Some reply → IfSome judged (λ r. r.position ≡ count) → count ≡ next_position h
+    → GoOnBy format settings h item old (old ++ wrong_of reply.position reply.finding)
+told_reply {I} format settings h item judged reply count old opens is some position count-is =
+    told_of format settings h item reply.finding reply.position old (old ++ wrong_of reply.position reply.finding) opens
+    (subst (λ (o : Option (JudgedReply I)). IsFound format settings h item (finding_told o)) some is)
+    (subst (λ (o : Option (JudgedReply I)). IfSome o (λ r. r.position ≡ count)) some position ∙ count-is) refl
+
+-- by the settings, and of the item, that are these
+pub told_here : (format : Format) (given settings : Settings) (h : List Item) (held item : Item) (old new : List WrongReply) → given ≡ settings → held ≡ item
+    → GoOnBy format given h held old new → GoOnBy format settings h item old new
+told_here format given settings h held item old new settings-are item-is by =
+    subst (λ (s : Settings). GoOnBy format s h item old new) settings-are (subst (λ (i : Item). GoOnBy format given h i old new) item-is by)
+
+goes_on : (format : Format) (settings : Settings) (h : List Item) (item : Item) (old new : List WrongReply) → AreWrongIn format settings h old → GoOnBy format settings h item old new
+    → AreWrongIn format settings (item ∷ h) new
+goes_on format settings h item old new before (inl by) = inl (subst (λ (ws : List WrongReply). AreWrongIn format settings h ws) (sym by.1) before, by.0)
+goes_on format settings h item old new before (inr by) = inr (old, by.0, before, by.1, by.2)
+
+-- once it is noted
+pub wrong_goes_on : {I : Type 0} (seen : I → Seen) (j k : Judge I) (settings : Settings) (octets : List ℕ) (format : Format) (old new : List WrongReply)
+    → (w : IsAheadOf seen j settings octets format old) → GoOnBy format settings w.history w.ahead.item old new → format_read k.reader ≡ format_read j.reader
+    → HasRead seen k settings octets (w.ahead.item ∷ w.history) → IsSurveying seen k settings octets new
+wrong_goes_on seen j k settings octets format old new w by same read = record {
+  history = w.ahead.item ∷ w.history;
+  read = read;
+  wrong = of_the_read (λ (f : Format). AreWrongIn f settings (w.ahead.item ∷ w.history) new) (format_read k.reader) format (same ∙ w.ahead.format_is)
+      (goes_on format settings w.history w.ahead.item old new w.wrong by);
+}
+
+-- ---- a fault of the transcript
+
+-- where no opening is read yet there are none
+none_before : (o : Option Format) (octets held : List ℕ) (records : List Record) (h : List Item) (settings : Settings) (wrongs : List WrongReply) → ReadsTo o octets records h held
+    → AreWrong o settings h wrongs → o ≡ None → wrongs ≡ []
+none_before None octets held records h settings wrongs reads wrong is = subst (λ (g : List Item). AreWrongIn First settings g wrongs) reads.1.0 (wrong First tt)
+none_before (Some format) octets held records h settings wrongs reads wrong is = absurd (some_is_none format is)
+  where
+    some_is_none : (k : Format) → Some k ≡ None → ⊥
+    some_is_none k e = cc
+
+was_none : (old new : Option Format) → ((k : Format) → old ≡ Some k → new ≡ Some k) → new ≡ None → old ≡ None
+was_none None new keeps is = refl
+was_none (Some k) new keeps is = let e : Some k ≡ None = sym (keeps k refl) ∙ is in cc
+
+broken : (r : RecordReader) (octets : List ℕ) (settings : Settings) (h : List Item) (f : RecordFault) (wrongs : List WrongReply) → AreWrong (format_read r) settings h wrongs
+    → (format_read r ≡ None → wrongs ≡ []) → MeetsFault r octets h f → AreWrongReplies octets settings wrongs (Broken (reader_position r) f)
+broken r octets settings h f wrongs wrong none (inl begins) = inl (begins.1.1.1, inl (begins.0, begins.1.0), none begins.1.1.0)
+broken r octets settings h f wrongs wrong none (inr behind) = inr (record {
+  format = behind.format;
+  history = h;
+  are_wrong = wrong behind.format (may_be_read (format_read r) behind.format behind.format_is);
+  breaks = inl behind.breaks;
+  position_is = behind.position_is;
+})
+
+-- the fault that ends the reading: r and s are the reader before it and behind it
+pub met_ends : (r s : RecordReader) (octets : List ℕ) (settings : Settings) (records : List Record) (h : List Item) (f : RecordFault) (position : ℕ) (wrongs : List WrongReply) → Agrees r octets records h
+    → ((k : Format) → format_read r ≡ Some k → format_read s ≡ Some k) → AreWrong (format_read r) settings h wrongs → MeetsFault s octets h f → position ≡ reader_position s
+    → EndsSo (Broken position f) settings octets wrongs
+met_ends r s octets settings records h f position wrongs agrees keeps wrong met is =
+    let now : AreWrong (format_read s) settings h wrongs = λ k may. wrong k (might_be_of (format_read r) (format_read s) keeps k may) in
+    let none : format_read s ≡ None → wrongs ≡ [] = λ e. none_before (format_read r) octets r.held records h settings wrongs agrees.reads wrong (was_none (format_read r) (format_read s) keeps e) in
+    subst (λ (n : ℕ). EndsSo (Broken n f) settings octets wrongs) (sym is) (record {
+      is_last = not_torn s octets h f met;
+      holds = λ more. broken s (octets ++ more) settings h f wrongs now none (met_more s octets more h f met);
+    })
+
+-- ---- the end
+
+pub whole_of : (r : RecordReader) (octets : List ℕ) (settings : Settings) (records : List Record) (h : List Item) (wrongs : List WrongReply) → Agrees r octets records h
+    → (format : Format) × IsTranscript format octets records h → AreWrong (format_read r) settings h wrongs → AreWrongReplies octets settings wrongs Whole
+whole_of r octets settings records h wrongs agrees is wrong = record {
+  format = is.0;
+  records = records;
+  history = h;
+  is_transcript = is.1;
+  are_wrong = wrong is.0 (may_be_split r octets records records h h [] is.0 agrees is.1);
+}
+
+-- octets that are left are torn
+torn_of : (r : RecordReader) (octets : List ℕ) (settings : Settings) (records : List Record) (h : List Item) (wrongs : List WrongReply) → Agrees r octets records h
+    → AreWrong (format_read r) settings h wrongs → Waits r h → HasUnread r → AreWrongReplies octets settings wrongs (Broken (reader_position r) fault.Torn)
+torn_of r octets settings records h wrongs agrees wrong waits unread = go r.format agrees.reads wrong waits unread
+  where
+    go : (o : Option Format) → ReadsTo o octets records h r.held → AreWrong o settings h wrongs → WaitsBy o h r.held → HasUnreadBy o r.held
+        → AreWrongReplies octets settings wrongs (Broken (position_by o r.standing.records) fault.Torn)
+    go None reads wrong waits unread =
+        inl (refl, inr (subst (λ (o : List ℕ). IsUnfinishedOpening o) (sym reads.1.1) waits, refl), none_before None octets r.held records h settings wrongs reads wrong refl)
+    go (Some format) reads wrong waits unread =
+        inr (record {
+          format = format;
+          history = h;
+          are_wrong = wrong format refl;
+          breaks = inr (refl, record { records = records; rest = r.held; splits = reads; some = unread; torn = waits });
+          position_is = ap (λ (n : ℕ). n + 1) agrees.stands.records;
+        })
+
+pub end_is : (r : RecordReader) (octets : List ℕ) (settings : Settings) (records : List Record) (h : List Item) (f : RecordFault) (position : ℕ) (wrongs : List WrongReply)
+    → Agrees r octets records h → AreWrong (format_read r) settings h wrongs → Waits r h → (f ≡ fault.Torn) ⊎ (r.fault ≡ Some f) → HasUnread r → position ≡ reader_position r
+    → AreWrongReplies octets settings wrongs (Broken position f)
+end_is r octets settings records h f position wrongs agrees wrong waits (inl is) unread position-is =
+    subst (λ (g : RecordFault). AreWrongReplies octets settings wrongs (Broken position g)) (sym is)
+    (subst (λ (n : ℕ). AreWrongReplies octets settings wrongs (Broken n fault.Torn)) (sym position-is) (torn_of r octets settings records h wrongs agrees wrong waits unread))
+end_is r octets settings records h f position wrongs agrees wrong waits (inr failed) unread position-is = absurd (none_is_some r.fault f agrees.unfailed failed)
+
+-- ---- octets that may go on
+
+record GoesOn (octets : List ℕ) (settings : Settings) (wrongs : List WrongReply) : Type 0 where
+  pub ending : Ending
+  pub may : MayGoOn ending
+  pub are : AreWrongReplies octets settings wrongs ending
+
+cell : (b : ℕ) (held : List ℕ) → b ∷ held ≢ []
+cell b held e = cc
+
+ends_behind : (format : Format) (octets : List ℕ) (settings : Settings) (records : List Record) (h : List Item) (held : List ℕ) (wrongs : List WrongReply) → Splits format octets records h held
+    → AreWrongIn format settings h wrongs → IsUnfinished format (line_fault h) held → GoesOn octets settings wrongs
+ends_behind format octets settings records h [] wrongs splits wrong waits = record {
+  ending = Whole;
+  may = tt;
+  are = record { format = format; records = records; history = h; is_transcript = splits; are_wrong = wrong };
+}
+ends_behind format octets settings records h (b ∷ held) wrongs splits wrong waits = record {
+  ending = Broken (next_position h) fault.Torn;
+  may = refl;
+  are = inr (record {
+    format = format;
+    history = h;
+    are_wrong = wrong;
+    breaks = inr (refl, record { records = records; rest = b ∷ held; splits = splits; some = cell b held; torn = waits });
+    position_is = refl;
+  });
+}
+
+may_go_on : (r : RecordReader) (octets : List ℕ) (settings : Settings) (records : List Record) (h : List Item) (wrongs : List WrongReply) → Agrees r octets records h
+    → AreWrong (format_read r) settings h wrongs → Waits r h → GoesOn octets settings wrongs
+may_go_on r octets settings records h wrongs agrees wrong waits = go r.format agrees.reads wrong waits
+  where
+    go : (o : Option Format) → ReadsTo o octets records h r.held → AreWrong o settings h wrongs → WaitsBy o h r.held → GoesOn octets settings wrongs
+    go None reads wrong waits = record {
+      ending = Broken 0 fault.Torn;
+      may = refl;
+      are = inl (refl, inr (subst (λ (o : List ℕ). IsUnfinishedOpening o) (sym reads.1.1) waits, refl), none_before None octets r.held records h settings wrongs reads wrong refl);
+    }
+    go (Some format) reads wrong waits = ends_behind format octets settings records h r.held wrongs reads (wrong format refl) waits
+
+some_is_none : (e : Ending) → Some e ≡ None → ⊥
+some_is_none e is = cc
+
+open_is_ended : {I : Type 0} (judge : Judge I) (e : Ending) → Open judge ≡ Ended e → ⊥
+open_is_ended judge e is = cc
+
+-- where no ending holds yet, that of the octets may go on, and these are their wrong replies
+pub open_may_go_on : {I : Type 0} (seen : I → Seen) (reach : Reach I) (settings : Settings) (octets : List ℕ) (wrongs all : List WrongReply) (ending : Ending) → ended_by reach ≡ None
+    → SurveysBy seen reach settings octets wrongs → AreWrongReplies octets settings all ending → MayGoOn ending × (all ≡ wrongs)
+open_may_go_on seen (Open judge) settings octets wrongs all ending none w are =
+    let k = w.surveying in
+    let other = may_go_on judge.reader octets settings k.read.records k.history wrongs k.read.reads k.wrong w.waits in
+    let same = one_list octets settings wrongs all other.ending ending other.are are in (subst MayGoOn same.1 other.may, sym same.0)
+open_may_go_on seen (Ended known) settings octets wrongs all ending none w are = absurd (some_is_none known none)
+open_may_go_on seen Failed settings octets wrongs all ending none w are = absurd w
+
+-- ---- an ending that holds
+
+-- is that of the octets
+pub ended_is : {I : Type 0} (seen : I → Seen) (reach : Reach I) (settings : Settings) (octets : List ℕ) (wrongs : List WrongReply) (ending : Ending) → reach ≡ Ended ending
+    → SurveysBy seen reach settings octets wrongs → AreWrongReplies octets settings wrongs ending
+ended_is {I} seen reach settings octets wrongs ending is surveys =
+    let ends = subst (λ (s : Reach I). SurveysBy seen s settings octets wrongs) is surveys in
+    subst (λ (o : List ℕ). AreWrongReplies o settings wrongs ending) (append-nil octets) (ends.holds [])
+
+-- holds on
+pub ended_goes_on : {I : Type 0} (seen : I → Seen) (reach : Reach I) (settings : Settings) (octets more : List ℕ) (wrongs : List WrongReply) (ending : Ending) → reach ≡ Ended ending
+    → SurveysBy seen reach settings octets wrongs → SurveysBy seen reach settings (octets ++ more) wrongs
+ended_goes_on seen (Open judge) settings octets more wrongs ending is surveys = absurd (open_is_ended judge ending is)
+ended_goes_on seen (Ended known) settings octets more wrongs ending is surveys = record {
+  is_last = surveys.is_last;
+  holds = λ later. subst (λ (o : List ℕ). AreWrongReplies o settings wrongs known) (sym (append_assoc octets more later)) (surveys.holds (more ++ later));
+}
+ended_goes_on seen Failed settings octets more wrongs ending is surveys = absurd surveys
+
+-- a survey that is open
+pub open_is : {I : Type 0} (seen : I → Seen) (reach : Reach I) (settings : Settings) (octets : List ℕ) (wrongs : List WrongReply) (judge : Judge I) → reach ≡ Open judge
+    → SurveysBy seen reach settings octets wrongs → IsSurveyed seen judge settings octets wrongs
+open_is {I} seen reach settings octets wrongs judge is surveys = subst (λ (s : Reach I). SurveysBy seen s settings octets wrongs) is surveys
