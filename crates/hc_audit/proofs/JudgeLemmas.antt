@@ -1,5 +1,5 @@
 -- What one record more makes of a judgement, and what its end.
-use Rattle.std.proofs.Common.{◌≡◌, ◌≢◌, ℕ, ◌+◌, List, [], arith, ◌∷◌, ◌++◌, Option, Some, None, IfOk, Result, Ok, refl, sym, ap, subst, ◌∙◌, ◌⊎◌, inl, inr}
+use Rattle.std.proofs.Common.{◌≡◌, ◌≢◌, ℕ, ◌+◌, List, [], arith, ◌∷◌, ◌++◌, Option, Some, None, Result, refl, sym, ap, subst, ◌∙◌, ◌⊎◌, inl, inr}
 use Rattle.std.specs.declared.alloc.AllocError.{AllocError}
 use Rattle.hc_transcript.specs.declared.fault.RecordFault.{RecordFault}
 use Rattle.hc_transcript.specs.declared.fault.RecordFault.TheVariants as fault
@@ -26,7 +26,7 @@ use Rattle.hc_history.specs.declared.verdicts.Verdict.TheVariants.{Yes, No, Malf
 use Rattle.hc_history.specs.Counting.{counts_of}
 use Rattle.hc_history.specs.Found.{IsFound, AnswersOpen}
 use Rattle.hc_history.specs.Right.{AllRight}
-use Rattle.hc_history.specs.Seen.{Seen, IsSeenAs}
+use Rattle.hc_history.specs.Seen.{Seen}
 use Rattle.hc_history.specs.Verdicts.{IsVerdict}
 use Rattle.hc_history.proofs.FoundLemmas.{found_right, found_wrong, follows_open}
 use Rattle.hc_history.proofs.VerdictLemmas.{no_stays, one_verdict}

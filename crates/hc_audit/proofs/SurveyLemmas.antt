@@ -12,13 +12,17 @@ use Rattle.hc_transcript.specs.Transcript.{IsTranscript, Splits}
 use Rattle.hc_transcript.specs.Malformed.{IsUnfinishedOpening, IsUnfinished}
 use Rattle.hc_transcript.specs.Checks.{line_fault}
 use Rattle.hc_transcript.specs.Reader.{Agrees, ReadsTo, WaitsBy, Waits, MeetsFault, HasUnread, HasUnreadBy, format_read, position_by, reader_position}
-use Rattle.hc_history.specs.declared.reasons.Reason.{Reason}
 use Rattle.hc_history.specs.declared.settings.Settings.{Settings}
 use Rattle.hc_history.specs.declared.verdicts.Finding.{Finding}
 use Rattle.hc_history.specs.declared.verdicts.Finding.TheVariants.{Right, Wrong}
 use Rattle.hc_history.specs.declared.wrong.WrongReply.{WrongReply}
 use Rattle.hc_history.specs.declared.wrong.Ending.{Ending}
 use Rattle.hc_history.specs.declared.wrong.Ending.TheVariants.{Whole, Broken}
+use Rattle.hc_history.specs.declared.verdicts.Counts.{Counts}
+use Rattle.hc_history.specs.declared.verdicts.Verdict.TheVariants.{Yes}
+use Rattle.hc_history.specs.Counting.{counts_of}
+use Rattle.hc_history.specs.Right.{AllRight}
+use Rattle.hc_history.specs.Verdicts.{IsVerdict}
 use Rattle.hc_history.specs.Found.{IsFound, AnswersOpen}
 use Rattle.hc_history.specs.Seen.{Seen}
 use Rattle.hc_history.specs.WrongReplies.{wrong_after, AreWrongIn, AreWrongReplies}
@@ -37,16 +41,11 @@ use Rattle.hc_audit.proofs.JudgeLemmas.{might_be_of, may_be_read, may_be_split, 
 -- ---- a record more
 
 -- what the witness was told of it
-pub told_of : (format : Format) (settings : Settings) (h : List Item) (item : Item) (found : Finding) (position : ℕ) (old new : List WrongReply) → AnswersOpen h item
+told_of : (format : Format) (settings : Settings) (h : List Item) (item : Item) (found : Finding) (position : ℕ) (old new : List WrongReply) → AnswersOpen h item
     → IsFound format settings h item found → position ≡ next_position h → new ≡ old ++ wrong_of position found → GoOnBy format settings h item old new
 told_of format settings h item Right position old new opens is position-is told = inl (found_right format settings h item opens is, told ∙ append-nil old)
 told_of format settings h item (Wrong why) position old new opens is position-is told =
     inr (why, found_wrong format settings h item why opens is, told ∙ ap (λ (n : ℕ). old ++ record { position = n; reason = why } ∷ []) position-is)
-
-pub told_nothing : {I : Type 0} (format : Format) (settings : Settings) (h : List Item) (item : Item) (judged : Option (JudgedReply I)) (old : List WrongReply) → AnswersOpen h item
-    → IsFound format settings h item (finding_told judged) → judged ≡ None → GoOnBy format settings h item old old
-told_nothing {I} format settings h item judged old opens is none =
-    inl (found_right format settings h item opens (subst (λ (o : Option (JudgedReply I)). IsFound format settings h item (finding_told o)) none is), refl)
 
 pub told_reply : {I : Type 0} (format : Format) (settings : Settings) (h : List Item) (item : Item) (judged : Option (JudgedReply I)) (reply : JudgedReply I) (count : ℕ) (old : List WrongReply)
     → AnswersOpen h item → IsFound format settings h item (finding_told judged) → judged ≡ Some reply → IfSome judged (λ r. r.position ≡ count) → count ≡ next_position h
@@ -164,6 +163,18 @@ record GoesOn (octets : List ℕ) (settings : Settings) (wrongs : List WrongRepl
 cell : (b : ℕ) (held : List ℕ) → b ∷ held ≢ []
 cell b held e = cc
 
+-- octets of a record that isn't whole are left
+torn_behind : (format : Format) (octets : List ℕ) (settings : Settings) (records : List Record) (h : List Item) (b : ℕ) (held : List ℕ) (wrongs : List WrongReply)
+    → Splits format octets records h (b ∷ held) → AreWrongIn format settings h wrongs → IsUnfinished format (line_fault h) (b ∷ held)
+    → AreWrongReplies octets settings wrongs (Broken (next_position h) fault.Torn)
+torn_behind format octets settings records h b held wrongs splits wrong waits = inr (record {
+  format = format;
+  history = h;
+  are_wrong = wrong;
+  breaks = inr (refl, record { records = records; rest = b ∷ held; splits = splits; some = cell b held; torn = waits });
+  position_is = refl;
+})
+
 ends_behind : (format : Format) (octets : List ℕ) (settings : Settings) (records : List Record) (h : List Item) (held : List ℕ) (wrongs : List WrongReply) → Splits format octets records h held
     → AreWrongIn format settings h wrongs → IsUnfinished format (line_fault h) held → GoesOn octets settings wrongs
 ends_behind format octets settings records h [] wrongs splits wrong waits = record {
@@ -174,13 +185,7 @@ ends_behind format octets settings records h [] wrongs splits wrong waits = reco
 ends_behind format octets settings records h (b ∷ held) wrongs splits wrong waits = record {
   ending = Broken (next_position h) fault.Torn;
   may = refl;
-  are = inr (record {
-    format = format;
-    history = h;
-    are_wrong = wrong;
-    breaks = inr (refl, record { records = records; rest = b ∷ held; splits = splits; some = cell b held; torn = waits });
-    position_is = refl;
-  });
+  are = torn_behind format octets settings records h b held wrongs splits wrong waits;
 }
 
 may_go_on : (r : RecordReader) (octets : List ℕ) (settings : Settings) (records : List Record) (h : List Item) (wrongs : List WrongReply) → Agrees r octets records h
@@ -194,6 +199,53 @@ may_go_on r octets settings records h wrongs agrees wrong waits = go r.format ag
       are = inl (refl, inr (subst (λ (o : List ℕ). IsUnfinishedOpening o) (sym reads.1.1) waits, refl), none_before None octets r.held records h settings wrongs reads wrong refl);
     }
     go (Some format) reads wrong waits = ends_behind format octets settings records h r.held wrongs reads (wrong format refl) waits
+
+-- a survey that is open
+pub open_is : {I : Type 0} (seen : I → Seen) (reach : Reach I) (settings : Settings) (octets : List ℕ) (wrongs : List WrongReply) (judge : Judge I) → reach ≡ Open judge
+    → SurveysBy seen reach settings octets wrongs → IsSurveyed seen judge settings octets wrongs
+open_is {I} seen reach settings octets wrongs judge is surveys = subst (λ (s : Reach I). SurveysBy seen s settings octets wrongs) is surveys
+
+-- ---- what is counted where none is wrong
+
+not_empty : (earlier : List WrongReply) (wrong : WrongReply) → [] ≡ earlier ++ wrong ∷ [] → ⊥
+not_empty [] wrong e = cc
+not_empty (one ∷ earlier) wrong e = cc
+
+-- then every reply is right
+none_wrong : (format : Format) (settings : Settings) (h : List Item) → AreWrongIn format settings h [] → AllRight format settings h
+none_wrong format settings [] a = tt
+none_wrong format settings (item ∷ h) (inl a) = (none_wrong format settings h a.0, a.1)
+none_wrong format settings (item ∷ h) (inr a) = absurd (not_empty a.0 (wrong_after h a.1) a.4)
+
+torn_is_whole : (position : ℕ) → Broken position fault.Torn ≡ Whole → ⊥
+torn_is_whole position e = cc
+
+counted_behind : (format : Format) (octets : List ℕ) (settings : Settings) (records : List Record) (h : List Item) (held : List ℕ) → Splits format octets records h held
+    → AreWrongIn format settings h [] → IsUnfinished format (line_fault h) held → AreWrongReplies octets settings [] Whole → IsVerdict octets settings (Yes (counts_of h))
+counted_behind format octets settings records h [] splits wrong waits whole =
+    record { format = format; records = records; history = h; is_transcript = splits; all_right = none_wrong format settings h wrong; counts_are = refl }
+counted_behind format octets settings records h (b ∷ held) splits wrong waits whole =
+    absurd (torn_is_whole (next_position h) (one_list octets settings [] [] (Broken (next_position h) fault.Torn) Whole (torn_behind format octets settings records h b held [] splits wrong waits) whole).1)
+
+-- it is what their yes says
+pub counted : (r : RecordReader) (octets : List ℕ) (settings : Settings) (records : List Record) (h : List Item) (counts : Counts) → Agrees r octets records h
+    → AreWrong (format_read r) settings h [] → Waits r h → counts ≡ counts_of h → AreWrongReplies octets settings [] Whole → IsVerdict octets settings (Yes counts)
+counted r octets settings records h counts agrees wrong waits counts-are whole =
+    subst (λ (c : Counts). IsVerdict octets settings (Yes c)) (sym counts-are) (go r.format agrees.reads wrong waits)
+  where
+    go : (o : Option Format) → ReadsTo o octets records h r.held → AreWrong o settings h [] → WaitsBy o h r.held → IsVerdict octets settings (Yes (counts_of h))
+    go None reads wrong waits =
+        absurd (torn_is_whole 0
+        (one_list octets settings [] [] (Broken 0 fault.Torn) Whole (inl (refl, inr (subst (λ (o : List ℕ). IsUnfinishedOpening o) (sym reads.1.1) waits, refl), refl)) whole).1)
+    go (Some format) reads wrong waits = counted_behind format octets settings records h r.held reads (wrong format refl) waits whole
+
+pub open_counts : {I : Type 0} (seen : I → Seen) (reach : Reach I) (settings : Settings) (octets : List ℕ) (judge : Judge I) → reach ≡ Open judge
+    → SurveysBy seen reach settings octets [] → AreWrongReplies octets settings [] Whole → IsVerdict octets settings (Yes judge.counts)
+open_counts seen reach settings octets judge is surveys whole =
+    let w = open_is seen reach settings octets [] judge is surveys in
+    let s = w.surveying in counted judge.reader octets settings s.read.records s.history judge.counts s.read.reads s.wrong w.waits s.read.counts whole
+
+-- ---- where it may go on
 
 some_is_none : (e : Ending) → Some e ≡ None → ⊥
 some_is_none e is = cc
@@ -229,8 +281,3 @@ ended_goes_on seen (Ended known) settings octets more wrongs ending is surveys =
   holds = λ later. subst (λ (o : List ℕ). AreWrongReplies o settings wrongs known) (sym (append_assoc octets more later)) (surveys.holds (more ++ later));
 }
 ended_goes_on seen Failed settings octets more wrongs ending is surveys = absurd surveys
-
--- a survey that is open
-pub open_is : {I : Type 0} (seen : I → Seen) (reach : Reach I) (settings : Settings) (octets : List ℕ) (wrongs : List WrongReply) (judge : Judge I) → reach ≡ Open judge
-    → SurveysBy seen reach settings octets wrongs → IsSurveyed seen judge settings octets wrongs
-open_is {I} seen reach settings octets wrongs judge is surveys = subst (λ (s : Reach I). SurveysBy seen s settings octets wrongs) is surveys

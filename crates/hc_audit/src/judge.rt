@@ -64,6 +64,13 @@ impl<I: Index + Drop> Judge<I> {
         self.reader.rest()
     }
 
+    /// What was counted of the records that were noted.
+    pub(crate) fn counts(&self) -> Counts
+        ensures { result ≡ self.now.counts }
+    {
+        self.counts
+    }
+
     /// Takes a piece, of which nothing is read yet.
     pub(crate) fn take(&mut self, piece: &[u8]) -> Result<(), AllocError>
         ensures read { (settings : Settings) (octets : List ℕ) (h : List Item) → HasRead I.seen self.old settings octets h
@@ -129,7 +136,8 @@ impl<I: Index + Drop> Judge<I> {
     {
         let position = self.reader.records();
         self.counts.count(mark);
-        self.index.note(position, self.reader.take_item(), format)?;
+        let item = self.reader.take_item();
+        self.index.note(position, item, format)?;
         Ok(())
     }
 

@@ -8,6 +8,7 @@ ghost use Rattle.hc_history.specs.declared.settings.Settings.{Settings};
 ghost use Rattle.hc_history.specs.declared.wrong.WrongReply.{WrongReply};
 ghost use Rattle.hc_history.specs.declared.wrong.Ending.{Ending};
 ghost use Rattle.hc_history.specs.Seen.{IsSeenAs};
+ghost use Rattle.hc_history.specs.Verdicts.{IsVerdict};
 ghost use Rattle.hc_history.specs.WrongReplies.{AreWrongReplies};
 ghost use Rattle.hc_audit.specs.Endings.{EndsSo, MayGoOn};
 ghost use Rattle.hc_audit.specs.Told.{AreToldOf};
@@ -15,7 +16,7 @@ ghost use Rattle.hc_audit.specs.Told.{AreToldOf};
 use crate::fault::AuditFault;
 use crate::judge::Judge;
 use crate::witness::Witness;
-use hc_history::{Ending, Settings};
+use hc_history::{Counts, Ending, Settings, Verdict};
 use hc_index::Index;
 use std::alloc::Global;
 
@@ -103,6 +104,20 @@ impl<I: Index + Drop> Survey<I> {
         match &self.reach {
             Reach::Ended(ending) => Some(ending),
             Reach::Open(_) => None,
+            Reach::Failed => None,
+        }
+    }
+
+    /// What was counted of the whole records so far, whether their replies are right or wrong: what their yes says, where
+    /// the octets are whole and no reply is wrong. None where a record broke them, or a fault was answered.
+    pub fn counts(&self) -> Option<Counts>
+        ensures yes { (settings : Settings) (octets : List ℕ) → Surveys I.seen self.now settings octets [] → AreWrongReplies octets settings [] Ending.Whole
+            → IfSome result (λ counts. IsVerdict octets settings (Verdict.Yes counts)) }
+        ensures none { result ≡ None → IsSome (ended self.now) ⊎ HasFailed self.now }
+    {
+        match &self.reach {
+            Reach::Open(judge) => Some(judge.counts()),
+            Reach::Ended(_) => None,
             Reach::Failed => None,
         }
     }

@@ -1,4 +1,4 @@
-use Rattle.std.proofs.Common.{◌≡◌, ◌∙◌, Some, sym, ap, refl}
+use Rattle.std.proofs.Common.{◌∙◌, ap}
 use Rattle.hc_transcript.specs.Reader.{format_read}
 use Rattle.hc_transcript.specs.declared.format.Format.{Format}
 use Rattle.hc_history.specs.Marks.{item_mark}

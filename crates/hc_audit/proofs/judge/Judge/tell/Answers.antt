@@ -1,7 +1,7 @@
 use Rattle.std.proofs.Common.{◌++◌}
 use Rattle.hc_transcript.specs.Items.{item_of}
 use Rattle.hc_audit.specs.Told.{wrong_of}
-use Rattle.hc_audit.proofs.SurveyLemmas.{told_nothing, told_reply}
+use Rattle.hc_audit.proofs.SurveyLemmas.{told_reply}
 use Rattle.hc_audit.proofs.judge.Judge.tell.Goals as goal
 
 pub returns-clause-told : goal.returns-clause-told
