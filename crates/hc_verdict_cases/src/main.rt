@@ -15,6 +15,7 @@ mod pieces;
 mod program;
 mod records;
 mod runs;
+mod surveys;
 mod tellers;
 mod words;
 mod writing;
