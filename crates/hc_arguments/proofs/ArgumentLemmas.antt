@@ -1,6 +1,8 @@
 -- What a parse of the program's words comes to.
-use Rattle.std.proofs.Common.{◌≡◌, ◌∙◌, ◌&&◌, ℕ, List, [], ◌∷◌, Option, None, Some, ap, cond, inl, inr, refl, rules, sym, subst, true, false, codes, Bool, is_none, nat_eq, option_and_then, option_map}
+use Rattle.std.proofs.Common.{◌≡◌, ◌∙◌, ◌&&◌, ℕ, List, [], ◌∷◌, Option, None, Some, ap, cond, inl, inr, refl, rules, sym, subst, true, false, codes, Bool, is_none, length, nat_eq, nat_lt, option_and_then, option_map}
 use Rattle.std.specs.Prelude.{Result, Ok, Err, IfOk, IfErr, MatchResult}
+use Rattle.std.proofs.lemmas.Result.{IfErr-weaker, IfOk-weaker}
+use Rattle.std.specs.Char.{is_ascii_digit}
 use Rattle.std.specs.Str.{bytes_eq}
 use Rattle.std.specs.Str.Parse.{digits_value}
 use Rattle.std.specs.Box.{box_value}
@@ -22,12 +24,13 @@ use Rattle.hc_service.specs.declared.settings.CoreSettings.{CoreSettings}
 use Rattle.hc_service.specs.Settings.{is_name, is_size}
 use Rattle.hc_arguments.specs.declared.order.Order.{Order}
 use Rattle.hc_arguments.specs.declared.refusal.Refusal.{Refusal}
-use Rattle.hc_arguments.specs.declared.refusal.Refusal.TheVariants.{Memory, Missing, Slack, Ignore, Connections, Keys, Bytes, Name}
-use Rattle.hc_arguments.specs.Command.{Asks, AsksAudit, AsksBy, AsksService, AsksSettings, CanBeDone, Command, IsMade, IsRefused, IsWord, RefusesBy, Task}
-use Rattle.hc_arguments.specs.Command.{command_in, command_named, command_of, hcache, lacks, refused_kind, service_words, task_of, value_in}
-use Rattle.hc_arguments.specs.Command.Command.{Audits, Replays, Converts, Serves}
-use Rattle.hc_arguments.specs.Command.Task.{ToAudit, ToReplay, ToConvert, ToServe}
-use Rattle.hc_arguments.specs.Values.{connections_of, keys_by, name_by, plain, plain_cache}
+use Rattle.hc_arguments.specs.declared.refusal.Refusal.TheVariants.{Memory, Missing, Slack, Ignore, Position, StandardInput, Connections, Keys, Bytes, Name}
+use Rattle.hc_arguments.specs.Command.{Asks, AsksBy, AsksCache, AsksIn, AsksSettings, CanBeDone, Command, IsFileName}
+use Rattle.hc_arguments.specs.Command.{IsMade, IsRefused, IsWord, RefusesBy, RefusesIn, Task, ValuesAsk, command_in, command_named, command_of, hcache, judges, lacks}
+use Rattle.hc_arguments.specs.Command.{refused_kind, service_words, task_of, value_in}
+use Rattle.hc_arguments.specs.Command.Command.{Audits, Reports, Explains, Replays, Converts, Serves}
+use Rattle.hc_arguments.specs.Command.Task.{ToAudit, ToReport, ToExplain, ToReplay, ToConvert, ToServe}
+use Rattle.hc_arguments.specs.Values.{bytes_by, connections_of, ignored_by, json_by, keys_by, name_by, plain, plain_cache, position_by, positive_of, slack_by, unmarked_by}
 
 -- ---- the command
 
@@ -83,55 +86,88 @@ true_is_not_false b on off = cc
 one_some : {A : Type 0} (o : Option A) (a b : A) → o ≡ Some a → o ≡ Some b → a ≡ b
 one_some o a b one other = let same : Some a ≡ Some b = sym one ∙ other in search rules
 
+-- ---- the task that a command and its values ask for
+
+-- both values, where both are there
+abbrev both : {A B : Type 0} → Option A → Option B → Option (A × B)
+both None b = None
+both (Some a) None = None
+both (Some a) (Some b) = Some (a, b)
+
+first_lacks : {A B : Type 0} (a : Option A) (b : Option B) → a ≡ None → both a b ≡ None
+first_lacks a b none = ap (λ o. both o b) none
+
+second_lacks : {A B : Type 0} (a : Option A) (b : Option B) → b ≡ None → both a b ≡ None
+second_lacks None b none = refl
+second_lacks (Some a) b none = ap (λ o. both (Some a) o) none
+
+nothing_mapped : {A B : Type 0} (f : A → B) (o : Option A) → o ≡ None → option_map f o ≡ None
+nothing_mapped f o none = ap (option_map f) none
+
+abbrev settings_from : (Text → Option Text) → Option Settings
+settings_from value = option_map (λ p. record { slack = p.0; ignored = p.1; unmarked = unmarked_by (value (codes "errors-only")) })
+    (both (slack_by (value (codes "slack"))) (ignored_by (value (codes "ignore"))))
+
+abbrev cache_from : (Text → Option Text) → Option CoreSettings
+cache_from value = option_map (λ p. record { name = p.1.1; keys = p.0; bytes = p.1.0 })
+    (both (keys_by (value (codes "keys"))) (both (bytes_by (value (codes "bytes"))) (name_by (value (codes "name")))))
+
+-- a file that isn't standard input
+abbrev file_named : Option Text → Option Text
+file_named None = None
+file_named (Some file) = cond (bytes_eq file (codes "-")) None (Some file)
+
+abbrev task_from : Command → (Text → Option Text) → Option Task
+task_from Audits value = option_map (λ p. ToAudit p.0 p.1) (both (value (codes "FILE")) (settings_from value))
+task_from Reports value = option_map (λ p. ToReport p.0 p.1 (json_by (value (codes "json")))) (both (value (codes "FILE")) (settings_from value))
+task_from Explains value = option_map (λ p. ToExplain p.0 p.1.0 p.1.1)
+    (both (file_named (value (codes "FILE"))) (both (position_by (value (codes "POSITION"))) (settings_from value)))
+task_from Replays value = option_map ToReplay (value (codes "FILE"))
+task_from Converts value = option_map ToConvert (value (codes "FILE"))
+task_from Serves value = option_map (λ p. ToServe p.0.0 p.0.1 p.1.0.0 p.1.0.1 p.1.1)
+    (both (both (value (codes "listen")) (value (codes "origin")))
+    (both (both (option_and_then connections_of (value (codes "connections"))) (value (codes "record"))) (cache_from value)))
+
+abbrev task_by : Option Command → (Text → Option Text) → Option Task
+task_by command value = option_and_then (λ c. task_from c value) command
+
+settings_given : (value : Text → Option Text) (settings : Settings) → AsksSettings value settings → settings_from value ≡ Some settings
+settings_given value settings a =
+    λ i. option_map (λ p. record { slack = p.0; ignored = p.1; unmarked = a.unmarked_is i }) (both (a.slack_is i) (a.ignored_is i))
+
+cache_given : (value : Text → Option Text) (settings : CoreSettings) → AsksCache value settings → cache_from value ≡ Some settings
+cache_given value settings a =
+    λ i. option_map (λ p. record { name = p.1.1; keys = p.0; bytes = p.1.0 }) (both (a.keys_is i) (both (a.bytes_is i) (a.name_is i)))
+
+-- what is asked is that task
+values_give : (value : Text → Option Text) (task : Task) → ValuesAsk value task → task_from (command_of task) value ≡ Some task
+values_give value (ToAudit file settings) a =
+    let set = settings_given value settings a.settings_are in
+    λ i. option_map (λ p. ToAudit p.0 p.1) (both (a.file_is i) (set i))
+values_give value (ToReport file settings json) a =
+    let set = settings_given value settings a.settings_are in
+    λ i. option_map (λ p. ToReport p.0 p.1 (a.json_is i)) (both (a.file_is i) (set i))
+values_give value (ToExplain file position settings) a =
+    let set = settings_given value settings a.settings_are in
+    let named = ap file_named a.file_is ∙ ap (λ b. cond b None (Some file)) a.file_has_name in
+    λ i. option_map (λ p. ToExplain p.0 p.1.0 p.1.1) (both (named i) (both (a.position_is i) (set i)))
+values_give value (ToReplay file) a = ap (option_map ToReplay) a
+values_give value (ToConvert file) a = ap (option_map ToConvert) a
+values_give value (ToServe listen origin connections file settings) a =
+    let set = cache_given value settings a.settings_are in
+    λ i. option_map (λ p. ToServe p.0.0 p.0.1 p.1.0.0 p.1.0.1 p.1.1)
+    (both (both (a.listen_is i) (a.origin_is i)) (both (both (a.connections_is i) (a.file_is i)) (set i)))
+
+task_given : (command : Option Command) (value : Text → Option Text) (task : Task) → AsksBy command value task → task_by command value ≡ Some task
+task_given command value task asks = ap (λ c. task_by c value) asks.0 ∙ values_give value task asks.1
+
 -- words ask for one task
-one_audit : (value : Text → Option Text) (file other : Text) (settings others : Settings) → AsksAudit value file settings → AsksAudit value other others
-    → ToAudit file settings ≡ ToAudit other others
-one_audit value file other settings others a b =
-    let name = one_some _ _ _ a.file_is b.file_is in
-    let slack = one_some _ _ _ a.slack_is b.slack_is in
-    let ignored = one_some _ _ _ a.ignored_is b.ignored_is in
-    let unmarked = sym a.unmarked_is ∙ b.unmarked_is in
-    λ i. ToAudit (name i) (record { slack = slack i; ignored = ignored i; unmarked = unmarked i })
-
-one_cache : (value : Text → Option Text) (settings others : CoreSettings) → AsksSettings value settings → AsksSettings value others → settings ≡ others
-one_cache value settings others a b =
-    let name = one_some _ _ _ a.name_is b.name_is in
-    let keys = one_some _ _ _ a.keys_is b.keys_is in
-    let bytes = one_some _ _ _ a.bytes_is b.bytes_is in
-    λ i. record { name = name i; keys = keys i; bytes = bytes i }
-
-one_service : (value : Text → Option Text) (listen origin file listen2 origin2 file2 : Text) (connections connections2 : ℕ) (settings settings2 : CoreSettings)
-    → AsksService value listen origin connections file settings → AsksService value listen2 origin2 connections2 file2 settings2
-    → ToServe listen origin connections file settings ≡ ToServe listen2 origin2 connections2 file2 settings2
-one_service value listen origin file listen2 origin2 file2 connections connections2 settings settings2 a b =
-    let at_listen = one_some _ _ _ a.listen_is b.listen_is in
-    let at_origin = one_some _ _ _ a.origin_is b.origin_is in
-    let number = one_some _ _ _ a.connections_is b.connections_is in
-    let name = one_some _ _ _ a.file_is b.file_is in
-    let cache = one_cache _ _ _ a.settings_are b.settings_are in
-    λ i. ToServe (at_listen i) (at_origin i) (number i) (name i) (cache i)
-
 pub one_command : (command : Option Command) (value : Text → Option Text) (task other : Task) → AsksBy command value task → AsksBy command value other
     → command_of task ≡ command_of other
 one_command command value task other a b = one_some command _ _ a.0 b.0
 
 one_task : (command : Option Command) (value : Text → Option Text) (task other : Task) → AsksBy command value task → AsksBy command value other → task ≡ other
-one_task command value (ToAudit f s) (ToAudit g t) a b = one_audit value f g s t a.1 b.1
-one_task command value (ToReplay f) (ToReplay g) a b = ap ToReplay (one_some _ _ _ a.1 b.1)
-one_task command value (ToConvert f) (ToConvert g) a b = ap ToConvert (one_some _ _ _ a.1 b.1)
-one_task command value (ToServe l o n f s) (ToServe k p m g t) a b = one_service value l o f k p g n m s t a.1 b.1
-one_task command value (ToAudit f s) (ToReplay g) a b = absurd (let e : Audits ≡ Replays = one_some command _ _ a.0 b.0 in cc)
-one_task command value (ToAudit f s) (ToServe k p m g t) a b = absurd (let e : Audits ≡ Serves = one_some command _ _ a.0 b.0 in cc)
-one_task command value (ToReplay f) (ToAudit g t) a b = absurd (let e : Replays ≡ Audits = one_some command _ _ a.0 b.0 in cc)
-one_task command value (ToReplay f) (ToServe k p m g t) a b = absurd (let e : Replays ≡ Serves = one_some command _ _ a.0 b.0 in cc)
-one_task command value (ToServe l o n f s) (ToAudit g t) a b = absurd (let e : Serves ≡ Audits = one_some command _ _ a.0 b.0 in cc)
-one_task command value (ToServe l o n f s) (ToReplay g) a b = absurd (let e : Serves ≡ Replays = one_some command _ _ a.0 b.0 in cc)
-one_task command value (ToAudit f s) (ToConvert g) a b = absurd (let e : Audits ≡ Converts = one_some command _ _ a.0 b.0 in cc)
-one_task command value (ToReplay f) (ToConvert g) a b = absurd (let e : Replays ≡ Converts = one_some command _ _ a.0 b.0 in cc)
-one_task command value (ToServe l o n f s) (ToConvert g) a b = absurd (let e : Serves ≡ Converts = one_some command _ _ a.0 b.0 in cc)
-one_task command value (ToConvert f) (ToAudit g t) a b = absurd (let e : Converts ≡ Audits = one_some command _ _ a.0 b.0 in cc)
-one_task command value (ToConvert f) (ToReplay g) a b = absurd (let e : Converts ≡ Replays = one_some command _ _ a.0 b.0 in cc)
-one_task command value (ToConvert f) (ToServe k p m g t) a b = absurd (let e : Converts ≡ Serves = one_some command _ _ a.0 b.0 in cc)
+one_task command value task other a b = one_some _ task other (task_given command value task a) (task_given command value other b)
 
 -- what is asked lacks nothing
 number_is_there : (o : Option Text) (n : ℕ) → option_and_then connections_of o ≡ Some n → is_none o ≡ false
@@ -140,40 +176,56 @@ number_is_there (Some text) n is = refl
 
 lacks_nothing : (command : Option Command) (value : Text → Option Text) (task : Task) → AsksBy command value task → lacks command value ≡ false
 lacks_nothing command value (ToAudit file settings) asks = rw (asks.0, asks.1.file_is) refl
+lacks_nothing command value (ToReport file settings json) asks = rw (asks.0, asks.1.file_is) refl
+lacks_nothing command value (ToExplain file position settings) asks = rw (asks.0, asks.1.file_is) refl
 lacks_nothing command value (ToReplay file) asks = rw (asks.0, asks.1) refl
 lacks_nothing command value (ToConvert file) asks = rw (asks.0, asks.1) refl
 lacks_nothing command value (ToServe listen origin n file settings) asks =
     rw (asks.0, asks.1.listen_is, asks.1.origin_is, number_is_there (value (codes "connections")) n asks.1.connections_is, asks.1.file_is) refl
 
--- and isn't refused
-none_outside : (command : Option Command) (value : Text → Option Text) (task : Task) (e : Error) → AsksBy command value task → (refusal : Refusal)
-    → RefusesBy command value refusal → refused_kind refusal ≡ Some (kind_of e) → ⊥
-none_outside command value task e asks Memory refuses kind = cc
-none_outside command value task e asks Missing refuses kind = true_is_not_false _ refuses (lacks_nothing command value task asks)
-none_outside command value (ToAudit file settings) e asks Slack refuses kind = none_is_some _ _ refuses.1 asks.1.slack_is
-none_outside command value (ToReplay file) e asks Slack refuses kind = let e : Audits ≡ Replays = one_some command _ _ refuses.0 asks.0 in cc
-none_outside command value (ToConvert file) e asks Slack refuses kind = let e : Audits ≡ Converts = one_some command _ _ refuses.0 asks.0 in cc
-none_outside command value (ToServe l o n f s) e asks Slack refuses kind = let e : Audits ≡ Serves = one_some command _ _ refuses.0 asks.0 in cc
-none_outside command value (ToAudit file settings) e asks Ignore refuses kind = none_is_some _ _ refuses.1 asks.1.ignored_is
-none_outside command value (ToReplay file) e asks Ignore refuses kind = let e : Audits ≡ Replays = one_some command _ _ refuses.0 asks.0 in cc
-none_outside command value (ToConvert file) e asks Ignore refuses kind = let e : Audits ≡ Converts = one_some command _ _ refuses.0 asks.0 in cc
-none_outside command value (ToServe l o n f s) e asks Ignore refuses kind = let e : Audits ≡ Serves = one_some command _ _ refuses.0 asks.0 in cc
-none_outside command value (ToAudit file settings) e asks Connections refuses kind = let e : Serves ≡ Audits = one_some command _ _ refuses.0 asks.0 in cc
-none_outside command value (ToReplay file) e asks Connections refuses kind = let e : Serves ≡ Replays = one_some command _ _ refuses.0 asks.0 in cc
-none_outside command value (ToConvert file) e asks Connections refuses kind = let e : Serves ≡ Converts = one_some command _ _ refuses.0 asks.0 in cc
-none_outside command value (ToServe l o n f s) e asks Connections refuses kind = none_is_some _ _ refuses.1 asks.1.connections_is
-none_outside command value (ToAudit file settings) e asks Keys refuses kind = let e : Serves ≡ Audits = one_some command _ _ refuses.0 asks.0 in cc
-none_outside command value (ToReplay file) e asks Keys refuses kind = let e : Serves ≡ Replays = one_some command _ _ refuses.0 asks.0 in cc
-none_outside command value (ToConvert file) e asks Keys refuses kind = let e : Serves ≡ Converts = one_some command _ _ refuses.0 asks.0 in cc
-none_outside command value (ToServe l o n f s) e asks Keys refuses kind = none_is_some _ _ refuses.1 asks.1.settings_are.keys_is
-none_outside command value (ToAudit file settings) e asks Bytes refuses kind = let e : Serves ≡ Audits = one_some command _ _ refuses.0 asks.0 in cc
-none_outside command value (ToReplay file) e asks Bytes refuses kind = let e : Serves ≡ Replays = one_some command _ _ refuses.0 asks.0 in cc
-none_outside command value (ToConvert file) e asks Bytes refuses kind = let e : Serves ≡ Converts = one_some command _ _ refuses.0 asks.0 in cc
-none_outside command value (ToServe l o n f s) e asks Bytes refuses kind = none_is_some _ _ refuses.1 asks.1.settings_are.bytes_is
-none_outside command value (ToAudit file settings) e asks Name refuses kind = let e : Serves ≡ Audits = one_some command _ _ refuses.0 asks.0 in cc
-none_outside command value (ToReplay file) e asks Name refuses kind = let e : Serves ≡ Replays = one_some command _ _ refuses.0 asks.0 in cc
-none_outside command value (ToConvert file) e asks Name refuses kind = let e : Serves ≡ Converts = one_some command _ _ refuses.0 asks.0 in cc
-none_outside command value (ToServe l o n f s) e asks Name refuses kind = none_is_some _ _ refuses.1 asks.1.settings_are.name_is
+-- where a value has a fault there is no task
+settings_lack : (command : Command) (value : Text → Option Text) → judges command ≡ true → settings_from value ≡ None → task_from command value ≡ None
+settings_lack Audits value judging none = nothing_mapped _ _ (second_lacks _ _ none)
+settings_lack Reports value judging none = nothing_mapped _ _ (second_lacks _ _ none)
+settings_lack Explains value judging none = nothing_mapped _ _ (second_lacks _ _ (second_lacks _ _ none))
+settings_lack Replays value judging none = absurd cc
+settings_lack Converts value judging none = absurd cc
+settings_lack Serves value judging none = absurd cc
+
+judged_lacks : (command : Option Command) (value : Text → Option Text) → option_map judges command ≡ Some true → settings_from value ≡ None
+    → task_by command value ≡ None
+judged_lacks None value judging none = refl
+judged_lacks (Some c) value judging none = settings_lack c value (one_some (Some (judges c)) _ _ refl judging) none
+
+cache_lacks : (value : Text → Option Text) → cache_from value ≡ None → task_from Serves value ≡ None
+cache_lacks value none = nothing_mapped _ _ (second_lacks _ _ (second_lacks _ _ none))
+
+fault_lacks : (command : Option Command) (value : Text → Option Text) (c : Command) → command ≡ Some c → task_from c value ≡ None
+    → task_by command value ≡ None
+fault_lacks command value c is none = ap (λ o. task_by o value) is ∙ none
+
+-- and what is asked isn't refused
+module _ (command : Option Command) (value : Text → Option Text) (task : Task) (e : Error) (asks : AsksBy command value task) where
+  is_given : task_by command value ≡ None → ⊥
+  is_given none = none_is_some _ task none (task_given command value task asks)
+
+  none_outside : (refusal : Refusal) → RefusesBy command value refusal → refused_kind refusal ≡ Some (kind_of e) → ⊥
+  none_outside Memory refuses kind = cc
+  none_outside Missing refuses kind = true_is_not_false _ refuses (lacks_nothing command value task asks)
+  none_outside Slack refuses kind = is_given (judged_lacks _ _ refuses.0 (nothing_mapped _ _ (first_lacks _ _ refuses.1)))
+  none_outside Ignore refuses kind = is_given (judged_lacks _ _ refuses.0 (nothing_mapped _ _ (second_lacks _ _ refuses.1)))
+  none_outside Position refuses kind =
+      is_given (fault_lacks _ _ Explains refuses.0 (nothing_mapped _ _ (second_lacks _ _ (first_lacks _ _ refuses.1))))
+  none_outside StandardInput refuses kind =
+      is_given (fault_lacks _ _ Explains refuses.0 (nothing_mapped _ _ (first_lacks _ _ (ap file_named refuses.1))))
+  none_outside Connections refuses kind =
+      is_given (fault_lacks _ _ Serves refuses.0 (nothing_mapped _ _ (second_lacks _ _ (first_lacks _ _ (first_lacks _ _ refuses.1)))))
+  none_outside Keys refuses kind =
+      is_given (fault_lacks _ _ Serves refuses.0 (cache_lacks value (nothing_mapped _ _ (first_lacks _ _ refuses.1))))
+  none_outside Bytes refuses kind =
+      is_given (fault_lacks _ _ Serves refuses.0 (cache_lacks value (nothing_mapped _ _ (second_lacks _ _ (first_lacks _ _ refuses.1)))))
+  none_outside Name refuses kind =
+      is_given (fault_lacks _ _ Serves refuses.0 (cache_lacks value (nothing_mapped _ _ (second_lacks _ _ (second_lacks _ _ refuses.1)))))
 
 -- of the settings that are asked for there are caches
 taken_name : (b : Bool) (text name : Text) → is_name text ≡ b → cond b (Some text) None ≡ Some name → is_name name ≡ true
@@ -195,6 +247,8 @@ good_size (Some text) keys is = taken_size (is_number text) (is_size (digits_val
 
 pub possible_from : (command : Option Command) (value : Text → Option Text) (task : Task) → AsksBy command value task → CanBeDone task
 possible_from command value (ToAudit file settings) asks = tt
+possible_from command value (ToReport file settings json) asks = tt
+possible_from command value (ToExplain file position settings) asks = tt
 possible_from command value (ToReplay file) asks = tt
 possible_from command value (ToConvert file) asks = tt
 possible_from command value (ToServe listen origin connections file settings) asks = record {
@@ -241,10 +295,20 @@ module _ (m : ArgMatches) (name : Text) (found : Found) (is : Some name ≡ subc
   same_values = λ i. λ word. value_is (subcommand_rows_of m) found rows word i
 
   -- what is said of the name and the values found is said of the subcommand
-  pub said_in : (P : Option Command → (Text → Option Text) → Type 0) (command : Option Command) → command_named name ≡ command
+  said_in : (P : Option Command → (Text → Option Text) → Type 0) (command : Option Command) → command_named name ≡ command
       → P command (first_value found) → P (command_in (subcommand_rows_of m)) (value_in (subcommand_rows_of m))
   said_in P command named said =
       subst (λ c. P c (value_in (subcommand_rows_of m))) (sym named ∙ command_is m name is) (subst (λ v. P command v) same_values said)
+
+  pub asks_in : (command : Command) → command_named name ≡ Some command → (result : Result Order Refusal)
+      → IfOk result (λ order. AsksBy (Some command) (first_value found) (task_of order)) → IfOk result (λ order. AsksIn (subcommand_rows_of m) (task_of order))
+  asks_in command named result asks =
+      IfOk-weaker result _ _ (λ order. said_in (λ c. λ v. AsksBy c v (task_of order)) (Some command) named) asks
+
+  pub refuses_in : (command : Command) → command_named name ≡ Some command → (result : Result Order Refusal)
+      → IfErr result (RefusesBy (Some command) (first_value found)) → IfErr result (RefusesIn (subcommand_rows_of m))
+  refuses_in command named result refuses =
+      IfErr-weaker result _ _ (λ refusal. said_in (λ c. λ v. RefusesBy c v refusal) (Some command) named) refuses
 
 -- ---- plain words
 
@@ -284,46 +348,180 @@ pub words_give : (words plain_words : List Text) (task : Task) (result : Result 
 words_give words plain_words task (Ok order) are same asked refused = words_at_ok words plain_words task (task_of order) are same asked
 words_give words plain_words task (Err e) are same asked refused = words_at_err words plain_words task e are same refused
 
--- ---- `audit FILE`
+-- ---- `audit FILE`, `report FILE` and `explain FILE`
 
-file_given : (name file : Text) → IsNoFlag file → value_in (subcommand_of hcache (name ∷ codes "audit" ∷ file ∷ [])) (codes "FILE") ≡ Some file
-unfolding clap_on_literals
-file_given name file h = rw (h.dashes, h.long, h.short) refl
+module _ (name file : Text) (h : IsNoFlag file) where
+  audit_settings : AsksSettings (value_in (subcommand_of hcache (name ∷ codes "audit" ∷ file ∷ []))) plain
+  unfolding clap_on_literals
+  audit_settings = record {
+    slack_is = rw (h.dashes, h.long, h.short) refl;
+    ignored_is = rw (h.dashes, h.long, h.short) refl;
+    unmarked_is = rw (h.dashes, h.long, h.short) refl;
+  }
 
-no_slack : (name file : Text) → IsNoFlag file → value_in (subcommand_of hcache (name ∷ codes "audit" ∷ file ∷ [])) (codes "slack") ≡ None
-unfolding clap_on_literals
-no_slack name file h = rw (h.dashes, h.long, h.short) refl
+  audited : value_in (subcommand_of hcache (name ∷ codes "audit" ∷ file ∷ [])) (codes "FILE") ≡ Some file
+  unfolding clap_on_literals
+  audited = rw (h.dashes, h.long, h.short) refl
 
-no_ignore : (name file : Text) → IsNoFlag file → value_in (subcommand_of hcache (name ∷ codes "audit" ∷ file ∷ [])) (codes "ignore") ≡ None
-unfolding clap_on_literals
-no_ignore name file h = rw (h.dashes, h.long, h.short) refl
+  is_audit : command_in (subcommand_of hcache (name ∷ codes "audit" ∷ file ∷ [])) ≡ Some Audits
+  unfolding clap_on_literals
+  is_audit = refl
 
-no_errors_only : (name file : Text) → IsNoFlag file
-    → value_in (subcommand_of hcache (name ∷ codes "audit" ∷ file ∷ [])) (codes "errors-only") ≡ Some (codes "false")
-unfolding clap_on_literals
-no_errors_only name file h = rw (h.dashes, h.long, h.short) refl
+  no_audit_fault : fault_of hcache (name ∷ codes "audit" ∷ file ∷ []) ≡ []
+  unfolding clap_on_literals
+  no_audit_fault = rw (h.dashes, h.long, h.short) refl
 
-no_audit_fault : (name file : Text) → IsNoFlag file → fault_of hcache (name ∷ codes "audit" ∷ file ∷ []) ≡ []
-unfolding clap_on_literals
-no_audit_fault name file h = rw (h.dashes, h.long, h.short) refl
+  report_settings : AsksSettings (value_in (subcommand_of hcache (name ∷ codes "report" ∷ file ∷ []))) plain
+  unfolding clap_on_literals
+  report_settings = record {
+    slack_is = rw (h.dashes, h.long, h.short) refl;
+    ignored_is = rw (h.dashes, h.long, h.short) refl;
+    unmarked_is = rw (h.dashes, h.long, h.short) refl;
+  }
 
-is_audit : (name file : Text) → IsNoFlag file → command_in (subcommand_of hcache (name ∷ codes "audit" ∷ file ∷ [])) ≡ Some Audits
-unfolding clap_on_literals
-is_audit name file h = refl
+  reported : value_in (subcommand_of hcache (name ∷ codes "report" ∷ file ∷ [])) (codes "FILE") ≡ Some file
+  unfolding clap_on_literals
+  reported = rw (h.dashes, h.long, h.short) refl
+
+  no_json : json_by (value_in (subcommand_of hcache (name ∷ codes "report" ∷ file ∷ [])) (codes "json")) ≡ false
+  unfolding clap_on_literals
+  no_json = rw (h.dashes, h.long, h.short) refl
+
+  is_report : command_in (subcommand_of hcache (name ∷ codes "report" ∷ file ∷ [])) ≡ Some Reports
+  unfolding clap_on_literals
+  is_report = refl
+
+  no_report_fault : fault_of hcache (name ∷ codes "report" ∷ file ∷ []) ≡ []
+  unfolding clap_on_literals
+  no_report_fault = rw (h.dashes, h.long, h.short) refl
+
+  explain_settings : AsksSettings (value_in (subcommand_of hcache (name ∷ codes "explain" ∷ file ∷ []))) plain
+  unfolding clap_on_literals
+  explain_settings = record {
+    slack_is = rw (h.dashes, h.long, h.short) refl;
+    ignored_is = rw (h.dashes, h.long, h.short) refl;
+    unmarked_is = rw (h.dashes, h.long, h.short) refl;
+  }
+
+  explained : value_in (subcommand_of hcache (name ∷ codes "explain" ∷ file ∷ [])) (codes "FILE") ≡ Some file
+  unfolding clap_on_literals
+  explained = rw (h.dashes, h.long, h.short) refl
+
+  no_position : position_by (value_in (subcommand_of hcache (name ∷ codes "explain" ∷ file ∷ [])) (codes "POSITION")) ≡ Some None
+  unfolding clap_on_literals
+  no_position = rw (h.dashes, h.long, h.short) refl
+
+  is_explain : command_in (subcommand_of hcache (name ∷ codes "explain" ∷ file ∷ [])) ≡ Some Explains
+  unfolding clap_on_literals
+  is_explain = refl
+
+  no_explain_fault : fault_of hcache (name ∷ codes "explain" ∷ file ∷ []) ≡ []
+  unfolding clap_on_literals
+  no_explain_fault = rw (h.dashes, h.long, h.short) refl
 
 pub audit_words : (name file : Text) → IsWord file → AreWordsFor (name ∷ codes "audit" ∷ file ∷ []) (ToAudit file plain)
 audit_words name file is = let h = no_flag file is in record {
-  asks = (
-    is_audit name file h,
-    record {
-      file_is = file_given name file h;
-      slack_is = rw (no_slack name file h) refl;
-      ignored_is = rw (no_ignore name file h) refl;
-      unmarked_is = rw (no_errors_only name file h) refl;
-    },
-  );
+  asks = (is_audit name file h, record { file_is = audited name file h; settings_are = audit_settings name file h });
   no_fault = no_audit_fault name file h;
 }
+
+pub report_words : (name file : Text) → IsWord file → AreWordsFor (name ∷ codes "report" ∷ file ∷ []) (ToReport file plain false)
+report_words name file is = let h = no_flag file is in record {
+  asks = (
+    is_report name file h,
+    record {
+      file_is = reported name file h;
+      settings_are = report_settings name file h;
+      json_is = no_json name file h;
+    },
+  );
+  no_fault = no_report_fault name file h;
+}
+
+-- a file name isn't `-`
+no_lone_hyphen : (file : Text) → IsFileName file → bytes_eq file (codes "-") ≡ false
+no_lone_hyphen [] named = refl
+no_lone_hyphen (x ∷ rest) named = rw (not_hyphen x named) refl
+
+pub explain_words : (name file : Text) → IsFileName file → AreWordsFor (name ∷ codes "explain" ∷ file ∷ []) (ToExplain file None plain)
+explain_words name file named = let h = no_flag file (inr named) in record {
+  asks = (
+    is_explain name file h,
+    record {
+      file_is = explained name file h;
+      file_has_name = no_lone_hyphen file named;
+      position_is = no_position name file h;
+      settings_are = explain_settings name file h;
+    },
+  );
+  no_fault = no_explain_fault name file h;
+}
+
+-- ---- `explain FILE POSITION`
+
+module _ (name file number : Text) (h : IsNoFlag file) (n : IsNoFlag number) where
+  explain_at_settings : AsksSettings (value_in (subcommand_of hcache (name ∷ codes "explain" ∷ file ∷ number ∷ []))) plain
+  unfolding clap_on_literals
+  explain_at_settings = record {
+    slack_is = rw (h.dashes, h.long, h.short, n.dashes, n.long, n.short) refl;
+    ignored_is = rw (h.dashes, h.long, h.short, n.dashes, n.long, n.short) refl;
+    unmarked_is = rw (h.dashes, h.long, h.short, n.dashes, n.long, n.short) refl;
+  }
+
+  explained_at : value_in (subcommand_of hcache (name ∷ codes "explain" ∷ file ∷ number ∷ [])) (codes "FILE") ≡ Some file
+  unfolding clap_on_literals
+  explained_at = rw (h.dashes, h.long, h.short, n.dashes, n.long, n.short) refl
+
+  position_given : value_in (subcommand_of hcache (name ∷ codes "explain" ∷ file ∷ number ∷ [])) (codes "POSITION") ≡ Some number
+  unfolding clap_on_literals
+  position_given = rw (h.dashes, h.long, h.short, n.dashes, n.long, n.short) refl
+
+  is_explain_at : command_in (subcommand_of hcache (name ∷ codes "explain" ∷ file ∷ number ∷ [])) ≡ Some Explains
+  unfolding clap_on_literals
+  is_explain_at = refl
+
+  no_explain_at_fault : fault_of hcache (name ∷ codes "explain" ∷ file ∷ number ∷ []) ≡ []
+  unfolding clap_on_literals
+  no_explain_at_fault = rw (h.dashes, h.long, h.short, n.dashes, n.long, n.short) refl
+
+-- what writes a number doesn't begin with a hyphen
+taken_then : (a b : Bool) (value number : ℕ) → cond (a && b) (Some value) None ≡ Some number → a ≡ true
+taken_then true b value number is = refl
+taken_then false b value number is = absurd cc
+
+first_holds : (a b : Bool) → a && b ≡ true → a ≡ true
+first_holds true b is = refl
+first_holds false b is = absurd cc
+
+second_holds : (a b : Bool) → a && b ≡ true → b ≡ true
+second_holds true b is = is
+second_holds false b is = absurd cc
+
+number_has_no_hyphen : (number : Text) (position : ℕ) → positive_of number ≡ Some position → IsFileName number
+number_has_no_hyphen [] position counts = λ is. absurd cc
+number_has_no_hyphen (x ∷ rest) position counts = λ is.
+    let digits = taken_then (is_number (x ∷ rest)) _ _ _ counts in
+    let digit : is_ascii_digit x ≡ true = first_holds _ _ (second_holds (nat_lt 0 (length (x ∷ rest))) _ digits) in
+    let hyphen : x ≡ 45 = search rules in
+    true_is_not_false _ (subst (λ (d : ℕ). is_ascii_digit d ≡ true) hyphen digit) refl
+
+pub explain_at_words : (name file number : Text) (position : ℕ) → IsFileName file → positive_of number ≡ Some position
+    → AreWordsFor (name ∷ codes "explain" ∷ file ∷ number ∷ []) (ToExplain file (Some position) plain)
+explain_at_words name file number position named counts =
+    let h = no_flag file (inr named) in
+    let n = no_flag number (inr (number_has_no_hyphen number position counts)) in
+    record {
+      asks = (
+        is_explain_at name file number h n,
+        record {
+          file_is = explained_at name file number h n;
+          file_has_name = no_lone_hyphen file named;
+          position_is = ap position_by (position_given name file number h n) ∙ ap (option_map Some) counts;
+          settings_are = explain_at_settings name file number h n;
+        },
+      );
+      no_fault = no_explain_at_fault name file number h n;
+    }
 
 -- ---- `replay FILE`
 

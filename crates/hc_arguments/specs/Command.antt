@@ -1,6 +1,6 @@
 -- The command line of `hcache`, as a parse sees it.
-use Rattle.std.specs.Prelude.{◌≡◌, ◌≢◌, ◌⊎◌, ⊤, ℕ, List, [], ◌∷◌, ◌++◌, Option, None, Some, Result, IfOk, true, false, codes}
-use Rattle.std.specs.Prelude.{Bool, ◌||◌, if◌then◌else◌, is_none, option_and_then, slice_get}
+use Rattle.std.specs.Prelude.{◌≡◌, ◌≢◌, ◌⊎◌, ⊤, ℕ, List, [], ◌∷◌, ◌++◌, Option, None, Some, Result, IfOk, true, codes}
+use Rattle.std.specs.Prelude.{Bool, ◌||◌, if◌then◌else◌, false, is_none, option_and_then, option_map, slice_get}
 use Rattle.std.specs.Str.{bytes_eq}
 use Rattle.std.specs.declared.alloc.AllocError.{AllocError}
 use Rattle.clap.specs.Words.{App, HasKind, Row, Rule, Text, app_of, fault_of, first_of, kind_of, new_app, new_rule}
@@ -16,16 +16,20 @@ use Rattle.hc_history.specs.declared.settings.Settings.{Settings}
 use Rattle.hc_service.specs.declared.settings.CoreSettings.{CoreSettings}
 use Rattle.hc_service.specs.Settings.{AreGood}
 use Rattle.hc_arguments.specs.declared.order.Order.{Order}
-use Rattle.hc_arguments.specs.declared.order.Order.TheVariants.{Audit, Replay, Convert, Serve}
+use Rattle.hc_arguments.specs.declared.order.Order.TheVariants.{Audit, Report, Explain, Replay, Convert, Serve}
 use Rattle.hc_arguments.specs.declared.refusal.Refusal.{Refusal}
-use Rattle.hc_arguments.specs.declared.refusal.Refusal.TheVariants.{Memory, Missing, Slack, Ignore, Connections, Keys, Bytes, Name}
-use Rattle.hc_arguments.specs.Values.{bytes_by, connections_of, ignored_by, keys_by, name_by, slack_by, unmarked_by}
+use Rattle.hc_arguments.specs.declared.refusal.Refusal.TheVariants.{Memory, Missing, Slack, Ignore, Position, StandardInput, Connections, Keys, Bytes, Name}
+use Rattle.hc_arguments.specs.Values.{bytes_by, connections_of, ignored_by, json_by, keys_by, name_by, position_by, slack_by, unmarked_by}
 
 -- ---- what the command takes
 
--- the argument of `audit`, of `replay` and of `convert`
+-- the argument of all but `serve`
 abbrev pub file_rule : Rule
 file_rule = record (new_rule (codes "FILE")) { required = true }
+
+-- the second one of `explain`, which may be left out
+abbrev pub position_rule : Rule
+position_rule = new_rule (codes "POSITION")
 
 -- an option with one value
 abbrev pub option_rule : Text → Rule
@@ -39,9 +43,18 @@ required_rule name = record (option_rule name) { required = true }
 abbrev pub flag_rule : Text → Rule
 flag_rule name = record (new_rule name) { long = Some name; action = Some SetTrue }
 
+-- a command with the options that say by which settings it judges
+abbrev pub with_settings : App → App
+with_settings app = with_rule (with_rule (with_rule app (option_rule (codes "slack"))) (option_rule (codes "ignore"))) (flag_rule (codes "errors-only"))
+
 abbrev pub audit : App
-audit = with_rule (with_rule (with_rule (with_rule (new_app (codes "audit")) file_rule) (option_rule (codes "slack")))
-    (option_rule (codes "ignore"))) (flag_rule (codes "errors-only"))
+audit = with_settings (with_rule (new_app (codes "audit")) file_rule)
+
+abbrev pub report : App
+report = with_rule (with_settings (with_rule (new_app (codes "report")) file_rule)) (flag_rule (codes "json"))
+
+abbrev pub explain : App
+explain = with_settings (with_rule (with_rule (new_app (codes "explain")) file_rule) position_rule)
 
 abbrev pub replay : App
 replay = with_rule (new_app (codes "replay")) file_rule
@@ -59,19 +72,23 @@ abbrev pub convert : App
 convert = with_rule (new_app (codes "convert")) file_rule
 
 abbrev pub hcache : App
-hcache = with_subcommand (with_subcommand (with_subcommand (with_subcommand program audit.top) replay.top) serve.top) convert.top
+hcache = with_subcommand (with_subcommand (with_subcommand (with_subcommand (with_subcommand (with_subcommand program audit.top) report.top) explain.top)
+    replay.top) serve.top) convert.top
 
 -- ---- what the words say
 
 -- the commands
 pub data Command : Type 0 where
   Audits : Command
+  Reports : Command
+  Explains : Command
   Replays : Command
   Converts : Command
   Serves : Command
 
 abbrev pub command_named : Text → Option Command
 command_named name = if bytes_eq name (codes "audit") then Some Audits
+    else if bytes_eq name (codes "report") then Some Reports else if bytes_eq name (codes "explain") then Some Explains
     else if bytes_eq name (codes "replay") then Some Replays else if bytes_eq name (codes "serve") then Some Serves
     else if bytes_eq name (codes "convert") then Some Converts else None
 
@@ -79,6 +96,10 @@ command_named name = if bytes_eq name (codes "audit") then Some Audits
 pub data Task : Type 0 where
   -- to audit that file by those settings
   ToAudit : (file : Text) (settings : Settings) → Task
+  -- to report on it by those settings, by one JSON object or else in text
+  ToReport : (file : Text) (settings : Settings) (json : Bool) → Task
+  -- to explain the reply at that position of it, or else the first wrong one, by those settings
+  ToExplain : (file : Text) (position : Option ℕ) (settings : Settings) → Task
   -- to replay it
   ToReplay : (file : Text) → Task
   -- to convert it
@@ -88,25 +109,46 @@ pub data Task : Type 0 where
 
 abbrev pub command_of : Task → Command
 command_of (ToAudit file settings) = Audits
+command_of (ToReport file settings json) = Reports
+command_of (ToExplain file position settings) = Explains
 command_of (ToReplay file) = Replays
 command_of (ToConvert file) = Converts
 command_of (ToServe listen origin connections file settings) = Serves
 
 abbrev pub task_of : Order → Task
 task_of (Audit file settings) = ToAudit file.now settings
+task_of (Report file settings json) = ToReport file.now settings json
+task_of (Explain file position settings) = ToExplain file.now position settings
 task_of (Replay file) = ToReplay file.now
 task_of (Convert file) = ToConvert file.now
 task_of (Serve listen origin connections file settings) = ToServe listen.now origin.now connections file.now settings
 
--- the values, by their names, ask that of `audit`
-pub record AsksAudit (value : Text → Option Text) (file : Text) (settings : Settings) : Type 0 where
-  pub file_is : value (codes "FILE") ≡ Some file
+-- the values, by their names, ask to judge by those settings
+pub record AsksSettings (value : Text → Option Text) (settings : Settings) : Type 0 where
   pub slack_is : slack_by (value (codes "slack")) ≡ Some settings.slack
   pub ignored_is : ignored_by (value (codes "ignore")) ≡ Some settings.ignored
   pub unmarked_is : unmarked_by (value (codes "errors-only")) ≡ settings.unmarked
 
+-- and that of `audit`
+pub record AsksAudit (value : Text → Option Text) (file : Text) (settings : Settings) : Type 0 where
+  pub file_is : value (codes "FILE") ≡ Some file
+  pub settings_are : AsksSettings value settings
+
+-- and that of `report`
+pub record AsksReport (value : Text → Option Text) (file : Text) (settings : Settings) (json : Bool) : Type 0 where
+  pub file_is : value (codes "FILE") ≡ Some file
+  pub settings_are : AsksSettings value settings
+  pub json_is : json_by (value (codes "json")) ≡ json
+
+-- and that of `explain`, which can't read standard input twice
+pub record AsksExplain (value : Text → Option Text) (file : Text) (position : Option ℕ) (settings : Settings) : Type 0 where
+  pub file_is : value (codes "FILE") ≡ Some file
+  pub file_has_name : bytes_eq file (codes "-") ≡ false
+  pub position_is : position_by (value (codes "POSITION")) ≡ Some position
+  pub settings_are : AsksSettings value settings
+
 -- and that of the cache that `serve` has
-pub record AsksSettings (value : Text → Option Text) (settings : CoreSettings) : Type 0 where
+pub record AsksCache (value : Text → Option Text) (settings : CoreSettings) : Type 0 where
   pub keys_is : keys_by (value (codes "keys")) ≡ Some settings.keys
   pub bytes_is : bytes_by (value (codes "bytes")) ≡ Some settings.bytes
   pub name_is : name_by (value (codes "name")) ≡ Some settings.name
@@ -117,10 +159,12 @@ pub record AsksService (value : Text → Option Text) (listen origin : Text) (co
   pub origin_is : value (codes "origin") ≡ Some origin
   pub connections_is : option_and_then connections_of (value (codes "connections")) ≡ Some connections
   pub file_is : value (codes "record") ≡ Some file
-  pub settings_are : AsksSettings value settings
+  pub settings_are : AsksCache value settings
 
 abbrev pub ValuesAsk : (Text → Option Text) → Task → Type 0
 ValuesAsk value (ToAudit file settings) = AsksAudit value file settings
+ValuesAsk value (ToReport file settings json) = AsksReport value file settings json
+ValuesAsk value (ToExplain file position settings) = AsksExplain value file position settings
 ValuesAsk value (ToReplay file) = value (codes "FILE") ≡ Some file
 ValuesAsk value (ToConvert file) = value (codes "FILE") ≡ Some file
 ValuesAsk value (ToServe listen origin connections file settings) = AsksService value listen origin connections file settings
@@ -151,9 +195,13 @@ CanBeDone task = ⊤
 
 -- ---- plain words
 
--- the word is `-`, or does not begin with a hyphen (45)
+-- the word does not begin with a hyphen (45)
+abbrev pub IsFileName : Text → Type 0
+IsFileName word = slice_get word 0 ≢ Some 45
+
+-- the word is `-`, or does not begin with a hyphen
 abbrev pub IsWord : Text → Type 0
-IsWord word = (word ≡ codes "-") ⊎ (slice_get word 0 ≢ Some 45)
+IsWord word = (word ≡ codes "-") ⊎ IsFileName word
 
 -- the words behind the program's name that ask to serve
 abbrev pub service_words : Text → Text → Text → Text → List Text
@@ -166,17 +214,30 @@ service_words listen origin number file = codes "serve" ∷ (codes "--listen=" +
 abbrev pub lacks : Option Command → (Text → Option Text) → Bool
 lacks None value = true
 lacks (Some Audits) value = is_none (value (codes "FILE"))
+lacks (Some Reports) value = is_none (value (codes "FILE"))
+lacks (Some Explains) value = is_none (value (codes "FILE"))
 lacks (Some Replays) value = is_none (value (codes "FILE"))
 lacks (Some Converts) value = is_none (value (codes "FILE"))
 lacks (Some Serves) value = is_none (value (codes "listen")) || (is_none (value (codes "origin"))
     || (is_none (value (codes "connections")) || is_none (value (codes "record"))))
 
+-- whether the command judges replies, by settings
+abbrev pub judges : Command → Bool
+judges Audits = true
+judges Reports = true
+judges Explains = true
+judges Replays = false
+judges Converts = false
+judges Serves = false
+
 -- why the command and its values ask nothing
 abbrev pub RefusesBy : Option Command → (Text → Option Text) → Refusal → Type 0
 RefusesBy command value Memory = ⊤
 RefusesBy command value Missing = lacks command value ≡ true
-RefusesBy command value Slack = (command ≡ Some Audits) × (slack_by (value (codes "slack")) ≡ None)
-RefusesBy command value Ignore = (command ≡ Some Audits) × (ignored_by (value (codes "ignore")) ≡ None)
+RefusesBy command value Slack = (option_map judges command ≡ Some true) × (slack_by (value (codes "slack")) ≡ None)
+RefusesBy command value Ignore = (option_map judges command ≡ Some true) × (ignored_by (value (codes "ignore")) ≡ None)
+RefusesBy command value Position = (command ≡ Some Explains) × (position_by (value (codes "POSITION")) ≡ None)
+RefusesBy command value StandardInput = (command ≡ Some Explains) × (value (codes "FILE") ≡ Some (codes "-"))
 RefusesBy command value Connections = (command ≡ Some Serves) × (option_and_then connections_of (value (codes "connections")) ≡ None)
 RefusesBy command value Keys = (command ≡ Some Serves) × (keys_by (value (codes "keys")) ≡ None)
 RefusesBy command value Bytes = (command ≡ Some Serves) × (bytes_by (value (codes "bytes")) ≡ None)
@@ -191,6 +252,8 @@ refused_kind Memory = None
 refused_kind Missing = Some kind.MissingRequiredArgument
 refused_kind Slack = Some kind.ValueValidation
 refused_kind Ignore = Some kind.ValueValidation
+refused_kind Position = Some kind.ValueValidation
+refused_kind StandardInput = Some kind.ValueValidation
 refused_kind Connections = Some kind.ValueValidation
 refused_kind Keys = Some kind.ValueValidation
 refused_kind Bytes = Some kind.ValueValidation

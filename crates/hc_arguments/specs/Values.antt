@@ -1,5 +1,5 @@
 -- What the values of options say.
-use Rattle.std.specs.Prelude.{ℕ, Bool, ◌==◌, ◌&&◌, List, [], Option, Some, None, ◌∷◌, ◌+◌, codes, map, nat_le, nat_lt, if◌then◌else◌}
+use Rattle.std.specs.Prelude.{ℕ, Bool, ◌==◌, ◌&&◌, List, [], Option, Some, None, ◌∷◌, ◌+◌, codes, false, map, nat_le, nat_lt, if◌then◌else◌, option_map}
 use Rattle.std.specs.List.{list_all, slice_split}
 use Rattle.std.specs.Str.{bytes_eq, str_to_ascii_lowercase}
 use Rattle.std.specs.Str.Parse.{digits_value}
@@ -44,19 +44,33 @@ abbrev pub ignored_by : Option Text → Option (List Text)
 ignored_by None = Some []
 ignored_by (Some list) = names_of list
 
--- ---- the flag
+-- ---- the flags
 
 -- `--errors-only`: a flag that was given has the value `true`
 abbrev pub unmarked_by : Option Text → UnmarkedReplies
 unmarked_by None = Allow
 unmarked_by (Some text) = if bytes_eq text (codes "true") then ErrorsOnly else Allow
 
--- ---- connections
+-- and so has `--json`
+abbrev pub json_by : Option Text → Bool
+json_by None = false
+json_by (Some text) = bytes_eq text (codes "true")
 
--- the number that one or more digits write, from 1 to 999999999999
-abbrev pub connections_of : Text → Option ℕ
-connections_of text =
+-- ---- connections and positions
+
+-- the positive number that one or more digits write, at most 999999999999
+abbrev pub positive_of : Text → Option ℕ
+positive_of text =
     if is_number text && (nat_lt 0 (digits_value 10 text) && nat_le (digits_value 10 text) greatest_number) then Some (digits_value 10 text) else None
+
+-- `--connections`
+abbrev pub connections_of : Text → Option ℕ
+connections_of text = positive_of text
+
+-- POSITION: none where it isn't given
+abbrev pub position_by : Option Text → Option (Option ℕ)
+position_by None = Some None
+position_by (Some text) = option_map Some (positive_of text)
 
 -- ---- the cache
 

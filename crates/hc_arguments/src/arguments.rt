@@ -1,18 +1,18 @@
 //! What the words of a command line ask.
 
-ghost use Rattle.std.specs.Prelude.{◌≡◌, ◌∷◌, [], IfErr, IfOk, MatchResult, ℕ, Some, None, codes, map};
+ghost use Rattle.std.specs.Prelude.{◌≡◌, ◌∷◌, [], IfErr, IfOk, MatchResult, ℕ, Some, None, codes, false, map, true};
 ghost use Rattle.clap.specs.Words.{HasKind, Text, fault_of, first_value, found_of, kind_of, subcommand_of, subcommand_rows_of};
-ghost use Rattle.hc_arguments.specs.Command.{Asks, AsksBy, AsksIn, AsksSettings, CanBeDone, IsRefused, IsRefusedIn, IsWord, RefusesBy, RefusesIn, hcache, service_words, task_of};
-ghost use Rattle.hc_arguments.specs.Command.Command.{Audits, Converts, Replays, Serves};
-ghost use Rattle.hc_arguments.specs.Command.Task.{ToAudit, ToConvert, ToReplay, ToServe};
-ghost use Rattle.hc_arguments.specs.Values.{connections_of, plain, plain_cache};
+ghost use Rattle.hc_arguments.specs.Command.{Asks, AsksBy, AsksCache, AsksIn, AsksSettings, CanBeDone, Command, IsFileName, IsRefused, IsRefusedIn, IsWord, RefusesBy, RefusesIn, hcache, judges, service_words, task_of};
+ghost use Rattle.hc_arguments.specs.Command.Command.{Audits, Converts, Explains, Replays, Reports, Serves};
+ghost use Rattle.hc_arguments.specs.Command.Task.{ToAudit, ToConvert, ToExplain, ToReplay, ToReport, ToServe};
+ghost use Rattle.hc_arguments.specs.Values.{connections_of, plain, plain_cache, position_by, positive_of};
 ghost use Rattle.hc_arguments.specs.declared.refusal.Refusal.TheVariants.{Missing};
 
 use crate::command::command;
 use crate::order::Order;
 use crate::refusal::{Refusal, usage_error};
 use crate::values::{
-    bytes_by, connections_of, ignored_by, keys_by, name_by, slack_by, unmarked_by,
+    bytes_by, ignored_by, json_by, keys_by, name_by, positive_of, slack_by, unmarked_by,
 };
 use clap::error::ErrorKind;
 use clap::{ArgMatches, Error};
@@ -30,6 +30,21 @@ pub fn parsed<'a, S: AsStr>(alloc: Global, words: &'a [S]) -> Result<Order<'a>, 
     ensures audit { (name file : Text) → IsWord file
         → map S.text words.entry.now ≡ name ∷ codes "audit" ∷ file ∷ []
         → MatchResult result (λ order. task_of order ≡ ToAudit file plain)
+        (λ error. kind_of error ≡ ErrorKind.OutOfMemory) }
+    // `report FILE` asks for text, and gives that FILE and those settings too.
+    ensures report { (name file : Text) → IsWord file
+        → map S.text words.entry.now ≡ name ∷ codes "report" ∷ file ∷ []
+        → MatchResult result (λ order. task_of order ≡ ToReport file plain false)
+        (λ error. kind_of error ≡ ErrorKind.OutOfMemory) }
+    // And `explain FILE` asks for the first wrong reply, where FILE isn't `-`.
+    ensures explain { (name file : Text) → IsFileName file
+        → map S.text words.entry.now ≡ name ∷ codes "explain" ∷ file ∷ []
+        → MatchResult result (λ order. task_of order ≡ ToExplain file None plain)
+        (λ error. kind_of error ≡ ErrorKind.OutOfMemory) }
+    // Or `explain FILE POSITION` for the reply at that position.
+    ensures explain_at { (name file number : Text) (position : ℕ) → IsFileName file → positive_of number ≡ Some position
+        → map S.text words.entry.now ≡ name ∷ codes "explain" ∷ file ∷ number ∷ []
+        → MatchResult result (λ order. task_of order ≡ ToExplain file (Some position) plain)
         (λ error. kind_of error ≡ ErrorKind.OutOfMemory) }
     // `replay FILE` gives that FILE, and fails only so too.
     ensures replay { (name file : Text) → IsWord file
@@ -85,7 +100,7 @@ fn asked_in<'a>(alloc: Global, matches: &ArgMatches<'a>) -> Result<Order<'a>, Er
 {
     match order_in(alloc, matches) {
         Ok(order) => Ok(order),
-        Err(refusal) => Err(refusal.error(alloc)?),
+        Err(refusal) => Err(refusal.error(alloc, matches.subcommand_name())?),
     }
 }
 
@@ -99,6 +114,8 @@ fn order_in<'a>(alloc: Global, matches: &ArgMatches<'a>) -> Result<Order<'a>, Re
     };
     match name {
         "audit" => audit_in(alloc, found),
+        "report" => report_in(alloc, found),
+        "explain" => explain_in(alloc, found),
         "replay" => replay_in(found),
         "serve" => serve_in(alloc, found),
         "convert" => convert_in(found),
@@ -112,6 +129,63 @@ fn audit_in<'a>(alloc: Global, found: &ArgMatches<'a>) -> Result<Order<'a>, Refu
     ensures err { IfErr result (RefusesBy (Some Audits) (first_value (found_of found.now))) }
 {
     let file = required(found, "FILE")?;
+    let settings = settings_in(alloc, found)?;
+    Ok(Order::Audit { file, settings })
+}
+
+// What `report` asks.
+fn report_in<'a>(alloc: Global, found: &ArgMatches<'a>) -> Result<Order<'a>, Refusal>
+    ensures ok { IfOk result (λ order. AsksBy (Some Reports) (first_value (found_of found.now)) (task_of order)) }
+    ensures err { IfErr result (RefusesBy (Some Reports) (first_value (found_of found.now))) }
+{
+    let file = required(found, "FILE")?;
+    let json = json_by(found.get_str("json"));
+    let settings = settings_in(alloc, found)?;
+    Ok(Order::Report {
+        file,
+        settings,
+        json,
+    })
+}
+
+// What `explain` asks.
+fn explain_in<'a>(alloc: Global, found: &ArgMatches<'a>) -> Result<Order<'a>, Refusal>
+    ensures ok { IfOk result (λ order. AsksBy (Some Explains) (first_value (found_of found.now)) (task_of order)) }
+    ensures err { IfErr result (RefusesBy (Some Explains) (first_value (found_of found.now))) }
+{
+    let file = required(found, "FILE")?;
+    if file == "-" {
+        return Err(Refusal::StandardInput);
+    }
+    let position = position_in(found)?;
+    let settings = settings_in(alloc, found)?;
+    Ok(Order::Explain {
+        file,
+        position,
+        settings,
+    })
+}
+
+// The position of which `explain` is asked, if any.
+fn position_in(found: &ArgMatches<'_>) -> Result<Option<u64>, Refusal>
+    ensures ok { IfOk result (λ position. position_by (first_value (found_of found.now) (codes "POSITION")) ≡ Some position) }
+    ensures err { IfErr result (RefusesBy (Some Explains) (first_value (found_of found.now))) }
+{
+    let Some(text) = found.get_str("POSITION") else {
+        return Ok(None);
+    };
+    match positive_of(text.as_bytes()) {
+        Some(position) => Ok(Some(position)),
+        None => Err(Refusal::Position),
+    }
+}
+
+// By which settings a command that judges does so.
+fn settings_in(alloc: Global, found: &ArgMatches<'_>) -> Result<Settings, Refusal>
+    ensures ok { IfOk result (AsksSettings (first_value (found_of found.now))) }
+    ensures err { IfErr result (λ refusal. (command : Command) → judges command ≡ true
+        → RefusesBy (Some command) (first_value (found_of found.now)) refusal) }
+{
     let Some(slack) = slack_by(found.get_str("slack")) else {
         return Err(Refusal::Slack);
     };
@@ -119,12 +193,11 @@ fn audit_in<'a>(alloc: Global, found: &ArgMatches<'a>) -> Result<Order<'a>, Refu
         return Err(Refusal::Ignore);
     };
     let unmarked = unmarked_by(found.get_str("errors-only"));
-    let settings = Settings {
+    Ok(Settings {
         slack,
         ignored,
         unmarked,
-    };
-    Ok(Order::Audit { file, settings })
+    })
 }
 
 // What `replay` asks.
@@ -154,10 +227,10 @@ fn serve_in<'a>(alloc: Global, found: &ArgMatches<'a>) -> Result<Order<'a>, Refu
     let origin = required(found, "origin")?;
     let number = required(found, "connections")?;
     let file = required(found, "record")?;
-    let Some(connections) = connections_of(number.as_bytes()) else {
+    let Some(connections) = positive_of(number.as_bytes()) else {
         return Err(Refusal::Connections);
     };
-    let settings = settings_in(alloc, found)?;
+    let settings = cache_in(alloc, found)?;
     Ok(Order::Serve {
         listen,
         origin,
@@ -168,8 +241,8 @@ fn serve_in<'a>(alloc: Global, found: &ArgMatches<'a>) -> Result<Order<'a>, Refu
 }
 
 // What the cache is that `serve` asks for.
-fn settings_in(alloc: Global, found: &ArgMatches<'_>) -> Result<CoreSettings, Refusal>
-    ensures ok { IfOk result (AsksSettings (first_value (found_of found.now))) }
+fn cache_in(alloc: Global, found: &ArgMatches<'_>) -> Result<CoreSettings, Refusal>
+    ensures ok { IfOk result (AsksCache (first_value (found_of found.now))) }
     ensures err { IfErr result (RefusesBy (Some Serves) (first_value (found_of found.now))) }
 {
     let Some(keys) = keys_by(found.get_str("keys")) else {

@@ -1,19 +1,30 @@
 //! The command `hcache`, and its subcommands.
 
 ghost use Rattle.std.specs.Prelude.{◌≡◌, false};
-ghost use Rattle.clap.specs.Words.{App, rule_of, with_rule, with_subcommand};
-ghost use Rattle.hc_arguments.specs.Command.{IsMade, audit, convert, file_rule, flag_rule, hcache, option_rule, program, replay, required_rule, serve};
+ghost use Rattle.clap.specs.Words.{App, new_app, rule_of, with_rule, with_subcommand};
+ghost use Rattle.hc_arguments.specs.Command.{IsMade, audit, convert, explain, file_rule, flag_rule, hcache, option_rule, position_rule, program, replay, report, required_rule, serve, with_settings};
 
 use clap::{Arg, ArgAction, Command};
 use std::alloc::{AllocError, Global};
 
 const ABOUT: &str =
-    "Audits the transcripts of a cache, plays scripts to a cache that records one, serves clients from one, \
-    and converts transcripts";
+    "Audits the transcripts of a cache, groups and explains their wrong replies, plays scripts to a cache \
+    that records one, serves clients from one, and converts transcripts";
 
 const AUDIT_ABOUT: &str = "Says whether every reply in a transcript is right, in one line";
 
 const AUDITED_HELP: &str = "The transcript, or - for standard input";
+
+const REPORT_ABOUT: &str =
+    "Groups all wrong replies of a transcript by why they are wrong, and says what to try";
+
+const EXPLAIN_ABOUT: &str =
+    "Explains the first wrong reply of a transcript, or the reply at a position";
+
+const EXPLAINED_HELP: &str = "The transcript, a file that is read twice";
+
+const POSITION_HELP: &str =
+    "The position of the reply: a decimal from 1 to 999999999999, and that of the first wrong one without it";
 
 const REPLAY_ABOUT: &str =
     "Plays a script of events to a new cache: standard output gets the transcript that it records, \
@@ -60,6 +71,8 @@ const IGNORE_HELP: &str = "The names of fields that aren't compared, with commas
 const ERRORS_ONLY_HELP: &str =
     "A reply without a mark is wrong, but for those of status 400 and more";
 
+const JSON_HELP: &str = "One JSON object in place of text";
+
 const STATUSES: &str = "\
 Exit status:
   0   yes: the transcript keeps to the format, and every reply in it is right
@@ -67,6 +80,14 @@ Exit status:
   2   malformed: the transcript breaks at this position, by this fault
   3   no verdict: standard error says `error: memory` or `error: device`
   64  the command line is wrong: standard error says how";
+
+const EXPLAIN_STATUSES: &str = "\
+Exit status:
+  0   the reply is right, or without POSITION none is wrong and the transcript keeps to the format
+  1   it is wrong
+  2   malformed: the transcript breaks before that, at this position, by this fault
+  3   not explained: standard error says `error: memory` or `error: device`
+  64  the command line is wrong, or no reply stands at POSITION: standard error says how";
 
 const REPLAY_STATUSES: &str = "\
 Exit status:
@@ -93,9 +114,27 @@ pub(crate) fn command<'a>(alloc: Global) -> Result<Command<'a>, AllocError>
     ensures { IsMade hcache result }
 {
     let audited = with_subcommand(program(alloc), audit_command(alloc));
-    let replayed = with_subcommand(audited, replay_command(alloc));
+    let reported = with_subcommand(audited, report_command(alloc));
+    let explained = with_subcommand(reported, explain_command(alloc));
+    let replayed = with_subcommand(explained, replay_command(alloc));
     let served = with_subcommand(replayed, serve_command(alloc));
     with_subcommand(served, convert_command(alloc))
+}
+
+/// The command of that name, without the one above it; the whole command where there is none.
+pub(crate) fn command_named<'a>(
+    alloc: Global,
+    name: Option<&str>,
+) -> Result<Command<'a>, AllocError> {
+    match name {
+        Some("audit") => audit_command(alloc),
+        Some("report") => report_command(alloc),
+        Some("explain") => explain_command(alloc),
+        Some("replay") => replay_command(alloc),
+        Some("serve") => serve_command(alloc),
+        Some("convert") => convert_command(alloc),
+        _ => command(alloc),
+    }
 }
 
 // The command above its subcommands, without them.
@@ -109,51 +148,75 @@ fn program<'a>(alloc: Global) -> Result<Command<'a>, AllocError>
         .bin_name("hcache")
 }
 
-/// The command `audit`, without the one above it.
-pub(crate) fn audit_command<'a>(alloc: Global) -> Result<Command<'a>, AllocError>
+// The command `audit`, without the one above it.
+fn audit_command<'a>(alloc: Global) -> Result<Command<'a>, AllocError>
     ensures { IsMade audit result }
 {
-    let begun = Command::new(alloc, "audit")
-        .about(AUDIT_ABOUT)
-        .after_help(STATUSES)
-        .bin_name("hcache audit");
-    let with_file = with_argument(begun, file_argument(alloc, AUDITED_HELP));
-    let with_slack = with_argument(with_file, option(alloc, "slack", "N", SLACK_HELP));
-    let with_names = with_argument(with_slack, option(alloc, "ignore", "NAME,..", IGNORE_HELP));
-    with_argument(with_names, flag(alloc, "errors-only", ERRORS_ONLY_HELP))
+    let bare = begun(alloc, "audit", "hcache audit", AUDIT_ABOUT, STATUSES);
+    let with_file = with_argument(bare, file_argument(alloc, AUDITED_HELP));
+    with_settings(alloc, with_file)
+}
+
+// The command `report`, without the one above it.
+fn report_command<'a>(alloc: Global) -> Result<Command<'a>, AllocError>
+    ensures { IsMade report result }
+{
+    let bare = begun(alloc, "report", "hcache report", REPORT_ABOUT, STATUSES);
+    let with_file = with_argument(bare, file_argument(alloc, AUDITED_HELP));
+    let set = with_settings(alloc, with_file);
+    with_argument(set, flag(alloc, "json", JSON_HELP))
+}
+
+// The command `explain`, without the one above it.
+fn explain_command<'a>(alloc: Global) -> Result<Command<'a>, AllocError>
+    ensures { IsMade explain result }
+{
+    let bare = begun(
+        alloc,
+        "explain",
+        "hcache explain",
+        EXPLAIN_ABOUT,
+        EXPLAIN_STATUSES,
+    );
+    let with_file = with_argument(bare, file_argument(alloc, EXPLAINED_HELP));
+    let with_position = with_argument(with_file, position_argument(alloc));
+    with_settings(alloc, with_position)
 }
 
 // The command `replay`, without the one above it.
 fn replay_command<'a>(alloc: Global) -> Result<Command<'a>, AllocError>
     ensures { IsMade replay result }
 {
-    let begun = Command::new(alloc, "replay")
-        .about(REPLAY_ABOUT)
-        .after_help(REPLAY_STATUSES)
-        .bin_name("hcache replay");
-    with_argument(begun, file_argument(alloc, REPLAYED_HELP))
+    let bare = begun(
+        alloc,
+        "replay",
+        "hcache replay",
+        REPLAY_ABOUT,
+        REPLAY_STATUSES,
+    );
+    with_argument(bare, file_argument(alloc, REPLAYED_HELP))
 }
 
 // The command `convert`, without the one above it.
 fn convert_command<'a>(alloc: Global) -> Result<Command<'a>, AllocError>
     ensures { IsMade convert result }
 {
-    let begun = Command::new(alloc, "convert")
-        .about(CONVERT_ABOUT)
-        .after_help(CONVERT_STATUSES)
-        .bin_name("hcache convert");
-    with_argument(begun, file_argument(alloc, CONVERTED_HELP))
+    let bare = begun(
+        alloc,
+        "convert",
+        "hcache convert",
+        CONVERT_ABOUT,
+        CONVERT_STATUSES,
+    );
+    with_argument(bare, file_argument(alloc, CONVERTED_HELP))
 }
 
-/// The command `serve`, without the one above it.
-pub(crate) fn serve_command<'a>(alloc: Global) -> Result<Command<'a>, AllocError>
+// The command `serve`, without the one above it.
+fn serve_command<'a>(alloc: Global) -> Result<Command<'a>, AllocError>
     ensures { IsMade serve result }
 {
-    let begun = Command::new(alloc, "serve")
-        .about(SERVE_ABOUT)
-        .after_help(SERVE_STATUSES)
-        .bin_name("hcache serve");
-    let listening = with_argument(begun, required(alloc, "listen", "HOST:PORT", LISTEN_HELP));
+    let bare = begun(alloc, "serve", "hcache serve", SERVE_ABOUT, SERVE_STATUSES);
+    let listening = with_argument(bare, required(alloc, "listen", "HOST:PORT", LISTEN_HELP));
     let forwarding = with_argument(
         listening,
         required(alloc, "origin", "HOST:PORT", ORIGIN_HELP),
@@ -168,6 +231,22 @@ pub(crate) fn serve_command<'a>(alloc: Global) -> Result<Command<'a>, AllocError
     with_argument(with_bytes, option(alloc, "name", "NAME", NAME_HELP))
 }
 
+// A subcommand of that name, without its arguments.
+fn begun<'a>(
+    alloc: Global,
+    name: &'a str,
+    whole_name: &'a str,
+    about: &'a str,
+    statuses: &'a str,
+) -> Result<Command<'a>, AllocError>
+    ensures { IsMade (new_app name.entry.now) result }
+{
+    Command::new(alloc, name)
+        .about(about)
+        .after_help(statuses)
+        .bin_name(whole_name)
+}
+
 // The command with one more argument, which isn't global.
 fn with_argument<'a>(
     command: Result<Command<'a>, AllocError>,
@@ -177,6 +256,18 @@ fn with_argument<'a>(
         → IsMade (with_rule app (rule_of argument.entry)) result }
 {
     command?.arg(argument)
+}
+
+// The command with the options that say by which settings it judges.
+fn with_settings<'a>(
+    alloc: Global,
+    command: Result<Command<'a>, AllocError>,
+) -> Result<Command<'a>, AllocError>
+    ensures { (app : App) → IsMade app command.entry → IsMade (with_settings app) result }
+{
+    let with_slack = with_argument(command, option(alloc, "slack", "N", SLACK_HELP));
+    let with_names = with_argument(with_slack, option(alloc, "ignore", "NAME,..", IGNORE_HELP));
+    with_argument(with_names, flag(alloc, "errors-only", ERRORS_ONLY_HELP))
 }
 
 // The command with one more subcommand.
@@ -195,6 +286,13 @@ fn file_argument<'a>(alloc: Global, help: &'a str) -> Arg<'a>
     ensures local { result.global ≡ false }
 {
     Arg::new(alloc, "FILE").required(true).help(help)
+}
+
+fn position_argument<'a>(alloc: Global) -> Arg<'a>
+    ensures rule { rule_of result ≡ position_rule }
+    ensures local { result.global ≡ false }
+{
+    Arg::new(alloc, "POSITION").help(POSITION_HELP)
 }
 
 // An option with one value.

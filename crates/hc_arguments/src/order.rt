@@ -13,6 +13,24 @@ pub enum Order<'a> {
         /// What the audit lets pass.
         settings: Settings,
     },
+    /// To report on a transcript.
+    Report {
+        /// Where it is: the name of a file, or `-` for standard input.
+        file: &'a str,
+        /// What lets replies pass.
+        settings: Settings,
+        /// Whether the report is one JSON object, in place of text.
+        json: bool,
+    },
+    /// To explain a reply of a transcript.
+    Explain {
+        /// Where the transcript is: the name of a file, which can be read twice, and so not `-`.
+        file: &'a str,
+        /// The position of the reply, from 1 to 999,999,999,999; the first wrong one without it.
+        position: Option<u64>,
+        /// What lets replies pass.
+        settings: Settings,
+    },
     /// To replay a script.
     Replay {
         /// Where it is: the name of a file.

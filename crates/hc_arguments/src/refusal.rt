@@ -4,7 +4,7 @@ ghost use Rattle.std.specs.Prelude.{◌≡◌, IfOk, Some};
 ghost use Rattle.clap.specs.Words.{kind_of};
 ghost use Rattle.hc_arguments.specs.declared.refusal.Refusal.TheVariants.{Memory};
 
-use crate::command::{audit_command, command, serve_command};
+use crate::command::command_named;
 use clap::error::ErrorKind;
 use clap::{Command, Error};
 use std::alloc::{AllocError, Global};
@@ -20,6 +20,10 @@ pub(crate) enum Refusal {
     Slack,
     /// The value of `--ignore` is no list of names.
     Ignore,
+    /// POSITION is no number of a position, or too great.
+    Position,
+    /// FILE is standard input, which can't be read twice.
+    StandardInput,
     /// The value of `--connections` is no number of connections, or too great.
     Connections,
     /// The value of `--keys` is no number of targets of which a cache may keep responses.
@@ -33,28 +37,16 @@ pub(crate) enum Refusal {
 impl Refusal {
     ghost use Rattle.hc_arguments.specs.Command.{refused_kind};
 
-    /// The error that says it, with the usage.
-    pub(crate) fn error(self, alloc: Global) -> Result<Error, AllocError>
+    /// The error that says it, with the usage of the command of that name.
+    pub(crate) fn error(self, alloc: Global, name: Option<&str>) -> Result<Error, AllocError>
         ensures { IfOk result (λ error. refused_kind self ≡ Some (kind_of error)) }
     {
-        match self {
-            Refusal::Memory => Err(AllocError),
-            Refusal::Missing => usage_error(
-                command(alloc)?,
-                ErrorKind::MissingRequiredArgument,
-                self.message(),
-            ),
-            Refusal::Slack | Refusal::Ignore => usage_error(
-                audit_command(alloc)?,
-                ErrorKind::ValueValidation,
-                self.message(),
-            ),
-            _ => usage_error(
-                serve_command(alloc)?,
-                ErrorKind::ValueValidation,
-                self.message(),
-            ),
-        }
+        let kind = match self {
+            Refusal::Memory => return Err(AllocError),
+            Refusal::Missing => ErrorKind::MissingRequiredArgument,
+            _ => ErrorKind::ValueValidation,
+        };
+        usage_error(command_named(alloc, name)?, kind, self.message())
     }
 
     // What is wrong.
@@ -65,6 +57,12 @@ impl Refusal {
             Refusal::Slack => "invalid value for '--slack <N>': not a decimal from 0 to 2147483648",
             Refusal::Ignore => {
                 "invalid value for '--ignore <NAME,..>': not names of fields with commas between them"
+            }
+            Refusal::Position => {
+                "invalid value for '[POSITION]': not a decimal from 1 to 999999999999"
+            }
+            Refusal::StandardInput => {
+                "invalid value for '<FILE>': it is read twice, so it can't be standard input"
             }
             Refusal::Connections => {
                 "invalid value for '--connections <N>': not a decimal from 1 to 999999999999"

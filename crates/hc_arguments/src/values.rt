@@ -1,7 +1,7 @@
 //! What the values of options say.
 
 ghost use Rattle.std.specs.Prelude.{◌≡◌, IfOk, option_map};
-ghost use Rattle.hc_arguments.specs.Values.{bytes_by, bytes_of, connections_of, ignored_by, keys_by, keys_of, name_by, name_of, seconds_of, slack_by, unmarked_by};
+ghost use Rattle.hc_arguments.specs.Values.{bytes_by, bytes_of, ignored_by, json_by, keys_by, keys_of, name_by, name_of, positive_of, seconds_of, slack_by, unmarked_by};
 
 use crate::names::names_of;
 use hc_fields::{LARGEST_NUMBER, Octets, decimal};
@@ -63,15 +63,22 @@ pub(crate) fn unmarked_by(value: Option<&str>) -> UnmarkedReplies
     }
 }
 
-/// The number of `--connections`, where it is in its range.
-pub(crate) fn connections_of(text: &[u8]) -> Option<u64>
-    ensures { result ≡ connections_of text.now }
+/// What `--json` says. A flag that was given has the value `true`.
+pub(crate) fn json_by(value: Option<&str>) -> bool
+    ensures { result ≡ json_by (option_map (λ text. text.now) value.entry) }
 {
-    let connections = decimal(text)?;
-    if connections == 0 || connections > GREATEST_NUMBER {
+    value == Some("true")
+}
+
+/// The number of `--connections` or of POSITION, where it is in its range.
+pub(crate) fn positive_of(text: &[u8]) -> Option<u64>
+    ensures { result ≡ positive_of text.now }
+{
+    let number = decimal(text)?;
+    if number == 0 || number > GREATEST_NUMBER {
         return None;
     }
-    Some(connections)
+    Some(number)
 }
 
 /// The number of `--keys`, where a cache may keep responses of so many targets.

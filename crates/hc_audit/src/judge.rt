@@ -2,7 +2,7 @@
 
 ghost use Rattle.std.specs.Prelude.{◌≡◌, ◌<◌, ◌≤◌, ◌++◌, ◌∷◌, ℕ, List, [], IfOk, IfSome, OnOk, Ok, None};
 ghost use Rattle.hc_transcript.specs.declared.format.Format.{Format};
-ghost use Rattle.hc_transcript.specs.Items.{Item, item_of};
+ghost use Rattle.hc_transcript.specs.Items.{Item, ClientReply, item_of};
 ghost use Rattle.hc_transcript.specs.Limits.{longest_unfinished};
 ghost use Rattle.hc_transcript.specs.Reader.{KeepsFormat, format_read, unread, records_read};
 ghost use Rattle.hc_history.specs.declared.settings.Settings.{Settings};
@@ -13,7 +13,7 @@ ghost use Rattle.hc_history.specs.Seen.{IsSeenAs};
 ghost use Rattle.hc_history.specs.Verdicts.{IsVerdict};
 
 use crate::next::{Next, next_behind};
-use crate::witness::JudgedReply;
+use crate::witness::{JudgedReply, PassedRecord};
 use hc_history::{Counts, Finding, Mark, MarkedReply, Settings, Verdict};
 use hc_index::Index;
 use hc_transcript::{Format, Meaning, OwnedItem, RecordReader};
@@ -97,6 +97,21 @@ impl<I: Index + Drop> Judge<I> {
         }
     }
 
+    /// The record that was read last and is that item, where it is no reply.
+    pub(crate) fn passed<'a>(&'a self, item: &'a OwnedItem, format: Format) -> PassedRecord<'a, I>
+        ensures position { result.position ≡ records_read self.now.reader }
+        ensures format { result.format ≡ format }
+        ensures item { result.item.now ≡ item.now }
+        ensures index { result.index.now ≡ self.now.index }
+    {
+        PassedRecord {
+            position: self.reader.records(),
+            format,
+            item,
+            index: &self.index,
+        }
+    }
+
     /// What is found of the record that was read last and is that item, where it is a reply.
     pub(crate) fn judged<'a>(
         &'a self,
@@ -107,6 +122,9 @@ impl<I: Index + Drop> Judge<I> {
         ensures finding { (h : List Item) → IsSeenAs format (I.seen self.now.index) h
             → IfOk result (λ judged. IsFound format self.now.settings h (item_of item.now) (finding_told judged)) }
         ensures mark { IfOk result (λ judged. mark_told judged ≡ item_mark (item_of item.now)) }
+        ensures reply { IfOk result (λ judged. IfSome judged (λ reply. item_of item.now ≡ ClientReply reply.exchange reply.moment reply.reply)) }
+        ensures known { IfOk result (λ judged. IfSome judged (λ reply.
+            (reply.format ≡ format) × (reply.settings.now ≡ self.now.settings) × (reply.index.now ≡ self.now.index))) }
     {
         let Meaning::ClientReply(reply) = &item.of else {
             return Ok(None);
@@ -122,6 +140,7 @@ impl<I: Index + Drop> Judge<I> {
             format,
             reply,
             finding,
+            settings: &self.settings,
             index: &self.index,
         }))
     }

@@ -21,4 +21,4 @@ pub use hc_index::Index;
 pub use hc_transcript::{Format, RecordFault};
 pub use laws::converting_keeps_a_yes;
 pub use survey::Survey;
-pub use witness::{JudgedReply, Witness};
+pub use witness::{JudgedReply, PassedRecord, Witness};

@@ -68,7 +68,7 @@ impl<I: Index + Drop> Judge<I> {
         Ok(())
     }
 
-    /// Tells the witness of that item, which was read last, if it is a reply, and answers its mark.
+    /// Tells the witness of that item, which was read last, and answers its mark, if it is a reply.
     fn tell<W: Witness<I>>(
         &self,
         item: &OwnedItem,
@@ -81,6 +81,7 @@ impl<I: Index + Drop> Judge<I> {
         ensures mark { IfOk result (λ mark. mark ≡ item_mark (item_of item.now)) }
     {
         let Some(judged) = self.judged(item, format)? else {
+            witness.pass(&self.passed(item, format))?;
             return Ok(None);
         };
         witness.see(&judged)?;

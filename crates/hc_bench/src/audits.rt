@@ -103,8 +103,8 @@ fn audit_formats<C: Clock, W: Write>(
     Ok(())
 }
 
-// The number of the format, as the opening has it.
-fn number_of(format: Format) -> u32 {
+/// The number of the format, as the opening has it.
+pub(crate) fn number_of(format: Format) -> u32 {
     match format {
         Format::First => 1,
         Format::Second => 2,
@@ -145,8 +145,8 @@ pub fn write_sample<W: Write>(alloc: Global, sample: &Sample, output: &mut W) ->
     Ok(())
 }
 
-// The transcript of the sample.
-fn sampled(alloc: Global, sample: &Sample) -> Result<Octets, AllocError>
+/// The transcript of the sample.
+pub(crate) fn sampled(alloc: Global, sample: &Sample) -> Result<Octets, AllocError>
     requires { 0 < sample.now.targets }
     ensures { IfOk result (λ text. text ≡ transcript sample.now.format (filler sample.now.body) sample.now.targets
         (sample.now.records / 2 - sample.now.targets)) }
@@ -160,8 +160,8 @@ fn rounds_of(records: usize) -> usize {
     (RECORDS_IN_ALL / records.max(1)).max(ROUNDS)
 }
 
-// How fast the octets are audited at best.
-fn fastest<C: Clock>(
+/// How fast the octets are audited at best.
+pub(crate) fn fastest<C: Clock>(
     alloc: Global,
     clock: &C,
     octets: &[u8],

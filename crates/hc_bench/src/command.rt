@@ -21,10 +21,12 @@ pub enum Task {
     Store,
     /// To measure how many hits a cache serves.
     Hits,
+    /// To measure what reports cost beside audits.
+    Report,
 }
 
 /// How the program is called.
-pub const USAGE: &str = "usage: hc_bench [measure|audit|audit-long|transcript|store|hits]\n";
+pub const USAGE: &str = "usage: hc_bench [measure|audit|audit-long|transcript|store|hits|report]\n";
 
 /// What the word asks for, if it is a known one.
 fn task_of(word: &str) -> Option<Task>
@@ -42,6 +44,8 @@ fn task_of(word: &str) -> Option<Task>
         Some(Task::Store)
     } else if word == "hits" {
         Some(Task::Hits)
+    } else if word == "report" {
+        Some(Task::Report)
     } else {
         None
     }

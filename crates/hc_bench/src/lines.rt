@@ -1,6 +1,6 @@
 //! The lines that the program prints.
 ghost use Rattle.std.specs.Prelude.{◌≡◌, IfOk, string_bytes};
-ghost use Rattle.hc_bench.specs.Lines.{audit_line, counts_line, rate_line, cost_line, sample_text, store_line};
+ghost use Rattle.hc_bench.specs.Lines.{audit_line, counts_line, rate_line, cost_line, report_line, sample_text, store_line};
 
 use crate::feeding::Fed;
 use crate::rate::Rate;
@@ -76,6 +76,26 @@ pub fn audit_line(
     let octets_speed = rate.octets_per_second();
     format!(in alloc;
         "audit {sample} octets={octets} records_per_second={records_speed} octets_per_second={octets_speed}\n"
+    )
+}
+
+/// How fast a transcript of hits was audited, how fast it was reported, and what the report cost, in percent of the audit.
+pub fn report_line(
+    alloc: Global,
+    format: u32,
+    targets: usize,
+    body: usize,
+    audited: &Rate,
+    reported: &Rate,
+) -> Result<String, AllocError>
+    ensures { IfOk result (λ line. string_bytes line ≡ report_line format targets body audited.now reported.now) }
+{
+    let sample = sample_text(alloc, format, audited.count, targets, body)?;
+    let audits = audited.count_per_second();
+    let reports = reported.count_per_second();
+    let percent = reported.percent_of(audited);
+    format!(in alloc;
+        "report {sample} audited_per_second={audits} reported_per_second={reports} cost_percent={percent}\n"
     )
 }
 

@@ -7,7 +7,8 @@
 //! million records. With `transcript` it writes one of those that it audits, so that other programs can
 //! be timed over the same octets. With `store` it asks stores of few keys and of many for responses, and
 //! puts others in their place. With `hits` it lets caches serve hits, replies that are validated
-//! first, and requests that wait for the forward of another one.
+//! first, and requests that wait for the forward of another one. With `report` it says what a report on hits costs beside
+//! an audit.
 #![tactic(auto)]
 
 mod auditing;
@@ -25,6 +26,7 @@ mod measures;
 mod messages;
 mod print;
 mod rate;
+mod reports;
 mod responses;
 mod run;
 mod samples;

@@ -8,6 +8,7 @@ use crate::command::{Task, USAGE, asked};
 use crate::hits::hits;
 use crate::measures::measure;
 use crate::print::printed;
+use crate::reports::report;
 use crate::samples::sample;
 use crate::stores::store;
 use crate::trouble::Trouble;
@@ -55,6 +56,7 @@ where
         Some(Task::Transcript) => write_sample(rt.alloc(), &LONG_BODIES, output),
         Some(Task::Store) => store(rt.alloc(), rt, output),
         Some(Task::Hits) => hits(rt.alloc(), rt, output),
+        Some(Task::Report) => report(rt.alloc(), rt, output),
         None => return refused(faults),
     };
     match done {

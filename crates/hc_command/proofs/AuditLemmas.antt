@@ -29,29 +29,28 @@ fed_on seen settings octets before after old mid new piece settled f consumed fe
 -- ---- the verdict
 
 -- an input that is read to its end had what was read
-at_end : (settings : Settings) (verdict : Verdict) (old new : Option (List ℕ)) (read : List ℕ) → Consumes old new read → IsAtEnd new
-    → IsVerdict read settings verdict → IfSome old (λ octets. IsVerdict octets settings verdict)
-at_end settings verdict None new read consumed end is = tt
-at_end settings verdict (Some xs) None read consumed end is = absurd consumed
-at_end settings verdict (Some xs) (Some ys) read consumed end is =
-    let all = sym (append-nil read) ∙ ap (λ rest. read ++ rest) (sym end) ∙ sym consumed in
-    subst (λ o. IsVerdict o settings verdict) all is
+pub at_end : (P : List ℕ → Type 0) (old new : Option (List ℕ)) (read : List ℕ) → Consumes old new read → IsAtEnd new → P read → IfSome old P
+at_end P None new read consumed end is = tt
+at_end P (Some xs) None read consumed end is = absurd consumed
+at_end P (Some xs) (Some ys) read consumed end is =
+    let all = sym (append-nil read) ∙ ap (λ rest. read ++ rest) (sym end) ∙ sym consumed in subst P all is
 
 -- and another one had that and something behind it
-before_end : (settings : Settings) (verdict : Verdict) (old new : Option (List ℕ)) (read : List ℕ) → Consumes old new read
-    → Stands verdict settings read → IfSome old (λ octets. IsVerdict octets settings verdict)
-before_end settings verdict None new read consumed stands = tt
-before_end settings verdict (Some xs) None read consumed stands = absurd consumed
-before_end settings verdict (Some xs) (Some ys) read consumed stands = subst (λ o. IsVerdict o settings verdict) (sym consumed) (stands.holds ys)
+pub before_end : (P : List ℕ → Type 0) (old new : Option (List ℕ)) (read : List ℕ) → Consumes old new read → ((more : List ℕ) → P (read ++ more)) → IfSome old P
+before_end P None new read consumed holds = tt
+before_end P (Some xs) None read consumed holds = absurd consumed
+before_end P (Some xs) (Some ys) read consumed holds = subst P (sym consumed) (holds ys)
 
 module _ {I : Type 0} (seen : I → Seen) (settings : Settings) where
   pub settled_verdict : (a : Auditor I) (old new : Option (List ℕ)) (settled : Option Verdict) (verdict : Verdict)
       → Feeds seen a settings [] old new settled → settled ≡ Some verdict → IfSome old (λ octets. IsVerdict octets settings verdict)
   settled_verdict a old new settled verdict f is =
-      before_end settings verdict old new f.bytes f.consumed (subst (λ s. IfSome s (λ one. Stands one settings f.bytes)) is f.stands)
+      let stands : Stands verdict settings f.bytes = subst (λ s. IfSome s (λ one. Stands one settings f.bytes)) is f.stands in
+      before_end (λ o. IsVerdict o settings verdict) old new f.bytes f.consumed stands.holds
 
   pub ended_verdict : (a : Auditor I) (old new : Option (List ℕ)) (settled : Option Verdict) (verdict : Verdict)
       → Feeds seen a settings [] old new settled → IsAtEnd new
       → ((octets : List ℕ) → Agrees seen a settings octets → IsVerdict octets settings verdict)
       → IfSome old (λ octets. IsVerdict octets settings verdict)
-  ended_verdict a old new settled verdict f end is = at_end settings verdict old new f.bytes f.consumed end (is f.bytes f.agrees)
+  ended_verdict a old new settled verdict f end is =
+      at_end (λ o. IsVerdict o settings verdict) old new f.bytes f.consumed end (is f.bytes f.agrees)

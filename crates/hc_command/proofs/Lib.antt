@@ -2,3 +2,4 @@ pub mod AuditLemmas
 pub mod EndLemmas
 pub mod ReplayLemmas
 pub mod ConvertLemmas
+pub mod ReportLemmas

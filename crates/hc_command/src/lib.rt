@@ -1,18 +1,25 @@
-//! What the program `hcache` does: the audit, the replay, the serving of clients, the conversion of a transcript, the line of
-//! a verdict, and the exit status.
+//! What the program `hcache` does: the audit of a transcript, the report on all its wrong replies, the explanation of one,
+//! the replay of a script, the serving of clients, the conversion of a transcript, the line of a verdict, and the exit
+//! status.
 #![tactic(auto)]
 
 mod auditing;
 mod converting;
+mod explaining;
 mod input;
 mod line;
 mod print;
 mod replaying;
+mod reporting;
 mod run;
+mod saying;
+mod surveying;
 mod trouble;
 
 pub use auditing::audit;
 pub use converting::convert;
+pub use explaining::explain;
 pub use line::verdict_line;
 pub use replaying::replay;
+pub use reporting::report;
 pub use run::{answered, shown, status};

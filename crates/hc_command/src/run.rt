@@ -2,18 +2,21 @@
 ghost use Rattle.std.specs.Prelude.{◌≡◌, ◌⊎◌, ◌∷◌, [], ℕ, Some, codes, map};
 ghost use Rattle.std.specs.Io.KnownBytes.{Keeps};
 ghost use Rattle.clap.specs.Words.{Text, fault_of, kind_of};
-ghost use Rattle.hc_arguments.specs.Command.{Asks, CanBeDone, IsErrorStatus, IsWord, Task, command_of, hcache, service_words, task_of};
+ghost use Rattle.hc_arguments.specs.Command.{Asks, CanBeDone, IsErrorStatus, IsFileName, IsWord, Task, command_of, hcache, service_words, task_of};
 ghost use Rattle.hc_arguments.specs.Values.{connections_of};
 ghost use Rattle.hc_command.specs.Audit.{Answers};
 ghost use Rattle.hc_command.specs.Convert.{Converted};
 ghost use Rattle.hc_command.specs.Ends.{Does, Ends, Served};
 ghost use Rattle.hc_command.specs.Replay.{Played};
+ghost use Rattle.hc_command.specs.Report.{Explained, Reported};
 ghost use Rattle.hc_service.specs.Settings.{AreGood};
 
 use crate::auditing::audit;
 use crate::converting::convert;
+use crate::explaining::explain;
 use crate::print::printed;
 use crate::replaying::replay;
+use crate::reporting::report;
 use crate::trouble::Trouble;
 use clap::Error;
 use clap::error::ErrorKind;
@@ -29,7 +32,9 @@ use std::rt::{Env, Files};
 use std::time::Clock;
 use std::{env, fs, io};
 
-const USAGE: &str = "\nUsage: hcache audit [OPTIONS] <FILE>\n       hcache replay <FILE>\n       \
+const USAGE: &str =
+    "\nUsage: hcache audit [OPTIONS] <FILE>\n       hcache report [OPTIONS] <FILE>\n       \
+    hcache explain [OPTIONS] <FILE> [POSITION]\n       hcache replay <FILE>\n       \
     hcache serve [OPTIONS] --listen <HOST:PORT> --origin <HOST:PORT> --connections <N> --record <FILE>\n       \
     hcache convert <FILE>\n";
 
@@ -78,6 +83,18 @@ where
         → Answers result (W.contents output.old) (W.contents output.new)
         (E.contents faults.old) (E.contents faults.new) }
 
+    // And `report FILE` by a report.
+    ensures report { (name file : Text) → IsWord file
+        → map S.text words.now ≡ name ∷ codes "report" ∷ file ∷ []
+        → Reported result (W.contents output.old) (W.contents output.new)
+        (E.contents faults.old) (E.contents faults.new) }
+
+    // And `explain FILE`, where that is no standard input, by an explanation.
+    ensures explain { (name file : Text) → IsFileName file
+        → map S.text words.now ≡ name ∷ codes "explain" ∷ file ∷ []
+        → Explained result (W.contents output.old) (W.contents output.new)
+        (E.contents faults.old) (E.contents faults.new) }
+
     // And `replay FILE` by a replay.
     ensures replay { (name file : Text) → IsWord file
         → map S.text words.now ≡ name ∷ codes "replay" ∷ file ∷ []
@@ -122,6 +139,16 @@ where
 {
     match order {
         Order::Audit { file, settings } => audited(rt, file, settings, output, faults),
+        Order::Report {
+            file,
+            settings,
+            json,
+        } => reported(rt, file, settings, json, output, faults),
+        Order::Explain {
+            file,
+            position,
+            settings,
+        } => explained(rt, file, position, settings, output, faults),
         Order::Replay { file } => replayed(rt, file, output, faults),
         Order::Convert { file } => converted(rt, file, output, faults),
         Order::Serve {
@@ -168,6 +195,69 @@ where
     match fs::open(rt, file) {
         Ok(mut opened) => audit(rt.alloc(), settings, file, &mut opened, output, faults),
         Err(error) => Trouble::Device(error).told(file, faults),
+    }
+}
+
+// Reports on the file, or standard input for `-`.
+fn reported<R, W: Write, E: Write>(
+    rt: &R,
+    file: &str,
+    settings: Settings,
+    json: bool,
+    output: &mut W,
+    faults: &mut E,
+) -> u8
+where
+    R: Files + Input + AllocGlobal,
+    ensures { Reported result (W.contents output.old) (W.contents output.new)
+        (E.contents faults.old) (E.contents faults.new) }
+{
+    let alloc = rt.alloc();
+    if file == "-" {
+        let mut input = rt.reader();
+        return report(
+            alloc,
+            settings,
+            json,
+            "standard input",
+            &mut input,
+            output,
+            faults,
+        );
+    }
+    match fs::open(rt, file) {
+        Ok(mut opened) => report(alloc, settings, json, file, &mut opened, output, faults),
+        Err(error) => Trouble::Device(error).told(file, faults),
+    }
+}
+
+// Explains a reply of the file, which is opened twice.
+fn explained<R, W: Write, E: Write>(
+    rt: &R,
+    file: &str,
+    position: Option<u64>,
+    settings: Settings,
+    output: &mut W,
+    faults: &mut E,
+) -> u8
+where
+    R: Files + AllocGlobal,
+    ensures { Explained result (W.contents output.old) (W.contents output.new)
+        (E.contents faults.old) (E.contents faults.new) }
+{
+    let alloc = rt.alloc();
+    match (fs::open(rt, file), fs::open(rt, file)) {
+        (Ok(mut opened), Ok(mut again)) => explain(
+            alloc,
+            settings,
+            position,
+            file,
+            &mut opened,
+            &mut again,
+            output,
+            faults,
+        ),
+        (Err(error), _) | (_, Err(error)) => Trouble::Device(error).told(file, faults),
     }
 }
 

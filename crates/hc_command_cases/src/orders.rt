@@ -24,7 +24,28 @@ pub(crate) fn say_order(
 
 fn write_order(order: &Order<'_>, out: &mut String) -> Result<(), AllocError> {
     match order {
-        Order::Audit { file, settings } => write_audit(file, settings, out),
+        Order::Audit { file, settings } => {
+            write!(out, "to audit {file}")?;
+            write_settings(settings, out)
+        }
+        Order::Report {
+            file,
+            settings,
+            json,
+        } => {
+            let form = if *json { "in JSON" } else { "in text" };
+            write!(out, "to report on {file} {form}")?;
+            write_settings(settings, out)
+        }
+        Order::Explain {
+            file,
+            position,
+            settings,
+        } => {
+            write_reply(*position, out)?;
+            write!(out, " of {file}")?;
+            write_settings(settings, out)
+        }
         Order::Replay { file } => write!(out, "to replay {file}"),
         Order::Convert { file } => write!(out, "to convert {file}"),
         Order::Serve {
@@ -51,8 +72,15 @@ fn write_cache(settings: &CoreSettings, out: &mut String) -> Result<(), AllocErr
     write!(out, " of {keys} keys and {bytes} bytes")
 }
 
+fn write_reply(position: Option<u64>, out: &mut String) -> Result<(), AllocError> {
+    match position {
+        Some(position) => write!(out, "to explain the reply at {position}"),
+        None => out.push_str("to explain the first wrong reply"),
+    }
+}
+
 // Which names are ignored other cases ask.
-fn write_audit(file: &str, settings: &Settings, out: &mut String) -> Result<(), AllocError> {
+fn write_settings(settings: &Settings, out: &mut String) -> Result<(), AllocError> {
     let slack = settings.slack;
     let unmarked = match settings.unmarked {
         UnmarkedReplies::Allow => "any",
@@ -60,6 +88,6 @@ fn write_audit(file: &str, settings: &Settings, out: &mut String) -> Result<(), 
     };
     write!(
         out,
-        "to audit {file} with a slack of {slack}, and {unmarked} may be unmarked"
+        " with a slack of {slack}, and {unmarked} may be unmarked"
     )
 }

@@ -24,7 +24,7 @@ pub record IsCandidate (claim : Claim) (h : List Item) (candidate : Candidate) :
 abbrev pub is_before : Candidate → Candidate → Bool
 is_before one other = nat_lt other.passed one.passed || (one.passed == other.passed && nat_lt other.position one.position)
 
--- they are all candidates, and nothing else, in that order; so none stands twice
+-- the candidates are these: each of them is one, each one is among them, and each stands before all those behind it, so that none stands twice
 pub record AreCandidates (claim : Claim) (h : List Item) (candidates : List Candidate) : Type 0 where
   pub each : All (IsCandidate claim h) candidates
   pub all : (candidate : Candidate) → IsCandidate claim h candidate → Contains candidates candidate

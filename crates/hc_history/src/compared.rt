@@ -1,6 +1,6 @@
 //! Whether a reply has the fields of a stored response.
 
-ghost use Rattle.std.specs.Prelude.{◌≡◌, ◌||◌, ◌==◌};
+ghost use Rattle.std.specs.Prelude.{◌≡◌, ◌||◌, ◌==◌, not};
 ghost use Rattle.std.specs.List.{list_all, list_any};
 ghost use Rattle.std.specs.Str.{bytes_eq};
 ghost use Rattle.hc_head.specs.Statuses.{not_modified};
@@ -56,6 +56,14 @@ fn has_its_values(claim: &ReplyClaim<'_>, state: &Stored, name: &[u8]) -> bool
         ≡ (is_exempt claim.now name.now || same_values claim.now.reply.head.fields state.now.fields name.now) }
 {
     is_exempt(claim, name) || same_values(&claim.reply.head.fields, &state.fields, name)
+}
+
+/// Whether a name is compared, and the reply has other values of it than the stored response.
+pub fn differs(claim: &ReplyClaim<'_>, state: &Stored, name: &[u8]) -> bool
+    ensures { result
+        ≡ not (is_exempt claim.now name.now || same_values claim.now.reply.head.fields state.now.fields name.now) }
+{
+    !has_its_values(claim, state, name)
 }
 
 /// Whether the reply has the values of each of those lines' names that is compared.

@@ -20,6 +20,7 @@ mod wrong;
 
 pub use candidates::Candidate;
 pub use claim::{ReplyClaim, ttl_of};
+pub use compared::differs;
 pub use filters::passed;
 pub use finding::{
     found_of_collapsed, found_of_forwarded, found_of_hit, found_of_unmarked, reason_behind,

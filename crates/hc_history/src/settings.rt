@@ -1,6 +1,6 @@
 //! What an audit is asked to let pass.
 
-ghost use Rattle.std.specs.Prelude.{◌≡◌, ◌++◌, List, ℕ, [], ◌∷◌, map, OnOk, OnErr};
+ghost use Rattle.std.specs.Prelude.{◌≡◌, ◌++◌, List, ℕ, [], ◌∷◌, map, IfOk, OnOk, OnErr};
 ghost use Rattle.std.specs.List.{list_any};
 ghost use Rattle.std.specs.Str.{bytes_eq};
 
@@ -39,6 +39,24 @@ impl FieldNames {
         Ok(())
     }
 
+    /// The names, in the order in which they were added.
+    pub fn names(&self) -> &[Octets]
+        ensures { result.now ≡ self.now }
+    {
+        self.names.as_slice()
+    }
+
+    /// The same names in memory of their own.
+    pub fn copy(&self, alloc: Global) -> Result<Self, AllocError>
+        ensures { IfOk result (λ names. names ≡ self.now) }
+    {
+        let mut copies = FieldNames::new(alloc);
+        for name in self.names() {
+            copies.push(name.copy(alloc)?)?;
+        }
+        Ok(copies)
+    }
+
     /// Whether the name is among them.
     pub fn contains(&self, name: &[u8]) -> bool
         ensures { result ≡ list_any (λ known. bytes_eq known name.now) self.now }
@@ -66,4 +84,17 @@ pub struct Settings {
     pub ignored: FieldNames,
     /// Which replies may have no mark.
     pub unmarked: UnmarkedReplies,
+}
+
+impl Settings {
+    /// The same settings in memory of their own.
+    pub fn copy(&self, alloc: Global) -> Result<Self, AllocError>
+        ensures { IfOk result (λ settings. settings ≡ self.now) }
+    {
+        Ok(Settings {
+            slack: self.slack,
+            ignored: self.ignored.copy(alloc)?,
+            unmarked: self.unmarked,
+        })
+    }
 }

@@ -9,6 +9,7 @@ use Rattle.hc_head.specs.declared.head.ResponseHead.{ResponseHead}
 use Rattle.hc_head.specs.declared.head.Target.{Target}
 use Rattle.hc_head.specs.Targets.{same_target}
 use Rattle.hc_head.specs.Statuses.{not_modified}
+use Rattle.hc_update.specs.declared.stored.Stored.{Stored}
 use Rattle.hc_update.specs.States.{invalidates}
 use Rattle.hc_status.specs.declared.marks.Mark.{Mark}
 use Rattle.hc_status.specs.declared.marks.Mark.TheVariants.{Forwarded}
@@ -58,6 +59,14 @@ cause_seen (Some forward) = forward.cause
 -- the live responses of a target
 abbrev pub live_in : Target → List LiveResponse → List Live
 live_in target lives = map live_seen (filter (λ live. same_target live.target target) lives)
+
+-- the state of the live response at a position, where one of them stands there
+abbrev pub state_in : ℕ → List Live → Option Stored
+state_in position lives = option_map (λ live. live.state) (find (λ live. live.position == position) lives)
+
+-- whether a live response is of that target, and stands at that position
+abbrev pub stands_at : Target → ℕ → LiveResponse → Bool
+stands_at target position live = live.position == position && same_target live.target target
 
 -- the exchange of a number
 abbrev pub open_in : ℕ → List WatchedExchange → Option WatchedExchange

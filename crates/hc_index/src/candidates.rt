@@ -1,16 +1,17 @@
 //! How far the responses get that a reply may carry, by what an index keeps of its target.
 
-ghost use Rattle.std.specs.Prelude.{◌≡◌, List, IfOk, IsPermutation};
+ghost use Rattle.std.specs.Prelude.{◌≡◌, List, find, option_copied, IfOk, IsPermutation};
 ghost use Rattle.std.specs.List.Sorted.{IsSortedBy};
 ghost use Rattle.std.specs.Ordering.{is_lt};
 ghost use Rattle.hc_transcript.specs.Items.{Item};
 ghost use Rattle.hc_history.specs.Candidates.{AreCandidates, is_before};
 ghost use Rattle.hc_history.specs.Seen.{live_of};
-ghost use Rattle.hc_index.specs.Lists.{candidate_of, candidates_in, live_in};
+ghost use Rattle.hc_index.specs.Lists.{candidate_of, candidates_in, live_in, stands_at, state_in};
 
 use crate::kept::LiveResponse;
-use hc_head::same_target;
+use hc_head::{Target, same_target};
 use hc_history::{Candidate, ReplyClaim, passed};
+use hc_update::Stored;
 use std::alloc::{AllocError, Global};
 use std::cmp::Ordering;
 
@@ -73,4 +74,28 @@ pub(crate) fn candidates_among(
     let mut candidates = candidates_in(alloc, claim, lives)?;
     put_in_order(&mut candidates);
     Ok(candidates)
+}
+
+/// The live response of that target at that position.
+fn live_at<'a>(
+    lives: &'a [LiveResponse],
+    target: &Target,
+    position: u64,
+) -> Option<&'a LiveResponse>
+    ensures { option_copied result ≡ find (stands_at target.now position) lives.now }
+{
+    lives.iter().find(|live| live.position == position && same_target(&live.target, target))
+}
+
+/// What is left of the response of that target at that position, among the live responses.
+#[tactic(auto, using(crate::proofs::CandidateLemmas::state_among))]
+pub(crate) fn response_among<'a>(
+    lives: &'a [LiveResponse],
+    target: &Target,
+    position: u64,
+) -> Option<&'a Stored>
+    ensures { option_copied result ≡ state_in position (live_in target.now lives.now) }
+{
+    let live = live_at(lives, target, position)?;
+    Some(&live.state)
 }

@@ -1,14 +1,20 @@
 //! What every index promises.
 
-ghost use Rattle.std.specs.Prelude.{◌≡◌, List, ◌∷◌, OnOk, IfOk};
+ghost use Rattle.std.specs.Prelude.{◌≡◌, List, ◌∷◌, option_copied, OnOk, IfOk};
+ghost use Rattle.std.specs.Option.{option_map};
 ghost use Rattle.hc_transcript.specs.Items.{Item, item_of};
-ghost use Rattle.hc_transcript.specs.History.{next_position, exchange_of};
-ghost use Rattle.hc_history.specs.Seen.{Seen, IsSeenAs};
+ghost use Rattle.hc_transcript.specs.History.{next_position, exchange_of, forward_of, cause_of};
+ghost use Rattle.hc_history.specs.Claims.{claim_of};
+ghost use Rattle.hc_history.specs.Seen.{Seen, IsSeenAs, live_of};
 ghost use Rattle.hc_history.specs.Right.{IsFinding};
 ghost use Rattle.hc_history.specs.Candidates.{AreCandidatesOf};
+ghost use Rattle.hc_index.specs.Lists.{cause_seen, forward_seen, state_in};
 
-use hc_history::{Candidate, Finding, MarkedReply, Settings};
+use crate::kept::OpenForward;
+use hc_head::Target;
+use hc_history::{Candidate, Finding, MarkedReply, ReplyClaim, Settings};
 use hc_transcript::{Format, OwnedItem};
+use hc_update::Stored;
 use std::alloc::AllocError;
 
 /// The records so far, as far as the next reply needs them.
@@ -52,4 +58,31 @@ pub trait Index {
     ) -> Result<Vec<Candidate>, AllocError>
         ensures { (h : List Item) → IsSeenAs format (seen self.now) h
             → IfOk result (λ candidates. AreCandidatesOf format settings.now (exchange_of exchange h) moment reply.now h candidates.items) };
+
+    /// What a reply to the open exchange of that number claims, which comes next in a transcript of that
+    /// format, at that moment. None where no exchange of that number is open.
+    fn claim<'a>(
+        &'a self,
+        exchange: u64,
+        reply: &MarkedReply<'a>,
+        moment: u64,
+        settings: &'a Settings,
+        format: Format,
+    ) -> Option<ReplyClaim<'a>>
+        ensures { (h : List Item) → IsSeenAs format (seen self.now) h
+            → result ≡ option_map (λ opened. claim_of format settings.now opened moment reply.now h) (exchange_of exchange h) };
+
+    /// What is left of the response of that target at that position, which may be stored: its state, as the
+    /// records behind it have left it, or what remains of an invalidated one that nothing freshens any more.
+    /// None where no such response stands there.
+    fn response(&self, target: &Target, position: u64) -> Option<&Stored>
+        ensures { (format : Format) (h : List Item) → IsSeenAs format (seen self.now) h
+            → option_copied result ≡ state_in position (live_of target.now h) };
+
+    /// The open forward of that number. None where none is open.
+    fn forward(&self, number: u64) -> Option<&OpenForward>
+        ensures asked { (format : Format) (h : List Item) → IsSeenAs format (seen self.now) h
+            → option_map forward_seen (option_copied result) ≡ forward_of number h }
+        ensures cause { (format : Format) (h : List Item) → IsSeenAs format (seen self.now) h
+            → cause_seen (option_copied result) ≡ cause_of number h };
 }

@@ -121,12 +121,15 @@ pub(crate) struct PooledExchange {
 
 /// An open forward.
 #[derive(Debug, Drop)]
-pub(crate) struct OpenForward {
-    pub(crate) moment: u64,
-    pub(crate) request: RequestHead,
-    pub(crate) target: Target,
+pub struct OpenForward {
+    /// When it was sent, in whole seconds since 1970.
+    pub moment: u64,
+    /// What was sent, but for its body.
+    pub request: RequestHead,
+    /// What it asks for.
+    pub target: Target,
     /// The exchange that it was made for: none where no reply waits for it, and in the first format.
-    pub(crate) cause: Option<u64>,
+    pub cause: Option<u64>,
 }
 
 impl OpenForward {

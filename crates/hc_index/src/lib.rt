@@ -17,7 +17,8 @@ mod noting;
 mod pool;
 mod targets;
 
-pub use hc_history::{Candidate, Finding, MarkedReply, Reason, Settings};
+pub use hc_history::{Candidate, Finding, MarkedReply, Reason, ReplyClaim, Settings};
 pub use index::Index;
+pub use kept::OpenForward;
 pub use list_index::ListIndex;
 pub use map_index::MapIndex;

@@ -1,10 +1,12 @@
 //! What a list index finds of a reply.
 
 ghost use Rattle.std.specs.Prelude.{◌≡◌, List, IfOk, option_copied};
+ghost use Rattle.std.specs.Option.{option_map};
 ghost use Rattle.std.specs.List.{list_any};
 ghost use Rattle.hc_transcript.specs.Items.{Item};
 ghost use Rattle.hc_transcript.specs.History.{exchange_of};
 ghost use Rattle.hc_history.specs.Candidates.{AreCandidatesOf};
+ghost use Rattle.hc_history.specs.Claims.{claim_of};
 ghost use Rattle.hc_history.specs.Forwarded.{carries};
 ghost use Rattle.hc_history.specs.Right.{IsFinding};
 ghost use Rattle.hc_history.specs.Seen.{IsSeenAs};
@@ -77,6 +79,27 @@ pub(crate) fn finding(
     found_by(index.alloc, mark, &claim, index.lives.as_slice(), carried)
 }
 
+/// What a reply to the open exchange of that number claims. None where there is none.
+pub(crate) fn claim<'a>(
+    index: &'a ListIndex,
+    number: u64,
+    reply: &MarkedReply<'a>,
+    moment: u64,
+    settings: &'a Settings,
+    format: Format,
+) -> Option<ReplyClaim<'a>>
+    ensures { (h : List Item) → IsSeenAs format (seen_in index.now) h
+        → result ≡ option_map (λ opened. claim_of format settings.now opened moment reply.now h) (exchange_of number h) }
+{
+    let watched = open_exchange(index.exchanges.as_slice(), number)?;
+    let exchange = &watched.exchange;
+    let latest = Latest {
+        error: position_of(&index.errors, &exchange.target),
+        failure: position_of(&index.failures, &exchange.target),
+    };
+    Some(claim_of(exchange, latest, moment, reply, settings, format))
+}
+
 /// The candidates of a reply to the open exchange of that number. Where there is none, there are none.
 pub(crate) fn candidates(
     index: &ListIndex,
@@ -89,14 +112,8 @@ pub(crate) fn candidates(
     ensures { (h : List Item) → IsSeenAs format (seen_in index.now) h
         → IfOk result (λ candidates. AreCandidatesOf format settings.now (exchange_of number h) moment reply.now h candidates.items) }
 {
-    let Some(watched) = open_exchange(index.exchanges.as_slice(), number) else {
+    let Some(claim) = claim(index, number, reply, moment, settings, format) else {
         return Ok(Vec::new(index.alloc));
     };
-    let exchange = &watched.exchange;
-    let latest = Latest {
-        error: position_of(&index.errors, &exchange.target),
-        failure: position_of(&index.failures, &exchange.target),
-    };
-    let claim = claim_of(exchange, latest, moment, reply, settings, format);
     candidates_among(index.alloc, &claim, index.lives.as_slice())
 }

@@ -12,16 +12,18 @@ ghost use Rattle.hc_history.specs.Seen.{IsSeenAs};
 ghost use Rattle.hc_history.specs.Noting.{Notes};
 ghost use Rattle.hc_index.specs.Lists.{by_target, position_in, seen_in};
 
+use crate::candidates::response_among;
 use crate::exchanges::{add_to_windows, close_exchange, open_exchange};
 use crate::index::Index;
 use crate::kept::{LiveResponse, OpenExchange, OpenForward, WatchedExchange};
-use crate::list_finding::{candidates, finding};
+use crate::list_finding::{candidates, claim, finding};
 use crate::lives::{answer_lives, begin_live};
 use crate::noting::{Noting, note_item};
 use hc_framing::Message;
 use hc_head::{RequestHead, ResponseHead, Target, is_error_status};
-use hc_history::{Candidate, Finding, MarkedReply, Settings};
+use hc_history::{Candidate, Finding, MarkedReply, ReplyClaim, Settings};
 use hc_transcript::{Format, OwnedItem, ToldCause};
+use hc_update::Stored;
 use std::alloc::{AllocError, Global};
 use std::collections::BTreeMap;
 
@@ -175,5 +177,24 @@ impl Index for ListIndex {
         format: Format,
     ) -> Result<Vec<Candidate>, AllocError> {
         candidates(self, exchange, reply, moment, settings, format)
+    }
+
+    fn claim<'a>(
+        &'a self,
+        exchange: u64,
+        reply: &MarkedReply<'a>,
+        moment: u64,
+        settings: &'a Settings,
+        format: Format,
+    ) -> Option<ReplyClaim<'a>> {
+        claim(self, exchange, reply, moment, settings, format)
+    }
+
+    fn response(&self, target: &Target, position: u64) -> Option<&Stored> {
+        response_among(self.lives.as_slice(), target, position)
+    }
+
+    fn forward(&self, number: u64) -> Option<&OpenForward> {
+        self.forwards.get(&number)
     }
 }

@@ -11,13 +11,14 @@ ghost use Rattle.hc_index.specs.Maps.{seen_in};
 use crate::at_target::AtTarget;
 use crate::index::Index;
 use crate::kept::{OpenExchange, OpenForward, PooledExchange};
-use crate::map_finding::{candidates, finding};
+use crate::map_finding::{candidates, claim, finding, response};
 use crate::noting::{Noting, note_item};
 use crate::targets::{answer_at, close_at, fail_at, open_at};
 use hc_framing::Message;
 use hc_head::{RequestHead, ResponseHead, Target};
-use hc_history::{Candidate, Finding, MarkedReply, Settings};
+use hc_history::{Candidate, Finding, MarkedReply, ReplyClaim, Settings};
 use hc_transcript::{Format, OwnedItem, ToldCause};
+use hc_update::Stored;
 use std::alloc::{AllocError, Global};
 use std::collections::BTreeMap;
 
@@ -137,5 +138,24 @@ impl Index for MapIndex {
         format: Format,
     ) -> Result<Vec<Candidate>, AllocError> {
         candidates(self, exchange, reply, moment, settings, format)
+    }
+
+    fn claim<'a>(
+        &'a self,
+        exchange: u64,
+        reply: &MarkedReply<'a>,
+        moment: u64,
+        settings: &'a Settings,
+        format: Format,
+    ) -> Option<ReplyClaim<'a>> {
+        claim(self, exchange, reply, moment, settings, format)
+    }
+
+    fn response(&self, target: &Target, position: u64) -> Option<&Stored> {
+        response(self, target, position)
+    }
+
+    fn forward(&self, number: u64) -> Option<&OpenForward> {
+        self.forwards.get(&number)
     }
 }

@@ -1,9 +1,13 @@
-//! `hcache`: a program that audits and converts transcripts of caches, and has a cache of its own, to which it plays
-//! scripts of events and from which it serves clients.
+//! `hcache`: a program that audits, reports on, explains and converts transcripts of caches, and has a cache of its own,
+//! to which it plays scripts of events and from which it serves clients.
 //!
 //! `hcache audit FILE` reads a transcript, says on standard output whether every reply in it is right, and ends with
 //! a status: 0 for a transcript that is right, 1 for one with a wrong reply, 2 for one that is malformed, 3 where no
 //! verdict could be given, 64 for a command line that asks for nothing known.
+//!
+//! `hcache report FILE` says which of its replies are wrong, all of them, grouped by why they are, with the same
+//! statuses, and `hcache explain FILE [POSITION]` explains the first of them, or any reply: it ends with 0 for one that
+//! is right, 1 for one that is wrong, and 64 where none stands there.
 //!
 //! `hcache replay FILE` plays a script, writes the transcript that the cache recorded to standard output, and says the
 //! audit's verdict on it on standard error, with the same statuses; 2 also for a text that is no script.

@@ -4,6 +4,7 @@ use crate::changes::{say_changed, say_cuts, say_each, say_fronts, say_replaced};
 use crate::converting::say_same;
 use crate::marking::say_mark;
 use crate::names::{say_audit_faults, say_convert_faults, say_faults, say_reasons};
+use crate::reports::{say_by, say_many};
 use crate::surveys::say_survey;
 use crate::tellers::Teller;
 use crate::words::{plain_words, say_ignored, words_of};
@@ -49,6 +50,8 @@ fn answer_of(
             let words = words_of(alloc, parts)?;
             Teller::Program(words.as_slice()).tell(alloc, &[octets], out)
         }
+        "report" | "explain" => say_by(alloc, question, octets, parts, out),
+        "report of many" => say_many(alloc, octets, out),
         "survey" => say_survey(alloc, octets, parts, out),
         "records" => Teller::Reader.tell(alloc, &[octets], out),
         "format" => Teller::Format.tell(alloc, &[octets], out),

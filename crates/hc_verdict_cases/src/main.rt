@@ -14,6 +14,7 @@ mod others;
 mod pieces;
 mod program;
 mod records;
+mod reports;
 mod runs;
 mod surveys;
 mod tellers;

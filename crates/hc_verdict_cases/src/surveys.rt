@@ -5,7 +5,8 @@ ghost use Rattle.std.specs.Prelude.{◌≡◌};
 
 use crate::words::{settings_of, words_of};
 use hc_audit::{
-    AuditFault, Counts, Ending, Finding, JudgedReply, Reason, Settings, Survey, Witness, WrongReply,
+    AuditFault, Counts, Ending, Finding, JudgedReply, PassedRecord, Reason, Settings, Survey,
+    Witness, WrongReply,
 };
 use hc_cases::Unanswered;
 use hc_history::Candidate;
@@ -23,6 +24,10 @@ struct Told {
 
 impl<I: Index> Witness<I> for Told {
     ghost tells = { λ it wrongs. it.wrongs.items ≡ wrongs };
+
+    fn pass(&mut self, _: &PassedRecord<'_, I>) -> Result<(), AllocError> {
+        Ok(())
+    }
 
     fn see(&mut self, judged: &JudgedReply<'_, I>) -> Result<(), AllocError> {
         if let Finding::Wrong(reason) = judged.finding {

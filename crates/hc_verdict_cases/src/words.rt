@@ -10,8 +10,13 @@ const FILE: &str = "transcript";
 
 /// The words that ask for an audit without options.
 pub fn plain_words<'a>(alloc: Global) -> Result<Vec<&'a str>, AllocError> {
+    command_words(alloc, "audit")
+}
+
+// The words that ask for that without options.
+fn command_words<'a>(alloc: Global, command: &'a str) -> Result<Vec<&'a str>, AllocError> {
     let mut words = Vec::new(alloc);
-    for word in ["hcache", "audit", FILE] {
+    for word in ["hcache", command, FILE] {
         words.push(word)?;
     }
     Ok(words)
@@ -19,7 +24,16 @@ pub fn plain_words<'a>(alloc: Global) -> Result<Vec<&'a str>, AllocError> {
 
 /// The words that ask for an audit by the parts of a case, each of them a word.
 pub fn words_of(alloc: Global, parts: &[Vec<u8>]) -> Result<Vec<&str>, Unanswered> {
-    let mut words = plain_words(alloc)?;
+    words_for(alloc, "audit", parts)
+}
+
+/// The words that ask for that by the parts of a case, each of them a word.
+pub fn words_for<'a>(
+    alloc: Global,
+    command: &'a str,
+    parts: &'a [Vec<u8>],
+) -> Result<Vec<&'a str>, Unanswered> {
+    let mut words = command_words(alloc, command)?;
     for part in parts {
         match str::from_utf8(part.as_slice()) {
             Ok(word) => words.push(word)?,

@@ -1,23 +1,17 @@
-use Rattle.std.proofs.Common.{◌∙◌, ap, codes}
-use Rattle.std.proofs.lemmas.Result.{IfOk-weaker}
+use Rattle.std.proofs.Common.{codes}
 use Rattle.clap.specs.Words.{new_app, with_rule}
-use Rattle.clap.specs.Simple.{app_of_fields}
-use Rattle.hc_arguments.specs.Command.{IsMade, option_rule, required_rule}
+use Rattle.hc_arguments.specs.Command.{option_rule, required_rule}
 use Rattle.hc_arguments.proofs.ArgumentLemmas.{ruled}
 use Rattle.hc_arguments.proofs.command.serve_command.Goals as goal
 
 pub returns : goal.returns
 returns c =
     let bare = new_app (codes "serve") in
-    let begun : IsMade bare c.bin_name-begun.result = IfOk-weaker c.bin_name-begun.result _ _ (λ _ named. (
-      ap app_of_fields named.0 ∙ ap app_of_fields c.after_help.ensures ∙ ap app_of_fields c.about.ensures ∙ c.new.ensures.app,
-      rw (named.0, c.after_help.ensures, c.about.ensures) c.new.ensures.local,
-    )) c.bin_name-begun.ensures in
     let listened = with_rule bare (required_rule (codes "listen")) in
     let forwarded = with_rule listened (required_rule (codes "origin")) in
     let counted = with_rule forwarded (required_rule (codes "connections")) in
     let listening = ruled bare c.with_argument-listening.result _ (required_rule (codes "listen")) c.required.ensures.rule
-    (c.with_argument-listening.ensures bare c.required.ensures.local begun) in
+    (c.with_argument-listening.ensures bare c.required.ensures.local c.begun-bare.ensures) in
     let forwarding = ruled listened c.with_argument-forwarding.result _ (required_rule (codes "origin")) c.required-2.ensures.rule
     (c.with_argument-forwarding.ensures listened c.required-2.ensures.local listening) in
     let counting = ruled forwarded c.with_argument-counting.result _ (required_rule (codes "connections")) c.required-3.ensures.rule

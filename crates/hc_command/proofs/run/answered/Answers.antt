@@ -1,7 +1,7 @@
-use Rattle.std.proofs.Common.{ap, inl, map, subst}
+use Rattle.std.proofs.Common.{ap, inl, inr, map, subst}
 use Rattle.clap.specs.declared.error.ErrorKind.{ErrorKind}
 use Rattle.hc_arguments.specs.Command.{IsErrorStatus, command_of, task_of}
-use Rattle.hc_arguments.specs.Command.Command.{Audits, Replays, Converts, Serves}
+use Rattle.hc_arguments.specs.Command.Command.{Audits, Reports, Explains, Replays, Converts, Serves}
 use Rattle.hc_arguments.proofs.ArgumentLemmas.{asked_from, one_command}
 use Rattle.hc_command.proofs.EndLemmas.{does_as, does_ends, fails_with_3}
 use Rattle.hc_command.proofs.run.answered.Goals as goal
@@ -9,6 +9,14 @@ use Rattle.hc_command.proofs.run.answered.Goals as goal
 pub returns-in-Ok-clause-audit : goal.returns-in-Ok-clause-audit
 returns-in-Ok-clause-audit g c = λ name file word same.
     does_as (command_of (task_of c.in-Ok.order)) Audits _ _ _ _ _ (ap command_of (c.in-Ok.ensures.audit name file word same)) c.done.ensures
+
+pub returns-in-Ok-clause-report : goal.returns-in-Ok-clause-report
+returns-in-Ok-clause-report g c = λ name file word same.
+    does_as (command_of (task_of c.in-Ok.order)) Reports _ _ _ _ _ (ap command_of (c.in-Ok.ensures.report name file word same)) c.done.ensures
+
+pub returns-in-Ok-clause-explain : goal.returns-in-Ok-clause-explain
+returns-in-Ok-clause-explain g c = λ name file word same.
+    does_as (command_of (task_of c.in-Ok.order)) Explains _ _ _ _ _ (ap command_of (c.in-Ok.ensures.explain name file word same)) c.done.ensures
 
 pub returns-in-Ok-clause-replay : goal.returns-in-Ok-clause-replay
 returns-in-Ok-clause-replay g c = λ name file word same.
@@ -34,6 +42,14 @@ returns-in-Ok-clause-ends g c = does_ends (command_of (task_of c.in-Ok.order)) _
 pub returns-in-Err-clause-audit : goal.returns-in-Err-clause-audit
 returns-in-Err-clause-audit g c = λ name file word same.
     inl (subst (λ (k : ErrorKind). IsErrorStatus k c.shown.result) (c.in-Err.ensures.audit name file word same) c.shown.ensures.status)
+
+pub returns-in-Err-clause-report : goal.returns-in-Err-clause-report
+returns-in-Err-clause-report g c = λ name file word same.
+    inl (subst (λ (k : ErrorKind). IsErrorStatus k c.shown.result) (c.in-Err.ensures.report name file word same) c.shown.ensures.status)
+
+pub returns-in-Err-clause-explain : goal.returns-in-Err-clause-explain
+returns-in-Err-clause-explain g c = λ name file word same.
+    inr (inl (subst (λ (k : ErrorKind). IsErrorStatus k c.shown.result) (c.in-Err.ensures.explain name file word same) c.shown.ensures.status))
 
 pub returns-in-Err-clause-replay : goal.returns-in-Err-clause-replay
 returns-in-Err-clause-replay g c = λ name file word same.

@@ -1,0 +1,133 @@
+-- What a report on a transcript, and the explanation of its first wrong reply, leave on their two writers.
+use Rattle.std.specs.Prelude.{◌≡◌, ◌⊎◌, ℕ, List, [], ◌++◌, Bool, true, false, Option, Some, None, IfSome}
+use Rattle.std.specs.Io.KnownBytes.{Appends, Consumes, Keeps}
+use Rattle.hc_transcript.specs.declared.fault.RecordFault.{RecordFault}
+use Rattle.hc_history.specs.declared.settings.Settings.{Settings}
+use Rattle.hc_history.specs.declared.verdicts.Verdict.{Verdict}
+use Rattle.hc_history.specs.declared.verdicts.Verdict.TheVariants.{Yes}
+use Rattle.hc_history.specs.declared.wrong.WrongReply.{WrongReply}
+use Rattle.hc_history.specs.declared.wrong.Ending.{Ending}
+use Rattle.hc_history.specs.declared.wrong.Ending.TheVariants as ending
+use Rattle.hc_history.specs.Seen.{Seen}
+use Rattle.hc_history.specs.Verdicts.{IsVerdict}
+use Rattle.hc_history.specs.WrongReplies.{AreWrongReplies}
+use Rattle.hc_audit.specs.declared.survey.Survey.{Survey}
+use Rattle.hc_audit.specs.Endings.{EndsSo}
+use Rattle.hc_audit.specs.Surveying.{Surveys}
+use Rattle.hc_command.specs.declared.surveying.Outcome.{Outcome}
+use Rattle.hc_command.specs.declared.surveying.Outcome.TheVariants.{Whole, Broken}
+use Rattle.hc_command.specs.declared.surveying.Heard.{Heard}
+use Rattle.hc_command.specs.declared.surveying.Heard.TheVariants as heard
+use Rattle.hc_command.specs.declared.surveying.Heard.TheVariants.{More, End}
+use Rattle.hc_command.specs.Line.{IsVerdictLine, status_of}
+
+-- ---- how the reading of octets ends
+
+abbrev pub ending_of : Outcome → Ending
+ending_of (Whole counts) = ending.Whole
+ending_of (Broken position fault) = ending.Broken position fault
+
+-- where the octets are whole and no reply is wrong, what is counted is what their yes says
+abbrev pub CountsYes : List ℕ → Settings → List WrongReply → Outcome → Type 0
+CountsYes octets settings wrongs (Whole counts) = wrongs ≡ [] → IsVerdict octets settings (Yes counts)
+CountsYes octets settings wrongs (Broken position fault) = Unit {0}
+
+-- these are all wrong replies of the octets, which end so
+pub record IsSurveyed (octets : List ℕ) (settings : Settings) (wrongs : List WrongReply) (outcome : Outcome) : Type 0 where
+  pub are : AreWrongReplies octets settings wrongs (ending_of outcome)
+  pub counted : CountsYes octets settings wrongs outcome
+
+-- ---- what a survey of an input tells
+
+-- what was read of the input was surveyed, and who was told of it tells its wrong replies; who has not seen enough was told of all that the input had
+pub record SurveysFor (tells : List WrongReply → Type 0) (enough : Type 0) (settings : Settings) (old new : Option (List ℕ)) (outcome : Outcome) : Type 0 where
+  pub read : List ℕ
+  pub consumed : Consumes old new read
+  pub wrongs : List WrongReply
+  pub told : tells wrongs
+  pub are : IsSurveyed read settings wrongs outcome
+  pub all : enough ⊎ IfSome old (λ octets. IsSurveyed octets settings wrongs outcome)
+
+-- ---- what is said
+
+-- the writer got the line of the verdict, and behind it more, and this is its status
+pub record SaysLineFirst (verdict : Verdict) (status : ℕ) (old new : Option (List ℕ)) : Type 0 where
+  pub line : List ℕ
+  pub more : List ℕ
+  pub has_status : status ≡ status_of verdict
+  pub is_line : IsVerdictLine verdict line
+  pub written : Appends old new (line ++ more)
+
+-- the writer got some text, and this is the status of the verdict
+pub record SaysText (verdict : Verdict) (status : ℕ) (old new : Option (List ℕ)) : Type 0 where
+  pub text : List ℕ
+  pub has_status : status ≡ status_of verdict
+  pub written : Appends old new text
+
+-- in JSON, or as text
+abbrev pub SaysOf : Bool → Verdict → ℕ → Option (List ℕ) → Option (List ℕ) → Type 0
+SaysOf true verdict status old new = SaysText verdict status old new
+SaysOf false verdict status old new = SaysLineFirst verdict status old new
+
+-- the verdict is that on all octets that the input had, where these are known
+pub record SaysReport (json : Bool) (settings : Settings) (input : Option (List ℕ)) (status : ℕ) (old new : Option (List ℕ)) : Type 0 where
+  pub verdict : Verdict
+  pub is : IfSome input (λ octets. IsVerdict octets settings verdict)
+  pub says : SaysOf json verdict status old new
+
+-- a report says so on the output and leaves the faults as they were; where there is none, the status is 3
+abbrev pub ReportsFor : Bool → Settings → Option (List ℕ) → ℕ → Option (List ℕ) → Option (List ℕ) → Option (List ℕ) → Option (List ℕ) → Type 0
+ReportsFor json settings input status old new faults_old faults_new =
+    (status ≡ 3) ⊎ (SaysReport json settings input status old new × Keeps faults_old faults_new)
+
+-- it says so, if there is a status
+abbrev pub SaysIfSome : Settings → Option (List ℕ) → Option ℕ → Option (List ℕ) → Option (List ℕ) → Type 0
+SaysIfSome settings input None old new = ⊥
+SaysIfSome settings input (Some status) old new = SaysReport false settings input status old new
+
+-- the writer got some text, if there is a status, and nothing else
+abbrev pub WritesIfSome : Option ℕ → Option (List ℕ) → Option (List ℕ) → Type 0
+WritesIfSome None old new = Keeps old new
+WritesIfSome (Some status) old new = (text : List ℕ) × Appends old new text
+
+-- ---- where the input isn't known
+
+-- a report on some input, in JSON or as text
+abbrev pub Reported : ℕ → Option (List ℕ) → Option (List ℕ) → Option (List ℕ) → Option (List ℕ) → Type 0
+Reported status old new faults_old faults_new =
+    (status ≡ 3) ⊎ ((text : List ℕ) × Appends old new text × Keeps faults_old faults_new)
+
+-- an explanation, or the output gets nothing where there is no reply to explain
+abbrev pub Explained : ℕ → Option (List ℕ) → Option (List ℕ) → Option (List ℕ) → Option (List ℕ) → Type 0
+Explained status old new faults_old faults_new = ((status ≡ 64) × Keeps old new) ⊎ Reported status old new faults_old faults_new
+
+-- ---- what private functions promise
+
+-- the ending that a piece leads to, which stands
+abbrev pub settled_of : Heard → Option Ending
+settled_of More = None
+settled_of End = None
+settled_of (heard.Broken position fault) = Some (ending.Broken position fault)
+
+-- the same of where a record breaks the octets, if one does
+abbrev pub ending_at : Option (ℕ × RecordFault) → Option Ending
+ending_at None = None
+ending_at (Some broken) = Some (ending.Broken broken.0 broken.1)
+
+-- the survey was fed what the reader gave, up to its end or to an ending that stands, and who was told of it tells the wrong replies
+pub record FeedsSurvey {I : Type 0} (seen : I → Seen) (survey : Survey I) (tells : List WrongReply → Type 0) (settings : Settings) (octets : List ℕ)
+    (old new : Option (List ℕ)) (settled : Option Ending) : Type 0 where
+  pub bytes : List ℕ
+  pub wrongs : List WrongReply
+  pub surveys : Surveys seen survey settings (octets ++ bytes) wrongs
+  pub told : tells wrongs
+  pub consumed : Consumes old new bytes
+  pub stands : IfSome settled (λ ending. EndsSo ending settings (octets ++ bytes) wrongs)
+
+-- the survey was fed that piece, and an ending that it gives stands
+pub record FeedsPieceOfSurvey {I : Type 0} (seen : I → Seen) (survey : Survey I) (tells : List WrongReply → Type 0) (settings : Settings) (octets : List ℕ)
+    (settled : Option Ending) : Type 0 where
+  pub wrongs : List WrongReply
+  pub surveys : Surveys seen survey settings octets wrongs
+  pub told : tells wrongs
+  pub stands : IfSome settled (λ ending. EndsSo ending settings octets wrongs)

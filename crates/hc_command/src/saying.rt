@@ -1,0 +1,36 @@
+//! A verdict's line, and more behind it, on a writer.
+ghost use Rattle.std.specs.Prelude.{◌++◌, IfOk, OnOk};
+ghost use Rattle.std.specs.Io.KnownBytes.{Appends};
+ghost use Rattle.hc_command.specs.Report.{SaysLineFirst};
+
+use crate::auditing::status;
+use crate::line::verdict_line;
+use crate::print::printed;
+use crate::trouble::Trouble;
+use hc_history::Verdict;
+use std::alloc::Global;
+use std::io;
+use std::io::Write;
+
+/// Writes the verdict's line, and behind it more, and answers the verdict's status.
+pub(crate) fn said_first<W: Write>(
+    alloc: Global,
+    verdict: &Verdict,
+    more: &str,
+    output: &mut W,
+) -> Result<u8, Trouble>
+    ensures { IfOk result (λ status. SaysLineFirst verdict.now status (W.contents output.old) (W.contents output.new)) }
+{
+    let line = verdict_line(alloc, verdict)?;
+    match written(line.as_str(), more, output) {
+        Ok(()) => Ok(status(verdict)),
+        Err(error) => Err(Trouble::Output(error)),
+    }
+}
+
+fn written<W: Write>(line: &str, more: &str, output: &mut W) -> io::Result<()>
+    ensures { OnOk result (Appends (W.contents output.old) (W.contents output.new) (line.now ++ more.now)) }
+{
+    printed(line, output)?;
+    printed(more, output)
+}

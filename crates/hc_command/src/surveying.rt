@@ -1,0 +1,213 @@
+//! The survey of one transcript: what a reader gives is told to a witness.
+ghost use Rattle.std.specs.Prelude.{◌≡◌, ◌⊎◌, ◌<◌, ◌++◌, ℕ, List, [], None, Ok, false, true, length, slice_get, IfErr, IfOk, IfSome};
+ghost use Rattle.std.specs.Io.KnownBytes.{IsAtEnd};
+ghost use Rattle.hc_history.specs.declared.settings.Settings.{Settings};
+ghost use Rattle.hc_history.specs.declared.wrong.WrongReply.{WrongReply};
+ghost use Rattle.hc_history.specs.declared.verdicts.Verdict.TheVariants.{No};
+ghost use Rattle.hc_history.specs.Verdicts.{IsVerdict};
+ghost use Rattle.hc_audit.specs.Surveying.{Surveys};
+ghost use Rattle.hc_audit.specs.Told.{AreToldOf};
+ghost use Rattle.hc_command.specs.Report.{FeedsPieceOfSurvey, FeedsSurvey, IsSurveyed, SurveysFor, ending_at, ending_of, settled_of};
+ghost use Rattle.hc_command.specs.Trouble.{is_of_output};
+
+use crate::auditing::{READS, buffer};
+use crate::trouble::Trouble;
+use hc_audit::{AuditFault, Ending, Survey, Witness};
+use hc_history::{Counts, Settings, Verdict, WrongReply};
+use hc_index::{Index, MapIndex};
+use hc_transcript::RecordFault;
+use std::alloc::Global;
+use std::io;
+use std::io::{ErrorKind, Read};
+
+/// How the octets of a transcript end, and what was counted of them where they are whole.
+#[derive(Clone, Copy, Debug)]
+pub(crate) enum Outcome {
+    /// With their last record.
+    Whole(Counts),
+    /// They break at this position, by this fault.
+    Broken(u64, RecordFault),
+}
+
+impl Outcome {
+    /// How they end.
+    pub(crate) fn ending(&self) -> Ending
+        ensures { result ≡ ending_of self.now }
+    {
+        match self {
+            Outcome::Whole(_) => Ending::Whole,
+            Outcome::Broken(position, fault) => Ending::Broken(*position, *fault),
+        }
+    }
+
+    /// What was counted, where they are whole.
+    pub(crate) fn counts(&self) -> Option<Counts> {
+        match self {
+            Outcome::Whole(counts) => Some(*counts),
+            Outcome::Broken(_, _) => None,
+        }
+    }
+
+    /// The verdict on them, where that is the first of their wrong replies.
+    pub(crate) fn verdict(&self, first: Option<WrongReply>) -> Verdict
+        ensures verdict { (octets : List ℕ) (settings : Settings) (wrongs : List WrongReply)
+            → IsSurveyed octets settings wrongs self.now → first ≡ slice_get wrongs 0 → IsVerdict octets settings result }
+        ensures no { IfSome first (λ wrong. result ≡ No wrong.position wrong.reason) }
+    {
+        match first {
+            Some(WrongReply { position, reason }) => Verdict::No(position, reason),
+            None => self.verdict_without(),
+        }
+    }
+
+    // The verdict, where no reply is wrong.
+    fn verdict_without(&self) -> Verdict
+        ensures { (octets : List ℕ) (settings : Settings) → IsSurveyed octets settings [] self.now → IsVerdict octets settings result }
+    {
+        match self {
+            Outcome::Whole(counts) => Verdict::Yes(*counts),
+            Outcome::Broken(position, fault) => Verdict::Malformed(*position, *fault),
+        }
+    }
+}
+
+/// A witness that may have seen enough before the end.
+pub(crate) trait Reading<I: Index>: Witness<I> {
+    /// It has seen enough.
+    ghost enough: { Self → Type 0 };
+
+    /// Whether it has seen enough, so that no more has to be read.
+    fn has_enough(&self) -> bool
+        ensures { result ≡ true → enough self.now };
+}
+
+/// Surveys the transcript that `input` gives up to its end, or up to where a record breaks it or the witness, which
+/// is new, has seen enough.
+pub(crate) fn surveyed<R: Read, T: Reading<MapIndex>>(
+    alloc: Global,
+    settings: Settings,
+    input: &mut R,
+    witness: &mut T,
+) -> Result<Outcome, Trouble>
+    ensures surveyed { T.tells witness.old []
+        → IfOk result (SurveysFor (T.tells witness.new) (T.enough witness.new) settings (R.remaining input.old) (R.remaining input.new)) }
+    ensures err { IfErr result (λ trouble. is_of_output trouble ≡ false) }
+{
+    let mut piece = buffer(alloc)?;
+    let survey = Survey::new(alloc, MapIndex::new(alloc), settings);
+    surveyed_by(survey, input, piece.as_mut_slice(), witness)
+}
+
+// The same by that survey.
+fn surveyed_by<I: Index + Drop, R: Read, T: Reading<I>>(
+    mut survey: Survey<I>,
+    input: &mut R,
+    piece: &mut [u8],
+    witness: &mut T,
+) -> Result<Outcome, Trouble>
+    requires { 0 < length piece.old }
+    ensures surveyed { (settings : Settings) → AreToldOf (Surveys I.seen survey settings []) (T.tells witness.old)
+        → IfOk result (SurveysFor (T.tells witness.new) (T.enough witness.new) settings (R.remaining input.old) (R.remaining input.new)) }
+    ensures err { IfErr result (λ trouble. is_of_output trouble ≡ false) }
+{
+    match survey_all(&mut survey, input, piece, witness)? {
+        Some((position, fault)) => Ok(Outcome::Broken(position, fault)),
+        None => concluded(survey),
+    }
+}
+
+// The outcome of a survey of which no ending is known to hold however the octets go on.
+fn concluded<I: Index + Drop>(survey: Survey<I>) -> Result<Outcome, Trouble>
+    ensures outcome { (settings : Settings) (octets : List ℕ) (wrongs : List WrongReply) → Surveys I.seen survey settings octets wrongs
+        → IfOk result (IsSurveyed octets settings wrongs) }
+    ensures err { IfErr result (λ trouble. is_of_output trouble ≡ false) }
+{
+    // One that counts nothing has failed: it was refused memory.
+    let Some(counts) = survey.counts() else {
+        return Err(Trouble::Memory);
+    };
+    match survey.finish()? {
+        Ending::Whole => Ok(Outcome::Whole(counts)),
+        Ending::Broken(position, fault) => Ok(Outcome::Broken(position, fault)),
+    }
+}
+
+// Feeds the survey what `input` gives, a piece at a time, up to its end, to where the witness has seen enough, or
+// to where a record breaks the octets however they go on, which is the answer.
+fn survey_all<I: Index + Drop, R: Read, T: Reading<I>>(
+    survey: &mut Survey<I>,
+    input: &mut R,
+    piece: &mut [u8],
+    witness: &mut T,
+) -> Result<Option<(u64, RecordFault)>, Trouble>
+    requires { 0 < length piece.old }
+    ensures fed { (settings : Settings) (octets : List ℕ)
+        → AreToldOf (Surveys I.seen survey.old settings octets) (T.tells witness.old)
+        → IfOk result (λ broken. FeedsSurvey I.seen survey.new (T.tells witness.new) settings octets (R.remaining input.old) (R.remaining input.new) (ending_at broken)) }
+    ensures end { IfOk result (λ broken. broken ≡ None → T.enough witness.new ⊎ IsAtEnd (R.remaining input.new)) }
+    ensures err { IfErr result (λ trouble. is_of_output trouble ≡ false) }
+{
+    'pieces: for _ in 0..READS {
+        match survey_piece(survey, input, piece, witness)? {
+            Heard::More => {}
+            Heard::End => return Ok(None),
+            Heard::Broken(position, fault) => return Ok(Some((position, fault))),
+        }
+    }
+    Err(Trouble::Device(io::Error::other("too many reads")))
+}
+
+// What a piece of the input comes to.
+#[derive(Clone, Copy, Debug)]
+enum Heard {
+    // More may come.
+    More,
+    // The input is at its end, or the witness has seen enough.
+    End,
+    // A record breaks the octets, however they go on.
+    Broken(u64, RecordFault),
+}
+
+// Feeds the survey the next piece that `input` gives.
+fn survey_piece<I: Index + Drop, R: Read, T: Reading<I>>(
+    survey: &mut Survey<I>,
+    input: &mut R,
+    piece: &mut [u8],
+    witness: &mut T,
+) -> Result<Heard, Trouble>
+    requires { 0 < length piece.old }
+    ensures fed { (settings : Settings) (octets : List ℕ)
+        → AreToldOf (Surveys I.seen survey.old settings octets) (T.tells witness.old)
+        → IfOk result (λ heard. FeedsSurvey I.seen survey.new (T.tells witness.new) settings octets (R.remaining input.old) (R.remaining input.new) (settled_of heard)) }
+    ensures end { result ≡ Ok Heard.End → T.enough witness.new ⊎ IsAtEnd (R.remaining input.new) }
+    ensures room { length piece.new ≡ length piece.old }
+    ensures err { IfErr result (λ trouble. is_of_output trouble ≡ false) }
+{
+    match input.read(piece) {
+        Ok(0) => Ok(Heard::End),
+        Ok(count) => Ok(feed(survey, &piece[..count], witness)?),
+        Err(error) if error.kind() == ErrorKind::Interrupted => Ok(Heard::More),
+        Err(error) => Err(Trouble::Device(error)),
+    }
+}
+
+// Feeds the survey a piece.
+fn feed<I: Index + Drop, T: Reading<I>>(
+    survey: &mut Survey<I>,
+    piece: &[u8],
+    witness: &mut T,
+) -> Result<Heard, AuditFault>
+    ensures fed { (settings : Settings) (octets : List ℕ)
+        → AreToldOf (Surveys I.seen survey.old settings octets) (T.tells witness.old)
+        → IfOk result (λ heard. FeedsPieceOfSurvey I.seen survey.new (T.tells witness.new) settings (octets ++ piece.now) (settled_of heard)) }
+    ensures end { result ≡ Ok Heard.End → T.enough witness.new }
+{
+    survey.feed(piece, witness)?;
+    if let Some(Ending::Broken(position, fault)) = survey.ended() {
+        return Ok(Heard::Broken(*position, *fault));
+    }
+    if witness.has_enough() {
+        return Ok(Heard::End);
+    }
+    Ok(Heard::More)
+}

@@ -1,0 +1,155 @@
+//! The fields in which a reply differs from a response.
+
+use crate::layout::{LISTED, push_more, push_separator};
+use crate::values::push_joined;
+use hc_details::{Differences, differences};
+use hc_fields::{Fields, Octets};
+use hc_history::ReplyClaim;
+use hc_shown::push_octets;
+use hc_update::Stored;
+use std::alloc::{AllocError, Global};
+use std::fmt::Write;
+
+/// A field in which a reply differs from a response.
+pub(crate) struct Difference {
+    name: Octets,
+    /// What the response has of it.
+    due: String,
+    /// What the reply has of it.
+    told: String,
+    /// Whether the 304 that freshened the response has it.
+    is_renewed: bool,
+}
+
+impl Drop for Difference {
+    fn drop(self) {
+        let Difference {
+            name,
+            due,
+            told,
+            is_renewed: _,
+        } = self;
+        drop(name);
+        drop(due);
+        drop(told);
+    }
+}
+
+/// The fields in which a reply differs from a response, and how many more there are.
+#[derive(Drop)]
+pub(crate) struct Differing {
+    listed: Vec<Difference>,
+    more: u64,
+}
+
+/// The values of a name as they are shown.
+fn shown(alloc: Global, fields: &Fields, name: &[u8]) -> Result<String, AllocError> {
+    let mut text = String::new(alloc);
+    push_joined(alloc, name, fields, &mut text)?;
+    Ok(text)
+}
+
+impl Differing {
+    /// No fields.
+    pub(crate) fn new(alloc: Global) -> Self {
+        Differing {
+            listed: Vec::new(alloc),
+            more: 0,
+        }
+    }
+
+    /// The fields in which the reply differs from the response.
+    pub(crate) fn read(
+        alloc: Global,
+        claim: &ReplyClaim<'_>,
+        state: &Stored,
+    ) -> Result<Self, AllocError> {
+        let Differences {
+            added,
+            dropped,
+            changed,
+            more,
+        } = differences(alloc, claim, state)?;
+        let mut differing = Differing {
+            listed: Vec::new(alloc),
+            more,
+        };
+        differing.add_all(alloc, claim, state, dropped)?;
+        differing.add_all(alloc, claim, state, changed)?;
+        differing.add_all(alloc, claim, state, added)?;
+        Ok(differing)
+    }
+
+    /// Adds the fields of those names.
+    fn add_all(
+        &mut self,
+        alloc: Global,
+        claim: &ReplyClaim<'_>,
+        state: &Stored,
+        names: Vec<Octets>,
+    ) -> Result<(), AllocError> {
+        for name in names {
+            if self.listed.len() < LISTED {
+                self.add(alloc, claim, state, name)?;
+            } else {
+                self.more = self.more.saturating_add(1);
+            }
+        }
+        Ok(())
+    }
+
+    /// Adds the field of that name.
+    fn add(
+        &mut self,
+        alloc: Global,
+        claim: &ReplyClaim<'_>,
+        state: &Stored,
+        name: Octets,
+    ) -> Result<(), AllocError> {
+        let due = shown(alloc, &state.fields, name.as_slice())?;
+        let told = shown(alloc, &claim.reply.head.fields, name.as_slice())?;
+        self.listed.push(Difference {
+            name,
+            due,
+            told,
+            is_renewed: false,
+        })?;
+        Ok(())
+    }
+
+    /// Takes in which of them the 304 has that freshened the response.
+    pub(crate) fn renew(&mut self, fields: &Fields) {
+        for difference in self.listed.iter_mut() {
+            difference.is_renewed = fields.contains(difference.name.as_slice());
+        }
+    }
+
+    /// Writes each, with what is due and what the reply has.
+    pub(crate) fn say(
+        &self,
+        validated_at: Option<u64>,
+        out: &mut String,
+    ) -> Result<(), AllocError> {
+        for (index, difference) in self.listed.iter().enumerate() {
+            push_separator(index, "; ", out)?;
+            difference.say(validated_at, out)?;
+        }
+        push_more(self.more, out)
+    }
+}
+
+impl Difference {
+    /// Writes what is due and what the reply has.
+    fn say(&self, validated_at: Option<u64>, out: &mut String) -> Result<(), AllocError> {
+        push_octets(self.name.as_slice(), out)?;
+        out.push_str(": due ")?;
+        out.push_str(self.due.as_str())?;
+        if let Some(position) = validated_at
+            && self.is_renewed
+        {
+            write!(out, " (of {position})")?;
+        }
+        out.push_str(", the reply has ")?;
+        out.push_str(self.told.as_str())
+    }
+}

@@ -1,0 +1,133 @@
+//! What is known of the response that gets furthest.
+
+use crate::ages::{say_age, say_ttl};
+use crate::contents::say_contents;
+use crate::differing::Differing;
+use crate::ended::EndedForward;
+use crate::freshness::say_freshness;
+use crate::selection::say_selection;
+use hc_history::{Candidate, Reason, ReplyClaim, reason_behind};
+use hc_shown::push_octets;
+use hc_update::Stored;
+use std::alloc::{AllocError, Global};
+
+/// The response that gets furthest, and why it gets no further, as far as its state at the reply tells.
+pub(crate) struct Furthest {
+    /// The position of its record.
+    pub(crate) position: u64,
+    /// How many filters it passes.
+    pub(crate) passed: u32,
+    /// The position of the 304 that freshened it last.
+    pub(crate) validated_at: Option<u64>,
+    /// The moment that its Date shows, where that isn't the one at which it came.
+    pub(crate) date: Option<u64>,
+    /// Why it gets no further.
+    pub(crate) text: String,
+    /// The fields in which the reply differs, where it gets no further by those.
+    pub(crate) differing: Differing,
+}
+
+impl Drop for Furthest {
+    fn drop(self) {
+        let Furthest {
+            position: _,
+            passed: _,
+            validated_at: _,
+            date: _,
+            text,
+            differing,
+        } = self;
+        drop(text);
+        drop(differing);
+    }
+}
+
+/// The Date of a response, where it isn't the moment at which it came.
+fn date_of(state: &Stored) -> Option<u64> {
+    let times = state.times;
+    if times.date == times.response_time {
+        return None;
+    }
+    Some(times.date)
+}
+
+/// Writes that the request is by a method whose replies come from no store.
+fn say_method(claim: &ReplyClaim<'_>, out: &mut String) -> Result<(), AllocError> {
+    push_octets(claim.request.method.as_str().as_bytes(), out)?;
+    out.push_str(" is neither GET nor HEAD")
+}
+
+/// Writes why the response gets no further, where its state tells.
+fn say_shortfall(
+    alloc: Global,
+    claim: &ReplyClaim<'_>,
+    state: &Stored,
+    passed: u32,
+    out: &mut String,
+) -> Result<(), AllocError> {
+    match reason_behind(passed) {
+        Some(Reason::NoResponse) => say_method(claim, out),
+        Some(Reason::Vary) => say_selection(alloc, claim, state, out),
+        Some(Reason::NoExplicitFreshness | Reason::NotAllowed) => say_freshness(claim, state, out),
+        Some(Reason::Body) => say_contents(alloc, claim, state, out),
+        Some(Reason::Age) => say_age(claim, state, out),
+        Some(Reason::Ttl) => say_ttl(claim, state, out),
+        _ => Ok(()),
+    }
+}
+
+/// The fields in which the reply differs, where these are why the response gets no further.
+fn differing_at(
+    alloc: Global,
+    claim: &ReplyClaim<'_>,
+    state: &Stored,
+    passed: u32,
+) -> Result<Differing, AllocError> {
+    match reason_behind(passed) {
+        Some(Reason::Fields) => Differing::read(alloc, claim, state),
+        _ => Ok(Differing::new(alloc)),
+    }
+}
+
+impl Furthest {
+    /// What its state tells of that candidate.
+    pub(crate) fn read(
+        alloc: Global,
+        claim: &ReplyClaim<'_>,
+        state: &Stored,
+        candidate: Candidate,
+    ) -> Result<Self, AllocError> {
+        let Candidate { position, passed } = candidate;
+        let mut text = String::new(alloc);
+        say_shortfall(alloc, claim, state, passed, &mut text)?;
+        Ok(Furthest {
+            position,
+            passed,
+            validated_at: state.validated_at,
+            date: date_of(state),
+            text,
+            differing: differing_at(alloc, claim, state, passed)?,
+        })
+    }
+
+    /// The position of the record from which on it is as it is: its own, or that of the 304 that freshened it
+    /// last.
+    pub(crate) fn settled_at(&self) -> u64 {
+        self.validated_at.unwrap_or(self.position)
+    }
+
+    /// Whether it gets no further since it was invalidated.
+    pub(crate) fn is_invalidated(&self) -> bool {
+        reason_behind(self.passed) == Some(Reason::Invalidated)
+    }
+
+    /// Takes in which fields the 304 has that freshened it last, where that is how the forward ended.
+    pub(crate) fn renew(&mut self, ended: &EndedForward<'_>) {
+        if self.validated_at != Some(ended.position) {
+            return;
+        }
+        if let Some(response) = ended.response {
+            self.differing.renew(&response.head.fields);
+        }
+    }
+}

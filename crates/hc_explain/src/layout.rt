@@ -1,0 +1,42 @@
+//! How the lines of an explanation are laid out.
+
+use std::alloc::AllocError;
+use std::fmt::Write;
+
+/// How many things of one kind a line names at most.
+pub(crate) const LISTED: usize = 8;
+
+/// Begins a line: a word, and the records that it is about.
+pub(crate) fn begin_line(word: &str, place: &str, out: &mut String) -> Result<(), AllocError> {
+    write!(out, "{word:<6} {place:<8} ")
+}
+
+/// Begins the line that says why a rule doesn't hold.
+pub(crate) fn begin_rule(number: u32, out: &mut String) -> Result<(), AllocError> {
+    write!(out, "rule {number:<10} ")
+}
+
+/// Ends a line.
+pub(crate) fn end_line(out: &mut String) -> Result<(), AllocError> {
+    out.push_str("\n")
+}
+
+/// Says how many things there are besides those that are named, if there are any.
+pub(crate) fn push_more(more: u64, out: &mut String) -> Result<(), AllocError> {
+    if more == 0 {
+        return Ok(());
+    }
+    write!(out, ", and {more} more")
+}
+
+/// Puts what separates a thing of a list from those before it.
+pub(crate) fn push_separator(
+    index: usize,
+    separator: &str,
+    out: &mut String,
+) -> Result<(), AllocError> {
+    if index == 0 {
+        return Ok(());
+    }
+    out.push_str(separator)
+}

@@ -1,0 +1,74 @@
+//! The newest records of a kind.
+
+use crate::layout::{LISTED, begin_line, end_line, push_more, push_separator};
+use crate::note::Note;
+use circular_buffer::HeapCircularBuffer;
+use std::alloc::{AllocError, Global};
+
+/// The newest records of a kind, and how many older ones there are.
+#[derive(Drop)]
+pub(crate) struct Notes {
+    newest: HeapCircularBuffer<Note>,
+    older: u64,
+}
+
+impl Notes {
+    /// No records.
+    pub(crate) fn new(alloc: Global) -> Result<Self, AllocError> {
+        Ok(Notes {
+            newest: HeapCircularBuffer::with_capacity(alloc, LISTED)?,
+            older: 0,
+        })
+    }
+
+    /// Adds a record, which is newer than the others.
+    pub(crate) fn push(&mut self, note: Note) {
+        if self.newest.push_back(note).is_some() {
+            self.older = self.older.saturating_add(1);
+        }
+    }
+
+    /// Forgets all records.
+    pub(crate) fn clear(&mut self) {
+        self.newest.clear();
+        self.older = 0;
+    }
+
+    /// Whether there is no record.
+    pub(crate) fn is_empty(&self) -> bool {
+        self.newest.is_empty()
+    }
+
+    /// Whether there is exactly one record.
+    pub(crate) fn is_one(&self) -> bool {
+        self.newest.len() == 1
+    }
+
+    /// Writes the name of each and, behind a mark, what is said of it, and how many older ones there are.
+    pub(crate) fn push_all(
+        &self,
+        behind: &str,
+        separator: &str,
+        out: &mut String,
+    ) -> Result<(), AllocError> {
+        for (index, note) in self.newest.iter().enumerate() {
+            push_separator(index, separator, out)?;
+            note.push_name(out)?;
+            out.push_str(behind)?;
+            out.push_str(note.text.as_str())?;
+        }
+        push_more(self.older, out)
+    }
+
+    /// Writes a line for each, and one for the older ones.
+    pub(crate) fn say_lines(&self, word: &str, out: &mut String) -> Result<(), AllocError> {
+        for note in self.newest.iter() {
+            let mut place = String::new(*out.allocator());
+            note.push_name(&mut place)?;
+            begin_line(word, place.as_str(), out)?;
+            out.push_str(note.text.as_str())?;
+            end_line(out)?;
+        }
+        Ok(())
+    }
+}

@@ -1,0 +1,144 @@
+//! The first reading, which looks for the reply.
+
+ghost use Rattle.std.specs.Prelude.{◌≡◌, ◌++◌, List, None, true, slice_get, IsSome};
+ghost use Rattle.hc_history.specs.declared.wrong.WrongReply.{WrongReply};
+ghost use Rattle.hc_audit.specs.Told.{wrong_of};
+ghost use Rattle.hc_explain.specs.Seeking.{first_of};
+
+use crate::found::Found;
+use hc_audit::{JudgedReply, PassedRecord, Witness};
+use hc_history::{Finding, WrongReply};
+use hc_index::Index;
+use std::alloc::{AllocError, Global};
+
+/// A witness that looks for the first wrong reply.
+#[derive(Drop)]
+pub struct FirstWrong {
+    alloc: Global,
+    first: Option<WrongReply>,
+    found: Option<Found>,
+}
+
+impl FirstWrong {
+    /// It has seen no reply.
+    pub fn new(alloc: Global) -> Self
+        ensures { first_of result ≡ None }
+    {
+        FirstWrong {
+            alloc,
+            first: None,
+            found: None,
+        }
+    }
+
+    /// The first wrong reply, if there was one.
+    pub fn first_wrong(&self) -> Option<WrongReply>
+        ensures { result ≡ first_of self.now }
+    {
+        self.first
+    }
+
+    /// What was found of it, which is moved.
+    pub fn into_found(self) -> Option<Found> {
+        let FirstWrong {
+            alloc: _,
+            first: _,
+            found,
+        } = self;
+        found
+    }
+
+    /// Whether it was found, so that no further record tells more of it.
+    pub fn is_behind(&self) -> bool
+        ensures { result ≡ true → IsSome (first_of self.now) }
+    {
+        self.first.is_some()
+    }
+
+    // Takes in what was found of the reply at that position.
+    fn take(&mut self, position: u64, finding: Finding)
+        ensures { (wrongs : List WrongReply) → self.old.first ≡ slice_get wrongs 0
+            → self.new.first ≡ slice_get (wrongs ++ wrong_of position finding) 0 }
+    {
+        if let (Finding::Wrong(reason), None) = (finding, self.first) {
+            self.first = Some(WrongReply { position, reason });
+        }
+    }
+}
+
+impl<I: Index> Witness<I> for FirstWrong {
+    ghost tells = { λ seeker wrongs. first_of seeker ≡ slice_get wrongs 0 };
+
+    fn pass(&mut self, _: &PassedRecord<'_, I>) -> Result<(), AllocError> {
+        Ok(())
+    }
+
+    fn see(&mut self, judged: &JudgedReply<'_, I>) -> Result<(), AllocError> {
+        if self.first.is_none() && judged.finding != Finding::Right {
+            self.found = Found::read(self.alloc, judged)?;
+        }
+        self.take(judged.position, judged.finding);
+        Ok(())
+    }
+}
+
+/// A witness that looks for the reply at a position.
+#[derive(Drop)]
+pub struct ReplyAt {
+    alloc: Global,
+    position: u64,
+    is_behind: bool,
+    found: Option<Found>,
+}
+
+impl ReplyAt {
+    /// It has seen no record.
+    pub fn new(alloc: Global, position: u64) -> Self {
+        ReplyAt {
+            alloc,
+            position,
+            is_behind: false,
+            found: None,
+        }
+    }
+
+    /// What was found of the reply, which is moved. None where another record, or none, stands there.
+    pub fn into_found(self) -> Option<Found> {
+        let ReplyAt {
+            alloc: _,
+            position: _,
+            is_behind: _,
+            found,
+        } = self;
+        found
+    }
+
+    /// Whether the record at the position has passed, so that no further one tells more of it.
+    pub fn is_behind(&self) -> bool {
+        self.is_behind
+    }
+
+    // Takes in that the record at that position has passed.
+    fn pass_by(&mut self, position: u64) {
+        if self.position <= position {
+            self.is_behind = true;
+        }
+    }
+}
+
+impl<I: Index> Witness<I> for ReplyAt {
+    ghost tells = { λ _ wrongs. Unit {0} };
+
+    fn pass(&mut self, passed: &PassedRecord<'_, I>) -> Result<(), AllocError> {
+        self.pass_by(passed.position);
+        Ok(())
+    }
+
+    fn see(&mut self, judged: &JudgedReply<'_, I>) -> Result<(), AllocError> {
+        if judged.position == self.position {
+            self.found = Found::read(self.alloc, judged)?;
+        }
+        self.pass_by(judged.position);
+        Ok(())
+    }
+}

@@ -1,0 +1,69 @@
+//! In what a request differs from the one that a response answers (RFC 9111 section 4.1).
+
+use crate::layout::{LISTED, push_more, push_separator};
+use crate::values::push_joined;
+use hc_fields::{Field, Fields, is_token};
+use hc_history::ReplyClaim;
+use hc_rules::selects;
+use hc_shown::push_value;
+use hc_update::Stored;
+use std::alloc::{AllocError, Global};
+
+/// The name of the field that selects.
+const VARY: &[u8] = b"vary";
+
+/// Whether a member of the Vary selects the request by itself.
+fn is_met(
+    alloc: Global,
+    claim: &ReplyClaim<'_>,
+    state: &Stored,
+    member: &[u8],
+) -> Result<bool, AllocError> {
+    let mut alone = Fields::new(alloc);
+    alone.push(Field::new(alloc, VARY, member)?)?;
+    selects(alloc, &alone, &state.request.fields, &claim.request.fields)
+}
+
+/// Writes what a member of the Vary finds in both requests.
+fn say_member(
+    alloc: Global,
+    claim: &ReplyClaim<'_>,
+    state: &Stored,
+    member: &[u8],
+    out: &mut String,
+) -> Result<(), AllocError> {
+    push_value(VARY, member, out)?;
+    if !is_token(member) || member == b"*".as_slice() {
+        return out.push_str(" selects no request");
+    }
+    let name = member.to_ascii_lowercase(alloc)?;
+    out.push_str(": it answers ")?;
+    push_joined(alloc, name.as_slice(), &state.request.fields, out)?;
+    out.push_str(", asked is ")?;
+    push_joined(alloc, name.as_slice(), &claim.request.fields, out)
+}
+
+/// Writes by which members of its Vary the response doesn't answer the request.
+pub(crate) fn say_selection(
+    alloc: Global,
+    claim: &ReplyClaim<'_>,
+    state: &Stored,
+    out: &mut String,
+) -> Result<(), AllocError> {
+    out.push_str("Vary ")?;
+    let mut named: usize = 0;
+    let mut more: u64 = 0;
+    for member in state.fields.members(VARY) {
+        if is_met(alloc, claim, state, member)? {
+            continue;
+        }
+        if named < LISTED {
+            push_separator(named, "; ", out)?;
+            say_member(alloc, claim, state, member, out)?;
+            named += 1;
+        } else {
+            more = more.saturating_add(1);
+        }
+    }
+    push_more(more, out)
+}

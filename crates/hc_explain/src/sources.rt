@@ -1,0 +1,142 @@
+//! The lines of the responses that a reply may carry.
+
+use crate::found::Found;
+use crate::furthest::Furthest;
+use crate::layout::{begin_line, end_line};
+use crate::note::Note;
+use crate::traces::Traces;
+use hc_head::ResponseHead;
+use hc_history::{Candidate, reason_behind};
+use hc_shown::{push_moment, push_value};
+use std::alloc::{AllocError, Global};
+use std::fmt::Write;
+
+/// The word that begins such a line.
+const FROM: &str = "from";
+
+/// The name of the field that says how long a response is fresh.
+const CACHE_CONTROL: &[u8] = b"cache-control";
+
+/// The name of the field that says so where that doesn't.
+const EXPIRES: &[u8] = b"expires";
+
+/// What is said of a response: its status, and what it says of its lifetime.
+pub(crate) fn source_text(alloc: Global, response: &ResponseHead) -> Result<String, AllocError> {
+    let mut text = String::new(alloc);
+    let status = response.status.as_u16();
+    write!(text, "{status}")?;
+    if let Some(value) = response.fields.joined(alloc, CACHE_CONTROL)? {
+        text.push_str(" ")?;
+        push_value(CACHE_CONTROL, value.as_slice(), &mut text)?;
+    } else if let Some(value) = response.fields.joined(alloc, EXPIRES)? {
+        text.push_str(" Expires ")?;
+        push_value(EXPIRES, value.as_slice(), &mut text)?;
+    } else {
+        text.push_str(", no Cache-Control")?;
+    }
+    Ok(text)
+}
+
+/// Writes how far a response gets.
+pub(crate) fn push_reach(candidate: Candidate, out: &mut String) -> Result<(), AllocError> {
+    let Some(reason) = reason_behind(candidate.passed) else {
+        return out.push_str("passes all");
+    };
+    let number = reason.number();
+    let name = reason.name();
+    write!(out, "fails {number} {name}")
+}
+
+/// Writes what the records behind it made of the response that gets furthest.
+fn push_changes(furthest: &Furthest, out: &mut String) -> Result<(), AllocError> {
+    if let Some(position) = furthest.validated_at {
+        write!(out, ", freshened by the 304 at {position}")?;
+    }
+    if let Some(date) = furthest.date {
+        out.push_str(", Date ")?;
+        push_moment(date, out)?;
+    }
+    Ok(())
+}
+
+/// Writes the moment of a record, and what is said of it.
+fn push_note(note: &Note, out: &mut String) -> Result<(), AllocError> {
+    push_moment(note.moment, out)?;
+    out.push_str("  ")?;
+    out.push_str(note.text.as_str())
+}
+
+/// Begins the line of the response at that position, whose record is this one.
+fn begin_from(
+    alloc: Global,
+    position: u64,
+    note: Option<&Note>,
+    out: &mut String,
+) -> Result<(), AllocError> {
+    let mut place = String::new(alloc);
+    match note {
+        Some(note) => note.push_name(&mut place)?,
+        None => write!(place, "{position}")?,
+    }
+    begin_line(FROM, place.as_str(), out)
+}
+
+/// Writes the line of the response that gets furthest.
+pub(crate) fn say_first(
+    found: &Found,
+    traces: &Traces,
+    out: &mut String,
+) -> Result<(), AllocError> {
+    let Some(furthest) = &found.furthest else {
+        return Ok(());
+    };
+    let note = traces.source(furthest.position);
+    begin_from(traces.alloc, furthest.position, note, out)?;
+    if let Some(note) = note {
+        push_note(note, out)?;
+    }
+    push_changes(furthest, out)?;
+    end_line(out)
+}
+
+/// Writes the line of one of the others.
+fn say_other(traces: &Traces, candidate: Candidate, out: &mut String) -> Result<(), AllocError> {
+    let note = traces.source(candidate.position);
+    begin_from(traces.alloc, candidate.position, note, out)?;
+    push_reach(candidate, out)?;
+    end_line(out)
+}
+
+/// Writes how many more there are, if there are any.
+fn say_more(more: u64, out: &mut String) -> Result<(), AllocError> {
+    if more == 0 {
+        return Ok(());
+    }
+    begin_line(FROM, "", out)?;
+    write!(out, "and {more} more")?;
+    end_line(out)
+}
+
+/// Writes a line for each response that the reply may carry, the furthest first.
+pub(crate) fn say_sources(
+    found: &Found,
+    traces: &Traces,
+    out: &mut String,
+) -> Result<(), AllocError> {
+    say_first(found, traces, out)?;
+    for candidate in found.candidates.listed.iter().skip(1) {
+        say_other(traces, *candidate, out)?;
+    }
+    say_more(found.candidates.more, out)
+}
+
+/// Writes the line of the answer of the window that the reply carries.
+pub(crate) fn say_carried(
+    traces: &Traces,
+    note: &Note,
+    out: &mut String,
+) -> Result<(), AllocError> {
+    begin_from(traces.alloc, note.position, Some(note), out)?;
+    push_note(note, out)?;
+    end_line(out)
+}

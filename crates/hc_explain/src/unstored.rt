@@ -1,0 +1,43 @@
+//! Why nothing of a target is stored (RFC 9111 section 3).
+
+use crate::ended::EndedForward;
+use crate::found::Found;
+use crate::traces::Traces;
+use hc_details::forbidden;
+use hc_head::{ResponseHead, is_get_or_head};
+use hc_shown::push_octets;
+use std::alloc::{AllocError, Global};
+use std::fmt::Write;
+
+/// What is said of a response that may not be stored: nothing where it may.
+pub(crate) fn unstored_text(
+    alloc: Global,
+    ended: &EndedForward<'_>,
+    response: &ResponseHead,
+) -> Result<Option<String>, AllocError> {
+    let Some(forbidden) = forbidden(&ended.forward.request, response) else {
+        return Ok(None);
+    };
+    let mut text = String::new(alloc);
+    let status = response.status.as_u16();
+    write!(text, "{status}, ")?;
+    forbidden.say(&mut text)?;
+    Ok(Some(text))
+}
+
+/// Writes why no response of the target comes out of a store.
+pub(crate) fn say_unstored(
+    found: &Found,
+    traces: &Traces,
+    out: &mut String,
+) -> Result<(), AllocError> {
+    if !is_get_or_head(&found.method) {
+        push_octets(found.method.as_str().as_bytes(), out)?;
+        return out.push_str(" is neither GET nor HEAD");
+    }
+    if traces.unstored.is_empty() {
+        return out.push_str("no response of the target is recorded before the reply");
+    }
+    out.push_str("what is recorded of the target may not be stored: ")?;
+    traces.unstored.push_all(": ", "; ", out)
+}

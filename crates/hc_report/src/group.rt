@@ -1,0 +1,104 @@
+//! Wrong replies of one kind.
+
+use crate::targets::NamedTargets;
+use hc_details::Detail;
+use hc_history::Reason;
+use std::alloc::{AllocError, Global};
+
+/// A wrong reply, and what in it is wrong.
+#[derive(Drop)]
+pub(crate) struct WrongOfKind {
+    /// The position of its record.
+    pub(crate) position: u64,
+    /// Why it is wrong.
+    pub(crate) reason: Reason,
+    /// What in it is.
+    pub(crate) detail: Detail,
+    /// Its target, as it is shown.
+    pub(crate) target: String,
+}
+
+/// By how many seconds the replies of a group are off.
+#[derive(Clone, Copy)]
+pub(crate) struct Spread {
+    /// The least difference.
+    pub(crate) least: u64,
+    /// The greatest one.
+    pub(crate) greatest: u64,
+}
+
+impl Spread {
+    /// With one difference more.
+    fn with(self, seconds: u64) -> Self {
+        Spread {
+            least: self.least.min(seconds),
+            greatest: self.greatest.max(seconds),
+        }
+    }
+}
+
+/// The wrong replies that have a reason in common, and what is wrong in them.
+#[derive(Drop)]
+pub(crate) struct Group {
+    /// Why they are wrong.
+    pub(crate) reason: Reason,
+    /// What in them is, as in the first.
+    pub(crate) detail: Detail,
+    /// How many there are, or the greatest number.
+    pub(crate) count: u64,
+    /// The position of the first.
+    pub(crate) first: u64,
+    /// What they were asked for.
+    pub(crate) targets: NamedTargets,
+    /// By how many seconds they are off, if that is what is wrong.
+    pub(crate) spread: Option<Spread>,
+}
+
+impl Group {
+    /// The group of that reply alone.
+    pub(crate) fn of(alloc: Global, wrong: WrongOfKind) -> Result<Self, AllocError> {
+        let WrongOfKind {
+            position,
+            reason,
+            detail,
+            target,
+        } = wrong;
+        let mut targets = NamedTargets::new(alloc);
+        targets.note(target)?;
+        let spread = seconds_off(&detail).map(|seconds| Spread {
+            least: seconds,
+            greatest: seconds,
+        });
+        Ok(Group {
+            reason,
+            detail,
+            count: 1,
+            first: position,
+            targets,
+            spread,
+        })
+    }
+
+    /// Whether a wrong reply belongs to it.
+    pub(crate) fn has_kind_of(&self, wrong: &WrongOfKind) -> bool {
+        self.reason == wrong.reason && self.detail.is_as(&wrong.detail)
+    }
+
+    /// Takes in a further reply of it.
+    pub(crate) fn note(&mut self, wrong: WrongOfKind) -> Result<(), AllocError> {
+        self.count = self.count.saturating_add(1);
+        if let (Some(spread), Some(seconds)) = (self.spread, seconds_off(&wrong.detail)) {
+            self.spread = Some(spread.with(seconds));
+        }
+        self.targets.note(wrong.target)
+    }
+}
+
+/// By how many seconds a reply is off, if that is what is wrong.
+fn seconds_off(detail: &Detail) -> Option<u64> {
+    match detail {
+        Detail::AgeOff { told, due } => Some(u64::from(told.abs_diff(*due))),
+        Detail::SecondsOff { told, due } => Some(told.abs_diff(*due)),
+        _ => None,
+    }
+}

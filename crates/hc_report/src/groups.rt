@@ -1,0 +1,87 @@
+//! The wrong replies by what is wrong in them.
+
+ghost use Rattle.std.specs.Prelude.{◌≤◌, vec_len};
+ghost use Rattle.hc_report.specs.declared.groups.TheConstants.{MOST_GROUPS};
+
+use crate::group::{Group, WrongOfKind};
+use hc_audit::JudgedReply;
+use hc_details::{Past, detail};
+use hc_history::Reason;
+use hc_index::Index;
+use hc_shown::push_target;
+use std::alloc::{AllocError, Global};
+
+/// How many groups are kept at most.
+const MOST_GROUPS: usize = 100;
+
+/// The first kinds of wrong replies that were met.
+#[derive(Drop)]
+pub(crate) struct Groups {
+    alloc: Global,
+    /// The groups, by their first replies.
+    pub(crate) groups: Vec<Group>,
+    /// How many wrong replies are in no group.
+    pub(crate) elsewhere: u64,
+    ghost few: { vec_len groups ≤ MOST_GROUPS },
+}
+
+impl Groups {
+    /// No group.
+    pub(crate) fn new(alloc: Global) -> Self {
+        Groups {
+            alloc,
+            groups: Vec::new(alloc),
+            elsewhere: 0,
+        }
+    }
+
+    /// Takes in a wrong reply.
+    pub(crate) fn note<I: Index>(
+        &mut self,
+        judged: &JudgedReply<'_, I>,
+        reason: Reason,
+        past: &Past,
+    ) -> Result<(), AllocError> {
+        let wrong = WrongOfKind {
+            position: judged.position,
+            reason,
+            detail: detail(self.alloc, judged, reason, past)?,
+            target: shown_target(self.alloc, judged)?,
+        };
+        self.take(wrong)
+    }
+
+    // Puts a wrong reply into its group, or into a new one.
+    fn take(&mut self, wrong: WrongOfKind) -> Result<(), AllocError> {
+        let place = self
+            .groups
+            .iter()
+            .position(|group| group.has_kind_of(&wrong));
+        match place {
+            Some(place) => self.groups[place].note(wrong),
+            None => self.begin(wrong),
+        }
+    }
+
+    // Begins a group, where there is room for one.
+    fn begin(&mut self, wrong: WrongOfKind) -> Result<(), AllocError> {
+        if self.groups.len() < MOST_GROUPS {
+            self.groups.push(Group::of(self.alloc, wrong)?)?;
+        } else {
+            self.elsewhere = self.elsewhere.saturating_add(1);
+        }
+        Ok(())
+    }
+}
+
+// The target of a reply, as it is shown.
+fn shown_target<I: Index>(
+    alloc: Global,
+    judged: &JudgedReply<'_, I>,
+) -> Result<String, AllocError> {
+    let mut text = String::new(alloc);
+    if let Some(claim) = judged.claim() {
+        push_target(claim.target, &mut text)?;
+    }
+    Ok(text)
+}

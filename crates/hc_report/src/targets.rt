@@ -1,0 +1,46 @@
+//! The targets of a group of wrong replies.
+
+ghost use Rattle.std.specs.Prelude.{◌≤◌, vec_len};
+ghost use Rattle.hc_report.specs.declared.targets.TheConstants.{MOST_TARGETS};
+
+use std::alloc::{AllocError, Global};
+
+/// How many targets a group names at most.
+const MOST_TARGETS: usize = 16;
+
+/// The first targets that were met, each once, as they are shown.
+#[derive(Drop)]
+pub(crate) struct NamedTargets {
+    /// Their texts.
+    pub(crate) names: Vec<String>,
+    /// How many replies were of another target.
+    pub(crate) others: u64,
+    ghost few: { vec_len names ≤ MOST_TARGETS },
+}
+
+impl NamedTargets {
+    /// No target.
+    pub(crate) fn new(alloc: Global) -> Self {
+        NamedTargets {
+            names: Vec::new(alloc),
+            others: 0,
+        }
+    }
+
+    /// Takes in the target of a reply.
+    pub(crate) fn note(&mut self, name: String) -> Result<(), AllocError> {
+        if self.knows(name.as_str()) {
+            return Ok(());
+        }
+        if self.names.len() < MOST_TARGETS {
+            self.names.push(name)?;
+        } else {
+            self.others = self.others.saturating_add(1);
+        }
+        Ok(())
+    }
+
+    fn knows(&self, name: &str) -> bool {
+        self.names.iter().any(|known| known.as_str() == name)
+    }
+}

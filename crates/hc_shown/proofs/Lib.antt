@@ -1,0 +1,2 @@
+pub mod MomentLemmas
+pub mod ShownLemmas

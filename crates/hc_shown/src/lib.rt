@@ -1,0 +1,14 @@
+//! What a terminal may be shown of octets that others have written: printable ASCII alone, and never more than some.
+#![tactic(auto)]
+
+mod moment;
+mod octets;
+mod target;
+#[cfg(test)]
+mod tests;
+mod value;
+
+pub use moment::push_moment;
+pub use octets::{SHOWN, push_octets};
+pub use target::push_target;
+pub use value::push_value;
