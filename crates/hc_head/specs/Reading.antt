@@ -1,5 +1,5 @@
 -- What a reader of heads answers, for requests and responses alike.
-use Rattle.std.specs.Prelude.{◌≡◌, ℕ, ◌≤◌, ◌<◌, List, ◌++◌, length, take, Result, Ok, Err}
+use Rattle.std.specs.Prelude.{◌≡◌, ℕ, ◌≤◌, ◌<◌, Bool, true, false, List, ◌++◌, length, take, Result, Ok, Err}
 use Rattle.hc_head.specs.declared.fault.HeadFault.{HeadFault}
 use Rattle.hc_head.specs.declared.fault.HeadFault.TheVariants.{Syntax, TooManyFields, TooLong, Host, Target, Memory}
 use Rattle.hc_head.specs.declared.head.Room.{Room}
@@ -71,3 +71,13 @@ OnTooManyFields (Err TooLong) claim = Unit {0}
 OnTooManyFields (Err Host) claim = Unit {0}
 OnTooManyFields (Err Target) claim = Unit {0}
 OnTooManyFields (Err Memory) claim = Unit {0}
+
+-- the answer is that there are too many fields
+abbrev pub has_too_many : {H : Type 0} → Result (Step H) HeadFault → Bool
+has_too_many (Ok step) = false
+has_too_many (Err Syntax) = false
+has_too_many (Err TooManyFields) = true
+has_too_many (Err TooLong) = false
+has_too_many (Err Host) = false
+has_too_many (Err Target) = false
+has_too_many (Err Memory) = false

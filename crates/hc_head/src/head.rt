@@ -115,7 +115,20 @@ impl Room {
         octets: 131_072,
         fields: 128,
     };
+
+    /// The same room, but for `FEW` fields.
+    pub(crate) fn for_few(self) -> Room
+        ensures { (result.octets ≡ self.octets) × (result.fields ≡ 24) }
+    {
+        Room {
+            octets: self.octets,
+            fields: FEW,
+        }
+    }
 }
+
+/// Of so many fields a head is read without memory for their places. Most heads have no more.
+pub(crate) const FEW: usize = 24;
 
 /// Whether a head has come.
 #[derive(Debug, Drop)]

@@ -3,8 +3,10 @@
 ghost use Rattle.std.specs.Prelude.{◌≡◌, ◌≤◌, length, map, take, All, IfOk};
 ghost use Rattle.httparse.specs.Spans.{IsHeaderWithin};
 ghost use Rattle.hc_head.specs.Heads.{field_at, version_of};
+ghost use Rattle.hc_head.specs.Reading.{has_too_many};
 
-use crate::head::Version;
+use crate::fault::HeadFault;
+use crate::head::{Step, Version};
 use hc_fields::{Field, Fields, Octets};
 use httparse::spans::HeaderSpan;
 use std::alloc::{AllocError, Global};
@@ -47,4 +49,11 @@ pub(crate) fn front_of(bytes: &[u8], limit: usize) -> &[u8]
     } else {
         &bytes[..limit]
     }
+}
+
+/// Whether the answer is that there are too many fields.
+pub(crate) fn has_too_many<H>(answer: &Result<Step<H>, HeadFault>) -> bool
+    ensures { result ≡ has_too_many answer.now }
+{
+    matches!(answer, Err(HeadFault::TooManyFields))
 }

@@ -9,8 +9,8 @@ ghost use Rattle.hc_head.specs.Heads.{BeginsRequestHead, request_field_count, re
 ghost use Rattle.hc_head.specs.Reading.{IsWholeHead, GivesHead, FindsHead, CanBecomeHead, OnUnfinished, OnTooManyFields};
 
 use crate::fault::HeadFault;
-use crate::head::{RequestHead, Room, Step};
-use crate::parts::{fields_at, front_of, version_of};
+use crate::head::{FEW, RequestHead, Room, Step};
+use crate::parts::{fields_at, front_of, has_too_many, version_of};
 use crate::unfinished::has_hopeless_target;
 use hc_fields::Octets;
 use http::Method;
@@ -94,6 +94,13 @@ pub fn read_request(alloc: Global, bytes: &[u8], room: Room) -> Result<Step<Requ
     // Too many fields are told only behind a start line and more fields than the room, each of them valid.
     ensures too_many { OnTooManyFields result (RequestExceeds room.fields (take room.octets bytes.now)) }
 {
+    if FEW < room.fields {
+        let mut spans = [EMPTY_HEADER_SPAN; FEW];
+        let answer = read_into(alloc, bytes, room.for_few(), &mut spans);
+        if !has_too_many(&answer) {
+            return answer;
+        }
+    }
     let mut spans = vec![in alloc; EMPTY_HEADER_SPAN; room.fields]?;
     read_into(alloc, bytes, room, &mut spans)
 }

@@ -8,8 +8,8 @@ ghost use Rattle.hc_head.specs.Heads.{BeginsResponseHead, response_field_count, 
 ghost use Rattle.hc_head.specs.Reading.{IsWholeHead, GivesHead, FindsHead, CanBecomeHead, OnUnfinished, OnTooManyFields};
 
 use crate::fault::HeadFault;
-use crate::head::{ResponseHead, Room, Step};
-use crate::parts::{fields_at, front_of, version_of};
+use crate::head::{FEW, ResponseHead, Room, Step};
+use crate::parts::{fields_at, front_of, has_too_many, version_of};
 use crate::unfinished::has_low_status;
 use http::StatusCode;
 use httparse::spans::{EMPTY_HEADER_SPAN, HeaderSpan, ResponseSpans, parse_response};
@@ -87,6 +87,13 @@ pub fn read_response(
     // Too many fields are told only behind a start line and more fields than the room, each of them valid.
     ensures too_many { OnTooManyFields result (ResponseExceeds room.fields (take room.octets bytes.now)) }
 {
+    if FEW < room.fields {
+        let mut spans = [EMPTY_HEADER_SPAN; FEW];
+        let answer = read_into(alloc, bytes, room.for_few(), &mut spans);
+        if !has_too_many(&answer) {
+            return answer;
+        }
+    }
     let mut spans = vec![in alloc; EMPTY_HEADER_SPAN; room.fields]?;
     read_into(alloc, bytes, room, &mut spans)
 }

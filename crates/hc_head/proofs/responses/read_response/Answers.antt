@@ -1,8 +1,18 @@
+use Rattle.std.proofs.Common.{sym, arith}
 use Rattle.hc_head.specs.Heads.{BeginsResponseHead, response_field_count}
 use Rattle.hc_head.specs.Laws.{response_unique}
-use Rattle.hc_head.proofs.ReadingLemmas.{finds_head}
+use Rattle.hc_head.proofs.ReadingLemmas.{finds_head, gives_wider}
 use Rattle.hc_head.proofs.ResponseLemmas.{begins-append}
 use Rattle.hc_head.proofs.responses.read_response.Goals as goal
+
+pub returns-then-not-has_too_many-clause-gives : goal.returns-then-not-has_too_many-clause-gives
+returns-then-not-has_too_many-clause-gives c =
+    gives_wider BeginsResponseHead response_field_count c.args.bytes.now c.for_few.result c.args.room _ c.for_few.ensures.0
+    (omega (arith, c.for_few.ensures.1, c.if-room-gt-FEW.true)) (sym c.if-not-has_too_many.ensures) c.read_into-answer.ensures.gives
+
+pub returns-then-not-has_too_many-clause-found : goal.returns-then-not-has_too_many-clause-found
+returns-then-not-has_too_many-clause-found c = λ head len.
+    finds_head BeginsResponseHead response_field_count response_unique begins-append c.args.bytes.now c.args.room _ head len (returns-then-not-has_too_many-clause-gives c)
 
 pub returns-clause-found : goal.returns-clause-found
 returns-clause-found c = λ head len.
