@@ -10,6 +10,7 @@ use Rattle.std.specs.declared.cmp.Ordering.TheVariants.{Less, Equal, Greater}
 use Rattle.std.proofs.lemmas.Bool.{cases_eq, ne_eqb}
 use Rattle.std.proofs.lemmas.Map.Lookups.{exact_unsigned}
 use Rattle.hc_update.specs.declared.stored.Stored.{Stored}
+use Rattle.hc_transcript.specs.declared.record.Record.{Record}
 use Rattle.hc_events.specs.declared.Event.{Event}
 use Rattle.hc_service.specs.declared.action.Action.{Action}
 use Rattle.hc_service.specs.declared.open.OpenExchange.{OpenExchange}
@@ -21,13 +22,14 @@ use Rattle.hc_service.specs.State.{State, Table, new_state, open_now}
 use Rattle.hc_service.specs.Joining.{FewWait, most_waiting, shared, waiting_for, waits_for}
 use Rattle.hc_service.specs.Reactions.{Reaction}
 use Rattle.hc_service.specs.Reactions.Reaction.{Replies as RepliesAtOnce, Sends, Waits}
-use Rattle.hc_service.specs.Runs.{StepResult, Steps}
+use Rattle.hc_service.specs.Runs.{Runs, StepResult, Steps, nothing_yet}
 use Rattle.hc_service.specs.Answers.{Outcome}
 use Rattle.hc_service.specs.Answers.Outcome.{Replies, GoesAnew}
 use Rattle.hc_service.specs.Turns.{Asker, Asks, DoesOutcome, DoesReaction, DoesRelease, Ended, EndsByFailure, EndsByResponse, answered_now, arrived_on, asker_now, failed_now, opened, released, whole_request}
 use Rattle.hc_service.specs.Serves.{Turn, Takes, Run, Serves, passed_to}
 use Rattle.hc_service.specs.Serves.Turn.{Opening, ClientSending, Asking, Refusal, Dropping, Leaving, Closing, OriginSending, Answering, Failing, Releasing}
 use Rattle.hc_service.proofs.LeftLemmas.{joins_it, steps_keep}
+use Rattle.hc_service.proofs.RunLemmas.{runs_steps}
 use Rattle.hc_service.proofs.TableLemmas.{get_gone, get_out, get_put}
 
 -- ---- how many of a table pass
@@ -196,3 +198,7 @@ pub steps_few : (settings : CoreSettings) (events : List Event) (results : List 
 steps_few settings events results s steps =
     steps_keep settings FewWait (event_few settings) events results (new_state settings) s steps
     (λ f. let none = none_few (λ (x : OpenExchange). waits_for f x.waits_for) in omega (arith, none))
+
+pub runs_few : (settings : CoreSettings) (events : List Event) (results : List StepResult) (records : List Record) (s : State)
+    → Runs settings (new_state settings) nothing_yet events results records (Some s) → FewWait s
+runs_few settings events results records s runs = steps_few settings events results s (runs_steps settings events results (new_state settings) nothing_yet records (Some s) runs)

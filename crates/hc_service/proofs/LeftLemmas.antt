@@ -62,7 +62,7 @@ module _ {X : Type 0} (pass : X → Bool) where
       by false false apart its there rest = rest there
 
 -- who waits for a forward is one of those that do
-waits_among : (f e : ℕ) (x : OpenExchange) (t : Table OpenExchange) → get t e ≡ Some x → x.waits_for ≡ Some f → IsAmong e (waiting_for f t)
+pub waits_among : (f e : ℕ) (x : OpenExchange) (t : Table OpenExchange) → get t e ≡ Some x → x.waits_for ≡ Some f → IsAmong e (waiting_for f t)
 waits_among f e x t is waits =
     found_among (λ (x : OpenExchange). waits_for f x.waits_for) e (entries t) x (sym (get-entries t e) ∙ is) (ap (waits_for f) waits ∙ eq-eqb f f refl)
 
@@ -380,7 +380,7 @@ owed_waits settings (OriginFailed f) turns s actions s' owes run waits =
     ended_waits settings f (Failing f IsLost) (clients_of f s) turns owes.0 s actions s' s' (λ first mid t. failing_ends settings f IsLost s first mid t) owes.1 owes.2 run waits
 
 -- the moment is nothing to what an event owes
-passed_owes : (moment : ℕ) (happening : Happening) (turns : List Turn) (s s' : State) → Owes happening turns s s' → Owes happening turns (passed_to moment s) s'
+pub passed_owes : (moment : ℕ) (happening : Happening) (turns : List Turn) (s s' : State) → Owes happening turns s s' → Owes happening turns (passed_to moment s) s'
 passed_owes moment (ClientOpened c) turns s s' owes = owes
 passed_owes moment (ClientBytes c octets) turns s s' owes = owes
 passed_owes moment (ClientEnd c) turns s s' owes = owes

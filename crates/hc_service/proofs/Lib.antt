@@ -23,3 +23,4 @@ pub mod EventLemmas
 pub mod RunLemmas
 pub mod LeftLemmas
 pub mod FewLemmas
+pub mod ForwardLemmas

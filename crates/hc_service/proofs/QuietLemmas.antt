@@ -355,7 +355,7 @@ waiters_among f s e y is there = among_connections s.exchanges (answered_by f s)
 abbrev pub IsAwaitingBut : ℕ → State → Type 0
 IsAwaitingBut f s = (g : ℕ) → (f ≡ g → ⊥) → AwaitsStill g s
 
-one_among : (n : ℕ) (others : List ℕ) → IsAmong n others ⊎ (IsAmong n others → ⊥)
+pub one_among : (n : ℕ) (others : List ℕ) → IsAmong n others ⊎ (IsAmong n others → ⊥)
 one_among n [] = inr (λ is. is)
 one_among n (m ∷ others) =
     ⊎_elim

@@ -348,7 +348,7 @@ pub right_counted : (records : List Record) (s : State) → RunsTo records nothi
 right_counted records s to = let counted : s.numbers.records ≡ 0 + length records = counted_behind records nothing_yet s tt to in omega (arith, counted)
 
 -- a run begins with agreement
-runs_agree : (settings : CoreSettings) (events : List Event) (results : List StepResult) (s : State) (h : History) (records : List Record) (end : Option State)
+pub runs_agree : (settings : CoreSettings) (events : List Event) (results : List StepResult) (s : State) (h : History) (records : List Record) (end : Option State)
     → Runs settings s h events results records end → Agrees s h
 runs_agree settings [] [] s h records end runs = runs.0
 runs_agree settings [] (result ∷ results) s h records end runs = absurd runs
@@ -394,6 +394,20 @@ module _ (settings : CoreSettings) (good : AreGood settings) (laws : ForwardLaws
       let runs = steps_run events results (new_state settings) nothing_yet (Some s) (new_agrees settings) steps (omega arith) in
       let to = runs_to settings events results (new_state settings) nothing_yet (records_given results) (Some s) runs in
       agreement_ready s to.later to.agrees
+
+-- ---- a run is steps
+
+pub runs_steps : (settings : CoreSettings) (events : List Event) (results : List StepResult) (s : State) (h : History) (records : List Record) (end : Option State)
+    → Runs settings s h events results records end → Steps settings s events results end
+runs_steps settings [] [] s h records end runs = runs.2
+runs_steps settings [] (result ∷ results) s h records end runs = absurd runs
+runs_steps settings (event ∷ events) [] s h records end runs = absurd runs
+runs_steps settings (event ∷ events) (Ok actions ∷ results) s h records end runs = (runs.1, runs.4, runs_steps settings events results runs.1 runs.2 runs.3 end runs.7)
+runs_steps settings (event ∷ events) (Err Memory ∷ results) s h records end runs = (runs.1, runs.2, runs.4)
+runs_steps settings (event ∷ events) (Err MomentTooLarge ∷ results) s h records end runs = (runs.1, runs_steps settings events results s h records end runs.2)
+runs_steps settings (event ∷ events) (Err UnknownNumber ∷ results) s h records end runs = (runs.1, runs_steps settings events results s h records end runs.2)
+runs_steps settings (event ∷ events) (Err TooManyConnections ∷ results) s h records end runs = (runs.1, runs_steps settings events results s h records end runs.2)
+runs_steps settings (event ∷ events) (Err Failed ∷ results) s h records end runs = absurd runs
 
 -- ---- steps, one after another
 

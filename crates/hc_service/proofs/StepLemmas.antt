@@ -32,7 +32,7 @@ use Rattle.hc_service.proofs.TurnLemmas.{turn_keeps}
 -- ---- numbers never fall
 
 -- the count of records rises, and stays within 64 bits
-abbrev Rises : Numbers → Numbers → Type 0
+abbrev pub Rises : Numbers → Numbers → Type 0
 Rises n m = (n.records ≤ m.records) × (m.records ≤ 18446744073709551615)
 
 same_count : (n m : Numbers) → n.records ≤ 18446744073709551615 → m.records ≡ n.records → Rises n m
@@ -50,7 +50,7 @@ three_counts n m le same = (omega arith, omega arith)
 count_of : (n m : Numbers) → n ≡ m → n.records ≡ m.records
 count_of n m e = ap (λ (n : Numbers). n.records) e
 
-turn_rises : (settings : CoreSettings) (turn : Turn) (s : State) (actions : List Action) (s' : State) → s.numbers.records ≤ 18446744073709551615 → Takes settings turn s actions s' → Rises s.numbers s'.numbers
+pub turn_rises : (settings : CoreSettings) (turn : Turn) (s : State) (actions : List Action) (s' : State) → s.numbers.records ≤ 18446744073709551615 → Takes settings turn s actions s' → Rises s.numbers s'.numbers
 turn_rises settings (Opening c) s actions s' le t = same_count s.numbers s'.numbers le (count_of s'.numbers _ t.numbers)
 turn_rises settings (ClientSending c octets) s actions s' le t = same_count s.numbers s'.numbers le (count_of s'.numbers _ t.keeps.numbers)
 turn_rises settings (Asking c) s actions s' le t = by_reaction t.reaction t.does
@@ -91,7 +91,7 @@ turn_rises settings (Releasing e) s actions s' le t = by_choice (shared s.number
     by_choice (Some stored) d = one_count s.numbers s'.numbers le (count_of s'.numbers _ d.numbers)
     by_choice None d = one_count s.numbers s'.numbers le (count_of s'.numbers _ d.numbers)
 
-run_rises : (settings : CoreSettings) (turns : List Turn) (s : State) (actions : List Action) (s' : State) → s.numbers.records ≤ 18446744073709551615 → Run settings turns s actions s' → Rises s.numbers s'.numbers
+pub run_rises : (settings : CoreSettings) (turns : List Turn) (s : State) (actions : List Action) (s' : State) → s.numbers.records ≤ 18446744073709551615 → Run settings turns s actions s' → Rises s.numbers s'.numbers
 run_rises settings [] s actions s' le r = same_count s.numbers s'.numbers le (ap (λ (s : State). s.numbers.records) r.1)
 run_rises settings (turn ∷ turns) s actions s' le r =
     let one = turn_rises settings turn s r.1 r.0 le r.3 in

@@ -18,7 +18,7 @@ use Rattle.hc_service.specs.declared.open.OpenExchange.{OpenExchange}
 use Rattle.hc_service.specs.declared.open.Purpose.{Purpose}
 use Rattle.hc_service.specs.declared.open.Purpose.TheVariants as purpose
 use Rattle.hc_service.specs.Serving.{is_fresh}
-use Rattle.hc_service.specs.State.{State, Table, Awaited, OpenNow}
+use Rattle.hc_service.specs.State.{State, Table, Awaited, OpenNow, exchange_for}
 
 -- ---- who may wait, and for what
 
@@ -66,6 +66,43 @@ most_waiting = 64
 -- each that waits, waits for a forward that is open
 abbrev pub WaitForOpen : State → Type 0
 WaitForOpen s = (e f : ℕ) (x : OpenExchange) → get s.exchanges e ≡ Some x → x.waits_for ≡ Some f → IsSome (get s.forwards f)
+
+-- a forward is open for the exchange of that number
+pub record HasOwnForward (forwards : Table Awaited) (e : ℕ) : Type 0 where
+  pub number : ℕ
+  pub awaited : Awaited
+  pub is_open : get forwards number ≡ Some awaited
+  pub is_for : exchange_for awaited.forward.purpose ≡ Some e
+
+-- the forward at whose end the exchange is answered or goes on is open: the one that it waits for, or else its own
+abbrev pub HasForward : Table Awaited → ℕ → Option ℕ → Type 0
+HasForward forwards e (Some f) = IsSome (get forwards f)
+HasForward forwards e None = HasOwnForward forwards e
+
+-- each open exchange has one: none is left that nothing could answer
+abbrev pub AllHaveForwards : State → Type 0
+AllHaveForwards s = (e : ℕ) (x : OpenExchange) → get s.exchanges e ≡ Some x → HasForward s.forwards e x.waits_for
+
+-- the request waits no more: it is answered, or has a forward of its own
+abbrev pub WaitsNoMore : ℕ → State → Type 0
+WaitsNoMore e s = (x : OpenExchange) → get s.exchanges e ≡ Some x → (x.waits_for ≡ None) × HasOwnForward s.forwards e
+
+-- while the forward that it waited for is open it waits on, as it was; behind its end it waits no more
+abbrev pub WaitsUntilEnd : Option Awaited → ℕ → OpenExchange → State → Type 0
+WaitsUntilEnd (Some awaited) e x s = get s.exchanges e ≡ Some x
+WaitsUntilEnd None e x s = WaitsNoMore e s
+
+-- each that waited in the one state has done so in a later one
+abbrev pub AllWaitUntilEnd : State → State → Type 0
+AllWaitUntilEnd s other =
+    (e f : ℕ) (x : OpenExchange) → get s.exchanges e ≡ Some x → x.waits_for ≡ Some f → WaitsUntilEnd (get other.forwards f) e x other
+
+-- nobody is left waiting from the one state to a later one
+pub record LeavesNobody (s other : State) : Type 0 where
+  -- each exchange that is open then can be answered
+  pub have_forwards : AllHaveForwards other
+  -- each request that waited for a forward waits on or, behind that one's end, waits no more
+  pub wait_until_end : AllWaitUntilEnd s other
 
 -- for no forward more wait than may
 abbrev pub FewWait : State → Type 0

@@ -119,6 +119,16 @@ Runs settings s h (event ∷ events) (Err Failed ∷ results) records end = ⊥
 Runs settings s h [] (result ∷ results) records end = ⊥
 Runs settings s h (event ∷ events) [] records end = ⊥
 
+-- each event that a run serves leads from one cache to the next in such a way
+abbrev pub EachLeads : (State → State → Type 0) → (settings : CoreSettings) (s : State) (h : History) (events : List Event) (results : List StepResult)
+    (records : List Record) (end : Option State) → Runs settings s h events results records end → Type 0
+EachLeads P settings s h (event ∷ events) (Ok actions ∷ results) records end runs =
+    P s runs.1 × EachLeads P settings runs.1 runs.2 events results runs.3 end runs.7
+EachLeads P settings s h (event ∷ events) (Err MomentTooLarge ∷ results) records end runs = EachLeads P settings s h events results records end runs.2
+EachLeads P settings s h (event ∷ events) (Err UnknownNumber ∷ results) records end runs = EachLeads P settings s h events results records end runs.2
+EachLeads P settings s h (event ∷ events) (Err TooManyConnections ∷ results) records end runs = EachLeads P settings s h events results records end runs.2
+EachLeads P settings s h events results records end runs = Unit {0}
+
 -- ---- steps, without what has happened
 
 -- from a cache the events lead with these answers to that cache. A refused growth ends them, and leaves none

@@ -41,11 +41,11 @@ ghost use Rattle.hc_rules.specs.Laws.{IsForwardable};
 ghost use Rattle.hc_service.specs.declared.open.OpenExchange.{OpenExchange};
 ghost use Rattle.hc_service.specs.State.{Awaited, Connection, State, Table, exchange_for, new_connection, new_state};
 ghost use Rattle.hc_service.specs.Agreement.{AllHeld, CanReply, AreAsked, AreCounted, AreReceived, AreLinked, Agrees, History, IsReadOf, IsReady, IsSound, IsConsistent};
-ghost use Rattle.hc_service.specs.Runs.{Runs, RunsOn, RunsTo, nothing_yet, records_given, IsJudgedRight, StepResult, Steps, strict, with_octets};
+ghost use Rattle.hc_service.specs.Runs.{EachLeads, Runs, RunsOn, RunsTo, nothing_yet, records_given, IsJudgedRight, StepResult, Steps, strict, with_octets};
 ghost use Rattle.hc_service.specs.Asking.{allows_age, asks_for_fresh, is_answered_by_store};
 ghost use Rattle.hc_service.specs.Replying.{Wanted, collapsed_reply, hit_reply, made_reply, passed_reply, replacing_reply};
 ghost use Rattle.hc_history.specs.Usable.{age_at};
-ghost use Rattle.hc_service.specs.Joining.{may_be_shared, FewWait, WaitForOpen};
+ghost use Rattle.hc_service.specs.Joining.{may_be_shared, AllHaveForwards, FewWait, LeavesNobody, WaitForOpen};
 ghost use Rattle.hc_service.specs.Serving.{is_fresh, may_be_served, may_replace};
 ghost use Rattle.hc_service.specs.Turns.{IsAnswer, after_origin_octets, after_client_octets, after_request, replied};
 ghost use Rattle.hc_service.specs.Settings.{AreGood, is_name};
@@ -402,18 +402,41 @@ pub fn steps_end_ready()
 }
 
 /// Nobody is left waiting: behind each event, and so wherever steps have led a new cache, each request that
-/// waits for the forward of another one waits for a forward that is open. At its end its release is owed.
+/// waits for the forward of another one waits for a forward that is open.
+///
+/// As far as records can be numbered, each open exchange has an open forward: the one that it waits for, or its
+/// own. Who waits for a forward waits until that one's end, as it was, and no longer: behind it the request is
+/// answered, or has a forward of its own, and so it stays.
 pub fn nobody_is_left_waiting()
     ensures event { (settings : CoreSettings) (event : Event) (s : State) (actions : List Action) (other : State)
         → WaitForOpen s → Serves settings event s actions other → WaitForOpen other }
     ensures run { (settings : CoreSettings) (events : List Event) (results : List StepResult) (s : State)
         → Steps settings (new_state settings) events results (Some s) → WaitForOpen s }
+    ensures served { (settings : CoreSettings) (event : Event) (s : State) (actions : List Action) (other : State)
+        (h : History) → Agrees s h → AllHaveForwards s → Serves settings event s actions other
+        → other.numbers.records ≤ greatest_number → LeavesNobody s other }
+    // From any state of a run to any later one.
+    ensures on { (settings : CoreSettings) (events : List Event) (results : List StepResult) (s other : State)
+        (h : History) (records : List Record) → AllHaveForwards s
+        → Runs settings s h events results records (Some other) → LeavesNobody s other }
+    // Where a run has led a new cache, and at each event on its way.
+    ensures runs { (settings : CoreSettings) (events : List Event) (results : List StepResult)
+        (records : List Record) (s : State)
+        → Runs settings (new_state settings) nothing_yet events results records (Some s) → AllHaveForwards s }
+    ensures along { (settings : CoreSettings) (events : List Event) (results : List StepResult)
+        (records : List Record) (end : Option State)
+        → (runs : Runs settings (new_state settings) nothing_yet events results records end)
+        → EachLeads LeavesNobody settings (new_state settings) nothing_yet events results records end runs }
 {}
 
-/// For each forward no more requests wait than may, behind each event and wherever steps have led a new cache.
+/// For each forward no more requests wait than may, behind each event and wherever steps, or a run, have led a
+/// new cache.
 pub fn few_wait_for_each_forward()
     ensures event { (settings : CoreSettings) (event : Event) (s : State) (actions : List Action) (other : State)
         → FewWait s → Serves settings event s actions other → FewWait other }
     ensures run { (settings : CoreSettings) (events : List Event) (results : List StepResult) (s : State)
         → Steps settings (new_state settings) events results (Some s) → FewWait s }
+    ensures runs { (settings : CoreSettings) (events : List Event) (results : List StepResult)
+        (records : List Record) (s : State)
+        → Runs settings (new_state settings) nothing_yet events results records (Some s) → FewWait s }
 {}
