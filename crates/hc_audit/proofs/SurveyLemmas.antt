@@ -6,12 +6,13 @@ use Rattle.hc_transcript.specs.declared.format.Format.{Format}
 use Rattle.hc_transcript.specs.declared.format.Format.TheVariants.{First}
 use Rattle.hc_transcript.specs.declared.reader.RecordReader.{RecordReader}
 use Rattle.hc_transcript.specs.declared.record.Record.{Record}
-use Rattle.hc_transcript.specs.Items.{Item}
+use Rattle.hc_transcript.specs.Items.{Item, ClientReply}
 use Rattle.hc_transcript.specs.History.{next_position}
 use Rattle.hc_transcript.specs.Transcript.{IsTranscript, Splits}
 use Rattle.hc_transcript.specs.Malformed.{IsUnfinishedOpening, IsUnfinished}
 use Rattle.hc_transcript.specs.Checks.{line_fault}
 use Rattle.hc_transcript.specs.Reader.{Agrees, ReadsTo, WaitsBy, Waits, MeetsFault, HasUnread, HasUnreadBy, format_read, position_by, reader_position}
+use Rattle.hc_transcript.proofs.OnceLemmas.{one as one_reading, same_format}
 use Rattle.hc_history.specs.declared.settings.Settings.{Settings}
 use Rattle.hc_history.specs.declared.verdicts.Finding.{Finding}
 use Rattle.hc_history.specs.declared.verdicts.Finding.TheVariants.{Right, Wrong}
@@ -24,7 +25,7 @@ use Rattle.hc_history.specs.Counting.{counts_of}
 use Rattle.hc_history.specs.Right.{AllRight}
 use Rattle.hc_history.specs.Verdicts.{IsVerdict}
 use Rattle.hc_history.specs.Found.{IsFound, AnswersOpen}
-use Rattle.hc_history.specs.Seen.{Seen}
+use Rattle.hc_history.specs.Seen.{Seen, IsSeenAs}
 use Rattle.hc_history.specs.WrongReplies.{wrong_after, AreWrongIn, AreWrongReplies}
 use Rattle.hc_history.proofs.FoundLemmas.{found_right, found_wrong}
 use Rattle.hc_history.proofs.WrongLemmas.{one_list}
@@ -32,7 +33,8 @@ use Rattle.hc_audit.specs.declared.judge.Judge.{Judge}
 use Rattle.hc_audit.specs.declared.survey.Reach.{Reach}
 use Rattle.hc_audit.specs.declared.survey.Reach.TheVariants.{Open, Ended, Failed}
 use Rattle.hc_audit.specs.declared.witness.JudgedReply.{JudgedReply}
-use Rattle.hc_audit.specs.Endings.{EndsSo, MayGoOn}
+use Rattle.hc_audit.specs.Endings.{EndsSo, IsSurveyOf, MayGoOn}
+use Rattle.hc_audit.specs.Hearing.{IsReplyBehind, item_judged}
 use Rattle.hc_audit.specs.Told.{wrong_of}
 use Rattle.hc_audit.specs.Judging.{HasRead, finding_told}
 use Rattle.hc_audit.specs.Surveying.{AreWrong, GoOnBy, IsSurveying, IsSurveyed, IsAheadOf, SurveysBy, ended_by}
@@ -55,6 +57,28 @@ told_reply {I} format settings h item judged reply count old opens is some posit
     (subst (λ (o : Option (JudgedReply I)). IsFound format settings h item (finding_told o)) some is)
     (subst (λ (o : Option (JudgedReply I)). IfSome o (λ r. r.position ≡ count)) some position ∙ count-is) refl
 
+-- what it was handed of it
+pub handed_item : {I : Type 0} (item : Item) (judged : Option (JudgedReply I)) (reply : JudgedReply I) → judged ≡ Some reply
+    → IfSome judged (λ r. item ≡ ClientReply r.exchange r.moment r.reply) → item ≡ item_judged reply
+handed_item {I} item judged reply some is = subst (λ (o : Option (JudgedReply I)). IfSome o (λ r. item ≡ ClientReply r.exchange r.moment r.reply)) some is
+
+pub handed : {I : Type 0} (seen : I → Seen) (format : Format) (settings : Settings) (index : I) (h : List Item) (item : Item) (judged : Option (JudgedReply I)) (reply : JudgedReply I) (count : ℕ)
+    → AnswersOpen h item → IsSeenAs format (seen index) h → IsFound format settings h item (finding_told judged) → judged ≡ Some reply → IfSome judged (λ r. r.position ≡ count)
+    → count ≡ next_position h → IfSome judged (λ r. item ≡ ClientReply r.exchange r.moment r.reply)
+    → IfSome judged (λ r. (r.format ≡ format) × (r.settings.now ≡ settings) × (r.index.now ≡ index)) → IsReplyBehind seen h reply
+handed {I} seen format settings index h item judged reply count opens known is some position count-is item-is same =
+    let item-of = handed_item item judged reply some item-is in
+    let of = subst (λ (o : Option (JudgedReply I)). IfSome o (λ r. (r.format ≡ format) × (r.settings.now ≡ settings) × (r.index.now ≡ index))) some same in
+    let found = subst (λ (o : Option (JudgedReply I)). IsFound format settings h item (finding_told o)) some is in
+    record {
+      position = subst (λ (o : Option (JudgedReply I)). IfSome o (λ r. r.position ≡ count)) some position ∙ count-is;
+      index = subst (λ (k : Format). IsSeenAs k (seen reply.index.now) h) (sym of.0) (subst (λ (i : I). IsSeenAs format (seen i) h) (sym of.2) known);
+      is_open = subst (λ (i : Item). AnswersOpen h i) item-of opens;
+      found = subst (λ (k : Format). IsFound k reply.settings.now h (item_judged reply) reply.finding) (sym of.0)
+          (subst (λ (s : Settings). IsFound format s h (item_judged reply) reply.finding) (sym of.1)
+          (subst (λ (i : Item). IsFound format settings h i reply.finding) item-of found));
+    }
+
 -- by the settings, and of the item, that are these
 pub told_here : (format : Format) (given settings : Settings) (h : List Item) (held item : Item) (old new : List WrongReply) → given ≡ settings → held ≡ item
     → GoOnBy format given h held old new → GoOnBy format settings h item old new
@@ -67,22 +91,21 @@ goes_on format settings h item old new before (inl by) = inl (subst (λ (ws : Li
 goes_on format settings h item old new before (inr by) = inr (old, by.0, before, by.1, by.2)
 
 -- once it is noted
-pub wrong_goes_on : {I : Type 0} (seen : I → Seen) (j k : Judge I) (settings : Settings) (octets : List ℕ) (format : Format) (old new : List WrongReply)
-    → (w : IsAheadOf seen j settings octets format old) → GoOnBy format settings w.history w.ahead.item old new → format_read k.reader ≡ format_read j.reader
-    → HasRead seen k settings octets (w.ahead.item ∷ w.history) → IsSurveying seen k settings octets new
-wrong_goes_on seen j k settings octets format old new w by same read = record {
-  history = w.ahead.item ∷ w.history;
+pub wrong_goes_on : {I : Type 0} (seen : I → Seen) (j k : Judge I) (settings : Settings) (octets : List ℕ) (format : Format) (h : List Item) (old new : List WrongReply)
+    → (w : IsAheadOf seen j settings octets format h old) → GoOnBy format settings h w.ahead.item old new → format_read k.reader ≡ format_read j.reader
+    → HasRead seen k settings octets (w.ahead.item ∷ h) → IsSurveying seen k settings octets (w.ahead.item ∷ h) new
+wrong_goes_on seen j k settings octets format h old new w by same read = record {
   read = read;
-  wrong = of_the_read (λ (f : Format). AreWrongIn f settings (w.ahead.item ∷ w.history) new) (format_read k.reader) format (same ∙ w.ahead.format_is)
-      (goes_on format settings w.history w.ahead.item old new w.wrong by);
+  wrong = of_the_read (λ (f : Format). AreWrongIn f settings (w.ahead.item ∷ h) new) (format_read k.reader) format (same ∙ w.ahead.format_is)
+      (goes_on format settings h w.ahead.item old new w.wrong by);
 }
 
 -- ---- a fault of the transcript
 
--- where no opening is read yet there are none
+-- where no opening is read yet there are none, and no items
 none_before : (o : Option Format) (octets held : List ℕ) (records : List Record) (h : List Item) (settings : Settings) (wrongs : List WrongReply) → ReadsTo o octets records h held
-    → AreWrong o settings h wrongs → o ≡ None → wrongs ≡ []
-none_before None octets held records h settings wrongs reads wrong is = subst (λ (g : List Item). AreWrongIn First settings g wrongs) reads.1.0 (wrong First tt)
+    → AreWrong o settings h wrongs → o ≡ None → (h ≡ []) × (wrongs ≡ [])
+none_before None octets held records h settings wrongs reads wrong is = (reads.1.0, subst (λ (g : List Item). AreWrongIn First settings g wrongs) reads.1.0 (wrong First tt))
 none_before (Some format) octets held records h settings wrongs reads wrong is = absurd (some_is_none format is)
   where
     some_is_none : (k : Format) → Some k ≡ None → ⊥
@@ -93,24 +116,31 @@ was_none None new keeps is = refl
 was_none (Some k) new keeps is = let e : Some k ≡ None = sym (keeps k refl) ∙ is in cc
 
 broken : (r : RecordReader) (octets : List ℕ) (settings : Settings) (h : List Item) (f : RecordFault) (wrongs : List WrongReply) → AreWrong (format_read r) settings h wrongs
-    → (format_read r ≡ None → wrongs ≡ []) → MeetsFault r octets h f → AreWrongReplies octets settings wrongs (Broken (reader_position r) f)
-broken r octets settings h f wrongs wrong none (inl begins) = inl (begins.1.1.1, inl (begins.0, begins.1.0), none begins.1.1.0)
-broken r octets settings h f wrongs wrong none (inr behind) = inr (record {
-  format = behind.format;
-  history = h;
-  are_wrong = wrong behind.format (may_be_read (format_read r) behind.format behind.format_is);
-  breaks = inl behind.breaks;
-  position_is = behind.position_is;
-})
+    → (format_read r ≡ None → (h ≡ []) × (wrongs ≡ [])) → MeetsFault r octets h f → IsSurveyOf octets settings h wrongs (Broken (reader_position r) f)
+broken r octets settings h f wrongs wrong none (inl begins) =
+    let nothing = none begins.1.1.0 in record {
+      items = inl (begins.1.1.1, inl (begins.0, begins.1.0), nothing.0);
+      wrong = inl (begins.1.1.1, inl (begins.0, begins.1.0), nothing.1);
+    }
+broken r octets settings h f wrongs wrong none (inr behind) = record {
+  items = inr (behind.format, inl behind.breaks, behind.position_is);
+  wrong = inr (record {
+    format = behind.format;
+    history = h;
+    are_wrong = wrong behind.format (may_be_read (format_read r) behind.format behind.format_is);
+    breaks = inl behind.breaks;
+    position_is = behind.position_is;
+  });
+}
 
 -- the fault that ends the reading: r and s are the reader before it and behind it
 pub met_ends : (r s : RecordReader) (octets : List ℕ) (settings : Settings) (records : List Record) (h : List Item) (f : RecordFault) (position : ℕ) (wrongs : List WrongReply) → Agrees r octets records h
     → ((k : Format) → format_read r ≡ Some k → format_read s ≡ Some k) → AreWrong (format_read r) settings h wrongs → MeetsFault s octets h f → position ≡ reader_position s
-    → EndsSo (Broken position f) settings octets wrongs
+    → EndsSo (Broken position f) settings octets h wrongs
 met_ends r s octets settings records h f position wrongs agrees keeps wrong met is =
     let now : AreWrong (format_read s) settings h wrongs = λ k may. wrong k (might_be_of (format_read r) (format_read s) keeps k may) in
-    let none : format_read s ≡ None → wrongs ≡ [] = λ e. none_before (format_read r) octets r.held records h settings wrongs agrees.reads wrong (was_none (format_read r) (format_read s) keeps e) in
-    subst (λ (n : ℕ). EndsSo (Broken n f) settings octets wrongs) (sym is) (record {
+    let none : format_read s ≡ None → (h ≡ []) × (wrongs ≡ []) = λ e. none_before (format_read r) octets r.held records h settings wrongs agrees.reads wrong (was_none (format_read r) (format_read s) keeps e) in
+    subst (λ (n : ℕ). EndsSo (Broken n f) settings octets h wrongs) (sym is) (record {
       is_last = not_torn s octets h f met;
       holds = λ more. broken s (octets ++ more) settings h f wrongs now none (met_more s octets more h f met);
     })
@@ -118,39 +148,47 @@ met_ends r s octets settings records h f position wrongs agrees keeps wrong met 
 -- ---- the end
 
 pub whole_of : (r : RecordReader) (octets : List ℕ) (settings : Settings) (records : List Record) (h : List Item) (wrongs : List WrongReply) → Agrees r octets records h
-    → (format : Format) × IsTranscript format octets records h → AreWrong (format_read r) settings h wrongs → AreWrongReplies octets settings wrongs Whole
+    → (format : Format) × IsTranscript format octets records h → AreWrong (format_read r) settings h wrongs → IsSurveyOf octets settings h wrongs Whole
 whole_of r octets settings records h wrongs agrees is wrong = record {
-  format = is.0;
-  records = records;
-  history = h;
-  is_transcript = is.1;
-  are_wrong = wrong is.0 (may_be_split r octets records records h h [] is.0 agrees is.1);
+  items = (is.0, records, is.1);
+  wrong = record {
+    format = is.0;
+    records = records;
+    history = h;
+    is_transcript = is.1;
+    are_wrong = wrong is.0 (may_be_split r octets records records h h [] is.0 agrees is.1);
+  };
 }
 
 -- octets that are left are torn
 torn_of : (r : RecordReader) (octets : List ℕ) (settings : Settings) (records : List Record) (h : List Item) (wrongs : List WrongReply) → Agrees r octets records h
-    → AreWrong (format_read r) settings h wrongs → Waits r h → HasUnread r → AreWrongReplies octets settings wrongs (Broken (reader_position r) fault.Torn)
+    → AreWrong (format_read r) settings h wrongs → Waits r h → HasUnread r → IsSurveyOf octets settings h wrongs (Broken (reader_position r) fault.Torn)
 torn_of r octets settings records h wrongs agrees wrong waits unread = go r.format agrees.reads wrong waits unread
   where
     go : (o : Option Format) → ReadsTo o octets records h r.held → AreWrong o settings h wrongs → WaitsBy o h r.held → HasUnreadBy o r.held
-        → AreWrongReplies octets settings wrongs (Broken (position_by o r.standing.records) fault.Torn)
+        → IsSurveyOf octets settings h wrongs (Broken (position_by o r.standing.records) fault.Torn)
     go None reads wrong waits unread =
-        inl (refl, inr (subst (λ (o : List ℕ). IsUnfinishedOpening o) (sym reads.1.1) waits, refl), none_before None octets r.held records h settings wrongs reads wrong refl)
+        let nothing = none_before None octets r.held records h settings wrongs reads wrong refl in
+        let unfinished = subst (λ (o : List ℕ). IsUnfinishedOpening o) (sym reads.1.1) waits in
+        record { items = inl (refl, inr (unfinished, refl), nothing.0); wrong = inl (refl, inr (unfinished, refl), nothing.1) }
     go (Some format) reads wrong waits unread =
-        inr (record {
-          format = format;
-          history = h;
-          are_wrong = wrong format refl;
-          breaks = inr (refl, record { records = records; rest = r.held; splits = reads; some = unread; torn = waits });
-          position_is = ap (λ (n : ℕ). n + 1) agrees.stands.records;
-        })
+        let position-is = ap (λ (n : ℕ). n + 1) agrees.stands.records in record {
+          items = inr (format, inr (refl, record { records = records; rest = r.held; splits = reads; some = unread; torn = waits }), position-is);
+          wrong = inr (record {
+            format = format;
+            history = h;
+            are_wrong = wrong format refl;
+            breaks = inr (refl, record { records = records; rest = r.held; splits = reads; some = unread; torn = waits });
+            position_is = position-is;
+          });
+        }
 
 pub end_is : (r : RecordReader) (octets : List ℕ) (settings : Settings) (records : List Record) (h : List Item) (f : RecordFault) (position : ℕ) (wrongs : List WrongReply)
     → Agrees r octets records h → AreWrong (format_read r) settings h wrongs → Waits r h → (f ≡ fault.Torn) ⊎ (r.fault ≡ Some f) → HasUnread r → position ≡ reader_position r
-    → AreWrongReplies octets settings wrongs (Broken position f)
+    → IsSurveyOf octets settings h wrongs (Broken position f)
 end_is r octets settings records h f position wrongs agrees wrong waits (inl is) unread position-is =
-    subst (λ (g : RecordFault). AreWrongReplies octets settings wrongs (Broken position g)) (sym is)
-    (subst (λ (n : ℕ). AreWrongReplies octets settings wrongs (Broken n fault.Torn)) (sym position-is) (torn_of r octets settings records h wrongs agrees wrong waits unread))
+    subst (λ (g : RecordFault). IsSurveyOf octets settings h wrongs (Broken position g)) (sym is)
+    (subst (λ (n : ℕ). IsSurveyOf octets settings h wrongs (Broken n fault.Torn)) (sym position-is) (torn_of r octets settings records h wrongs agrees wrong waits unread))
 end_is r octets settings records h f position wrongs agrees wrong waits (inr failed) unread position-is = absurd (none_is_some r.fault f agrees.unfailed failed)
 
 -- ---- octets that may go on
@@ -196,14 +234,21 @@ may_go_on r octets settings records h wrongs agrees wrong waits = go r.format ag
     go None reads wrong waits = record {
       ending = Broken 0 fault.Torn;
       may = refl;
-      are = inl (refl, inr (subst (λ (o : List ℕ). IsUnfinishedOpening o) (sym reads.1.1) waits, refl), none_before None octets r.held records h settings wrongs reads wrong refl);
+      are = inl (refl, inr (subst (λ (o : List ℕ). IsUnfinishedOpening o) (sym reads.1.1) waits, refl), (none_before None octets r.held records h settings wrongs reads wrong refl).1);
     }
     go (Some format) reads wrong waits = ends_behind format octets settings records h r.held wrongs reads (wrong format refl) waits
 
 -- a survey that is open
-pub open_is : {I : Type 0} (seen : I → Seen) (reach : Reach I) (settings : Settings) (octets : List ℕ) (wrongs : List WrongReply) (judge : Judge I) → reach ≡ Open judge
-    → SurveysBy seen reach settings octets wrongs → IsSurveyed seen judge settings octets wrongs
-open_is {I} seen reach settings octets wrongs judge is surveys = subst (λ (s : Reach I). SurveysBy seen s settings octets wrongs) is surveys
+pub open_is : {I : Type 0} (seen : I → Seen) (reach : Reach I) (settings : Settings) (octets : List ℕ) (h : List Item) (wrongs : List WrongReply) (judge : Judge I) → reach ≡ Open judge
+    → SurveysBy seen reach settings octets h wrongs → IsSurveyed seen judge settings octets h wrongs
+open_is {I} seen reach settings octets h wrongs judge is surveys = subst (λ (s : Reach I). SurveysBy seen s settings octets h wrongs) is surveys
+
+-- ---- what is counted
+
+pub open_counts_all : {I : Type 0} (seen : I → Seen) (reach : Reach I) (settings : Settings) (octets : List ℕ) (h : List Item) (wrongs : List WrongReply) (judge : Judge I) → reach ≡ Open judge
+    → SurveysBy seen reach settings octets h wrongs → judge.counts ≡ counts_of h
+open_counts_all seen reach settings octets h wrongs judge is surveys =
+    let w = open_is seen reach settings octets h wrongs judge is surveys in w.surveying.read.counts
 
 -- ---- what is counted where none is wrong
 
@@ -228,6 +273,20 @@ counted_behind format octets settings records h (b ∷ held) splits wrong waits 
     absurd (torn_is_whole (next_position h) (one_list octets settings [] [] (Broken (next_position h) fault.Torn) Whole (torn_behind format octets settings records h b held [] splits wrong waits) whole).1)
 
 -- it is what their yes says
+pub counted_whole : (octets : List ℕ) (settings : Settings) (h : List Item) (counts : Counts) → IsSurveyOf octets settings h [] Whole → counts ≡ counts_of h → IsVerdict octets settings (Yes counts)
+counted_whole octets settings h counts is counts-are =
+    let w = is.wrong in
+    let items = is.items in
+    let one = one_reading w.format octets w.records items.1 w.history h w.is_transcript (same_format octets w.format items.0 w.records items.1 w.history h [] [] w.is_transcript items.2) in
+    record {
+      format = w.format;
+      records = w.records;
+      history = w.history;
+      is_transcript = w.is_transcript;
+      all_right = none_wrong w.format settings w.history w.are_wrong;
+      counts_are = counts-are ∙ sym (ap counts_of one.1);
+    }
+
 pub counted : (r : RecordReader) (octets : List ℕ) (settings : Settings) (records : List Record) (h : List Item) (counts : Counts) → Agrees r octets records h
     → AreWrong (format_read r) settings h [] → Waits r h → counts ≡ counts_of h → AreWrongReplies octets settings [] Whole → IsVerdict octets settings (Yes counts)
 counted r octets settings records h counts agrees wrong waits counts-are whole =
@@ -239,11 +298,11 @@ counted r octets settings records h counts agrees wrong waits counts-are whole =
         (one_list octets settings [] [] (Broken 0 fault.Torn) Whole (inl (refl, inr (subst (λ (o : List ℕ). IsUnfinishedOpening o) (sym reads.1.1) waits, refl), refl)) whole).1)
     go (Some format) reads wrong waits = counted_behind format octets settings records h r.held reads (wrong format refl) waits whole
 
-pub open_counts : {I : Type 0} (seen : I → Seen) (reach : Reach I) (settings : Settings) (octets : List ℕ) (judge : Judge I) → reach ≡ Open judge
-    → SurveysBy seen reach settings octets [] → AreWrongReplies octets settings [] Whole → IsVerdict octets settings (Yes judge.counts)
-open_counts seen reach settings octets judge is surveys whole =
-    let w = open_is seen reach settings octets [] judge is surveys in
-    let s = w.surveying in counted judge.reader octets settings s.read.records s.history judge.counts s.read.reads s.wrong w.waits s.read.counts whole
+pub open_counts : {I : Type 0} (seen : I → Seen) (reach : Reach I) (settings : Settings) (octets : List ℕ) (h : List Item) (judge : Judge I) → reach ≡ Open judge
+    → SurveysBy seen reach settings octets h [] → AreWrongReplies octets settings [] Whole → IsVerdict octets settings (Yes judge.counts)
+open_counts seen reach settings octets h judge is surveys whole =
+    let w = open_is seen reach settings octets h [] judge is surveys in
+    let s = w.surveying in counted judge.reader octets settings s.read.records h judge.counts s.read.reads s.wrong w.waits s.read.counts whole
 
 -- ---- where it may go on
 
@@ -254,30 +313,30 @@ open_is_ended : {I : Type 0} (judge : Judge I) (e : Ending) → Open judge ≡ E
 open_is_ended judge e is = cc
 
 -- where no ending holds yet, that of the octets may go on, and these are their wrong replies
-pub open_may_go_on : {I : Type 0} (seen : I → Seen) (reach : Reach I) (settings : Settings) (octets : List ℕ) (wrongs all : List WrongReply) (ending : Ending) → ended_by reach ≡ None
-    → SurveysBy seen reach settings octets wrongs → AreWrongReplies octets settings all ending → MayGoOn ending × (all ≡ wrongs)
-open_may_go_on seen (Open judge) settings octets wrongs all ending none w are =
+pub open_may_go_on : {I : Type 0} (seen : I → Seen) (reach : Reach I) (settings : Settings) (octets : List ℕ) (h : List Item) (wrongs all : List WrongReply) (ending : Ending)
+    → ended_by reach ≡ None → SurveysBy seen reach settings octets h wrongs → AreWrongReplies octets settings all ending → MayGoOn ending × (all ≡ wrongs)
+open_may_go_on seen (Open judge) settings octets h wrongs all ending none w are =
     let k = w.surveying in
-    let other = may_go_on judge.reader octets settings k.read.records k.history wrongs k.read.reads k.wrong w.waits in
+    let other = may_go_on judge.reader octets settings k.read.records h wrongs k.read.reads k.wrong w.waits in
     let same = one_list octets settings wrongs all other.ending ending other.are are in (subst MayGoOn same.1 other.may, sym same.0)
-open_may_go_on seen (Ended known) settings octets wrongs all ending none w are = absurd (some_is_none known none)
-open_may_go_on seen Failed settings octets wrongs all ending none w are = absurd w
+open_may_go_on seen (Ended known) settings octets h wrongs all ending none w are = absurd (some_is_none known none)
+open_may_go_on seen Failed settings octets h wrongs all ending none w are = absurd w
 
 -- ---- an ending that holds
 
 -- is that of the octets
-pub ended_is : {I : Type 0} (seen : I → Seen) (reach : Reach I) (settings : Settings) (octets : List ℕ) (wrongs : List WrongReply) (ending : Ending) → reach ≡ Ended ending
-    → SurveysBy seen reach settings octets wrongs → AreWrongReplies octets settings wrongs ending
-ended_is {I} seen reach settings octets wrongs ending is surveys =
-    let ends = subst (λ (s : Reach I). SurveysBy seen s settings octets wrongs) is surveys in
-    subst (λ (o : List ℕ). AreWrongReplies o settings wrongs ending) (append-nil octets) (ends.holds [])
+pub ended_is : {I : Type 0} (seen : I → Seen) (reach : Reach I) (settings : Settings) (octets : List ℕ) (h : List Item) (wrongs : List WrongReply) (ending : Ending) → reach ≡ Ended ending
+    → SurveysBy seen reach settings octets h wrongs → IsSurveyOf octets settings h wrongs ending
+ended_is {I} seen reach settings octets h wrongs ending is surveys =
+    let ends = subst (λ (s : Reach I). SurveysBy seen s settings octets h wrongs) is surveys in
+    subst (λ (o : List ℕ). IsSurveyOf o settings h wrongs ending) (append-nil octets) (ends.holds [])
 
 -- holds on
-pub ended_goes_on : {I : Type 0} (seen : I → Seen) (reach : Reach I) (settings : Settings) (octets more : List ℕ) (wrongs : List WrongReply) (ending : Ending) → reach ≡ Ended ending
-    → SurveysBy seen reach settings octets wrongs → SurveysBy seen reach settings (octets ++ more) wrongs
-ended_goes_on seen (Open judge) settings octets more wrongs ending is surveys = absurd (open_is_ended judge ending is)
-ended_goes_on seen (Ended known) settings octets more wrongs ending is surveys = record {
+pub ended_goes_on : {I : Type 0} (seen : I → Seen) (reach : Reach I) (settings : Settings) (octets more : List ℕ) (h : List Item) (wrongs : List WrongReply) (ending : Ending) → reach ≡ Ended ending
+    → SurveysBy seen reach settings octets h wrongs → SurveysBy seen reach settings (octets ++ more) h wrongs
+ended_goes_on seen (Open judge) settings octets more h wrongs ending is surveys = absurd (open_is_ended judge ending is)
+ended_goes_on seen (Ended known) settings octets more h wrongs ending is surveys = record {
   is_last = surveys.is_last;
-  holds = λ later. subst (λ (o : List ℕ). AreWrongReplies o settings wrongs known) (sym (append_assoc octets more later)) (surveys.holds (more ++ later));
+  holds = λ later. subst (λ (o : List ℕ). IsSurveyOf o settings h wrongs known) (sym (append_assoc octets more later)) (surveys.holds (more ++ later));
 }
-ended_goes_on seen Failed settings octets more wrongs ending is surveys = absurd surveys
+ended_goes_on seen Failed settings octets more h wrongs ending is surveys = absurd surveys

@@ -16,7 +16,7 @@ use Rattle.hc_audit.specs.declared.survey.Survey.{Survey}
 use Rattle.hc_audit.specs.declared.survey.Reach.{Reach}
 use Rattle.hc_audit.specs.declared.survey.Reach.TheVariants.{Open, Ended, Failed}
 use Rattle.hc_audit.specs.Endings.{EndsSo}
-use Rattle.hc_audit.specs.Told.{AreToldOf}
+use Rattle.hc_audit.specs.Told.{IsToldOf}
 use Rattle.hc_audit.specs.Judging.{MayBeOf, HasRead, IsAhead}
 
 -- ---- the wrong replies of a history
@@ -33,40 +33,38 @@ GoOnBy format settings h item old new =
 -- ---- a judge that goes on behind them
 
 module _ {I : Type 0} (seen : I → Seen) where
-  -- by these settings these are the wrong replies among the records that the judge has read of the octets
-  pub record IsSurveying (j : Judge I) (settings : Settings) (octets : List ℕ) (wrongs : List WrongReply) : Type 0 where
-    pub history : List Item
-    pub read : HasRead seen j settings octets history
-    pub wrong : AreWrong (format_read j.reader) settings history wrongs
+  -- these are the items that the judge has read of the octets, and by these settings these are the wrong replies among them
+  pub record IsSurveying (j : Judge I) (settings : Settings) (octets : List ℕ) (h : List Item) (wrongs : List WrongReply) : Type 0 where
+    pub read : HasRead seen j settings octets h
+    pub wrong : AreWrong (format_read j.reader) settings h wrongs
 
   -- and no whole record is left
-  pub record IsSurveyed (j : Judge I) (settings : Settings) (octets : List ℕ) (wrongs : List WrongReply) : Type 0 where
-    pub surveying : IsSurveying j settings octets wrongs
-    pub waits : Waits j.reader surveying.history
+  pub record IsSurveyed (j : Judge I) (settings : Settings) (octets : List ℕ) (h : List Item) (wrongs : List WrongReply) : Type 0 where
+    pub surveying : IsSurveying j settings octets h wrongs
+    pub waits : Waits j.reader h
 
-  -- the wrong replies before a record that was read, of which nobody was told yet
-  pub record IsAheadOf (j : Judge I) (settings : Settings) (octets : List ℕ) (format : Format) (wrongs : List WrongReply) : Type 0 where
-    pub history : List Item
-    pub ahead : IsAhead seen j settings octets history format
-    pub wrong : AreWrongIn format settings history wrongs
+  -- these are the items, and the wrong replies, before a record that was read, of which nobody was told yet
+  pub record IsAheadOf (j : Judge I) (settings : Settings) (octets : List ℕ) (format : Format) (h : List Item) (wrongs : List WrongReply) : Type 0 where
+    pub ahead : IsAhead seen j settings octets h format
+    pub wrong : AreWrongIn format settings h wrongs
 
-  -- what the survey of a piece says, of which a witness tells
-  abbrev pub GivesSurveyed : Result (Option Ending) AllocError → Judge I → Settings → List ℕ → (List WrongReply → Type 0) → Type 0
-  GivesSurveyed (Ok None) j settings octets tells = AreToldOf (IsSurveyed j settings octets) tells
-  GivesSurveyed (Ok (Some ending)) j settings octets tells = AreToldOf (EndsSo ending settings octets) tells
-  GivesSurveyed (Err e) j settings octets tells = Unit {0}
+  -- what the survey of a piece says, of which a witness has heard and tells
+  abbrev pub GivesSurveyed : Result (Option Ending) AllocError → Judge I → Settings → List ℕ → (List WrongReply → Type 0) → (List Item → Type 0) → Type 0
+  GivesSurveyed (Ok None) j settings octets tells hears = IsToldOf (IsSurveyed j settings octets) tells hears
+  GivesSurveyed (Ok (Some ending)) j settings octets tells hears = IsToldOf (EndsSo ending settings octets) tells hears
+  GivesSurveyed (Err e) j settings octets tells hears = Unit {0}
 
 -- ---- the survey
 
--- it was given these settings and was fed these octets, in whatever pieces, and has told of these wrong replies: they are those of the whole records among the
--- octets, or of all octets, where it has the ending that holds however they go on
-abbrev pub SurveysBy : {I : Type 0} → (I → Seen) → Reach I → Settings → List ℕ → List WrongReply → Type 0
-SurveysBy seen (Open judge) settings octets wrongs = IsSurveyed seen judge settings octets wrongs
-SurveysBy seen (Ended ending) settings octets wrongs = EndsSo ending settings octets wrongs
-SurveysBy seen Failed settings octets wrongs = ⊥
+-- it was given these settings and was fed these octets, in whatever pieces, and has told of these items and these wrong replies: they are those of the whole
+-- records among the octets, or of all octets, where it has the ending that holds however they go on
+abbrev pub SurveysBy : {I : Type 0} → (I → Seen) → Reach I → Settings → List ℕ → List Item → List WrongReply → Type 0
+SurveysBy seen (Open judge) settings octets h wrongs = IsSurveyed seen judge settings octets h wrongs
+SurveysBy seen (Ended ending) settings octets h wrongs = EndsSo ending settings octets h wrongs
+SurveysBy seen Failed settings octets h wrongs = ⊥
 
-abbrev pub Surveys : {I : Type 0} → (I → Seen) → Survey I → Settings → List ℕ → List WrongReply → Type 0
-Surveys seen survey settings octets wrongs = SurveysBy seen survey.reach settings octets wrongs
+abbrev pub Surveys : {I : Type 0} → (I → Seen) → Survey I → Settings → List ℕ → List Item → List WrongReply → Type 0
+Surveys seen survey settings octets h wrongs = SurveysBy seen survey.reach settings octets h wrongs
 
 -- it has answered a fault
 abbrev pub HasFailed : {I : Type 0} → Survey I → Type 0

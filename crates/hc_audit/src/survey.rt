@@ -1,17 +1,19 @@
-//! The survey of a transcript: all its wrong replies.
+//! The survey of a transcript: all its records, and which replies among them are wrong.
 
 ghost use Rattle.std.specs.Prelude.{◌≡◌, ◌≤◌, ◌++◌, ◌⊎◌, ℕ, List, [], Option, Some, None, IsSome, IfOk, IfErr, IfSome, OnOk, OnErr, Ok, Err};
 ghost use Rattle.std.specs.Option.{option_map};
 ghost use Rattle.hc_transcript.specs.declared.format.Format.{Format};
+ghost use Rattle.hc_transcript.specs.Items.{Item};
 ghost use Rattle.hc_transcript.specs.Limits.{longest_unfinished};
 ghost use Rattle.hc_history.specs.declared.settings.Settings.{Settings};
 ghost use Rattle.hc_history.specs.declared.wrong.WrongReply.{WrongReply};
 ghost use Rattle.hc_history.specs.declared.wrong.Ending.{Ending};
+ghost use Rattle.hc_history.specs.Counting.{counts_of};
 ghost use Rattle.hc_history.specs.Seen.{IsSeenAs};
 ghost use Rattle.hc_history.specs.Verdicts.{IsVerdict};
 ghost use Rattle.hc_history.specs.WrongReplies.{AreWrongReplies};
-ghost use Rattle.hc_audit.specs.Endings.{EndsSo, MayGoOn};
-ghost use Rattle.hc_audit.specs.Told.{AreToldOf};
+ghost use Rattle.hc_audit.specs.Endings.{EndsSo, IsSurveyOf, MayGoOn};
+ghost use Rattle.hc_audit.specs.Told.{IsToldOf};
 
 use crate::fault::AuditFault;
 use crate::judge::Judge;
@@ -31,8 +33,8 @@ enum Reach<I> {
     Failed,
 }
 
-/// Reads a transcript that comes in pieces, and goes on behind a wrong reply: a witness is told of every reply, and
-/// what is found of it. Each record is judged once it is whole, so that only the octets of a record that isn't whole
+/// Reads a transcript that comes in pieces, and goes on behind a wrong reply: a witness is told of every record, and of
+/// a reply what is found of it. Each record is judged once it is whole, so that only the octets of a record that isn't whole
 /// yet wait.
 #[derive(Drop)]
 pub struct Survey<I> {
@@ -44,19 +46,21 @@ impl<I: Index + Drop> Survey<I> {
 
     /// A survey that was fed nothing. `index` is to know of nothing yet.
     pub fn new(alloc: Global, index: I, settings: Settings) -> Self
-        ensures { ((format : Format) → IsSeenAs format (I.seen index) []) → Surveys I.seen result settings [] [] }
+        ensures { ((format : Format) → IsSeenAs format (I.seen index) []) → Surveys I.seen result settings [] [] [] }
     {
         Survey {
             reach: Reach::Open(Judge::new(alloc, index, settings)),
         }
     }
 
-    /// Takes the next piece of the transcript, judges the records that are whole then, and tells the witness of the
-    /// replies among them. Behind a record that breaks the octets nothing is read. After an `Err` it answers `Failed`
-    /// for ever, and nothing is said of what the witness tells.
+    /// Takes the next piece of the transcript, judges the records that are whole then, and tells the witness of each,
+    /// right or wrong, with what is known of those before it. Behind a record that breaks the octets nothing is read.
+    /// After an `Err` it answers `Failed` for ever, and nothing is said of what the witness tells.
     pub fn feed<W: Witness<I>>(&mut self, piece: &[u8], witness: &mut W) -> Result<(), AuditFault>
-        ensures ok { (settings : Settings) (octets : List ℕ) → AreToldOf (Surveys I.seen self.old settings octets) (W.tells witness.old)
-            → OnOk result (AreToldOf (Surveys I.seen self.new settings (octets ++ piece.now)) (W.tells witness.new)) }
+        // A witness that has heard of all records so far has heard of all records then, and so it is with what it tells.
+        ensures ok { (settings : Settings) (octets : List ℕ)
+            → IsToldOf (Surveys I.seen self.old settings octets) (W.tells witness.old) (W.hears witness.old)
+            → OnOk result (IsToldOf (Surveys I.seen self.new settings (octets ++ piece.now)) (W.tells witness.new) (W.hears witness.new)) }
         // What waits is less than a record.
         ensures rest { rest self.new ≤ longest_unfinished }
         ensures ended { IsSome (ended self.old) → (result ≡ Ok tt) × (self.new ≡ self.old) × (witness.new ≡ witness.old) }
@@ -94,11 +98,11 @@ impl<I: Index + Drop> Survey<I> {
     /// The ending that holds however the octets go on, if there is one yet: that they break, by any fault but Torn.
     pub fn ended(&self) -> Option<&Ending>
         ensures value { option_map (λ ending. ending.now) result ≡ ended self.now }
-        ensures stands { (settings : Settings) (octets : List ℕ) (wrongs : List WrongReply) → Surveys I.seen self.now settings octets wrongs
-            → IfSome result (λ ending. EndsSo ending.now settings octets wrongs) }
+        ensures stands { (settings : Settings) (octets : List ℕ) (h : List Item) (wrongs : List WrongReply)
+            → Surveys I.seen self.now settings octets h wrongs → IfSome result (λ ending. EndsSo ending.now settings octets h wrongs) }
         // Where there is none, the octets so far are whole or Torn, and these are their wrong replies.
-        ensures open { (settings : Settings) (octets : List ℕ) (wrongs all : List WrongReply) (ending : Ending) → Surveys I.seen self.now settings octets wrongs
-            → result ≡ None → AreWrongReplies octets settings all ending → MayGoOn ending × (all ≡ wrongs) }
+        ensures open { (settings : Settings) (octets : List ℕ) (h : List Item) (wrongs all : List WrongReply) (ending : Ending)
+            → Surveys I.seen self.now settings octets h wrongs → result ≡ None → AreWrongReplies octets settings all ending → MayGoOn ending × (all ≡ wrongs) }
         ensures failed { HasFailed self.now → result ≡ None }
     {
         match &self.reach {
@@ -108,11 +112,14 @@ impl<I: Index + Drop> Survey<I> {
         }
     }
 
-    /// What was counted of the whole records so far, whether their replies are right or wrong: what their yes says, where
-    /// the octets are whole and no reply is wrong. None where a record broke them, or a fault was answered.
+    /// What was counted of the whole records so far, whether their replies are right or wrong. None where a record broke
+    /// them, or a fault was answered.
     pub fn counts(&self) -> Option<Counts>
-        ensures yes { (settings : Settings) (octets : List ℕ) → Surveys I.seen self.now settings octets [] → AreWrongReplies octets settings [] Ending.Whole
-            → IfSome result (λ counts. IsVerdict octets settings (Verdict.Yes counts)) }
+        ensures counted { (settings : Settings) (octets : List ℕ) (h : List Item) (wrongs : List WrongReply) → Surveys I.seen self.now settings octets h wrongs
+            → IfSome result (λ counts. counts ≡ counts_of h) }
+        // So it is what their yes says, where the octets are whole and no reply is wrong.
+        ensures yes { (settings : Settings) (octets : List ℕ) (h : List Item) → Surveys I.seen self.now settings octets h []
+            → AreWrongReplies octets settings [] Ending.Whole → IfSome result (λ counts. IsVerdict octets settings (Verdict.Yes counts)) }
         ensures none { result ≡ None → IsSome (ended self.now) ⊎ HasFailed self.now }
     {
         match &self.reach {
@@ -122,10 +129,10 @@ impl<I: Index + Drop> Survey<I> {
         }
     }
 
-    /// How all octets that were fed end. What the witness was told of are all their wrong replies.
+    /// How all octets that were fed end. What the witness was told of are all their records, and all their wrong replies.
     pub fn finish(self) -> Result<Ending, AuditFault>
-        ensures ending { (settings : Settings) (octets : List ℕ) (wrongs : List WrongReply) → Surveys I.seen self settings octets wrongs
-            → IfOk result (AreWrongReplies octets settings wrongs) }
+        ensures ending { (settings : Settings) (octets : List ℕ) (h : List Item) (wrongs : List WrongReply) → Surveys I.seen self settings octets h wrongs
+            → IfOk result (IsSurveyOf octets settings h wrongs) }
         ensures ok { OnErr result (HasFailed self) }
         ensures failed { HasFailed self → result ≡ Err AuditFault.Failed }
     {

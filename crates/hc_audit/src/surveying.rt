@@ -1,6 +1,6 @@
 //! The survey of records, one at a time.
 
-ghost use Rattle.std.specs.Prelude.{◌≡◌, ◌≤◌, ◌++◌, ℕ, List, IfOk, OnOk, Ok, None};
+ghost use Rattle.std.specs.Prelude.{◌≡◌, ◌≤◌, ◌++◌, ◌∷◌, ℕ, List, IfOk, OnOk, Ok, None};
 ghost use Rattle.hc_transcript.specs.Items.{Item, item_of};
 ghost use Rattle.hc_transcript.specs.History.{next_position};
 ghost use Rattle.hc_transcript.specs.Limits.{longest_unfinished};
@@ -10,9 +10,9 @@ ghost use Rattle.hc_history.specs.declared.wrong.WrongReply.{WrongReply};
 ghost use Rattle.hc_history.specs.Found.{AnswersOpen};
 ghost use Rattle.hc_history.specs.Marks.{item_mark};
 ghost use Rattle.hc_history.specs.Seen.{IsSeenAs};
-ghost use Rattle.hc_history.specs.WrongReplies.{AreWrongReplies};
+ghost use Rattle.hc_audit.specs.Endings.{IsSurveyOf};
 ghost use Rattle.hc_audit.specs.Judging.{LendsNext};
-ghost use Rattle.hc_audit.specs.Told.{AreToldOf};
+ghost use Rattle.hc_audit.specs.Told.{AreToldOf, IsToldOf};
 ghost use Rattle.hc_audit.specs.Surveying.{IsSurveying, IsSurveyed, GoOnBy, IsAheadOf, GivesSurveyed};
 
 use crate::judge::Judge;
@@ -24,26 +24,28 @@ use hc_transcript::{Format, OwnedItem};
 use std::alloc::AllocError;
 
 impl<I: Index + Drop> Judge<I> {
-    /// Takes a piece, and tells the witness of each reply that is whole then. It answers how the octets end,
+    /// Takes a piece, and tells the witness of each record that is whole then. It answers how the octets end,
     /// if they do however they go on.
     pub(crate) fn survey<W: Witness<I>>(
         &mut self,
         piece: &[u8],
         witness: &mut W,
     ) -> Result<Option<Ending>, AllocError>
-        ensures gives { (settings : Settings) (octets : List ℕ) → AreToldOf (IsSurveyed I.seen self.old settings octets) (W.tells witness.old)
-            → GivesSurveyed I.seen result self.new settings (octets ++ piece.now) (W.tells witness.new) }
+        ensures gives { (settings : Settings) (octets : List ℕ)
+            → IsToldOf (IsSurveyed I.seen self.old settings octets) (W.tells witness.old) (W.hears witness.old)
+            → GivesSurveyed I.seen result self.new settings (octets ++ piece.now) (W.tells witness.new) (W.hears witness.new) }
         ensures rest { result ≡ Ok None → unread self.new.reader ≤ longest_unfinished }
     {
         self.take(piece)?;
         self.survey_whole(witness)
     }
 
-    /// Tells the witness of each reply that is whole. It answers how the octets end, if they do however they
+    /// Tells the witness of each record that is whole. It answers how the octets end, if they do however they
     /// go on.
     fn survey_whole<W: Witness<I>>(&mut self, witness: &mut W) -> Result<Option<Ending>, AllocError>
-        ensures gives { (settings : Settings) (octets : List ℕ) → AreToldOf (IsSurveying I.seen self.old settings octets) (W.tells witness.old)
-            → GivesSurveyed I.seen result self.new settings octets (W.tells witness.new) }
+        ensures gives { (settings : Settings) (octets : List ℕ)
+            → IsToldOf (IsSurveying I.seen self.old settings octets) (W.tells witness.old) (W.hears witness.old)
+            → GivesSurveyed I.seen result self.new settings octets (W.tells witness.new) (W.hears witness.new) }
         ensures rest { result ≡ Ok None → unread self.new.reader ≤ longest_unfinished }
     {
         'records: loop {
@@ -55,12 +57,12 @@ impl<I: Index + Drop> Judge<I> {
         }
     }
 
-    /// Tells the witness of the record that was read last, if it is a reply, and notes it in the index, right or
-    /// wrong.
+    /// Tells the witness of the record that was read last, right or wrong, and notes it in the index.
     fn take_in<W: Witness<I>>(&mut self, format: Format, witness: &mut W) -> Result<(), AllocError>
         requires { LendsNext self.old }
-        ensures goes_on { (settings : Settings) (octets : List ℕ) → AreToldOf (IsAheadOf I.seen self.old settings octets format) (W.tells witness.old)
-            → OnOk result (AreToldOf (IsSurveying I.seen self.new settings octets) (W.tells witness.new)) }
+        ensures goes_on { (settings : Settings) (octets : List ℕ)
+            → IsToldOf (IsAheadOf I.seen self.old settings octets format) (W.tells witness.old) (W.hears witness.old)
+            → OnOk result (IsToldOf (IsSurveying I.seen self.new settings octets) (W.tells witness.new) (W.hears witness.new)) }
         ensures unread { unread self.new.reader ≡ unread self.old.reader }
     {
         let mark = self.tell(self.reader.item(), format, witness)?;
@@ -68,7 +70,8 @@ impl<I: Index + Drop> Judge<I> {
         Ok(())
     }
 
-    /// Tells the witness of that item, which was read last, and answers its mark, if it is a reply.
+    /// Tells the witness of that item, which was read last, with the index of the records before it, and answers its
+    /// mark, if it is a reply.
     fn tell<W: Witness<I>>(
         &self,
         item: &OwnedItem,
@@ -78,6 +81,9 @@ impl<I: Index + Drop> Judge<I> {
         ensures told { (h : List Item) (wrongs : List WrongReply) → IsSeenAs format (I.seen self.now.index) h → records_read self.now.reader ≡ next_position h
             → AnswersOpen h (item_of item.now)
             → W.tells witness.old wrongs → OnOk result (AreToldOf (GoOnBy format self.now.settings h (item_of item.now) wrongs) (W.tells witness.new)) }
+        ensures heard { (h : List Item) → IsSeenAs format (I.seen self.now.index) h → records_read self.now.reader ≡ next_position h
+            → AnswersOpen h (item_of item.now)
+            → W.hears witness.old h → OnOk result (W.hears witness.new (item_of item.now ∷ h)) }
         ensures mark { IfOk result (λ mark. mark ≡ item_mark (item_of item.now)) }
     {
         let Some(judged) = self.judged(item, format)? else {
@@ -90,8 +96,8 @@ impl<I: Index + Drop> Judge<I> {
 
     /// How the octets end.
     pub(crate) fn end(mut self) -> Ending
-        ensures { (settings : Settings) (octets : List ℕ) (wrongs : List WrongReply) → IsSurveyed I.seen self settings octets wrongs
-            → AreWrongReplies octets settings wrongs result }
+        ensures { (settings : Settings) (octets : List ℕ) (h : List Item) (wrongs : List WrongReply) → IsSurveyed I.seen self settings octets h wrongs
+            → IsSurveyOf octets settings h wrongs result }
     {
         let position = self.reader.position();
         match self.reader.finish() {

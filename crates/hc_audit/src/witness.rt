@@ -1,7 +1,9 @@
-//! Who is told of the replies of a transcript.
+//! Who is told of the records of a transcript.
 
-ghost use Rattle.std.specs.Prelude.{◌++◌, List, OnOk};
+ghost use Rattle.std.specs.Prelude.{◌++◌, ◌∷◌, List, OnOk};
+ghost use Rattle.hc_transcript.specs.Items.{Item};
 ghost use Rattle.hc_history.specs.declared.wrong.WrongReply.{WrongReply};
+ghost use Rattle.hc_audit.specs.Hearing.{IsRecordBehind, IsReplyBehind, item_judged, item_passed};
 ghost use Rattle.hc_audit.specs.Told.{wrong_of};
 
 use hc_history::{Candidate, Finding, MarkedReply, ReplyClaim, Settings};
@@ -33,7 +35,6 @@ pub struct JudgedReply<'a, I> {
 impl<'a, I: Index> JudgedReply<'a, I> {
     ghost use Rattle.std.specs.Prelude.{◌≡◌, IfOk};
     ghost use Rattle.std.specs.Option.{option_map};
-    ghost use Rattle.hc_transcript.specs.Items.{Item};
     ghost use Rattle.hc_transcript.specs.History.{exchange_of};
     ghost use Rattle.hc_history.specs.Candidates.{AreCandidatesOf};
     ghost use Rattle.hc_history.specs.Claims.{claim_of};
@@ -101,20 +102,30 @@ pub struct PassedRecord<'a, I> {
     pub index: &'a I,
 }
 
-/// Who is told of the replies of a transcript.
+/// Who is told of the records of a transcript.
 pub trait Witness<I: Index> {
     /// These are the wrong replies that it was told of, the first one first, as far as it tells them: one that
     /// keeps less than a list of them tells no more than it keeps.
     ghost tells: { Self → List WrongReply → Type 0 };
 
+    /// These are the records that it was handed, the newest first, as far as it keeps them: one that keeps less
+    /// than a list of them says no more than it keeps.
+    ghost hears: { Self → List Item → Type 0 };
+
     /// Takes in the next record, which is no reply: it tells of the same wrong replies as before. It fails only
     /// where memory is refused; after an error nothing is said of what it tells.
     fn pass(&mut self, passed: &PassedRecord<'_, I>) -> Result<(), AllocError>
-        ensures { (wrongs : List WrongReply) → tells self.old wrongs → OnOk result (tells self.new wrongs) };
+        ensures told { (wrongs : List WrongReply) → tells self.old wrongs → OnOk result (tells self.new wrongs) }
+        // Who hands it a record owes that this stands behind those that it has heard of.
+        ensures heard { (h : List Item) → hears self.old h → IsRecordBehind I.seen h passed.now
+            → OnOk result (hears self.new (item_passed passed.now ∷ h)) };
 
     /// Takes in the next reply, right or wrong. It fails only where memory is refused; after an error nothing
     /// is said of what it tells.
     fn see(&mut self, judged: &JudgedReply<'_, I>) -> Result<(), AllocError>
-        ensures { (wrongs : List WrongReply) → tells self.old wrongs
-            → OnOk result (tells self.new (wrongs ++ wrong_of judged.now.position judged.now.finding)) };
+        ensures told { (wrongs : List WrongReply) → tells self.old wrongs
+            → OnOk result (tells self.new (wrongs ++ wrong_of judged.now.position judged.now.finding)) }
+        // Who hands it a reply owes that this stands behind the records that it has heard of.
+        ensures heard { (h : List Item) → hears self.old h → IsReplyBehind I.seen h judged.now
+            → OnOk result (hears self.new (item_judged judged.now ∷ h)) };
 }

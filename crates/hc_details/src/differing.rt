@@ -15,7 +15,7 @@ const MOST_NAMES: usize = 20;
 
 /// The names of the fields of which a reply has other values than a stored response, in lower case, each once, in the
 /// order of the reply and then of the response; at most 20 in all.
-#[derive(Debug, Drop)]
+#[derive(Debug)]
 pub struct Differences {
     /// Those that the reply alone has.
     pub added: Vec<Octets>,
@@ -25,6 +25,20 @@ pub struct Differences {
     pub changed: Vec<Octets>,
     /// How many more there are.
     pub more: u64,
+}
+
+impl Drop for Differences {
+    fn drop(self) {
+        let Differences {
+            added,
+            dropped,
+            changed,
+            more: _,
+        } = self;
+        drop(added);
+        drop(dropped);
+        drop(changed);
+    }
 }
 
 // Whether both have the same names in the same order.

@@ -14,12 +14,18 @@ use std::alloc::AllocError;
 const LONGEST_BODY: usize = 16_384;
 
 /// A response.
-#[derive(Drop)]
 pub(crate) struct Answer {
     status: StatusCode,
     /// None where it is too long.
     body: Option<SharedOctets>,
     ghost short: { ForSome body (λ octets. length octets ≤ 16_384) },
+}
+
+impl Drop for Answer {
+    fn drop(self) {
+        let Answer { status: _, body } = self;
+        drop(body);
+    }
 }
 
 impl Answer {
@@ -77,7 +83,6 @@ impl Outcome {
 }
 
 /// The end of a forward.
-#[derive(Drop)]
 pub(crate) struct ForwardEnd {
     /// The position of its record.
     pub(crate) position: u64,
@@ -87,6 +92,19 @@ pub(crate) struct ForwardEnd {
     pub(crate) cause: ToldCause,
     /// What came of it.
     pub(crate) outcome: Outcome,
+}
+
+impl Drop for ForwardEnd {
+    fn drop(self) {
+        let ForwardEnd {
+            position: _,
+            target,
+            cause: _,
+            outcome,
+        } = self;
+        drop(target);
+        drop(outcome);
+    }
 }
 
 impl ForwardEnd {

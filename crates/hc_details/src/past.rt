@@ -23,7 +23,6 @@ const MOST_TARGETS: usize = 4096;
 
 /// What is remembered of the records before a reply, of bounded size: the latest ends of forwards, and what forbids to
 /// store the latest response of a target.
-#[derive(Drop)]
 pub struct Past {
     alloc: Global,
     /// The latest ends of forwards, the oldest first.
@@ -36,6 +35,20 @@ pub struct Past {
     has_forgotten_target: bool,
     ghost few_ends: { ends.capacity ≡ 1024 },
     ghost few_targets: { forbidden.cap ≡ 4096 },
+}
+
+impl Drop for Past {
+    fn drop(self) {
+        let Past {
+            alloc: _,
+            ends,
+            forgotten: _,
+            forbidden,
+            has_forgotten_target: _,
+        } = self;
+        drop(ends);
+        drop(forbidden);
+    }
 }
 
 /// Why no response of a target is stored.

@@ -4,8 +4,6 @@
 mod moment;
 mod octets;
 mod target;
-#[cfg(test)]
-mod tests;
 mod value;
 
 pub use moment::push_moment;

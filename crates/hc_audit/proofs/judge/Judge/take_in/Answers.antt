@@ -1,4 +1,4 @@
-use Rattle.std.proofs.Common.{◌∙◌, sym, ap, subst}
+use Rattle.std.proofs.Common.{◌∙◌, ◌∷◌, sym, ap, subst}
 use Rattle.hc_transcript.specs.Items.{Item}
 use Rattle.hc_history.specs.Found.{AnswersOpen}
 use Rattle.hc_history.specs.Marks.{item_mark}
@@ -10,13 +10,17 @@ pub returns-clause-goes_on : goal.returns-clause-goes_on
 returns-clause-goes_on g c = λ settings octets was.
     let seen = g.I.Index.seen in
     let judge = c.args.self.now in
-    let w = was.1 in
+    let h = was.0 in
+    let w = was.2 in
     let a = w.ahead in
     let item = c.item.ensures.item a.item a.lends in
-    let opens = subst (λ (i : Item). AnswersOpen w.history i) (sym item) (ahead_open seen judge settings octets w.history c.args.format a) in
-    let told = c.in_ok-mark.ensures.told w.history was.0 a.index (ahead_position seen judge settings octets w.history c.args.format a) opens was.2 in (
+    let position = ahead_position seen judge settings octets h c.args.format a in
+    let opens = subst (λ (i : Item). AnswersOpen h i) (sym item) (ahead_open seen judge settings octets h c.args.format a) in
+    let told = c.in_ok-mark.ensures.told h was.1 a.index position opens was.3 in (
+      a.item ∷ h,
       told.0,
-      wrong_goes_on seen judge _ settings octets c.args.format was.0 told.0 w (told_here c.args.format _ settings w.history _ a.item was.0 told.0 a.settings_are item told.1) c.note.ensures.format
-          (c.in_ok-note.ensures.read settings octets w.history a (c.in_ok-mark.ensures.mark ∙ ap item_mark item)),
+      wrong_goes_on seen judge _ settings octets c.args.format h was.1 told.0 w (told_here c.args.format _ settings h _ a.item was.1 told.0 a.settings_are item told.1) c.note.ensures.format
+          (c.in_ok-note.ensures.read settings octets h a (c.in_ok-mark.ensures.mark ∙ ap item_mark item)),
       told.2,
+      subst (λ (i : Item). g.W.Witness.hears c.tell.new.witness (i ∷ h)) item (c.in_ok-mark.ensures.heard h a.index position opens was.4),
     )
