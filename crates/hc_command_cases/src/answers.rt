@@ -6,7 +6,7 @@ use crate::names::{say_run_faults, say_script_faults};
 use crate::orders::say_order;
 use crate::scripts::answer_of_script;
 use crate::tasks::{say_full, say_task};
-use crate::words::{say_answer, say_status};
+use crate::words::{say_answer, say_status, say_text_of};
 use hc_cases::{Ask, Case, Unanswered};
 use hc_sockets::Claim;
 use std::alloc::Global;
@@ -33,6 +33,7 @@ where
         } = *case;
         match question {
             "answer" => say_answer(self.system, alloc, about, out),
+            "text" => say_text_of(self.system, alloc, about, out),
             "status" => say_status(self.system, alloc, about, out),
             "run faults" => Ok(say_run_faults(out)?),
             "script faults" => Ok(say_script_faults(out)?),

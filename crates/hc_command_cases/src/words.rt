@@ -42,6 +42,30 @@ where
     Ok(())
 }
 
+/// Writes the exit status by which the program answers the words behind the first part, and on which of the two writers
+/// that part stands. What stands there is written where it is another text.
+pub(crate) fn say_text_of<R>(
+    system: &R,
+    alloc: Global,
+    parts: &[Vec<u8>],
+    out: &mut String,
+) -> Result<(), Unanswered>
+where
+    R: Files + Input + Net + Clock + RandomSource + AllocGlobal,
+    R::File: Claim,
+{
+    let (wanted, parts) = parts.split_first().ok_or(Unanswered::Unknown)?;
+    let wanted = wanted.as_slice();
+    let words = words_of(alloc, parts)?;
+    let mut output = Vec::new(alloc);
+    let mut faults = Vec::new(alloc);
+    let status = answered(system, words.as_slice(), &mut output, &mut faults);
+    write!(out, "{status}")?;
+    say_same(", on output ", output.as_slice(), wanted, out)?;
+    say_same(", on errors ", faults.as_slice(), wanted, out)?;
+    Ok(())
+}
+
 /// Writes the exit status, and whether anything is written on either of the two writers.
 pub(crate) fn say_status<R>(
     system: &R,
@@ -88,4 +112,12 @@ fn say_text(place: &str, text: &[u8], out: &mut String) -> Result<(), AllocError
     }
     out.push_str(place)?;
     show_short(text, out)
+}
+
+fn say_same(place: &str, text: &[u8], wanted: &[u8], out: &mut String) -> Result<(), AllocError> {
+    if text != wanted {
+        return say_text(place, text, out);
+    }
+    out.push_str(place)?;
+    out.push_str("this text")
 }

@@ -1,0 +1,84 @@
+"""What the tools share: how they answer to `--help`, by which words hcache is run, and how its requests for memory are
+counted and refused."""
+
+import collections
+import os
+import pathlib
+import shutil
+import subprocess
+import sys
+
+HERE = pathlib.Path(__file__).resolve().parent.parent
+
+Ran = collections.namedtuple("Ran", "status output faults requests octets")
+
+
+def help_or_go_on(words, text):
+    """Ends with the text of help where it is asked for."""
+    if words in (["--help"], ["-h"]):
+        print(f"{text}\n", end="")
+        sys.exit(0)
+
+
+def refuse(text):
+    """Ends where the words are none that the tool knows."""
+    print(text, file=sys.stderr)
+    sys.exit(64)
+
+
+def need(*commands):
+    """Ends where a command isn't there."""
+    for command in commands:
+        if not shutil.which(command):
+            print(f"needs {command} in PATH", file=sys.stderr)
+            sys.exit(70)
+
+
+def hcache(is_unproved=False):
+    """The words by which hcache is run, once it is built: the program that HCACHE names, or else the proved one, or the
+    one that isn't proved."""
+    if "HCACHE" in os.environ:
+        need(os.environ["HCACHE"])
+        return [os.environ["HCACHE"]]
+    launcher = [HERE / "hcache", *["--unproved"] * is_unproved]
+    ran = subprocess.run([*launcher, "audit", HERE / "examples/first.hct"], stdout=subprocess.DEVNULL, check=False)
+    if ran.returncode:
+        print("hcache doesn't run", file=sys.stderr)
+        sys.exit(70)
+    return unproved() if is_unproved else [HERE / "crates/hc_prog/out/hc_prog"]
+
+
+def unproved():
+    """The words by which the kept program is run that isn't proved: ./hcache has put down beside it how."""
+    try:
+        _, loader, libraries = (HERE / "out/unproved.how").read_text(encoding="utf-8").split("\n")[:3]
+    except (OSError, ValueError):
+        print("this toolchain's program can't be kept", file=sys.stderr)
+        sys.exit(70)
+    return [loader, "--inhibit-cache", "--library-path", libraries, HERE / "out/unproved"]
+
+
+class Shim:
+    """The shared object that refuses memory, and the file in which it counts what is asked for. It needs cc."""
+
+    def __init__(self, room, limit):
+        self.object, self.count, self.limit = room / "refused.so", room / "count", limit
+        source = HERE / "tools/refused_allocation.c"
+        subprocess.run(["cc", "-O2", "-shared", "-fPIC", "-o", self.object, source], check=True)
+
+    def environment(self, which, hooks=None):
+        """The environment of a process whose request of that number is refused, none for 0. A program that was compiled with
+        AddressSanitizer has its table of hooks there."""
+        self.count.write_bytes(bytes(16))
+        said = {"LD_PRELOAD": self.object, "REFUSED_REQUEST": str(which), "REFUSED_COUNT": self.count}
+        return {**os.environ, **said, **({"REFUSED_HOOKS": hooks} if hooks else {})}
+
+    def counts(self):
+        """How many requests there were, and for how many octets."""
+        octets = self.count.read_bytes()
+        return tuple(int.from_bytes(it, sys.byteorder) for it in (octets[:8], octets[8:]))
+
+    def run(self, which, *words, given=b"", hooks=None):
+        environment = self.environment(which, hooks)
+        ran = subprocess.run(words, input=given, capture_output=True, timeout=self.limit, env=environment, check=False)
+        return Ran(ran.returncode, ran.stdout, ran.stderr, *self.counts())
