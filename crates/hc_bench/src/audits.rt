@@ -36,7 +36,7 @@ const SHORT_BODY: usize = 100;
 /// A transcript of that format, of so many records of so many targets, with bodies of so many octets. Four records of
 /// each target are an exchange that is forwarded, and each two of the others a hit: so the number of
 /// records is even, and at least four times that of targets.
-#[derive(Clone, Copy, Debug)]
+#[derive(Clone, Copy)]
 pub struct Sample {
     pub format: Format,
     pub records: usize,

@@ -8,7 +8,7 @@ use hc_head::Room;
 use std::alloc::Global;
 
 /// A message that was fed.
-#[derive(Debug, Drop)]
+#[derive(Drop)]
 pub struct Fed<H> {
     pub message: Message<H>,
     /// How many octets it has.

@@ -19,7 +19,7 @@ use std::time::Instant;
 const ROUNDS: u32 = 9;
 
 /// Two texts of about as many octets, which are short messages and long ones of a kind.
-#[derive(Clone, Copy, Debug)]
+#[derive(Clone, Copy)]
 pub struct Pair<'a> {
     pub name: &'a str,
     pub kind: Kind,

@@ -12,7 +12,7 @@ const MOST_DIGITS: usize = 16;
 const LONGEST_LINE: usize = 4096;
 
 /// Where the octets of a chunk line end.
-#[derive(Clone, Copy, Debug, PartialEq, Eq)]
+#[derive(Clone, Copy, PartialEq, Eq)]
 enum Stage {
     /// No octet has come.
     Start,
@@ -91,7 +91,7 @@ fn hex_value(digit: u8) -> u64
 
 /// Reads a chunk line that comes in pieces, and keeps none of its octets. Behind its end, or a fault, nothing is
 /// promised of what it reads.
-#[derive(Clone, Copy, Debug, PartialEq, Eq)]
+#[derive(Clone, Copy, PartialEq, Eq)]
 pub struct ChunkLineReader {
     stage: Stage,
     /// The value of the digits.

@@ -41,7 +41,7 @@ fn is_line_and_feed(octets: &[u8]) -> bool
 
 /// Reads a trailer section that comes in pieces, and keeps no field of it. Behind its end, or a fault, nothing is
 /// promised of what it reads.
-#[derive(Debug, Drop)]
+#[derive(Drop)]
 pub struct TrailerReader {
     alloc: Global,
     /// How many field lines have come.

@@ -21,7 +21,7 @@ use std::io;
 use std::io::{ErrorKind, Read};
 
 /// How the octets of a transcript end, and what was counted of them where they are whole.
-#[derive(Clone, Copy, Debug)]
+#[derive(Clone, Copy)]
 pub(crate) enum Outcome {
     /// With their last record.
     Whole(Counts),
@@ -158,7 +158,7 @@ fn survey_all<I: Index + Drop, R: Read, T: Reading<I>>(
 }
 
 // What a piece of the input comes to.
-#[derive(Clone, Copy, Debug)]
+#[derive(Clone, Copy)]
 enum Heard {
     // More may come.
     More,

@@ -4,7 +4,7 @@ ghost use Rattle.std.specs.Prelude.{◌≡◌, ◌<◌, ◌+◌, ℕ, List, [], 
 ghost use Rattle.hc_connection.specs.Links.{Counts, Reads, Writes, greatest_count};
 
 /// That a link has failed, or that none was made. What went wrong is known to whoever made the link.
-#[derive(Clone, Copy, Debug, PartialEq, Eq)]
+#[derive(Clone, Copy, PartialEq, Eq)]
 pub struct LinkFailure;
 
 /// One side of a connection, from which octets are read and to which octets are written.

@@ -10,7 +10,7 @@ use hc_framing::MessageText;
 use std::alloc::AllocError;
 
 /// Where octets go.
-#[derive(Clone, Copy, Debug, PartialEq, Eq)]
+#[derive(Clone, Copy, PartialEq, Eq)]
 pub enum Receiver {
     /// To the client of the connection of that number.
     Client(u64),

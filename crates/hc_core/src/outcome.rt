@@ -10,7 +10,7 @@ use hc_service::{Action, StepFault};
 pub type StepResult = Result<Vec<Action>, StepFault>;
 
 /// What came of a run.
-#[derive(Debug, Drop)]
+#[derive(Drop)]
 pub struct Run {
     /// What each step answered, in order. A refused growth is the last.
     pub results: Vec<StepResult>,

@@ -15,7 +15,6 @@ const MOST_NAMES: usize = 20;
 
 /// The names of the fields of which a reply has other values than a stored response, in lower case, each once, in the
 /// order of the reply and then of the response; at most 20 in all.
-#[derive(Debug)]
 pub struct Differences {
     /// Those that the reply alone has.
     pub added: Vec<Octets>,

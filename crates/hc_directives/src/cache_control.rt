@@ -11,7 +11,7 @@ use hc_fields::{Fields, Members};
 use std::marker::Model;
 
 /// What a directive says of seconds.
-#[derive(Clone, Copy, Debug, PartialEq, Eq)]
+#[derive(Clone, Copy, PartialEq, Eq)]
 pub enum Seconds {
     /// No directive has the name.
     Absent,
@@ -37,7 +37,7 @@ impl Seconds {
 /// The directives in the Cache-Control lines of a message (RFC 9111 section 5.2), which contracts
 /// see as the list of them, with their names in lower case and their arguments unescaped, and the
 /// count of the members that are no directives. It lends the fields and takes no memory.
-#[derive(Debug, Drop)]
+#[derive(Drop)]
 pub struct Directives<'a> {
     fields: &'a Fields,
 }

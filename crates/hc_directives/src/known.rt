@@ -27,7 +27,7 @@ fn first_seconds(before: Seconds, name: &[u8], directive: &Spelling<'_>) -> Seco
 
 /// What Cache-Control lines say to the rules of a cache: whether a directive is there, whatever its
 /// argument, or which seconds the first one of its name says (RFC 9111 section 5.2, RFC 5861).
-#[derive(Clone, Copy, Debug)]
+#[derive(Clone, Copy)]
 pub struct KnownDirectives {
     /// `no-store`.
     pub no_store: bool,

@@ -11,7 +11,7 @@ use crate::quoted::{quoted_number, quoted_text};
 use hc_fields::{is_token, number};
 
 /// How an argument is spelled.
-#[derive(Clone, Copy, Debug, Drop)]
+#[derive(Clone, Copy, Drop)]
 pub(crate) enum Argument<'a> {
     /// A token.
     Token(&'a [u8]),
@@ -32,7 +32,7 @@ impl Argument<'_> {
 }
 
 /// A directive as its line has it.
-#[derive(Clone, Copy, Debug, Drop)]
+#[derive(Clone, Copy, Drop)]
 pub(crate) struct Spelling<'a> {
     pub(crate) name: &'a [u8],
     pub(crate) argument: Option<Argument<'a>>,

@@ -4,7 +4,7 @@
 use hc_fields::Octets;
 
 /// Something that happens at one of a cache's links, and when.
-#[derive(Debug, Drop)]
+#[derive(Drop)]
 pub struct Event {
     /// In whole seconds since 1970.
     pub moment: u64,
@@ -14,7 +14,7 @@ pub struct Event {
 
 /// What happens at a link. A connection has the number that its caller chose for it, and a forward, which is a
 /// connection to the origin for one request, the number that the cache gave it.
-#[derive(Debug, Drop)]
+#[derive(Drop)]
 pub enum Happening {
     /// A client opened the connection of that number.
     ClientOpened(u64),

@@ -9,7 +9,7 @@ use std::marker::Model;
 
 /// A field line (RFC 9110 section 5): its name, in lower case, and its value without the white
 /// space around it.
-#[derive(Debug, Drop)]
+#[derive(Drop)]
 pub struct Field {
     /// In lower case.
     pub name: Octets,
@@ -40,7 +40,6 @@ impl Field {
 }
 
 /// Field lines in order, which contracts see as the list of them.
-#[derive(Debug)]
 pub struct Fields {
     lines: Vec<Field>,
 }
@@ -216,7 +215,7 @@ impl Fields {
 }
 
 /// An iterator over the values of a name.
-#[derive(Debug, Drop)]
+#[derive(Drop)]
 pub struct Values<'a> {
     name: &'a [u8],
     lines: &'a [Field],

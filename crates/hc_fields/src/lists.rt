@@ -8,7 +8,7 @@ ghost use Rattle.hc_fields.specs.declared.lists.Quoting.TheVariants.{Outside};
 use std::marker::Model;
 
 /// Where an octet of a list stands.
-#[derive(Clone, Copy, Debug, PartialEq, Eq)]
+#[derive(Clone, Copy, PartialEq, Eq)]
 enum Quoting {
     /// Outside quoted strings.
     Outside,
@@ -123,7 +123,7 @@ fn split_first_member(mut value: &[u8]) -> Option<(&[u8], &[u8])>
 }
 
 /// An iterator over the members of a list, which contracts see as the list of those that are left.
-#[derive(Debug, Drop)]
+#[derive(Drop)]
 pub struct ListMembers<'a> {
     rest: &'a [u8],
 }

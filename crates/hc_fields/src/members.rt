@@ -13,7 +13,7 @@ use std::marker::Model;
 
 /// An iterator over the members of the lists in all lines of a name, which contracts see as the
 /// list of those that are left.
-#[derive(Debug, Drop)]
+#[derive(Drop)]
 pub struct Members<'a> {
     line: ListMembers<'a>,
     values: Values<'a>,

@@ -12,7 +12,6 @@ use std::hash::{Hash, Hasher};
 use std::marker::Model;
 
 /// A run of octets, which contracts see as the list of them.
-#[derive(Debug)]
 pub struct Octets {
     bytes: Vec<u8>,
 }

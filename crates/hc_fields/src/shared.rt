@@ -7,7 +7,6 @@ use std::rc::Rc;
 
 /// A run of octets that several owners share and none changes, which contracts see as the list of
 /// them. The octets are freed with their last owner.
-#[derive(Debug)]
 pub struct SharedOctets {
     kept: Option<Rc<Vec<u8>>>,
 }

@@ -8,7 +8,6 @@ use std::marker::Model;
 /// Octets in one buffer, of which those before `start` were read. Contracts see the rest of them.
 /// What was read is dropped once it is more than half, so each octet is moved at most once for each
 /// octet that was read.
-#[derive(Debug)]
 pub struct Waiting {
     bytes: Vec<u8>,
     start: usize,

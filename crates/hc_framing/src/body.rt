@@ -13,7 +13,7 @@ use std::alloc::{AllocError, Global};
 use std::mem;
 
 /// What comes next in a body.
-#[derive(Clone, Copy, Debug, PartialEq, Eq)]
+#[derive(Clone, Copy, PartialEq, Eq)]
 enum Stage {
     /// Octets of a body whose length is known.
     Sized,
@@ -32,7 +32,7 @@ enum Stage {
 }
 
 /// How far a part of a body has come, with so many octets of the piece.
-#[derive(Clone, Copy, Debug, PartialEq, Eq)]
+#[derive(Clone, Copy, PartialEq, Eq)]
 enum Part {
     /// The body goes on.
     On(usize),
@@ -52,7 +52,6 @@ pub(crate) fn has_octets(framing: Framing) -> bool
 }
 
 /// Reads a body that comes in pieces. It keeps the octets of the body, and none of its framing.
-#[derive(Debug)]
 pub(crate) struct BodyReader {
     alloc: Global,
     /// The octets of the body so far, while it isn't whole.

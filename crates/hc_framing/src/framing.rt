@@ -14,7 +14,7 @@ use hc_head::{LONGEST_BODY, StatusCode, Version, is_interim};
 const MOST_DIGITS: usize = 18;
 
 /// Where a body ends.
-#[derive(Clone, Copy, Debug, PartialEq, Eq)]
+#[derive(Clone, Copy, PartialEq, Eq)]
 pub enum Framing {
     /// With the head: there is none.
     Nothing,

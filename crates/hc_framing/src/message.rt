@@ -1,7 +1,7 @@
 use hc_fields::SharedOctets;
 
 /// A message: its head, without the fields that frame the body, and its body.
-#[derive(Debug, Drop)]
+#[derive(Drop)]
 pub struct Message<H> {
     /// Without the fields that frame the body.
     pub head: H,

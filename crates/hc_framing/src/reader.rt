@@ -14,7 +14,7 @@ use hc_head::{Room, Search, Step, find_empty_line};
 use std::alloc::{AllocError, Global};
 
 /// What a reader waits for.
-#[derive(Clone, Copy, Debug, PartialEq, Eq)]
+#[derive(Clone, Copy, PartialEq, Eq)]
 enum Stage {
     /// The end of the head.
     Head,
@@ -28,7 +28,6 @@ enum Stage {
 
 /// Reads a message that comes in pieces. Each octet of its body is kept once, and stays where it is
 /// when the message is whole.
-#[derive(Debug)]
 pub struct MessageReader<H> {
     alloc: Global,
     kind: Kind,

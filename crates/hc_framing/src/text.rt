@@ -7,7 +7,6 @@ use std::marker::Model;
 /// The text of a message as it goes out, in two parts that each may have more owners: its head, and
 /// its body. Contracts see the octets, the one part followed by the other. A small body lies behind
 /// the head, and then nothing is left for the second part.
-#[derive(Debug)]
 pub struct MessageText {
     front: SharedOctets,
     rest: SharedOctets,

@@ -7,7 +7,7 @@ use hc_fields::{Fields, LARGEST_NUMBER, list_members, number};
 
 /// What the age of a response is counted from (RFC 9111 section 4.2.3), in seconds since 1 January
 /// 1970, but for the value of its Age.
-#[derive(Clone, Copy, Debug, PartialEq, Eq)]
+#[derive(Clone, Copy, PartialEq, Eq)]
 pub struct Times {
     /// The moment that its Date shows.
     pub date: u64,

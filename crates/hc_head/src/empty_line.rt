@@ -6,7 +6,7 @@ ghost use Rattle.hc_head.specs.EmptyLine.{search_after, searched};
 
 /// Where a search for the empty line that ends a head stands, behind the octets that it has seen
 /// (RFC 9112 section 2.2: a line ends in CR LF or in LF alone). A search begins at `Blank`.
-#[derive(Clone, Copy, Debug, PartialEq, Eq)]
+#[derive(Clone, Copy, PartialEq, Eq)]
 pub enum Search {
     /// Among the empty lines before the head, if there are any.
     Blank,

@@ -6,7 +6,7 @@ use http::{Method, StatusCode};
 use std::alloc::{AllocError, Global};
 
 /// The version of a message (RFC 9112 section 2.3).
-#[derive(Clone, Copy, Debug, PartialEq, Eq)]
+#[derive(Clone, Copy, PartialEq, Eq)]
 pub enum Version {
     /// HTTP/1.0.
     Http10,
@@ -15,7 +15,6 @@ pub enum Version {
 }
 
 /// The head of a request: its request line and its field lines (RFC 9112 section 3).
-#[derive(Debug)]
 pub struct RequestHead {
     /// The method, in its own case (RFC 9110 section 9).
     pub method: Method,
@@ -43,7 +42,6 @@ impl Drop for RequestHead {
 
 /// The head of a response: its status line, without the reason phrase, and its field lines
 /// (RFC 9112 section 4).
-#[derive(Debug)]
 pub struct ResponseHead {
     /// From 100 to 999 (RFC 9110 section 15).
     pub status: StatusCode,
@@ -66,7 +64,7 @@ impl Drop for ResponseHead {
 
 /// What a request is about: a host with its port, and a path with its query (RFC 9112 section 3.3).
 /// Targets are compared by the host and then by the path, octet by octet.
-#[derive(PartialEq, Eq, PartialOrd, Ord, Hash, Debug)]
+#[derive(PartialEq, Eq, PartialOrd, Ord, Hash)]
 pub struct Target {
     /// The host in lower case, and its port unless that is 80.
     pub host: Octets,
@@ -95,7 +93,7 @@ impl Target {
 }
 
 /// How many octets a head may have, and how many fields.
-#[derive(Clone, Copy, Debug, PartialEq, Eq)]
+#[derive(Clone, Copy, PartialEq, Eq)]
 pub struct Room {
     /// The most octets of a head.
     pub octets: usize,
@@ -131,7 +129,7 @@ impl Room {
 pub(crate) const FEW: usize = 24;
 
 /// Whether a head has come.
-#[derive(Debug, Drop)]
+#[derive(Drop)]
 pub enum Step<H> {
     /// It may still come.
     More,

@@ -13,7 +13,7 @@ use std::alloc::{AllocError, Global};
 const LONGEST_HOST: usize = 255;
 
 /// A host, and its port with the colon, or nothing.
-#[derive(Clone, Copy, Debug)]
+#[derive(Clone, Copy)]
 pub(crate) struct HostAndPort<'a> {
     pub host: &'a [u8],
     pub port: &'a [u8],

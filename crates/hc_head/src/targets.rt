@@ -32,7 +32,7 @@ const LONGEST_TARGET: usize = 65_534;
 const SCHEME: &[u8] = b"http://";
 
 /// A target in absolute form.
-#[derive(Clone, Copy, Debug)]
+#[derive(Clone, Copy)]
 struct AbsoluteForm<'a> {
     authority: HostAndPort<'a>,
     /// What follows the authority.

@@ -1,7 +1,7 @@
 //! How far each response gets that a reply may carry.
 
 /// A response that a reply may carry, and how far it gets.
-#[derive(Clone, Copy, Debug, PartialEq, Eq)]
+#[derive(Clone, Copy, PartialEq, Eq)]
 pub struct Candidate {
     /// The position of its record, of which the first has 1.
     pub position: u64,

@@ -11,7 +11,7 @@ use hc_transcript::Format;
 use std::marker::Model;
 
 /// What a reply says of itself, and what it is held against. Contracts see it as a `Claim`.
-#[derive(Debug, Drop)]
+#[derive(Drop)]
 pub struct ReplyClaim<'a> {
     /// The format of the transcript.
     pub format: Format,

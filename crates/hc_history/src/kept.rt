@@ -4,7 +4,7 @@ use hc_head::Target;
 use hc_update::Stored;
 
 /// A stored response and its target.
-#[derive(Debug, Drop)]
+#[derive(Drop)]
 pub struct Kept {
     /// The target of the request that it answers.
     pub target: Target,

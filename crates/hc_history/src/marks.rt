@@ -39,7 +39,7 @@ pub fn reply_mark(alloc: Global, reply: &Message<ResponseHead>) -> Result<Mark, 
 }
 
 /// A reply with its mark, which is read once. Contracts see it as the reply.
-#[derive(Debug, Drop)]
+#[derive(Drop)]
 pub struct MarkedReply<'a> {
     reply: &'a Message<ResponseHead>,
     mark: Mark,

@@ -2,7 +2,7 @@
 
 /// Why a reply is wrong. The first nine are those of the filters that an earlier response has to pass,
 /// of which the first that leaves nobody is told.
-#[derive(Clone, Copy, Debug, PartialEq, Eq)]
+#[derive(Clone, Copy, PartialEq, Eq)]
 pub enum Reason {
     /// No earlier response that may be stored is of its target, or the request is no GET and no HEAD.
     NoResponse,

@@ -9,7 +9,7 @@ use std::alloc::{AllocError, Global};
 use std::marker::Model;
 
 /// Names of fields, in lower case, which contracts see as the list of them.
-#[derive(Debug, Drop)]
+#[derive(Drop)]
 pub struct FieldNames {
     names: Vec<Octets>,
 }
@@ -66,7 +66,7 @@ impl FieldNames {
 }
 
 /// Which replies may have no mark.
-#[derive(Clone, Copy, Debug, PartialEq, Eq)]
+#[derive(Clone, Copy, PartialEq, Eq)]
 pub enum UnmarkedReplies {
     /// All.
     Allow,
@@ -75,7 +75,7 @@ pub enum UnmarkedReplies {
 }
 
 /// What an audit is asked to let pass.
-#[derive(Debug, Drop)]
+#[derive(Drop)]
 pub struct Settings {
     /// By how many seconds an Age, the seconds that are left, a lifetime and what permits staleness may be
     /// off.

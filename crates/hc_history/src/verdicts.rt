@@ -8,7 +8,7 @@ use hc_status::Mark;
 use hc_transcript::RecordFault;
 
 /// What was counted in a transcript whose replies are all right.
-#[derive(Clone, Copy, Debug, PartialEq, Eq)]
+#[derive(Clone, Copy, PartialEq, Eq)]
 pub struct Counts {
     /// All records.
     pub records: u64,
@@ -63,7 +63,7 @@ impl Counts {
 }
 
 /// The verdict on a transcript. Positions count the records from 1; the opening has position 0.
-#[derive(Clone, Copy, Debug, PartialEq, Eq)]
+#[derive(Clone, Copy, PartialEq, Eq)]
 pub enum Verdict {
     /// It keeps to the format, and every reply in it is right.
     Yes(Counts),
@@ -74,7 +74,7 @@ pub enum Verdict {
 }
 
 /// What is found of one reply.
-#[derive(Clone, Copy, Debug, PartialEq, Eq)]
+#[derive(Clone, Copy, PartialEq, Eq)]
 pub enum Finding {
     /// It is right.
     Right,

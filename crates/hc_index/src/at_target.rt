@@ -17,7 +17,7 @@ use hc_transcript::ToldCause;
 use std::alloc::{AllocError, Global};
 
 /// What is kept of a target.
-#[derive(Debug, Drop)]
+#[derive(Drop)]
 pub(crate) struct AtTarget {
     /// Its live responses, by rising position.
     pub(crate) lives: Vec<LiveResponse>,

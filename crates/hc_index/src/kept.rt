@@ -10,7 +10,6 @@ use hc_transcript::ToldCause;
 use hc_update::Stored;
 
 /// A response that may be stored, as the records behind it have left it.
-#[derive(Debug)]
 pub(crate) struct LiveResponse {
     /// The position of its record.
     pub(crate) position: u64,
@@ -34,7 +33,6 @@ impl Drop for LiveResponse {
 }
 
 /// What the origin answered in the window of an exchange.
-#[derive(Debug)]
 pub(crate) struct WindowAnswer {
     /// The method of the forward.
     pub(crate) method: Method,
@@ -55,14 +53,13 @@ impl Drop for WindowAnswer {
 }
 
 /// What the origin answered, in a pool of a target, with what is told of the cause of its forward.
-#[derive(Debug, Drop)]
+#[derive(Drop)]
 pub(crate) struct PooledAnswer {
     pub(crate) cause: ToldCause,
     pub(crate) answer: WindowAnswer,
 }
 
 /// An open exchange.
-#[derive(Debug)]
 pub(crate) struct OpenExchange {
     pub(crate) number: u64,
     /// The position of its request.
@@ -104,7 +101,7 @@ impl OpenExchange {
 }
 
 /// An open exchange with a window of its own.
-#[derive(Debug, Drop)]
+#[derive(Drop)]
 pub(crate) struct WatchedExchange {
     pub(crate) exchange: OpenExchange,
     /// What the origin has answered for its target since its request, the oldest first.
@@ -112,7 +109,7 @@ pub(crate) struct WatchedExchange {
 }
 
 /// An open exchange whose window is the end of its target's pool.
-#[derive(Debug, Drop)]
+#[derive(Drop)]
 pub(crate) struct PooledExchange {
     pub(crate) exchange: OpenExchange,
     /// How many answers the pool had been given before its request.
@@ -120,7 +117,7 @@ pub(crate) struct PooledExchange {
 }
 
 /// An open forward.
-#[derive(Debug, Drop)]
+#[derive(Drop)]
 pub struct OpenForward {
     /// When it was sent, in whole seconds since 1970.
     pub moment: u64,

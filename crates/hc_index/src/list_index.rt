@@ -29,7 +29,7 @@ use std::collections::BTreeMap;
 
 /// An index that keeps lists and walks them: the time for a reply grows with the number of live responses,
 /// and that for a response with the number of live responses and open exchanges.
-#[derive(Debug, Drop)]
+#[derive(Drop)]
 pub struct ListIndex {
     pub(crate) alloc: Global,
     /// The live responses, by rising position.

@@ -24,7 +24,7 @@ use std::collections::BTreeMap;
 
 /// An index that looks at one target alone: the time for a record doesn't grow with the records of other
 /// targets, and a hit that the newest response passes is found at once.
-#[derive(Debug, Drop)]
+#[derive(Drop)]
 pub struct MapIndex {
     pub(crate) alloc: Global,
     pub(crate) targets: BTreeMap<Target, AtTarget>,

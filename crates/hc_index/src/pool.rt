@@ -20,7 +20,7 @@ const MOST_DROPPED: usize = 1 << 62;
 
 /// The answers of the origin for one target, and the windows that are open: a window holds the answers behind
 /// those that were there before it. An answer that no window holds any more is given up.
-#[derive(Debug, Drop)]
+#[derive(Drop)]
 pub(crate) struct Pool {
     /// How many answers were given up.
     dropped: usize,

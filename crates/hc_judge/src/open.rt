@@ -11,7 +11,7 @@ use hc_transcript::{Meaning, OwnedItem};
 use std::marker::Model;
 
 /// An open exchange.
-#[derive(Debug, Drop)]
+#[derive(Drop)]
 pub(crate) struct OpenExchange<'a> {
     pub(crate) number: u64,
     /// The position of its request.
@@ -29,7 +29,7 @@ impl<'a> Model for OpenExchange<'a> {
 }
 
 /// An open forward.
-#[derive(Debug, Drop)]
+#[derive(Drop)]
 pub(crate) struct OpenForward<'a> {
     pub(crate) moment: u64,
     pub(crate) request: &'a RequestHead,

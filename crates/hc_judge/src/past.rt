@@ -6,7 +6,7 @@ ghost use Rattle.hc_transcript.specs.Items.{item_of, moment_of};
 use hc_transcript::OwnedItem;
 
 /// An item of a transcript.
-#[derive(Debug, Drop)]
+#[derive(Drop)]
 pub(crate) struct PastItem {
     item: OwnedItem,
     // No record is later than the year 9999.

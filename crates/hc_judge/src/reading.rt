@@ -13,7 +13,7 @@ use hc_transcript::{Format, OwnedItem, RecordFault, RecordReader};
 use std::alloc::{AllocError, Global};
 
 /// How octets end behind the items of their whole records.
-#[derive(Clone, Copy, Debug, PartialEq, Eq)]
+#[derive(Clone, Copy, PartialEq, Eq)]
 pub(crate) enum Ending {
     /// With the last of them.
     Whole,

@@ -4,7 +4,7 @@ use hc_framing::Message;
 use hc_head::{RequestHead, ResponseHead, StatusCode, Target};
 
 /// What the octets of a client connection are.
-#[derive(Debug, Drop)]
+#[derive(Drop)]
 pub enum Arrival {
     /// A whole request, and what it asks for.
     Request(Message<RequestHead>, Target),
@@ -42,7 +42,7 @@ impl Arrival {
 }
 
 /// What the octets of an origin's connection are.
-#[derive(Debug, Drop)]
+#[derive(Drop)]
 pub enum Heard {
     /// The final response.
     Response(Message<ResponseHead>),

@@ -12,7 +12,7 @@ use hc_head::{HeadFault, RequestHead, StatusCode, Target, Version, target};
 use std::alloc::{AllocError, Global};
 
 /// What the tests of a head say.
-#[derive(Debug, Drop)]
+#[derive(Drop)]
 pub(crate) enum Tested {
     /// It asks for the target.
     Served(Target),

@@ -12,7 +12,6 @@ use std::mem;
 
 /// Reads the requests of a client connection, one after the other. What is behind a whole request
 /// waits until the next is asked for. Heads are read in the room `RECEIVED`.
-#[derive(Debug)]
 pub struct RequestReader {
     alloc: Global,
     /// The request that has begun.

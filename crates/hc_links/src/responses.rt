@@ -29,7 +29,6 @@ fn status_of(head: &ResponseHead) -> StatusCode
 
 /// Reads the response to a forward. Interim responses before it are dropped, at most 16; 101, which
 /// changes the protocol, is none of them. Heads are read in the room `RECEIVED`.
-#[derive(Debug)]
 pub struct ResponseReader {
     alloc: Global,
     /// Whether the forward's method is HEAD.

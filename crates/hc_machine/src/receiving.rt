@@ -10,7 +10,6 @@ use std::alloc::AllocError;
 use std::hash::BuildHasher;
 
 /// What has become of a forward on which octets came.
-#[derive(Debug)]
 pub(crate) enum Progress {
     /// It is open still.
     IsOpen,

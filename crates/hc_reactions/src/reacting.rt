@@ -59,7 +59,7 @@ pub enum Reaction {
 }
 
 /// The forwards for the store alone that are open.
-#[derive(Clone, Copy, Debug)]
+#[derive(Clone, Copy)]
 pub struct OpenBehind {
     /// How many there are.
     pub count: usize,
@@ -68,7 +68,7 @@ pub struct OpenBehind {
 }
 
 /// What is open, as far as a request for a target asks.
-#[derive(Clone, Copy, Debug)]
+#[derive(Clone, Copy)]
 pub struct Underway {
     /// The forwards for the store alone.
     pub behind: OpenBehind,

@@ -1,5 +1,5 @@
 /// What a response is validated by.
-#[derive(Clone, Copy, Debug)]
+#[derive(Clone, Copy)]
 pub enum Validator<'a> {
     /// Its entity-tag, with the mark of a weak one.
     Tag(&'a [u8]),

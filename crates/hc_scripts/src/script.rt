@@ -20,7 +20,7 @@ use std::alloc::{AllocError, Global};
 const NAME: &[u8] = b"hcache";
 
 /// What a cache is set to, and what happens to it.
-#[derive(Debug, Drop)]
+#[derive(Drop)]
 pub struct Script {
     /// How many keys the cache's store may have.
     pub keys: u64,

@@ -4,7 +4,7 @@ use hc_framing::MessageText;
 use hc_transcript::Record;
 
 /// What a cache has done by whoever runs it, in this order.
-#[derive(Debug, Drop)]
+#[derive(Drop)]
 pub enum Action {
     /// These octets go to the client of the connection of that number.
     ToClient(u64, MessageText),

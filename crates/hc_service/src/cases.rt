@@ -12,7 +12,7 @@ use hc_head::{RequestHead, is_get_or_head};
 use hc_update::Stored;
 
 /// Why a request goes to the origin.
-#[derive(Clone, Copy, Debug, PartialEq, Eq)]
+#[derive(Clone, Copy, PartialEq, Eq)]
 pub enum Cause {
     /// Its method is one that the cache doesn't answer.
     Method,
@@ -31,7 +31,7 @@ pub enum Cause {
 }
 
 /// What becomes of a request.
-#[derive(Clone, Copy, Debug)]
+#[derive(Clone, Copy)]
 pub enum Case<'a> {
     /// The stored response that it selects is its reply.
     Hit(&'a Stored),

@@ -4,7 +4,7 @@ ghost use Rattle.std.specs.Prelude.{◌≡◌};
 ghost use Rattle.hc_service.specs.Numbers.{no_numbers};
 
 /// What a cache counts. A count that has come to its last value stays there.
-#[derive(Clone, Copy, Debug, PartialEq, Eq)]
+#[derive(Clone, Copy, PartialEq, Eq)]
 pub struct Numbers {
     /// The last moment, in whole seconds since 1970.
     pub moment: u64,

@@ -8,7 +8,7 @@ use crate::cases::Cause;
 use hc_head::{RequestHead, Target};
 
 /// A request that awaits its reply.
-#[derive(Debug, Drop)]
+#[derive(Drop)]
 pub struct OpenExchange {
     /// The number of the connection on which it came.
     pub connection: u64,
@@ -22,7 +22,7 @@ pub struct OpenExchange {
 }
 
 /// A request that was sent to the origin and isn't answered yet.
-#[derive(Debug, Drop)]
+#[derive(Drop)]
 pub struct OpenForward {
     /// Its head, as it was sent.
     pub request: RequestHead,
@@ -35,7 +35,7 @@ pub struct OpenForward {
 }
 
 /// How a request goes to the origin.
-#[derive(Clone, Copy, Debug, PartialEq, Eq)]
+#[derive(Clone, Copy, PartialEq, Eq)]
 pub enum ForwardKind {
     /// As it came, but for what is for its connection; nobody else may wait for what comes of it.
     Plain,
@@ -68,7 +68,7 @@ impl ForwardKind {
 }
 
 /// Whom the answer to a forward is for.
-#[derive(Clone, Copy, Debug, PartialEq, Eq)]
+#[derive(Clone, Copy, PartialEq, Eq)]
 pub enum Purpose {
     /// A client's request.
     Reply {

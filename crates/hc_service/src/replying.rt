@@ -18,7 +18,7 @@ use std::alloc::{AllocError, Global};
 use std::marker::Model;
 
 /// A reply that is wanted. Contracts see it as a `Wanted` of the definitions.
-#[derive(Debug, Drop)]
+#[derive(Drop)]
 pub struct WantedReply<'a> {
     /// The name of the cache.
     pub name: &'a Octets,

@@ -7,7 +7,7 @@ ghost use Rattle.hc_service.specs.Settings.{is_name, is_name_octet, is_size};
 use hc_fields::Octets;
 
 /// What a cache is asked to be.
-#[derive(Debug, Drop)]
+#[derive(Drop)]
 pub struct CoreSettings {
     /// The name by which it calls itself in Via and in Cache-Status: a letter, and then at most 31
     /// letters, digits, `-`, `_` and `.`.

@@ -27,7 +27,7 @@ use std::time::Clock;
 const OWNER_ALONE: u32 = 0o600;
 
 /// What is served.
-#[derive(Clone, Copy, Debug)]
+#[derive(Clone, Copy)]
 pub struct Service<'a> {
     /// The host and the port to which clients connect.
     pub listen: &'a str,

@@ -3,7 +3,7 @@
 use hc_fields::Octets;
 
 /// How a cache handled a request (RFC 9211 section 2).
-#[derive(Debug, Drop)]
+#[derive(Drop)]
 pub enum Handling {
     /// The reply came out of the cache.
     Hit {
@@ -25,7 +25,7 @@ pub enum Handling {
 }
 
 /// A member of Cache-Status: the name of the cache, a Token, and how it handled the request.
-#[derive(Debug, Drop)]
+#[derive(Drop)]
 pub struct CacheStatus {
     pub name: Octets,
     pub handling: Handling,

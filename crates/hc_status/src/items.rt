@@ -9,7 +9,7 @@ use std::marker::Model;
 use std::mem;
 
 /// A bare item (RFC 8941 section 3.3).
-#[derive(Debug, Drop)]
+#[derive(Drop)]
 pub enum Bare {
     /// At most fifteen digits, with a minus or without (RFC 8941 section 3.3.1).
     Integer(i64),
@@ -26,14 +26,14 @@ pub enum Bare {
 }
 
 /// A parameter of a member (RFC 8941 section 3.1.2); one that stands alone is the Boolean true.
-#[derive(Debug, Drop)]
+#[derive(Drop)]
 pub struct Parameter {
     pub key: Octets,
     pub value: Bare,
 }
 
 /// Parameters in order, each key once, which contracts see as the list of them.
-#[derive(Debug, Drop)]
+#[derive(Drop)]
 pub struct Parameters {
     list: Vec<Parameter>,
 }
@@ -99,7 +99,7 @@ impl Parameters {
 }
 
 /// A member of a list: an item with its parameters (RFC 8941 section 3.3).
-#[derive(Debug, Drop)]
+#[derive(Drop)]
 pub struct Member {
     pub item: Bare,
     pub params: Parameters,

@@ -1,7 +1,7 @@
 //! The mark of a reply.
 
 /// What Cache-Status says of a reply, by the last member of its list (RFC 9211 section 2).
-#[derive(Clone, Copy, Debug, PartialEq, Eq)]
+#[derive(Clone, Copy, PartialEq, Eq)]
 pub enum Mark {
     /// The reply came out of the cache (RFC 9211 section 2.1).
     Hit {

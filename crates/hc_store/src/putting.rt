@@ -1,7 +1,7 @@
 //! What comes of putting a response into a store.
 
 /// What came of it.
-#[derive(Clone, Copy, Debug, PartialEq, Eq)]
+#[derive(Clone, Copy, PartialEq, Eq)]
 pub enum Put {
     /// It is stored.
     Stored,

@@ -10,7 +10,7 @@ use std::marker::Model;
 
 /// The variants of a key (RFC 9111 section 2), in the order in which they were added, which contracts
 /// see as the list of them.
-#[derive(Debug, Drop)]
+#[derive(Drop)]
 pub struct Variants {
     pub(crate) list: Vec<Stored>,
 }

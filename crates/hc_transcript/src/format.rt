@@ -6,7 +6,7 @@ ghost use Rattle.hc_transcript.specs.Records.{opening};
 ghost use Rattle.hc_transcript.specs.Malformed.{HasNoOpening, IsUnfinishedOpening};
 
 /// The format of a transcript, which its opening tells.
-#[derive(Clone, Copy, Debug, PartialEq, Eq)]
+#[derive(Clone, Copy, PartialEq, Eq)]
 pub enum Format {
     /// `HCT1`: nothing tells for which exchange a forward was made.
     First,

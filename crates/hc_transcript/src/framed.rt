@@ -12,7 +12,7 @@ use crate::line::{Line, parse_line};
 use crate::open_numbers::Standing;
 
 /// A record in its place: its line, the octets of its message, and how many octets it takes.
-#[derive(Clone, Copy, Debug)]
+#[derive(Clone, Copy)]
 pub(crate) struct Framed<'a> {
     pub line: Line,
     pub message: &'a [u8],

@@ -7,7 +7,7 @@ use hc_framing::Message;
 use hc_head::{RequestHead, ResponseHead, Target};
 
 /// A record with its message read.
-#[derive(Debug, Drop)]
+#[derive(Drop)]
 pub struct OwnedItem {
     /// The number of its exchange or its forward.
     pub number: u64,
@@ -19,7 +19,7 @@ pub struct OwnedItem {
 }
 
 /// What passed, read.
-#[derive(Debug, Drop)]
+#[derive(Drop)]
 pub enum Meaning {
     /// What a client asked, and for what.
     ClientRequest {

@@ -11,7 +11,7 @@ use crate::format::Format;
 use crate::numerals::{numeral, numeral_before_space};
 
 /// What a record tells.
-#[derive(Clone, Copy, Debug, PartialEq, Eq)]
+#[derive(Clone, Copy, PartialEq, Eq)]
 pub enum Kind {
     /// `q`
     ClientRequest,
@@ -26,7 +26,7 @@ pub enum Kind {
 }
 
 /// What a line tells of the cause of a forward: the exchange that it was made for.
-#[derive(Clone, Copy, Debug, PartialEq, Eq)]
+#[derive(Clone, Copy, PartialEq, Eq)]
 pub enum ToldCause {
     /// Nothing: it is no line of a forward, or the format has no causes.
     Untold,
@@ -61,7 +61,7 @@ impl ToldCause {
 
 /// The line that begins a record: its kind, the number of its exchange or forward, its moment in
 /// whole seconds since 1970, how many octets its message has, and the cause of a forward.
-#[derive(Clone, Copy, Debug, PartialEq, Eq)]
+#[derive(Clone, Copy, PartialEq, Eq)]
 pub struct Line {
     /// What passed.
     pub kind: Kind,

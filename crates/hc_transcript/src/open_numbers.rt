@@ -18,7 +18,7 @@ use std::collections::BTreeMap;
 
 /// What a beginning of a transcript leaves for the records after it. The maps tell of each open
 /// number whether its request is HEAD.
-#[derive(Debug, Drop)]
+#[derive(Drop)]
 pub(crate) struct Standing {
     records: u64,
     moment: u64,

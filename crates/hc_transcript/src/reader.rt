@@ -17,7 +17,6 @@ use std::alloc::Global;
 
 /// Reads the records of a transcript that comes in pieces. It holds the octets that were fed and
 /// not yet read, and what the record that was read last means.
-#[derive(Debug)]
 pub struct RecordReader {
     alloc: Global,
     held: Waiting,

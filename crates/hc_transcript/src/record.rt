@@ -6,7 +6,7 @@ use hc_framing::MessageText;
 use std::alloc::AllocError;
 
 /// A record of a transcript: what passed, the number of its exchange or forward, and the moment.
-#[derive(Debug, Drop)]
+#[derive(Drop)]
 pub struct Record {
     /// The number of its exchange or its forward.
     pub number: u64,
@@ -17,7 +17,7 @@ pub struct Record {
 }
 
 /// What passed, with the octets of its message as they were.
-#[derive(Debug, Drop)]
+#[derive(Drop)]
 pub enum Passed {
     /// What a client asked.
     ClientRequest(MessageText),

@@ -12,7 +12,6 @@ use hc_head::{Method, RequestHead, ResponseHead, StatusCode, is_unsafe};
 use std::alloc::{AllocError, Global};
 
 /// A stored response, as the responses behind it have left it.
-#[derive(Debug)]
 pub struct Stored {
     /// The request that it answers, as it was sent to the origin.
     pub request: RequestHead,
