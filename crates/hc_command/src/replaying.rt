@@ -9,8 +9,8 @@ use crate::input::all_of;
 use crate::line::verdict_line;
 use crate::print::printed;
 use crate::trouble::Trouble;
-use hc_drive::ReplayFault;
 use hc_history::Verdict;
+use hc_scripts::ScriptFault;
 use std::alloc::Global;
 use std::io;
 use std::io::{Read, Write};
@@ -46,7 +46,7 @@ fn played<W: Write, E: Write>(alloc: Global, script: &[u8], output: &mut W, faul
     ensures { ReplaysFor (Some script.now) result (W.contents output.old) (W.contents output.new)
         (E.contents faults.old) (E.contents faults.new) }
 {
-    match hc_drive::replay(alloc, script) {
+    match hc_scripts::replay(alloc, script) {
         Ok((transcript, verdict)) => {
             match said(alloc, transcript.as_slice(), &verdict, output, faults) {
                 Ok(status) => status,
@@ -90,20 +90,20 @@ fn written<W: Write, E: Write>(
 }
 
 // Says why there is no transcript, and answers the exit status.
-fn refused<E: Write>(fault: ReplayFault, faults: &mut E) -> u8
+fn refused<E: Write>(fault: ScriptFault, faults: &mut E) -> u8
     ensures { result ≡ refusal_status fault }
 {
     match fault {
-        ReplayFault::Memory => Trouble::Memory.told("", faults),
-        ReplayFault::Opening => blamed(fault, faults),
-        ReplayFault::Line => blamed(fault, faults),
-        ReplayFault::Torn => blamed(fault, faults),
-        ReplayFault::Settings => blamed(fault, faults),
+        ScriptFault::Memory => Trouble::Memory.told("", faults),
+        ScriptFault::Opening => blamed(fault, faults),
+        ScriptFault::Line => blamed(fault, faults),
+        ScriptFault::Torn => blamed(fault, faults),
+        ScriptFault::Settings => blamed(fault, faults),
     }
 }
 
 // Says by which fault the script can't be played, and answers the exit status.
-fn blamed<E: Write>(fault: ReplayFault, faults: &mut E) -> u8
+fn blamed<E: Write>(fault: ScriptFault, faults: &mut E) -> u8
     ensures { result ≡ 2 }
 {
     let number = fault.number();
