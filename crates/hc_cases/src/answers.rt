@@ -96,17 +96,39 @@ where
     R: Files + AllocGlobal,
 {
     let parts = parts_of(rt.alloc(), case)?;
-    let Some((question, others)) = parts.as_slice().split_first() else {
-        return Err(Unanswered::Unknown);
-    };
-    let mut about = Vec::new(rt.alloc());
-    for part in others {
-        about.push(octets_of(rt, part)?)?;
+    match parts.as_slice().split_first() {
+        Some((question, others)) => ask_about(rt, asked, question, others, answer),
+        None => Err(Unanswered::Unknown),
     }
+}
+
+fn ask_about<R, A: Ask>(
+    rt: &R,
+    asked: &A,
+    question: &str,
+    parts: &[&str],
+    answer: &mut String,
+) -> Result<(), Unanswered>
+where
+    R: Files + AllocGlobal,
+{
+    let about = octets_of_each(rt, parts)?;
     let case = Case {
         alloc: rt.alloc(),
         question,
         about: about.as_slice(),
     };
     asked.answer(&case, answer)
+}
+
+// What each of the parts stands for.
+fn octets_of_each<R>(rt: &R, parts: &[&str]) -> Result<Vec<Vec<u8>>, Unanswered>
+where
+    R: Files + AllocGlobal,
+{
+    let mut about = Vec::new(rt.alloc());
+    for part in parts {
+        about.push(octets_of(rt, part)?)?;
+    }
+    Ok(about)
 }

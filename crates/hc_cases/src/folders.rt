@@ -96,16 +96,46 @@ where
 {
     let names = names_in(rt, folder, C::ENDING)?;
     let count = names.len();
-    let mut agreed = 0usize;
-    for name in names.as_slice() {
-        match compared.difference(rt, folder, name.as_str())? {
-            None => agreed = agreed.saturating_add(1),
-            Some(line) => tell(name.as_str(), C::ENDING, line.as_str(), output)?,
-        }
-    }
+    let agreed = tell_each(rt, compared, folder, names.as_slice(), output)?;
     writeln!(output, "{count} {}, {agreed} {}", C::NAMED, C::AGREED)?;
     output.flush()?;
     Ok(agreed == count)
+}
+
+// Says what differs, and answers how many agree.
+fn tell_each<R, C: Compare, W: Write>(
+    rt: &R,
+    compared: &C,
+    folder: &str,
+    names: &[String],
+    output: &mut W,
+) -> Result<usize, Unanswered>
+where
+    R: Files + AllocGlobal,
+{
+    let mut agreed = 0usize;
+    for name in names {
+        let difference = compared.difference(rt, folder, name.as_str())?;
+        if agrees::<C, W>(name.as_str(), &difference, output)? {
+            agreed = agreed.saturating_add(1);
+        }
+    }
+    Ok(agreed)
+}
+
+// Says what comes of a file where it isn't what is wanted, and answers whether it is.
+fn agrees<C: Compare, W: Write>(
+    name: &str,
+    difference: &Option<String>,
+    output: &mut W,
+) -> io::Result<bool> {
+    match difference {
+        None => Ok(true),
+        Some(line) => {
+            tell(name, C::ENDING, line.as_str(), output)?;
+            Ok(false)
+        }
+    }
 }
 
 // Says what comes of a file.
