@@ -39,7 +39,7 @@ def hcache(is_unproved=False):
     one that isn't proved."""
     if "HCACHE" in os.environ:
         need(os.environ["HCACHE"])
-        return [os.environ["HCACHE"]]
+        return [os.path.abspath(shutil.which(os.environ["HCACHE"]))]
     launcher = [HERE / "hcache", *["--unproved"] * is_unproved]
     ran = subprocess.run([*launcher, "audit", HERE / "examples/first.hct"], stdout=subprocess.DEVNULL, check=False)
     if ran.returncode:
