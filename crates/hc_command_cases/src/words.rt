@@ -115,9 +115,9 @@ fn say_text(place: &str, text: &[u8], out: &mut String) -> Result<(), AllocError
 }
 
 fn say_same(place: &str, text: &[u8], wanted: &[u8], out: &mut String) -> Result<(), AllocError> {
-    if text != wanted {
-        return say_text(place, text, out);
+    if text == wanted {
+        out.push_str(place)?;
+        return out.push_str("this text");
     }
-    out.push_str(place)?;
-    out.push_str("this text")
+    say_text(place, text, out)
 }
