@@ -67,8 +67,8 @@ class Shim:
         subprocess.run(["cc", "-O2", "-shared", "-fPIC", "-o", self.object, source], check=True)
 
     def environment(self, which, hooks=None):
-        """The environment of a process whose request of that number is refused, none for 0. A program that was compiled with
-        AddressSanitizer has its table of hooks there."""
+        """The environment of a process whose request of that number is refused, none for 0. A program that was compiled
+        with AddressSanitizer has its table of hooks there."""
         self.count.write_bytes(bytes(16))
         said = {"LD_PRELOAD": self.object, "REFUSED_REQUEST": str(which), "REFUSED_COUNT": self.count}
         return {**os.environ, **said, **({"REFUSED_HOOKS": hooks} if hooks else {})}

@@ -1,8 +1,8 @@
 /* Lets one request of a process for memory fail, put before a program by LD_PRELOAD. REFUSED_REQUEST says which, from 1
-   on; 0 is none. REFUSED_COUNT names a file of sixteen octets, in which the requests and the octets that they ask for are
-   counted as they come, also where the process is killed. A program that was compiled with AddressSanitizer has a malloc
-   of its own, and a table of whom it tells of each request: REFUSED_HOOKS says where in the program that stands. There
-   requests are counted, and none fails. */
+   on; 0 is none. REFUSED_COUNT names a file of sixteen octets, in which the requests and the octets that they ask for
+   are counted as they come, also where the process is killed. A program that was compiled with AddressSanitizer has a
+   malloc of its own, and a table of whom it tells of each request: REFUSED_HOOKS says where in the program that stands.
+   There requests are counted, and none fails. */
 
 #define _GNU_SOURCE
 #include <errno.h>
