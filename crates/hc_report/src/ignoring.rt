@@ -22,7 +22,6 @@ const ANYWHERE: u64 = 0;
 
 /// How many replies are wrong where more fields are ignored. Names are added where they help, so the replies before
 /// were judged with fewer of them.
-#[derive(Drop)]
 pub(crate) struct IgnoringTry {
     alloc: Global,
     /// How many names the audit ignores.
@@ -32,6 +31,18 @@ pub(crate) struct IgnoringTry {
     /// How many replies are wrong still, at most.
     pub(crate) wrong: u64,
     ghost few: { length settings.ignored ≤ given + MOST_NAMES },
+}
+
+impl Drop for IgnoringTry {
+    fn drop(self) {
+        let IgnoringTry {
+            alloc: _,
+            given: _,
+            settings,
+            wrong: _,
+        } = self;
+        drop(settings);
+    }
 }
 
 impl IgnoringTry {

@@ -10,13 +10,27 @@ use std::fmt::Write;
 const WIDEST: usize = 48;
 
 /// What the table says of a group.
-#[derive(Drop)]
 struct Row {
     count: u64,
     first: u64,
     reason: String,
     what: String,
     target: String,
+}
+
+impl Drop for Row {
+    fn drop(self) {
+        let Row {
+            count: _,
+            first: _,
+            reason,
+            what,
+            target,
+        } = self;
+        drop(reason);
+        drop(what);
+        drop(target);
+    }
 }
 
 /// How many columns texts take.
