@@ -4,7 +4,7 @@ use hc_history::Settings;
 use hc_service::CoreSettings;
 
 /// What the words ask.
-#[derive(Debug, Drop)]
+#[derive(Drop)]
 pub enum Order<'a> {
     /// To audit a transcript.
     Audit {

@@ -6,7 +6,7 @@ use hc_fields::Octets;
 use hc_history::Reason;
 
 /// What in a reply is wrong, beside the reason.
-#[derive(Debug, Drop)]
+#[derive(Drop)]
 pub enum Detail {
     /// The reason says all.
     Nothing,

@@ -15,7 +15,6 @@ const MOST_NAMES: usize = 20;
 
 /// The names of the fields of which a reply has other values than a stored response, in lower case, each once, in the
 /// order of the reply and then of the response; at most 20 in all.
-#[derive(Debug)]
 pub struct Differences {
     /// Those that the reply alone has.
     pub added: Vec<Octets>,
@@ -63,6 +62,14 @@ fn say_each(
         is_first = false;
     }
     Ok(is_first)
+}
+
+// Says how many more there are, if any.
+fn say_more(more: u64, out: &mut String) -> Result<(), AllocError> {
+    if more == 0 {
+        return Ok(());
+    }
+    write!(out, ", and {more} more")
 }
 
 impl Differences {
@@ -131,10 +138,6 @@ impl Differences {
         let is_first = say_each("added ", self.added.as_slice(), true, out)?;
         let is_first = say_each("dropped ", self.dropped.as_slice(), is_first, out)?;
         say_each("changed ", self.changed.as_slice(), is_first, out)?;
-        if 0 < self.more {
-            let more = self.more;
-            write!(out, ", and {more} more")?;
-        }
-        Ok(())
+        say_more(self.more, out)
     }
 }

@@ -3,7 +3,7 @@
 use std::alloc::AllocError;
 
 /// What forbids to store a response, the first thing that does.
-#[derive(Clone, Copy, Debug, PartialEq, Eq)]
+#[derive(Clone, Copy, PartialEq, Eq)]
 pub enum Forbidden {
     /// The request is no GET.
     Method,
@@ -41,7 +41,7 @@ impl Forbidden {
 }
 
 /// What forbids to use a stored response.
-#[derive(Clone, Copy, Debug, PartialEq, Eq)]
+#[derive(Clone, Copy, PartialEq, Eq)]
 pub enum Unusable {
     /// It says `no-cache`, and nothing has validated it (RFC 9111 section 5.2.2.4).
     NoCache,
