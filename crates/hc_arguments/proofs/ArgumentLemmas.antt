@@ -166,7 +166,7 @@ pub one_command : (command : Option Command) (value : Text → Option Text) (tas
     → command_of task ≡ command_of other
 one_command command value task other a b = one_some command _ _ a.0 b.0
 
-one_task : (command : Option Command) (value : Text → Option Text) (task other : Task) → AsksBy command value task → AsksBy command value other → task ≡ other
+pub one_task : (command : Option Command) (value : Text → Option Text) (task other : Task) → AsksBy command value task → AsksBy command value other → task ≡ other
 one_task command value task other a b = one_some _ task other (task_given command value task a) (task_given command value other b)
 
 -- what is asked lacks nothing

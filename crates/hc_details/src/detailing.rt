@@ -7,7 +7,7 @@ use crate::using::unusable;
 use crate::window::not_forwarded;
 use hc_audit::JudgedReply;
 use hc_fields::number;
-use hc_head::{StatusCode, is_get_or_head};
+use hc_head::{ResponseHead, StatusCode, is_get_or_head};
 use hc_history::{Candidate, Mark, Reason, ReplyClaim, age_of, lifetime_of, reason_behind};
 use hc_index::Index;
 use hc_status::{MarkFault, mark};
@@ -79,6 +79,12 @@ fn by_response(
     }
 }
 
+// The position of the response that gets furthest.
+fn furthest<I: Index>(judged: &JudgedReply<'_, I>) -> Result<Option<u64>, AllocError> {
+    let candidates = judged.candidates()?;
+    Ok(candidates.first().map(|candidate| candidate.position))
+}
+
 // What keeps the reply from carrying the response that gets furthest.
 fn by_furthest<I: Index>(
     alloc: Global,
@@ -86,28 +92,29 @@ fn by_furthest<I: Index>(
     claim: &ReplyClaim<'_>,
     reason: Reason,
 ) -> Result<Detail, AllocError> {
-    let candidates = judged.candidates()?;
-    let Some(furthest) = candidates.first() else {
+    let Some(position) = furthest(judged)? else {
         return Ok(Detail::Nothing);
     };
-    match judged.index.response(claim.target, furthest.position) {
+    match judged.index.response(claim.target, position) {
         Some(state) => by_response(alloc, claim, state, reason),
         None => Ok(Detail::Nothing),
     }
 }
 
-// Whether its Cache-Status says that it is a hit.
-fn says_hit<I: Index>(alloc: Global, judged: &JudgedReply<'_, I>) -> Result<bool, AllocError> {
-    match mark(alloc, &judged.reply.reply().head.fields) {
-        Ok(Mark::Hit { .. }) => Ok(true),
-        Ok(_) => Ok(false),
+// Whether the Cache-Status says that it is a hit.
+fn says_hit(alloc: Global, head: &ResponseHead) -> Result<bool, AllocError> {
+    match mark(alloc, &head.fields) {
+        Ok(mark) => Ok(matches!(mark, Mark::Hit { .. })),
         Err(MarkFault::Memory) => Err(AllocError),
     }
 }
 
-// Why it counts as unmarked.
-fn unmarked<I: Index>(alloc: Global, judged: &JudgedReply<'_, I>) -> Result<Detail, AllocError> {
-    if judged.reply.reply().head.status == StatusCode::PARTIAL_CONTENT && says_hit(alloc, judged)? {
+// Why a reply with that head counts as unmarked.
+fn unmarked(alloc: Global, head: &ResponseHead) -> Result<Detail, AllocError> {
+    if head.status != StatusCode::PARTIAL_CONTENT {
+        return Ok(Detail::Unmarked);
+    }
+    if says_hit(alloc, head)? {
         Ok(Detail::Partial)
     } else {
         Ok(Detail::Unmarked)
@@ -125,6 +132,12 @@ fn lacks(candidates: &[Candidate], since: u64) -> Reason {
     }
 }
 
+// The same of its candidates.
+fn lacked<I: Index>(judged: &JudgedReply<'_, I>, since: u64) -> Result<Reason, AllocError> {
+    let candidates = judged.candidates()?;
+    Ok(lacks(candidates.as_slice(), since))
+}
+
 /// What in a wrong reply is wrong, by what was passed before it. It fails only where memory is refused.
 pub fn detail<I: Index>(
     alloc: Global,
@@ -138,11 +151,8 @@ pub fn detail<I: Index>(
     match reason {
         Reason::NoResponse => Ok(no_response(&claim, past)),
         Reason::NotForwarded => not_forwarded(alloc, &claim, past),
-        Reason::Unmarked => unmarked(alloc, judged),
-        Reason::NotCollapsible => {
-            let candidates = judged.candidates()?;
-            Ok(Detail::Lacks(lacks(candidates.as_slice(), claim.since)))
-        }
+        Reason::Unmarked => unmarked(alloc, &judged.reply.reply().head),
+        Reason::NotCollapsible => Ok(Detail::Lacks(lacked(judged, claim.since)?)),
         _ => by_furthest(alloc, judged, &claim, reason),
     }
 }

@@ -64,6 +64,14 @@ fn say_each(
     Ok(is_first)
 }
 
+// Says how many more there are, if any.
+fn say_more(more: u64, out: &mut String) -> Result<(), AllocError> {
+    if more == 0 {
+        return Ok(());
+    }
+    write!(out, ", and {more} more")
+}
+
 impl Differences {
     ghost use Rattle.hc_update.specs.declared.stored.Stored.{Stored};
     ghost use Rattle.hc_history.specs.Claims.{Claim};
@@ -130,10 +138,6 @@ impl Differences {
         let is_first = say_each("added ", self.added.as_slice(), true, out)?;
         let is_first = say_each("dropped ", self.dropped.as_slice(), is_first, out)?;
         say_each("changed ", self.changed.as_slice(), is_first, out)?;
-        if 0 < self.more {
-            let more = self.more;
-            write!(out, ", and {more} more")?;
-        }
-        Ok(())
+        say_more(self.more, out)
     }
 }

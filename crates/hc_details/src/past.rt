@@ -95,8 +95,12 @@ impl Past {
         if let Some(why) = forbidden(&forward.request, &response.head) {
             self.forbid(&forward.target, why)?;
         }
-        let outcome = Outcome::answered(response)?;
-        self.end(passed.position, passed.format, forward, outcome)
+        self.end(
+            passed.position,
+            passed.format,
+            forward,
+            Outcome::answered(response)?,
+        )
     }
 
     // Takes in a failure.

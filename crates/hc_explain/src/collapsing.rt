@@ -11,7 +11,7 @@ use std::fmt::Write;
 
 /// Writes what came behind the request.
 fn push_behind(found: &Found, traces: &Traces, out: &mut String) -> Result<(), AllocError> {
-    if let Some(furthest) = &found.furthest {
+    if let Some(furthest) = &found.nearest.furthest {
         return say_failing(found, traces, furthest, out);
     }
     let since = found.since;
@@ -28,13 +28,13 @@ fn push_behind(found: &Found, traces: &Traces, out: &mut String) -> Result<(), A
 
 /// Writes how far the responses get that came before the request.
 fn push_before(found: &Found, out: &mut String) -> Result<(), AllocError> {
-    for (index, candidate) in found.before.listed.iter().enumerate() {
+    for (index, candidate) in found.nearest.before.listed.iter().enumerate() {
         push_separator(index, ", ", out)?;
         let position = candidate.position;
         write!(out, "{position} ")?;
         push_reach(*candidate, out)?;
     }
-    push_more(found.before.more, out)
+    push_more(found.nearest.before.more, out)
 }
 
 /// Writes the line that says why the reply is no collapsed one.
@@ -45,7 +45,7 @@ pub(crate) fn say_collapsing(
 ) -> Result<(), AllocError> {
     begin_rule(Reason::NotCollapsible.number(), out)?;
     push_behind(found, traces, out)?;
-    if !found.before.listed.is_empty() {
+    if !found.nearest.before.listed.is_empty() {
         out.push_str("; before it: ")?;
         push_before(found, out)?;
     }

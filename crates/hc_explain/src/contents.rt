@@ -1,6 +1,7 @@
 //! In what the status or the body of a reply differs from a response's.
 
 use crate::values::push_joined;
+use hc_fields::Fields;
 use hc_head::{StatusCode, is_head};
 use hc_history::ReplyClaim;
 use hc_shown::push_octets;
@@ -16,6 +17,18 @@ fn octets_in_common(one: &[u8], other: &[u8]) -> usize {
         .count()
 }
 
+/// Writes a name and the values that it has.
+fn push_named(
+    alloc: Global,
+    name: &[u8],
+    fields: &Fields,
+    out: &mut String,
+) -> Result<(), AllocError> {
+    push_octets(name, out)?;
+    out.push_str(" ")?;
+    push_joined(alloc, name, fields, out)
+}
+
 /// Writes the condition of that name that the request presents, and what the response has for it.
 fn push_condition(
     alloc: Global,
@@ -25,13 +38,9 @@ fn push_condition(
     validator: &[u8],
     out: &mut String,
 ) -> Result<(), AllocError> {
-    push_octets(condition, out)?;
-    out.push_str(" ")?;
-    push_joined(alloc, condition, &claim.request.fields, out)?;
+    push_named(alloc, condition, &claim.request.fields, out)?;
     out.push_str(", its ")?;
-    push_octets(validator, out)?;
-    out.push_str(" ")?;
-    push_joined(alloc, validator, &state.fields, out)
+    push_named(alloc, validator, &state.fields, out)
 }
 
 /// Writes that the request's condition doesn't earn a 304 (RFC 9111 section 4.3.2).
@@ -46,6 +55,16 @@ fn say_unearned(
         let status = state.status.as_u16();
         return write!(out, "its status is {status}");
     }
+    say_conditions(alloc, claim, state, out)
+}
+
+/// Writes the condition that the request presents, if it has one.
+fn say_conditions(
+    alloc: Global,
+    claim: &ReplyClaim<'_>,
+    state: &Stored,
+    out: &mut String,
+) -> Result<(), AllocError> {
     if claim.request.fields.contains(b"if-none-match") {
         return push_condition(alloc, claim, state, b"if-none-match", b"etag", out);
     }
@@ -71,6 +90,11 @@ fn say_bodies(claim: &ReplyClaim<'_>, state: &Stored, out: &mut String) -> Resul
     let there = state.body.len();
     let common = octets_in_common(state.body.as_slice(), claim.reply.body.as_slice());
     write!(out, "its body has {there} octets, the reply's {here}")?;
+    push_common(common, out)
+}
+
+/// Writes how many octets agree, if any do.
+fn push_common(common: usize, out: &mut String) -> Result<(), AllocError> {
     if common == 0 {
         return Ok(());
     }

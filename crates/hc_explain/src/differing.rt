@@ -36,10 +36,16 @@ impl Drop for Difference {
 }
 
 /// The fields in which a reply differs from a response, and how many more there are.
-#[derive(Drop)]
 pub(crate) struct Differing {
     listed: Vec<Difference>,
     more: u64,
+}
+
+impl Drop for Differing {
+    fn drop(self) {
+        let Differing { listed, more: _ } = self;
+        drop(listed);
+    }
 }
 
 /// The values of a name as they are shown.
@@ -64,20 +70,24 @@ impl Differing {
         claim: &ReplyClaim<'_>,
         state: &Stored,
     ) -> Result<Self, AllocError> {
-        let Differences {
-            added,
-            dropped,
-            changed,
-            more,
-        } = differences(alloc, claim, state)?;
-        let mut differing = Differing {
-            listed: Vec::new(alloc),
-            more,
-        };
-        differing.add_all(alloc, claim, state, dropped)?;
-        differing.add_all(alloc, claim, state, changed)?;
-        differing.add_all(alloc, claim, state, added)?;
+        let mut differing = Differing::new(alloc);
+        let found = differences(alloc, claim, state)?;
+        differing.take(alloc, claim, state, &found)?;
         Ok(differing)
+    }
+
+    /// Takes in the fields of those names, where it has none yet.
+    fn take(
+        &mut self,
+        alloc: Global,
+        claim: &ReplyClaim<'_>,
+        state: &Stored,
+        found: &Differences,
+    ) -> Result<(), AllocError> {
+        self.more = found.more;
+        self.add_all(alloc, claim, state, found.dropped.as_slice())?;
+        self.add_all(alloc, claim, state, found.changed.as_slice())?;
+        self.add_all(alloc, claim, state, found.added.as_slice())
     }
 
     /// Adds the fields of those names.
@@ -86,34 +96,16 @@ impl Differing {
         alloc: Global,
         claim: &ReplyClaim<'_>,
         state: &Stored,
-        names: Vec<Octets>,
+        names: &[Octets],
     ) -> Result<(), AllocError> {
         for name in names {
             if self.listed.len() < LISTED {
-                self.add(alloc, claim, state, name)?;
+                self.listed
+                    .push(Difference::read(alloc, claim, state, name)?)?;
             } else {
                 self.more = self.more.saturating_add(1);
             }
         }
-        Ok(())
-    }
-
-    /// Adds the field of that name.
-    fn add(
-        &mut self,
-        alloc: Global,
-        claim: &ReplyClaim<'_>,
-        state: &Stored,
-        name: Octets,
-    ) -> Result<(), AllocError> {
-        let due = shown(alloc, &state.fields, name.as_slice())?;
-        let told = shown(alloc, &claim.reply.head.fields, name.as_slice())?;
-        self.listed.push(Difference {
-            name,
-            due,
-            told,
-            is_renewed: false,
-        })?;
         Ok(())
     }
 
@@ -139,16 +131,35 @@ impl Differing {
 }
 
 impl Difference {
+    /// In the field of that name.
+    fn read(
+        alloc: Global,
+        claim: &ReplyClaim<'_>,
+        state: &Stored,
+        name: &Octets,
+    ) -> Result<Self, AllocError> {
+        Ok(Difference {
+            name: name.copy(alloc)?,
+            due: shown(alloc, &state.fields, name.as_slice())?,
+            told: shown(alloc, &claim.reply.head.fields, name.as_slice())?,
+            is_renewed: false,
+        })
+    }
+
+    /// Writes which 304 it is of, if it is of one.
+    fn say_renewal(&self, validated_at: Option<u64>, out: &mut String) -> Result<(), AllocError> {
+        match validated_at {
+            Some(position) if self.is_renewed => write!(out, " (of {position})"),
+            _ => Ok(()),
+        }
+    }
+
     /// Writes what is due and what the reply has.
     fn say(&self, validated_at: Option<u64>, out: &mut String) -> Result<(), AllocError> {
         push_octets(self.name.as_slice(), out)?;
         out.push_str(": due ")?;
         out.push_str(self.due.as_str())?;
-        if let Some(position) = validated_at
-            && self.is_renewed
-        {
-            write!(out, " (of {position})")?;
-        }
+        self.say_renewal(validated_at, out)?;
         out.push_str(", the reply has ")?;
         out.push_str(self.told.as_str())
     }

@@ -1,16 +1,13 @@
 //! What a reading finds of the reply.
 
 ghost use Rattle.std.specs.Prelude.{◌≡◌, IfOk, IfSome};
-ghost use Rattle.hc_explain.specs.Seeking.{position_of};
+ghost use Rattle.hc_explain.specs.Seeking.{finding_of, position_of};
 
+use crate::asked::AskedReply;
 use crate::ended::EndedForward;
-use crate::furthest::Furthest;
-use crate::marking::cache_status_of;
-use crate::shortlist::Shortlist;
+use crate::nearest::Nearest;
 use hc_audit::JudgedReply;
-use hc_fields::{Octets, SharedOctets};
-use hc_head::{Method, StatusCode, Target};
-use hc_history::{Candidate, Finding, Mark, ReplyClaim, is_judged_collapsed};
+use hc_history::{Finding, Mark, ReplyClaim, is_judged_collapsed};
 use hc_index::Index;
 use hc_transcript::Format;
 use std::alloc::{AllocError, Global};
@@ -23,32 +20,18 @@ pub struct Found {
     pub(crate) exchange: u64,
     /// The position of the request that it answers.
     pub(crate) since: u64,
-    /// In whole seconds since 1970.
-    pub(crate) moment: u64,
     /// The format of the transcript.
     pub(crate) format: Format,
-    /// The method of the request.
-    pub(crate) method: Method,
-    /// The target of the request.
-    pub(crate) target: Target,
-    /// The status of the reply.
-    pub(crate) status: StatusCode,
-    /// The body of the reply.
-    pub(crate) body: SharedOctets,
-    /// The value of its Cache-Status.
-    pub(crate) cache_status: Option<Octets>,
-    /// What that says of it.
+    /// What it says, and what was asked.
+    pub(crate) reply: AskedReply,
+    /// What its Cache-Status says of it.
     pub(crate) mark: Mark,
     /// Whether it is judged as one that waited for another request's forward.
     pub(crate) is_collapsed: bool,
     /// That it is right, or why it is wrong.
     pub(crate) finding: Finding,
-    /// The responses that it may carry; of a collapsed one those that came behind its request.
-    pub(crate) candidates: Shortlist,
-    /// Of a collapsed one those that came before its request.
-    pub(crate) before: Shortlist,
-    /// The response among the candidates that gets furthest.
-    pub(crate) furthest: Option<Furthest>,
+    /// The responses that it may carry.
+    pub(crate) nearest: Nearest,
 }
 
 impl Drop for Found {
@@ -57,27 +40,15 @@ impl Drop for Found {
             position: _,
             exchange: _,
             since: _,
-            moment: _,
             format: _,
-            method,
-            target,
-            status: _,
-            body,
-            cache_status,
+            reply,
             mark: _,
             is_collapsed: _,
             finding: _,
-            candidates,
-            before,
-            furthest,
+            nearest,
         } = self;
-        drop(method);
-        drop(target);
-        drop(body);
-        drop(cache_status);
-        drop(candidates);
-        drop(before);
-        drop(furthest);
+        drop(reply);
+        drop(nearest);
     }
 }
 
@@ -86,40 +57,6 @@ fn is_collapsed(claim: &ReplyClaim<'_>, mark: Mark) -> bool {
     match mark {
         Mark::Forwarded { collapsed } => is_judged_collapsed(claim, collapsed),
         Mark::Hit { .. } | Mark::Both | Mark::Unmarked => false,
-    }
-}
-
-/// The candidates behind a position, and those before it.
-fn parted(
-    alloc: Global,
-    candidates: &[Candidate],
-    since: u64,
-) -> Result<(Shortlist, Shortlist), AllocError> {
-    let mut behind = Shortlist::new(alloc);
-    let mut before = Shortlist::new(alloc);
-    for candidate in candidates {
-        if since < candidate.position {
-            behind.push(*candidate)?;
-        } else {
-            before.push(*candidate)?;
-        }
-    }
-    Ok((behind, before))
-}
-
-/// What the index knows of the response that gets furthest.
-fn furthest<I: Index>(
-    alloc: Global,
-    judged: &JudgedReply<'_, I>,
-    claim: &ReplyClaim<'_>,
-    candidates: &Shortlist,
-) -> Result<Option<Furthest>, AllocError> {
-    let Some(candidate) = candidates.first() else {
-        return Ok(None);
-    };
-    match judged.index.response(claim.target, candidate.position) {
-        Some(state) => Ok(Some(Furthest::read(alloc, claim, state, candidate)?)),
-        None => Ok(None),
     }
 }
 
@@ -137,26 +74,16 @@ impl Found {
         let mark = judged.reply.mark();
         let is_collapsed = is_collapsed(&claim, mark);
         let bound = if is_collapsed { claim.since } else { 0 };
-        let all = judged.candidates()?;
-        let (candidates, before) = parted(alloc, all.as_slice(), bound)?;
-        let furthest = furthest(alloc, judged, &claim, &candidates)?;
         Ok(Some(Found {
             position: judged.position,
             exchange: judged.exchange,
             since: claim.since,
-            moment: judged.moment,
             format: judged.format,
-            method: claim.request.method.clone()?,
-            target: claim.target.copy(alloc)?,
-            status: claim.reply.head.status,
-            body: claim.reply.body.share()?,
-            cache_status: cache_status_of(alloc, &claim)?,
+            reply: AskedReply::read(alloc, &claim)?,
             mark,
             is_collapsed,
             finding: judged.finding,
-            candidates,
-            before,
-            furthest,
+            nearest: Nearest::read(alloc, judged, &claim, bound)?,
         }))
     }
 
@@ -168,7 +95,9 @@ impl Found {
     }
 
     /// That it is right, or why it is wrong.
-    pub fn finding(&self) -> Finding {
+    pub fn finding(&self) -> Finding
+        ensures { result ≡ finding_of self.now }
+    {
         self.finding
     }
 
@@ -179,8 +108,6 @@ impl Found {
 
     /// Takes in what the end of that forward renewed of the response that gets furthest.
     pub(crate) fn renew(&mut self, ended: &EndedForward<'_>) {
-        if let Some(furthest) = &mut self.furthest {
-            furthest.renew(ended);
-        }
+        self.nearest.renew(ended);
     }
 }

@@ -25,6 +25,15 @@ fn push_lifetime(state: &Stored, out: &mut String) -> Result<(), AllocError> {
     write!(out, "lifetime {lifetime}")
 }
 
+/// Writes that a response of that age is fresh, or by how much it is stale.
+fn push_staleness(lifetime: u32, age: u32, out: &mut String) -> Result<(), AllocError> {
+    if fresh(lifetime, age) {
+        return out.push_str("fresh");
+    }
+    let by = staleness(lifetime, age);
+    write!(out, "stale by {by}")
+}
+
 /// Writes whether the response is fresh, and what forbids to use it.
 pub(crate) fn say_freshness(
     claim: &ReplyClaim<'_>,
@@ -35,12 +44,7 @@ pub(crate) fn say_freshness(
     let age = age_of(claim, state);
     push_lifetime(state, out)?;
     write!(out, ", age {age}: ")?;
-    if fresh(lifetime, age) {
-        out.push_str("fresh")?;
-    } else {
-        let by = staleness(lifetime, age);
-        write!(out, "stale by {by}")?;
-    }
+    push_staleness(lifetime, age, out)?;
     push_slack(claim, out)?;
     out.push_str("; ")?;
     unusable(state).say(out)

@@ -3,6 +3,7 @@
 #![tactic(auto)]
 
 mod ages;
+mod asked;
 mod collapsing;
 mod contents;
 mod differing;
@@ -13,6 +14,7 @@ mod furthest;
 mod heading;
 mod layout;
 mod marking;
+mod nearest;
 mod nearness;
 mod note;
 mod notes;

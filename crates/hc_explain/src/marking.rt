@@ -1,27 +1,16 @@
 //! What the mark of a reply says.
 
+use crate::asked::CACHE_STATUS;
 use crate::found::Found;
 use crate::layout::{begin_rule, end_line};
-use hc_fields::Octets;
 use hc_head::StatusCode;
-use hc_history::{Mark, Reason, ReplyClaim};
+use hc_history::{Mark, Reason};
 use hc_shown::push_value;
-use std::alloc::{AllocError, Global};
-
-/// The name of the field that marks a reply.
-const CACHE_STATUS: &[u8] = b"cache-status";
-
-/// The Cache-Status of the reply.
-pub(crate) fn cache_status_of(
-    alloc: Global,
-    claim: &ReplyClaim<'_>,
-) -> Result<Option<Octets>, AllocError> {
-    claim.reply.head.fields.joined(alloc, CACHE_STATUS)
-}
+use std::alloc::AllocError;
 
 /// Writes the Cache-Status of the reply.
 pub(crate) fn push_cache_status(found: &Found, out: &mut String) -> Result<(), AllocError> {
-    match &found.cache_status {
+    match &found.reply.cache_status {
         Some(value) => push_value(CACHE_STATUS, value.as_slice(), out),
         None => out.push_str("no Cache-Status"),
     }
@@ -29,10 +18,10 @@ pub(crate) fn push_cache_status(found: &Found, out: &mut String) -> Result<(), A
 
 /// What a mark comes to that says nothing of the reply.
 fn of_unmarked(found: &Found) -> &'static str {
-    if found.cache_status.is_none() {
+    if found.reply.cache_status.is_none() {
         return ": only an error may have no mark";
     }
-    if found.status == StatusCode::PARTIAL_CONTENT {
+    if found.reply.status == StatusCode::PARTIAL_CONTENT {
         return ": it says no forward, and a hit of status 206 counts as no mark";
     }
     " says neither hit nor fwd"

@@ -23,15 +23,15 @@ pub(crate) enum Apart {
 
 /// Whether a forward of that method asks what the request asks: by its method, or by GET for HEAD.
 fn asks_the_same(found: &Found, method: &Method) -> bool {
-    *method == found.method || (is_head(&found.method) && is_get(method))
+    *method == found.reply.method || (is_head(&found.reply.method) && is_get(method))
 }
 
 /// Whether the reply has that body, or none where the request is HEAD.
 fn has_body(found: &Found, body: &[u8]) -> bool {
-    if is_head(&found.method) {
-        found.body.is_empty()
+    if is_head(&found.reply.method) {
+        found.reply.body.is_empty()
     } else {
-        found.body.as_slice() == body
+        found.reply.body.as_slice() == body
     }
 }
 
@@ -47,7 +47,7 @@ pub(crate) fn apart_in(
     if !asks_the_same(found, &ended.forward.request.method) {
         return Apart::Method;
     }
-    if response.head.status != found.status {
+    if response.head.status != found.reply.status {
         return Apart::Status;
     }
     if !has_body(found, response.body.as_slice()) {
@@ -58,7 +58,7 @@ pub(crate) fn apart_in(
 
 /// Whether the forward is of the reply's target.
 pub(crate) fn is_of_target(found: &Found, ended: &EndedForward<'_>) -> bool {
-    same_target(&ended.forward.target, &found.target)
+    same_target(&ended.forward.target, &found.reply.target)
 }
 
 /// Whether it ended behind the reply's request with a response that the reply would carry, if the host of its
@@ -67,7 +67,7 @@ pub(crate) fn is_near(found: &Found, ended: &EndedForward<'_>) -> bool {
     if ended.position <= found.since {
         return false;
     }
-    if ended.forward.target.path.as_slice() != found.target.path.as_slice() {
+    if ended.forward.target.path.as_slice() != found.reply.target.path.as_slice() {
         return false;
     }
     match ended.response {

@@ -1,5 +1,6 @@
 //! What an explanation says of a record that it names.
 
+use crate::layout::{begin_line, end_line};
 use hc_transcript::Kind;
 use std::alloc::AllocError;
 use std::fmt::Write;
@@ -49,5 +50,21 @@ impl Note {
         let letter = letter(self.kind);
         let number = self.number;
         write!(out, "{position} {letter} {number}")
+    }
+
+    /// Writes the name of the record and, behind a mark, what is said of it.
+    pub(crate) fn push(&self, behind: &str, out: &mut String) -> Result<(), AllocError> {
+        self.push_name(out)?;
+        out.push_str(behind)?;
+        out.push_str(self.text.as_str())
+    }
+
+    /// Writes a line for it.
+    pub(crate) fn say_line(&self, word: &str, out: &mut String) -> Result<(), AllocError> {
+        let mut place = String::new(*out.allocator());
+        self.push_name(&mut place)?;
+        begin_line(word, place.as_str(), out)?;
+        out.push_str(self.text.as_str())?;
+        end_line(out)
     }
 }

@@ -1,15 +1,21 @@
 //! The newest records of a kind.
 
-use crate::layout::{LISTED, begin_line, end_line, push_more, push_separator};
+use crate::layout::{LISTED, push_more, push_separator};
 use crate::note::Note;
 use circular_buffer::HeapCircularBuffer;
 use std::alloc::{AllocError, Global};
 
 /// The newest records of a kind, and how many older ones there are.
-#[derive(Drop)]
 pub(crate) struct Notes {
     newest: HeapCircularBuffer<Note>,
     older: u64,
+}
+
+impl Drop for Notes {
+    fn drop(self) {
+        let Notes { newest, older: _ } = self;
+        drop(newest);
+    }
 }
 
 impl Notes {
@@ -53,9 +59,7 @@ impl Notes {
     ) -> Result<(), AllocError> {
         for (index, note) in self.newest.iter().enumerate() {
             push_separator(index, separator, out)?;
-            note.push_name(out)?;
-            out.push_str(behind)?;
-            out.push_str(note.text.as_str())?;
+            note.push(behind, out)?;
         }
         push_more(self.older, out)
     }
@@ -63,11 +67,7 @@ impl Notes {
     /// Writes a line for each, and one for the older ones.
     pub(crate) fn say_lines(&self, word: &str, out: &mut String) -> Result<(), AllocError> {
         for note in self.newest.iter() {
-            let mut place = String::new(*out.allocator());
-            note.push_name(&mut place)?;
-            begin_line(word, place.as_str(), out)?;
-            out.push_str(note.text.as_str())?;
-            end_line(out)?;
+            note.say_line(word, out)?;
         }
         Ok(())
     }

@@ -10,11 +10,22 @@ use std::alloc::{AllocError, Global};
 
 /// A witness that looks for the records that the explanation of a reply names. It is to read the transcript
 /// in which the reply was found, from its beginning on and at least up to the reply.
-#[derive(Drop)]
 pub struct Retracing {
     found: Found,
     traces: Traces,
     is_behind: bool,
+}
+
+impl Drop for Retracing {
+    fn drop(self) {
+        let Retracing {
+            found,
+            traces,
+            is_behind: _,
+        } = self;
+        drop(found);
+        drop(traces);
+    }
 }
 
 impl Retracing {
@@ -56,6 +67,8 @@ impl Retracing {
 
 impl<I: Index> Witness<I> for Retracing {
     ghost tells = { λ retracing wrongs. Unit {0} };
+
+    ghost hears = { λ retracing h. Unit {0} };
 
     fn pass(&mut self, passed: &PassedRecord<'_, I>) -> Result<(), AllocError> {
         if self.has_passed(passed.position) {

@@ -98,7 +98,7 @@ pub(crate) fn say_rule(
     out: &mut String,
 ) -> Result<(), AllocError> {
     begin_rule(reason.number(), out)?;
-    match &found.furthest {
+    match &found.nearest.furthest {
         Some(furthest) if reason != Reason::NoResponse => {
             push_shortfall(found, traces, furthest, out)?
         }

@@ -12,11 +12,21 @@ use hc_index::Index;
 use std::alloc::{AllocError, Global};
 
 /// A witness that looks for the first wrong reply.
-#[derive(Drop)]
 pub struct FirstWrong {
     alloc: Global,
     first: Option<WrongReply>,
     found: Option<Found>,
+}
+
+impl Drop for FirstWrong {
+    fn drop(self) {
+        let FirstWrong {
+            alloc: _,
+            first: _,
+            found,
+        } = self;
+        drop(found);
+    }
 }
 
 impl FirstWrong {
@@ -69,6 +79,8 @@ impl FirstWrong {
 impl<I: Index> Witness<I> for FirstWrong {
     ghost tells = { λ seeker wrongs. first_of seeker ≡ slice_get wrongs 0 };
 
+    ghost hears = { λ seeker h. Unit {0} };
+
     fn pass(&mut self, _: &PassedRecord<'_, I>) -> Result<(), AllocError> {
         Ok(())
     }
@@ -83,12 +95,23 @@ impl<I: Index> Witness<I> for FirstWrong {
 }
 
 /// A witness that looks for the reply at a position.
-#[derive(Drop)]
 pub struct ReplyAt {
     alloc: Global,
     position: u64,
     is_behind: bool,
     found: Option<Found>,
+}
+
+impl Drop for ReplyAt {
+    fn drop(self) {
+        let ReplyAt {
+            alloc: _,
+            position: _,
+            is_behind: _,
+            found,
+        } = self;
+        drop(found);
+    }
 }
 
 impl ReplyAt {
@@ -128,6 +151,8 @@ impl ReplyAt {
 
 impl<I: Index> Witness<I> for ReplyAt {
     ghost tells = { λ _ wrongs. Unit {0} };
+
+    ghost hears = { λ _ h. Unit {0} };
 
     fn pass(&mut self, passed: &PassedRecord<'_, I>) -> Result<(), AllocError> {
         self.pass_by(passed.position);

@@ -19,9 +19,29 @@ fn is_met(
     state: &Stored,
     member: &[u8],
 ) -> Result<bool, AllocError> {
+    let alone = vary_of(alloc, member)?;
+    selects(alloc, &alone, &state.request.fields, &claim.request.fields)
+}
+
+/// A Vary of that member alone.
+fn vary_of(alloc: Global, member: &[u8]) -> Result<Fields, AllocError> {
     let mut alone = Fields::new(alloc);
     alone.push(Field::new(alloc, VARY, member)?)?;
-    selects(alloc, &alone, &state.request.fields, &claim.request.fields)
+    Ok(alone)
+}
+
+/// Writes what both requests have of a name.
+fn push_both(
+    alloc: Global,
+    claim: &ReplyClaim<'_>,
+    state: &Stored,
+    name: &[u8],
+    out: &mut String,
+) -> Result<(), AllocError> {
+    out.push_str(": it answers ")?;
+    push_joined(alloc, name, &state.request.fields, out)?;
+    out.push_str(", asked is ")?;
+    push_joined(alloc, name, &claim.request.fields, out)
 }
 
 /// Writes what a member of the Vary finds in both requests.
@@ -37,10 +57,7 @@ fn say_member(
         return out.push_str(" selects no request");
     }
     let name = member.to_ascii_lowercase(alloc)?;
-    out.push_str(": it answers ")?;
-    push_joined(alloc, name.as_slice(), &state.request.fields, out)?;
-    out.push_str(", asked is ")?;
-    push_joined(alloc, name.as_slice(), &claim.request.fields, out)
+    push_both(alloc, claim, state, name.as_slice(), out)
 }
 
 /// Writes by which members of its Vary the response doesn't answer the request.

@@ -5,10 +5,16 @@ use hc_history::Candidate;
 use std::alloc::{AllocError, Global};
 
 /// The responses that get furthest, the furthest first, and how many others there are.
-#[derive(Drop)]
 pub(crate) struct Shortlist {
     pub(crate) listed: Vec<Candidate>,
     pub(crate) more: u64,
+}
+
+impl Drop for Shortlist {
+    fn drop(self) {
+        let Shortlist { listed, more: _ } = self;
+        drop(listed);
+    }
 }
 
 impl Shortlist {

@@ -87,7 +87,7 @@ pub(crate) fn say_first(
     traces: &Traces,
     out: &mut String,
 ) -> Result<(), AllocError> {
-    let Some(furthest) = &found.furthest else {
+    let Some(furthest) = &found.nearest.furthest else {
         return Ok(());
     };
     let note = traces.source(furthest.position);
@@ -124,10 +124,10 @@ pub(crate) fn say_sources(
     out: &mut String,
 ) -> Result<(), AllocError> {
     say_first(found, traces, out)?;
-    for candidate in found.candidates.listed.iter().skip(1) {
+    for candidate in found.nearest.candidates.listed.iter().skip(1) {
         say_other(traces, *candidate, out)?;
     }
-    say_more(found.candidates.more, out)
+    say_more(found.nearest.candidates.more, out)
 }
 
 /// Writes the line of the answer of the window that the reply carries.

@@ -72,7 +72,7 @@ impl Traces {
         ended: &EndedForward<'_>,
         response: &Message<ResponseHead>,
     ) -> Result<(), AllocError> {
-        if found.candidates.lists(ended.position) {
+        if found.nearest.candidates.lists(ended.position) {
             let text = source_text(self.alloc, &response.head)?;
             self.sources.push(ended.note(text))?;
         }
@@ -86,7 +86,7 @@ impl Traces {
         ended: &EndedForward<'_>,
         response: &Message<ResponseHead>,
     ) -> Result<(), AllocError> {
-        let Some(furthest) = &found.furthest else {
+        let Some(furthest) = &found.nearest.furthest else {
             return Ok(());
         };
         if ended.position <= furthest.settled_at() {

@@ -5,7 +5,6 @@ use crate::notes::Notes;
 use std::alloc::{AllocError, Global};
 
 /// The records that the explanation of a reply names, but for its own.
-#[derive(Drop)]
 pub(crate) struct Traces {
     pub(crate) alloc: Global,
     /// Those of the responses that may be what it carries, as far as they are listed.
@@ -28,6 +27,31 @@ pub(crate) struct Traces {
     pub(crate) unstored: Notes,
     /// Responses in its window of the same path under other hosts, which it would carry.
     pub(crate) near: Notes,
+}
+
+impl Drop for Traces {
+    fn drop(self) {
+        let Traces {
+            alloc: _,
+            sources,
+            carried,
+            window,
+            has_response: _,
+            error: _,
+            failure: _,
+            invalidating,
+            validating,
+            unstored,
+            near,
+        } = self;
+        drop(sources);
+        drop(carried);
+        drop(window);
+        drop(invalidating);
+        drop(validating);
+        drop(unstored);
+        drop(near);
+    }
 }
 
 impl Traces {

@@ -31,8 +31,8 @@ pub(crate) fn say_unstored(
     traces: &Traces,
     out: &mut String,
 ) -> Result<(), AllocError> {
-    if !is_get_or_head(&found.method) {
-        push_octets(found.method.as_str().as_bytes(), out)?;
+    if !is_get_or_head(&found.reply.method) {
+        push_octets(found.reply.method.as_str().as_bytes(), out)?;
         return out.push_str(" is neither GET nor HEAD");
     }
     if traces.unstored.is_empty() {

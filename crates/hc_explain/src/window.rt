@@ -67,7 +67,7 @@ pub(crate) fn near_text(
     text.push_str("agrees in path, status and body: its host is ")?;
     push_octets(ended.forward.target.host.as_slice(), &mut text)?;
     text.push_str(", asked is ")?;
-    push_octets(found.target.host.as_slice(), &mut text)?;
+    push_octets(found.reply.target.host.as_slice(), &mut text)?;
     Ok(text)
 }
 
@@ -90,7 +90,7 @@ fn push_window(traces: &Traces, out: &mut String) -> Result<(), AllocError> {
 /// Writes what is stored of the target.
 fn push_stored(found: &Found, traces: &Traces, out: &mut String) -> Result<(), AllocError> {
     out.push_str("; stored: ")?;
-    match &found.furthest {
+    match &found.nearest.furthest {
         Some(furthest) => say_failing(found, traces, furthest, out),
         None => out.push_str("nothing"),
     }

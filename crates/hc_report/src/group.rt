@@ -6,7 +6,6 @@ use hc_history::Reason;
 use std::alloc::{AllocError, Global};
 
 /// A wrong reply, and what in it is wrong.
-#[derive(Drop)]
 pub(crate) struct WrongOfKind {
     /// The position of its record.
     pub(crate) position: u64,
@@ -16,6 +15,63 @@ pub(crate) struct WrongOfKind {
     pub(crate) detail: Detail,
     /// Its target, as it is shown.
     pub(crate) target: String,
+}
+
+impl Drop for WrongOfKind {
+    fn drop(self) {
+        let WrongOfKind {
+            position: _,
+            reason: _,
+            detail,
+            target,
+        } = self;
+        drop(detail);
+        drop(target);
+    }
+}
+
+impl WrongOfKind {
+    /// By how many seconds it is off, if that is what is wrong.
+    fn seconds_off(&self) -> Option<u64> {
+        match &self.detail {
+            Detail::AgeOff { told, due } => Some(u64::from(told.abs_diff(*due))),
+            Detail::SecondsOff { told, due } => Some(told.abs_diff(*due)),
+            _ => None,
+        }
+    }
+
+    /// Its target, as it is shown.
+    fn into_target(self) -> String {
+        let WrongOfKind {
+            position: _,
+            reason: _,
+            detail: _,
+            target,
+        } = self;
+        target
+    }
+
+    /// The group of it alone.
+    pub(crate) fn into_group(self, alloc: Global) -> Result<Group, AllocError> {
+        let spread = self.seconds_off().map(|seconds| Spread {
+            least: seconds,
+            greatest: seconds,
+        });
+        let WrongOfKind {
+            position,
+            reason,
+            detail,
+            target,
+        } = self;
+        Ok(Group {
+            reason,
+            detail,
+            count: 1,
+            first: position,
+            targets: NamedTargets::of(alloc, target)?,
+            spread,
+        })
+    }
 }
 
 /// By how many seconds the replies of a group are off.
@@ -38,7 +94,6 @@ impl Spread {
 }
 
 /// The wrong replies that have a reason in common, and what is wrong in them.
-#[derive(Drop)]
 pub(crate) struct Group {
     /// Why they are wrong.
     pub(crate) reason: Reason,
@@ -54,31 +109,22 @@ pub(crate) struct Group {
     pub(crate) spread: Option<Spread>,
 }
 
-impl Group {
-    /// The group of that reply alone.
-    pub(crate) fn of(alloc: Global, wrong: WrongOfKind) -> Result<Self, AllocError> {
-        let WrongOfKind {
-            position,
-            reason,
+impl Drop for Group {
+    fn drop(self) {
+        let Group {
+            reason: _,
             detail,
-            target,
-        } = wrong;
-        let mut targets = NamedTargets::new(alloc);
-        targets.note(target)?;
-        let spread = seconds_off(&detail).map(|seconds| Spread {
-            least: seconds,
-            greatest: seconds,
-        });
-        Ok(Group {
-            reason,
-            detail,
-            count: 1,
-            first: position,
+            count: _,
+            first: _,
             targets,
-            spread,
-        })
+            spread: _,
+        } = self;
+        drop(detail);
+        drop(targets);
     }
+}
 
+impl Group {
     /// Whether a wrong reply belongs to it.
     pub(crate) fn has_kind_of(&self, wrong: &WrongOfKind) -> bool {
         self.reason == wrong.reason && self.detail.is_as(&wrong.detail)
@@ -87,18 +133,9 @@ impl Group {
     /// Takes in a further reply of it.
     pub(crate) fn note(&mut self, wrong: WrongOfKind) -> Result<(), AllocError> {
         self.count = self.count.saturating_add(1);
-        if let (Some(spread), Some(seconds)) = (self.spread, seconds_off(&wrong.detail)) {
+        if let (Some(spread), Some(seconds)) = (self.spread, wrong.seconds_off()) {
             self.spread = Some(spread.with(seconds));
         }
-        self.targets.note(wrong.target)
-    }
-}
-
-/// By how many seconds a reply is off, if that is what is wrong.
-fn seconds_off(detail: &Detail) -> Option<u64> {
-    match detail {
-        Detail::AgeOff { told, due } => Some(u64::from(told.abs_diff(*due))),
-        Detail::SecondsOff { told, due } => Some(told.abs_diff(*due)),
-        _ => None,
+        self.targets.note(wrong.into_target())
     }
 }

@@ -15,7 +15,6 @@ use std::alloc::{AllocError, Global};
 const MOST_GROUPS: usize = 100;
 
 /// The first kinds of wrong replies that were met.
-#[derive(Drop)]
 pub(crate) struct Groups {
     alloc: Global,
     /// The groups, by their first replies.
@@ -23,6 +22,17 @@ pub(crate) struct Groups {
     /// How many wrong replies are in no group.
     pub(crate) elsewhere: u64,
     ghost few: { vec_len groups ≤ MOST_GROUPS },
+}
+
+impl Drop for Groups {
+    fn drop(self) {
+        let Groups {
+            alloc: _,
+            groups,
+            elsewhere: _,
+        } = self;
+        drop(groups);
+    }
 }
 
 impl Groups {
@@ -66,7 +76,7 @@ impl Groups {
     // Begins a group, where there is room for one.
     fn begin(&mut self, wrong: WrongOfKind) -> Result<(), AllocError> {
         if self.groups.len() < MOST_GROUPS {
-            self.groups.push(Group::of(self.alloc, wrong)?)?;
+            self.groups.push(wrong.into_group(self.alloc)?)?;
         } else {
             self.elsewhere = self.elsewhere.saturating_add(1);
         }

@@ -22,7 +22,6 @@ const ANYWHERE: u64 = 0;
 
 /// How many replies are wrong where more fields are ignored. Names are added where they help, so the replies before
 /// were judged with fewer of them.
-#[derive(Drop)]
 pub(crate) struct IgnoringTry {
     alloc: Global,
     /// How many names the audit ignores.
@@ -32,6 +31,18 @@ pub(crate) struct IgnoringTry {
     /// How many replies are wrong still, at most.
     pub(crate) wrong: u64,
     ghost few: { length settings.ignored ≤ given + MOST_NAMES },
+}
+
+impl Drop for IgnoringTry {
+    fn drop(self) {
+        let IgnoringTry {
+            alloc: _,
+            given: _,
+            settings,
+            wrong: _,
+        } = self;
+        drop(settings);
+    }
 }
 
 impl IgnoringTry {
@@ -66,9 +77,20 @@ impl IgnoringTry {
         if judged.found_with(&self.settings)? == Finding::Right {
             return Ok(true);
         }
-        let Some(settings) = self.settings_with(judged, reason)? else {
-            return Ok(false);
-        };
+        match self.settings_with(judged, reason)? {
+            Some(settings) => self.serves_with(judged, settings),
+            None => Ok(false),
+        }
+    }
+
+    // Whether it is right by those settings, which are kept then.
+    fn serves_with<I: Index>(
+        &mut self,
+        judged: &JudgedReply<'_, I>,
+        settings: Settings,
+    ) -> Result<bool, AllocError>
+        requires { length settings.ignored ≤ self.old.given + MOST_NAMES }
+    {
         let serves = judged.found_with(&settings)? == Finding::Right;
         if serves {
             self.settings = settings;
@@ -85,13 +107,18 @@ impl IgnoringTry {
     ) -> Result<Option<Settings>, AllocError>
         ensures { IfOk result (λ found. IfSome found (λ settings. length settings.ignored ≤ self.now.given + MOST_NAMES)) }
     {
-        let Some(differences) = differences_of(self.alloc, judged, reason)? else {
-            return Ok(None);
-        };
+        match differences_of(self.alloc, judged, reason)? {
+            Some(differences) => self.settings_without(&differences),
+            None => Ok(None),
+        }
+    }
+
+    // The settings with those names, if they are not too many.
+    fn settings_without(&self, differences: &Differences) -> Result<Option<Settings>, AllocError>
+        ensures { IfOk result (λ found. IfSome found (λ settings. length settings.ignored ≤ self.now.given + MOST_NAMES)) }
+    {
         let mut settings = self.settings.copy(self.alloc)?;
-        ignore(self.alloc, &mut settings, differences.added.as_slice())?;
-        ignore(self.alloc, &mut settings, differences.dropped.as_slice())?;
-        ignore(self.alloc, &mut settings, differences.changed.as_slice())?;
+        ignore_all(self.alloc, &mut settings, differences)?;
         let more = settings.ignored.names().len().saturating_sub(self.given);
         if MOST_NAMES < more {
             return Ok(None);
@@ -109,6 +136,17 @@ impl IgnoringTry {
         }
         Ok(())
     }
+}
+
+// Ignores the names of those too.
+fn ignore_all(
+    alloc: Global,
+    settings: &mut Settings,
+    differences: &Differences,
+) -> Result<(), AllocError> {
+    ignore(alloc, settings, differences.added.as_slice())?;
+    ignore(alloc, settings, differences.dropped.as_slice())?;
+    ignore(alloc, settings, differences.changed.as_slice())
 }
 
 // Ignores those names too.
@@ -135,14 +173,22 @@ fn differences_of<I: Index>(
         Reason::NotCollapsible => claim.since,
         _ => ANYWHERE,
     };
-    let candidates = judged.candidates()?;
-    let Some(position) = stopped_by_fields(candidates.as_slice(), since) else {
+    let Some(position) = stopped_at(judged, since)? else {
         return Ok(None);
     };
     match judged.index.response(claim.target, position) {
         Some(state) => Ok(Some(differences(alloc, &claim, state)?)),
         None => Ok(None),
     }
+}
+
+// The same of its candidates.
+fn stopped_at<I: Index>(
+    judged: &JudgedReply<'_, I>,
+    since: u64,
+) -> Result<Option<u64>, AllocError> {
+    let candidates = judged.candidates()?;
+    Ok(stopped_by_fields(candidates.as_slice(), since))
 }
 
 // The position of the one that gets furthest of those behind a position, if it passes the filters before that of the

@@ -1,14 +1,16 @@
 //! A report as JSON.
 
+use crate::endings_json::{ends_json, verdict_json, wrong_reply_json};
 use crate::fixed::FixedTry;
 use crate::ignoring::IgnoringTry;
 use crate::listed::ListedReplies;
+use crate::members::{put_number, put_text};
 use crate::replies_json::{group_json, octets_json, replies_json};
 use crate::report::Report;
 use crate::saying::NO_MARK;
 use crate::tries::Tries;
 use hc_history::{Counts, Ending, WrongReply};
-use serde_json::{Value, json};
+use serde_json::{Map, Value, put};
 use std::alloc::{AllocError, Global};
 
 /// The whole report.
@@ -18,54 +20,60 @@ pub(crate) fn report_json(
     ending: Ending,
     counts: Option<Counts>,
 ) -> Result<Value, AllocError> {
-    let wrong = report.wrongs.count;
-    json!(in alloc; {
-        "verdict": verdict_json(alloc, report.wrongs.first, ending)?,
-        "ends": ends_json(alloc, ending)?,
-        "records": records_json(counts),
-        "replies": replies_json(alloc, &report.replies)?,
-        "octets": octets_json(alloc, &report.replies)?,
-        "judged": report.replies.judged(),
-        "warning": warning_json(alloc, report)?,
-        "wrong": wrong_json(alloc, &report.wrongs)?,
-        "groups": groups_json(alloc, report)?,
-        "ungrouped": report.groups.elsewhere,
-        "tries": tries_json(alloc, &report.tries, wrong)?
-    })
+    let mut members = Map::new(alloc);
+    put_endings(alloc, report, ending, &mut members)?;
+    put_replies(alloc, report, counts, &mut members)?;
+    put_wrongs(alloc, report, &mut members)?;
+    Ok(Value::Object(members))
 }
 
-fn verdict_json(
+// Adds the verdict, and how the recording ends.
+fn put_endings(
     alloc: Global,
-    first: Option<WrongReply>,
+    report: &Report,
     ending: Ending,
-) -> Result<Value, AllocError> {
-    match (first, ending) {
-        (Some(wrong), _) => json!(in alloc; {
-            "answer": "no",
-            "position": wrong.position,
-            "reason": wrong.reason.number(),
-            "name": wrong.reason.name()
-        }),
-        (None, Ending::Broken(position, fault)) => json!(in alloc; {
-            "answer": "malformed",
-            "position": position,
-            "fault": fault.number(),
-            "name": fault.name()
-        }),
-        (None, Ending::Whole) => json!(in alloc; {"answer": "yes"}),
-    }
+    members: &mut Map<String, Value>,
+) -> Result<(), AllocError> {
+    let verdict = verdict_json(alloc, report.wrongs.first, ending)?;
+    put(members, alloc, "verdict", verdict)?;
+    put(members, alloc, "ends", ends_json(alloc, ending)?)
 }
 
-fn ends_json(alloc: Global, ending: Ending) -> Result<Value, AllocError> {
-    match ending {
-        Ending::Whole => json!(in alloc; {"whole": true}),
-        Ending::Broken(position, fault) => json!(in alloc; {
-            "whole": false,
-            "position": position,
-            "fault": fault.number(),
-            "name": fault.name()
-        }),
-    }
+// Adds what is counted of the records and the replies.
+fn put_replies(
+    alloc: Global,
+    report: &Report,
+    counts: Option<Counts>,
+    members: &mut Map<String, Value>,
+) -> Result<(), AllocError> {
+    put(members, alloc, "records", records_json(counts))?;
+    put(
+        members,
+        alloc,
+        "replies",
+        replies_json(alloc, &report.replies)?,
+    )?;
+    put(
+        members,
+        alloc,
+        "octets",
+        octets_json(alloc, &report.replies)?,
+    )?;
+    put_number(alloc, "judged", report.replies.judged(), members)?;
+    put(members, alloc, "warning", warning_json(alloc, report)?)
+}
+
+// Adds the wrong replies, their groups, and what to try.
+fn put_wrongs(
+    alloc: Global,
+    report: &Report,
+    members: &mut Map<String, Value>,
+) -> Result<(), AllocError> {
+    put(members, alloc, "wrong", wrong_json(alloc, &report.wrongs)?)?;
+    put(members, alloc, "groups", groups_json(alloc, report)?)?;
+    put_number(alloc, "ungrouped", report.groups.elsewhere, members)?;
+    let tries = tries_json(alloc, &report.tries, report.wrongs.count)?;
+    put(members, alloc, "tries", tries)
 }
 
 fn records_json(counts: Option<Counts>) -> Value {
@@ -84,19 +92,28 @@ fn warning_json(alloc: Global, report: &Report) -> Result<Value, AllocError> {
 }
 
 fn wrong_json(alloc: Global, wrongs: &ListedReplies) -> Result<Value, AllocError> {
+    let mut members = Map::new(alloc);
+    put_listed(alloc, wrongs, &mut members)?;
+    Ok(Value::Object(members))
+}
+
+fn put_listed(
+    alloc: Global,
+    wrongs: &ListedReplies,
+    members: &mut Map<String, Value>,
+) -> Result<(), AllocError> {
+    put_number(alloc, "count", wrongs.count, members)?;
+    let listed = listed_json(alloc, wrongs.listed.as_slice())?;
+    put(members, alloc, "listed", listed)?;
+    put_number(alloc, "unlisted", wrongs.unlisted(), members)
+}
+
+fn listed_json(alloc: Global, wrongs: &[WrongReply]) -> Result<Value, AllocError> {
     let mut listed = Vec::new(alloc);
-    for wrong in &wrongs.listed {
-        listed.push(json!(in alloc; {
-            "position": wrong.position,
-            "reason": wrong.reason.number(),
-            "name": wrong.reason.name()
-        })?)?;
+    for wrong in wrongs {
+        listed.push(wrong_reply_json(alloc, *wrong)?)?;
     }
-    json!(in alloc; {
-        "count": wrongs.count,
-        "listed": Value::Array(listed),
-        "unlisted": wrongs.unlisted()
-    })
+    Ok(Value::Array(listed))
 }
 
 fn groups_json(alloc: Global, report: &Report) -> Result<Value, AllocError> {
@@ -110,25 +127,63 @@ fn groups_json(alloc: Global, report: &Report) -> Result<Value, AllocError> {
 // The tries that help.
 fn tries_json(alloc: Global, tries: &Tries, wrong: u64) -> Result<Value, AllocError> {
     let mut helpful = Vec::new(alloc);
-    if tries.ignoring.wrong < wrong {
-        helpful.push(ignoring_json(alloc, &tries.ignoring)?)?;
-    }
+    push_ignoring(alloc, &tries.ignoring, wrong, &mut helpful)?;
     for fixed in &tries.fixed {
-        if fixed.wrong < wrong {
-            helpful.push(fixed_json(alloc, fixed)?)?;
-        }
+        push_fixed(alloc, fixed, wrong, &mut helpful)?;
     }
     Ok(Value::Array(helpful))
 }
 
-fn ignoring_json(alloc: Global, ignoring: &IgnoringTry) -> Result<Value, AllocError> {
+fn push_ignoring(
+    alloc: Global,
+    ignoring: &IgnoringTry,
+    wrong: u64,
+    helpful: &mut Vec<Value>,
+) -> Result<(), AllocError> {
+    if wrong <= ignoring.wrong {
+        return Ok(());
+    }
     let mut options = String::new(alloc);
     ignoring.say(&mut options)?;
-    json!(in alloc; {"options": &options, "wrong": ignoring.wrong, "exact": false})
+    helpful.push(try_json(alloc, options, ignoring.wrong, false)?)?;
+    Ok(())
 }
 
-fn fixed_json(alloc: Global, fixed: &FixedTry) -> Result<Value, AllocError> {
+fn push_fixed(
+    alloc: Global,
+    fixed: &FixedTry,
+    wrong: u64,
+    helpful: &mut Vec<Value>,
+) -> Result<(), AllocError> {
+    if wrong <= fixed.wrong {
+        return Ok(());
+    }
     let mut options = String::new(alloc);
     fixed.say(&mut options)?;
-    json!(in alloc; {"options": &options, "wrong": fixed.wrong, "exact": true})
+    helpful.push(try_json(alloc, options, fixed.wrong, true)?)?;
+    Ok(())
+}
+
+// A try by those options, with which so many replies are wrong, or at most so many.
+fn try_json(
+    alloc: Global,
+    options: String,
+    wrong: u64,
+    is_exact: bool,
+) -> Result<Value, AllocError> {
+    let mut members = Map::new(alloc);
+    put_try(alloc, options.as_str(), wrong, is_exact, &mut members)?;
+    Ok(Value::Object(members))
+}
+
+fn put_try(
+    alloc: Global,
+    options: &str,
+    wrong: u64,
+    is_exact: bool,
+    members: &mut Map<String, Value>,
+) -> Result<(), AllocError> {
+    put_text(alloc, "options", options, members)?;
+    put_number(alloc, "wrong", wrong, members)?;
+    put(members, alloc, "exact", Value::Bool(is_exact))
 }

@@ -3,12 +3,14 @@
 #![tactic(auto)]
 
 mod counts;
+mod endings_json;
 mod fixed;
 mod group;
 mod groups;
 mod ignoring;
 mod json;
 mod listed;
+mod members;
 mod replies_json;
 mod report;
 mod rows;

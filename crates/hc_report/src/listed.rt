@@ -11,7 +11,6 @@ use std::alloc::{AllocError, Global};
 const MOST_LISTED: usize = 1_000;
 
 /// How many wrong replies there are, and the first of them.
-#[derive(Drop)]
 pub(crate) struct ListedReplies {
     /// How many there are, or the greatest number.
     pub(crate) count: u64,
@@ -20,6 +19,17 @@ pub(crate) struct ListedReplies {
     /// The first 1,000.
     pub(crate) listed: Vec<WrongReply>,
     ghost few: { vec_len listed ≤ MOST_LISTED },
+}
+
+impl Drop for ListedReplies {
+    fn drop(self) {
+        let ListedReplies {
+            count: _,
+            first: _,
+            listed,
+        } = self;
+        drop(listed);
+    }
 }
 
 impl ListedReplies {

@@ -2,40 +2,60 @@
 
 use crate::counts::ReplyCounts;
 use crate::group::{Group, Spread};
+use crate::members::{put_number, put_text};
 use crate::rows::what_of;
 use hc_details::{Detail, Differences};
 use hc_fields::Octets;
 use hc_shown::push_octets;
-use serde_json::{Map, Value, json, put};
+use serde_json::{Map, Value, put};
 use std::alloc::{AllocError, Global};
 
 /// What the replies say of themselves.
 pub(crate) fn replies_json(alloc: Global, replies: &ReplyCounts) -> Result<Value, AllocError> {
-    json!(in alloc; {
-        "all": replies.all(),
-        "hits": replies.hits,
-        "forwarded": replies.forwarded,
-        "collapsed": replies.collapsed,
-        "unmarked": replies.unmarked,
-        "both": replies.both
-    })
+    let mut members = Map::new(alloc);
+    put_counts(alloc, replies, &mut members)?;
+    Ok(Value::Object(members))
+}
+
+fn put_counts(
+    alloc: Global,
+    replies: &ReplyCounts,
+    members: &mut Map<String, Value>,
+) -> Result<(), AllocError> {
+    put_number(alloc, "all", replies.all(), members)?;
+    put_number(alloc, "hits", replies.hits, members)?;
+    put_number(alloc, "forwarded", replies.forwarded, members)?;
+    put_number(alloc, "collapsed", replies.collapsed, members)?;
+    put_number(alloc, "unmarked", replies.unmarked, members)?;
+    put_number(alloc, "both", replies.both, members)
 }
 
 /// The octets of their bodies.
 pub(crate) fn octets_json(alloc: Global, replies: &ReplyCounts) -> Result<Value, AllocError> {
-    json!(in alloc; {"hits": replies.hit_octets, "forwarded": replies.forwarded_octets})
+    let mut members = Map::new(alloc);
+    put_number(alloc, "hits", replies.hit_octets, &mut members)?;
+    put_number(alloc, "forwarded", replies.forwarded_octets, &mut members)?;
+    Ok(Value::Object(members))
 }
 
 /// A group of wrong replies.
 pub(crate) fn group_json(alloc: Global, group: &Group) -> Result<Value, AllocError> {
     let mut members = Map::new(alloc);
-    put_kind(alloc, group, &mut members)?;
-    put_differences(alloc, &group.detail, &mut members)?;
-    put_spread(alloc, group.spread, &mut members)?;
-    put(&mut members, alloc, "count", Value::from(group.count))?;
-    put(&mut members, alloc, "first", Value::from(group.first))?;
-    put_targets(alloc, group, &mut members)?;
+    put_group(alloc, group, &mut members)?;
     Ok(Value::Object(members))
+}
+
+fn put_group(
+    alloc: Global,
+    group: &Group,
+    members: &mut Map<String, Value>,
+) -> Result<(), AllocError> {
+    put_kind(alloc, group, members)?;
+    put_differences(alloc, &group.detail, members)?;
+    put_spread(alloc, group.spread, members)?;
+    put_number(alloc, "count", group.count, members)?;
+    put_number(alloc, "first", group.first, members)?;
+    put_targets(alloc, group, members)
 }
 
 fn put_kind(
@@ -43,11 +63,9 @@ fn put_kind(
     group: &Group,
     members: &mut Map<String, Value>,
 ) -> Result<(), AllocError> {
-    put(members, alloc, "reason", Value::from(group.reason.number()))?;
-    let name = Value::try_from_str(alloc, group.reason.name())?;
-    put(members, alloc, "name", name)?;
-    let kind = Value::try_from_str(alloc, group.detail.kind())?;
-    put(members, alloc, "detail", kind)?;
+    put_number(alloc, "reason", u64::from(group.reason.number()), members)?;
+    put_text(alloc, "name", group.reason.name(), members)?;
+    put_text(alloc, "detail", group.detail.kind(), members)?;
     let what = Value::String(what_of(alloc, group)?);
     put(members, alloc, "what", what)
 }
@@ -67,7 +85,7 @@ fn put_differences(
         put(members, alloc, "added", names_json(alloc, added)?)?;
         put(members, alloc, "dropped", names_json(alloc, dropped)?)?;
         put(members, alloc, "changed", names_json(alloc, changed)?)?;
-        put(members, alloc, "more_names", Value::from(*more))?;
+        put_number(alloc, "more_names", *more, members)?;
     }
     Ok(())
 }
@@ -78,8 +96,8 @@ fn put_spread(
     members: &mut Map<String, Value>,
 ) -> Result<(), AllocError> {
     if let Some(Spread { least, greatest }) = spread {
-        put(members, alloc, "least", Value::from(least))?;
-        put(members, alloc, "greatest", Value::from(greatest))?;
+        put_number(alloc, "least", least, members)?;
+        put_number(alloc, "greatest", greatest, members)?;
     }
     Ok(())
 }
@@ -89,25 +107,29 @@ fn put_targets(
     group: &Group,
     members: &mut Map<String, Value>,
 ) -> Result<(), AllocError> {
+    let targets = targets_json(alloc, group.targets.names.as_slice())?;
+    put(members, alloc, "targets", targets)?;
+    put_number(alloc, "unnamed_targets", group.targets.others, members)
+}
+
+fn targets_json(alloc: Global, names: &[String]) -> Result<Value, AllocError> {
     let mut targets = Vec::new(alloc);
-    for target in &group.targets.names {
+    for target in names {
         targets.push(Value::try_from_str(alloc, target.as_str())?)?;
     }
-    put(members, alloc, "targets", Value::Array(targets))?;
-    put(
-        members,
-        alloc,
-        "unnamed_targets",
-        Value::from(group.targets.others),
-    )
+    Ok(Value::Array(targets))
 }
 
 fn names_json(alloc: Global, names: &[Octets]) -> Result<Value, AllocError> {
     let mut shown = Vec::new(alloc);
     for name in names {
-        let mut text = String::new(alloc);
-        push_octets(name.as_slice(), &mut text)?;
-        shown.push(Value::String(text))?;
+        shown.push(Value::String(shown_name(alloc, name)?))?;
     }
     Ok(Value::Array(shown))
+}
+
+fn shown_name(alloc: Global, name: &Octets) -> Result<String, AllocError> {
+    let mut text = String::new(alloc);
+    push_octets(name.as_slice(), &mut text)?;
+    Ok(text)
 }

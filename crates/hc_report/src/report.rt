@@ -18,7 +18,6 @@ use std::alloc::{AllocError, Global};
 
 /// What is said of a recording: what its replies say of themselves, which of them are wrong and by what, and what
 /// could be let pass so that fewer are.
-#[derive(Drop)]
 pub struct Report {
     alloc: Global,
     past: Past,
@@ -28,8 +27,28 @@ pub struct Report {
     pub(crate) tries: Tries,
 }
 
+impl Drop for Report {
+    fn drop(self) {
+        let Report {
+            alloc: _,
+            past,
+            replies: _,
+            wrongs,
+            groups,
+            tries,
+        } = self;
+        drop(past);
+        drop(wrongs);
+        drop(groups);
+        drop(tries);
+    }
+}
+
 impl<I: Index> Witness<I> for Report {
     ghost tells = { λ report wrongs. TellsOf report wrongs };
+
+    // It keeps no list of all records.
+    ghost hears = { λ report h. Unit {0} };
 
     fn pass(&mut self, passed: &PassedRecord<'_, I>) -> Result<(), AllocError> {
         self.past.pass(passed)

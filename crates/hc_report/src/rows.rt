@@ -10,13 +10,27 @@ use std::fmt::Write;
 const WIDEST: usize = 48;
 
 /// What the table says of a group.
-#[derive(Drop)]
 struct Row {
     count: u64,
     first: u64,
     reason: String,
     what: String,
     target: String,
+}
+
+impl Drop for Row {
+    fn drop(self) {
+        let Row {
+            count: _,
+            first: _,
+            reason,
+            what,
+            target,
+        } = self;
+        drop(reason);
+        drop(what);
+        drop(target);
+    }
 }
 
 /// How many columns texts take.
@@ -34,22 +48,34 @@ pub(crate) fn say_groups(
 ) -> Result<(), AllocError> {
     let rows = rows_of(alloc, groups.groups.as_slice())?;
     let widths = widths_of(rows.as_slice());
+    say_titles(widths, out)?;
+    say_rows(rows.as_slice(), widths, out)?;
+    say_elsewhere(groups.elsewhere, rows.len(), out)
+}
+
+fn say_titles(widths: Widths, out: &mut String) -> Result<(), AllocError> {
     out.push_str("\n   count    first  ")?;
     push_padded("reason", widths.reason, out)?;
     push_padded("what", widths.what, out)?;
-    out.push_str("first target\n")?;
-    for row in &rows {
+    out.push_str("first target\n")
+}
+
+fn say_rows(rows: &[Row], widths: Widths, out: &mut String) -> Result<(), AllocError> {
+    for row in rows {
         say_row(row, widths, out)?;
     }
-    let elsewhere = groups.elsewhere;
-    if elsewhere != 0 {
-        let count = rows.len();
-        write!(
-            out,
-            "{elsewhere:>8} more wrong replies are in no group of these {count}\n"
-        )?;
-    }
     Ok(())
+}
+
+// Says how many wrong replies are in none of so many groups, if any.
+fn say_elsewhere(elsewhere: u64, count: usize, out: &mut String) -> Result<(), AllocError> {
+    if elsewhere == 0 {
+        return Ok(());
+    }
+    write!(
+        out,
+        "{elsewhere:>8} more wrong replies are in no group of these {count}\n"
+    )
 }
 
 fn rows_of(alloc: Global, groups: &[Group]) -> Result<Vec<Row>, AllocError> {

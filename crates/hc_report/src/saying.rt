@@ -1,6 +1,8 @@
 //! The text of a report.
 
 use crate::counts::ReplyCounts;
+use crate::fixed::FixedTry;
+use crate::ignoring::IgnoringTry;
 use crate::report::Report;
 use crate::rows::say_groups;
 use crate::tries::Tries;
@@ -71,12 +73,14 @@ fn say_marks(replies: &ReplyCounts, out: &mut String) -> Result<(), AllocError> 
     let all = replies.all();
     write!(out, "replies    {all}: ")?;
     say_part(replies.hits, all, "hits", out)?;
-    out.push_str(", ")?;
     say_part(replies.forwarded, all, "forwarded", out)?;
-    out.push_str(", ")?;
     say_part(replies.unmarked, all, "unmarked", out)?;
+    say_both(replies, out)
+}
+
+fn say_both(replies: &ReplyCounts, out: &mut String) -> Result<(), AllocError> {
     let both = replies.both;
-    write!(out, ", {both} with both marks\n")?;
+    write!(out, "{both} with both marks\n")?;
     let collapsed = replies.collapsed;
     if collapsed != 0 {
         write!(out, "collapsed  {collapsed} of the forwarded replies\n")?;
@@ -93,7 +97,7 @@ fn say_octets(replies: &ReplyCounts, out: &mut String) -> Result<(), AllocError>
     )
 }
 
-// Writes a count, what it counts, and its share of all.
+// Writes a count, what it counts, and its share of all, with a comma behind them.
 fn say_part(part: u64, all: u64, what: &str, out: &mut String) -> Result<(), AllocError> {
     write!(out, "{part} {what}")?;
     if let Some(thousandths) = share_of(part, all) {
@@ -101,7 +105,7 @@ fn say_part(part: u64, all: u64, what: &str, out: &mut String) -> Result<(), All
         let tenth = thousandths % 10;
         write!(out, " ({percent}.{tenth}%)")?;
     }
-    Ok(())
+    out.push_str(", ")
 }
 
 // How many thousandths of all a part is, rounded down. None where all is nothing.
@@ -115,19 +119,29 @@ fn say_tries(tries: &Tries, wrong: u64, out: &mut String) -> Result<(), AllocErr
         return Ok(());
     }
     out.push_str("to try, judged again\n")?;
-    let fewer = tries.ignoring.wrong;
-    if fewer < wrong {
-        out.push_str("  ")?;
-        tries.ignoring.say(out)?;
-        write!(out, ": {wrong} to at most {fewer}\n")?;
-    }
+    say_ignoring(&tries.ignoring, wrong, out)?;
     for fixed in &tries.fixed {
-        let fewer = fixed.wrong;
-        if fewer < wrong {
-            out.push_str("  ")?;
-            fixed.say(out)?;
-            write!(out, ": {wrong} to {fewer}\n")?;
-        }
+        say_fixed(fixed, wrong, out)?;
     }
     Ok(())
+}
+
+fn say_ignoring(ignoring: &IgnoringTry, wrong: u64, out: &mut String) -> Result<(), AllocError> {
+    let fewer = ignoring.wrong;
+    if wrong <= fewer {
+        return Ok(());
+    }
+    out.push_str("  ")?;
+    ignoring.say(out)?;
+    write!(out, ": {wrong} to at most {fewer}\n")
+}
+
+fn say_fixed(fixed: &FixedTry, wrong: u64, out: &mut String) -> Result<(), AllocError> {
+    let fewer = fixed.wrong;
+    if wrong <= fewer {
+        return Ok(());
+    }
+    out.push_str("  ")?;
+    fixed.say(out)?;
+    write!(out, ": {wrong} to {fewer}\n")
 }

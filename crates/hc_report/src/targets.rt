@@ -9,7 +9,6 @@ use std::alloc::{AllocError, Global};
 const MOST_TARGETS: usize = 16;
 
 /// The first targets that were met, each once, as they are shown.
-#[derive(Drop)]
 pub(crate) struct NamedTargets {
     /// Their texts.
     pub(crate) names: Vec<String>,
@@ -18,13 +17,22 @@ pub(crate) struct NamedTargets {
     ghost few: { vec_len names ≤ MOST_TARGETS },
 }
 
+impl Drop for NamedTargets {
+    fn drop(self) {
+        let NamedTargets { names, others: _ } = self;
+        drop(names);
+    }
+}
+
 impl NamedTargets {
-    /// No target.
-    pub(crate) fn new(alloc: Global) -> Self {
-        NamedTargets {
+    /// That target alone.
+    pub(crate) fn of(alloc: Global, name: String) -> Result<Self, AllocError> {
+        let mut targets = NamedTargets {
             names: Vec::new(alloc),
             others: 0,
-        }
+        };
+        targets.note(name)?;
+        Ok(targets)
     }
 
     /// Takes in the target of a reply.

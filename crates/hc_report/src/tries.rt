@@ -8,7 +8,6 @@ use hc_index::Index;
 use std::alloc::{AllocError, Global};
 
 /// Other settings that wrong replies are judged by.
-#[derive(Drop)]
 pub(crate) struct Tries {
     // Ignores what the audit ignores; each try sets the rest.
     settings: Settings,
@@ -16,6 +15,19 @@ pub(crate) struct Tries {
     pub(crate) ignoring: IgnoringTry,
     /// Seconds of slack, and every reply without a mark, where the audit takes errors alone.
     pub(crate) fixed: Vec<FixedTry>,
+}
+
+impl Drop for Tries {
+    fn drop(self) {
+        let Tries {
+            settings,
+            ignoring,
+            fixed,
+        } = self;
+        drop(settings);
+        drop(ignoring);
+        drop(fixed);
+    }
 }
 
 impl Tries {

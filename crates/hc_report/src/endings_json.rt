@@ -1,0 +1,86 @@
+//! The verdict on a recording, and how it ends, as JSON.
+
+use crate::members::{put_number, put_text};
+use hc_audit::RecordFault;
+use hc_history::{Ending, WrongReply};
+use serde_json::{Map, Value, put};
+use std::alloc::{AllocError, Global};
+
+/// The verdict, where that is the first wrong reply of a recording that ends so.
+pub(crate) fn verdict_json(
+    alloc: Global,
+    first: Option<WrongReply>,
+    ending: Ending,
+) -> Result<Value, AllocError> {
+    let mut members = Map::new(alloc);
+    put_verdict(alloc, first, ending, &mut members)?;
+    Ok(Value::Object(members))
+}
+
+fn put_verdict(
+    alloc: Global,
+    first: Option<WrongReply>,
+    ending: Ending,
+    members: &mut Map<String, Value>,
+) -> Result<(), AllocError> {
+    match (first, ending) {
+        (Some(wrong), _) => {
+            put_text(alloc, "answer", "no", members)?;
+            put_wrong(alloc, wrong, members)
+        }
+        (None, Ending::Broken(position, fault)) => {
+            put_text(alloc, "answer", "malformed", members)?;
+            put_break(alloc, position, fault, members)
+        }
+        (None, Ending::Whole) => put_text(alloc, "answer", "yes", members),
+    }
+}
+
+/// How it ends.
+pub(crate) fn ends_json(alloc: Global, ending: Ending) -> Result<Value, AllocError> {
+    let mut members = Map::new(alloc);
+    put_end(alloc, ending, &mut members)?;
+    Ok(Value::Object(members))
+}
+
+fn put_end(
+    alloc: Global,
+    ending: Ending,
+    members: &mut Map<String, Value>,
+) -> Result<(), AllocError> {
+    match ending {
+        Ending::Whole => put(members, alloc, "whole", Value::Bool(true)),
+        Ending::Broken(position, fault) => {
+            put(members, alloc, "whole", Value::Bool(false))?;
+            put_break(alloc, position, fault, members)
+        }
+    }
+}
+
+fn put_break(
+    alloc: Global,
+    position: u64,
+    fault: RecordFault,
+    members: &mut Map<String, Value>,
+) -> Result<(), AllocError> {
+    put_number(alloc, "position", position, members)?;
+    put_number(alloc, "fault", u64::from(fault.number()), members)?;
+    put_text(alloc, "name", fault.name(), members)
+}
+
+/// A wrong reply.
+pub(crate) fn wrong_reply_json(alloc: Global, wrong: WrongReply) -> Result<Value, AllocError> {
+    let mut members = Map::new(alloc);
+    put_wrong(alloc, wrong, &mut members)?;
+    Ok(Value::Object(members))
+}
+
+fn put_wrong(
+    alloc: Global,
+    wrong: WrongReply,
+    members: &mut Map<String, Value>,
+) -> Result<(), AllocError> {
+    put_number(alloc, "position", wrong.position, members)?;
+    put_number(alloc, "reason", u64::from(wrong.reason.number()), members)?;
+    put_text(alloc, "name", wrong.reason.name(), members)
+}
