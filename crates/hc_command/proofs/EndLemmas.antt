@@ -1,33 +1,36 @@
--- How the program ends, by the command that its words ask for.
-use Rattle.std.proofs.Common.{◌≡◌, ℕ, List, Option, inl, inr, subst}
+-- How the program ends, by the task that its words ask for.
+use Rattle.std.proofs.Common.{◌≡◌, ℕ, List, Option, Some, None, inl, inr, subst}
 use Rattle.std.specs.Io.KnownBytes.{Keeps}
-use Rattle.hc_arguments.specs.Command.{Command}
-use Rattle.hc_arguments.specs.Command.Command.{Audits, Reports, Explains, Replays, Converts, Serves}
+use Rattle.hc_arguments.specs.Command.{Task}
+use Rattle.hc_arguments.specs.Command.Task.{ToAudit, ToReport, ToExplain, ToReplay, ToConvert, ToServe}
 use Rattle.hc_command.specs.Ends.{Does, Ends}
+use Rattle.hc_command.specs.Report.{Explained}
 
-pub does_as : (done command : Command) (status : ℕ) (old new faults_old faults_new : Option (List ℕ)) → done ≡ command
-    → Does done status old new faults_old faults_new → Does command status old new faults_old faults_new
-does_as done command status old new faults_old faults_new same does = subst (λ (c : Command). Does c status old new faults_old faults_new) same does
+pub does_as : (done task : Task) (status : ℕ) (old new faults_old faults_new : Option (List ℕ)) → done ≡ task
+    → Does done status old new faults_old faults_new → Does task status old new faults_old faults_new
+does_as done task status old new faults_old faults_new same does = subst (λ (t : Task). Does t status old new faults_old faults_new) same does
 
--- where memory is refused, any command may end so
-pub fails_with_3 : (command : Command) (status : ℕ) (old new faults_old faults_new : Option (List ℕ)) → status ≡ 3 → Keeps old new
-    → Does command status old new faults_old faults_new
-fails_with_3 Audits status old new faults_old faults_new is kept = inl is
-fails_with_3 Reports status old new faults_old faults_new is kept = inl is
-fails_with_3 Explains status old new faults_old faults_new is kept = inr (inl is)
-fails_with_3 Replays status old new faults_old faults_new is kept = inl is
-fails_with_3 Converts status old new faults_old faults_new is kept = inl is
-fails_with_3 Serves status old new faults_old faults_new is kept = (kept, inl is)
+-- where memory is refused, any task may end so
+explained_with_3 : (position : Option ℕ) (status : ℕ) (old new faults_old faults_new : Option (List ℕ)) → status ≡ 3
+    → Explained position status old new faults_old faults_new
+explained_with_3 None status old new faults_old faults_new is = inl is
+explained_with_3 (Some place) status old new faults_old faults_new is = inl is
 
--- and what a command does is how the program ends
-pub does_ends : (command : Command) (status : ℕ) (old new faults_old faults_new : Option (List ℕ)) → Does command status old new faults_old faults_new
+pub fails_with_3 : (task : Task) (status : ℕ) (old new faults_old faults_new : Option (List ℕ)) → status ≡ 3 → Keeps old new
+    → Does task status old new faults_old faults_new
+fails_with_3 (ToAudit file settings) status old new faults_old faults_new is kept = inl is
+fails_with_3 (ToReport file settings json) status old new faults_old faults_new is kept = inl is
+fails_with_3 (ToExplain file position settings) status old new faults_old faults_new is kept = explained_with_3 position status old new faults_old faults_new is
+fails_with_3 (ToReplay file) status old new faults_old faults_new is kept = inl is
+fails_with_3 (ToConvert file) status old new faults_old faults_new is kept = inl is
+fails_with_3 (ToServe listen origin connections file settings) status old new faults_old faults_new is kept = (kept, inl is)
+
+-- and what is answered to a task is how the program ends
+pub does_ends : (task : Task) (status : ℕ) (old new faults_old faults_new : Option (List ℕ)) → Does task status old new faults_old faults_new
     → Ends status old new faults_old faults_new
-does_ends Audits status old new faults_old faults_new does = inl does
-does_ends Reports status old new faults_old faults_new does = inr (inl does)
-does_ends Explains status old new faults_old faults_new does = elim does [
-  | inl nothing ↦ inr (inr (inr (inr (inr (inr nothing)))))
-  | inr reports ↦ inr (inl reports)
-]
-does_ends Replays status old new faults_old faults_new does = inr (inr (inl does))
-does_ends Converts status old new faults_old faults_new does = inr (inr (inr (inl does)))
-does_ends Serves status old new faults_old faults_new does = inr (inr (inr (inr (inl does))))
+does_ends (ToAudit file settings) status old new faults_old faults_new does = inl does
+does_ends (ToReport file settings json) status old new faults_old faults_new does = inr (inl (json, does))
+does_ends (ToExplain file position settings) status old new faults_old faults_new does = inr (inr (inl (position, does)))
+does_ends (ToReplay file) status old new faults_old faults_new does = inr (inr (inr (inl does)))
+does_ends (ToConvert file) status old new faults_old faults_new does = inr (inr (inr (inr (inl does))))
+does_ends (ToServe listen origin connections file settings) status old new faults_old faults_new does = inr (inr (inr (inr (inr (inl does)))))

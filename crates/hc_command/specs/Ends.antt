@@ -1,8 +1,8 @@
 -- How the program ends.
-use Rattle.std.specs.Prelude.{◌≡◌, ◌⊎◌, ℕ, List, Option}
+use Rattle.std.specs.Prelude.{◌≡◌, ◌⊎◌, ℕ, List, Bool, Option}
 use Rattle.std.specs.Io.KnownBytes.{Keeps}
-use Rattle.hc_arguments.specs.Command.{Command}
-use Rattle.hc_arguments.specs.Command.Command.{Audits, Reports, Explains, Replays, Converts, Serves}
+use Rattle.hc_arguments.specs.Command.{Task}
+use Rattle.hc_arguments.specs.Command.Task.{ToAudit, ToReport, ToExplain, ToReplay, ToConvert, ToServe}
 use Rattle.hc_command.specs.Audit.{Answers}
 use Rattle.hc_command.specs.Convert.{Converted}
 use Rattle.hc_command.specs.Replay.{Played}
@@ -12,17 +12,19 @@ use Rattle.hc_command.specs.Report.{Explained, Reported}
 abbrev pub Served : ℕ → Option (List ℕ) → Option (List ℕ) → Option (List ℕ) → Option (List ℕ) → Type 0
 Served status old new faults_old faults_new = Keeps old new × ((status ≡ 3) ⊎ ((status ≡ 0) × Keeps faults_old faults_new))
 
--- what a command answers
-abbrev pub Does : Command → ℕ → Option (List ℕ) → Option (List ℕ) → Option (List ℕ) → Option (List ℕ) → Type 0
-Does Audits status old new faults_old faults_new = Answers status old new faults_old faults_new
-Does Reports status old new faults_old faults_new = Reported status old new faults_old faults_new
-Does Explains status old new faults_old faults_new = Explained status old new faults_old faults_new
-Does Replays status old new faults_old faults_new = Played status old new faults_old faults_new
-Does Converts status old new faults_old faults_new = Converted status old new faults_old faults_new
-Does Serves status old new faults_old faults_new = Served status old new faults_old faults_new
+-- what is answered to a task
+abbrev pub Does : Task → ℕ → Option (List ℕ) → Option (List ℕ) → Option (List ℕ) → Option (List ℕ) → Type 0
+Does (ToAudit file settings) status old new faults_old faults_new = Answers status old new faults_old faults_new
+Does (ToReport file settings json) status old new faults_old faults_new = Reported json status old new faults_old faults_new
+Does (ToExplain file position settings) status old new faults_old faults_new = Explained position status old new faults_old faults_new
+Does (ToReplay file) status old new faults_old faults_new = Played status old new faults_old faults_new
+Does (ToConvert file) status old new faults_old faults_new = Converted status old new faults_old faults_new
+Does (ToServe listen origin connections file settings) status old new faults_old faults_new = Served status old new faults_old faults_new
 
--- a command answers, help or the version is shown, or the words are refused with nothing on the output
+-- a task is answered, help or the version is shown, or the words are refused with nothing on the output
 abbrev pub Ends : ℕ → Option (List ℕ) → Option (List ℕ) → Option (List ℕ) → Option (List ℕ) → Type 0
-Ends status old new faults_old faults_new = Answers status old new faults_old faults_new ⊎ Reported status old new faults_old faults_new
+Ends status old new faults_old faults_new = Answers status old new faults_old faults_new
+    ⊎ ((json : Bool) × Reported json status old new faults_old faults_new)
+    ⊎ ((position : Option ℕ) × Explained position status old new faults_old faults_new)
     ⊎ Played status old new faults_old faults_new ⊎ Converted status old new faults_old faults_new ⊎ Served status old new faults_old faults_new
     ⊎ ((status ≡ 0) × Keeps faults_old faults_new) ⊎ ((status ≡ 64) × Keeps old new)

@@ -1,24 +1,29 @@
--- What a report on a transcript, and the explanation of its first wrong reply, leave on their two writers.
-use Rattle.std.specs.Prelude.{◌≡◌, ◌⊎◌, ℕ, List, [], ◌++◌, Bool, true, false, Option, Some, None, IfSome}
+-- What a report on a transcript, and the explanation of a reply, leave on their two writers.
+use Rattle.std.specs.Prelude.{◌≡◌, ◌≤◌, ◌⊎◌, ℕ, List, [], ◌∷◌, ◌++◌, Bool, true, false, Option, Some, None, IfSome}
 use Rattle.std.specs.Io.KnownBytes.{Appends, Consumes, Keeps}
 use Rattle.hc_transcript.specs.declared.fault.RecordFault.{RecordFault}
+use Rattle.hc_transcript.specs.Items.{Item}
 use Rattle.hc_history.specs.declared.settings.Settings.{Settings}
+use Rattle.hc_history.specs.declared.verdicts.Finding.{Finding}
+use Rattle.hc_history.specs.declared.verdicts.Finding.TheVariants.{Right, Wrong}
 use Rattle.hc_history.specs.declared.verdicts.Verdict.{Verdict}
-use Rattle.hc_history.specs.declared.verdicts.Verdict.TheVariants.{Yes}
+use Rattle.hc_history.specs.declared.verdicts.Verdict.TheVariants.{Malformed}
 use Rattle.hc_history.specs.declared.wrong.WrongReply.{WrongReply}
 use Rattle.hc_history.specs.declared.wrong.Ending.{Ending}
 use Rattle.hc_history.specs.declared.wrong.Ending.TheVariants as ending
+use Rattle.hc_history.specs.Counting.{counts_of}
 use Rattle.hc_history.specs.Seen.{Seen}
 use Rattle.hc_history.specs.Verdicts.{IsVerdict}
-use Rattle.hc_history.specs.WrongReplies.{AreWrongReplies}
 use Rattle.hc_audit.specs.declared.survey.Survey.{Survey}
-use Rattle.hc_audit.specs.Endings.{EndsSo}
+use Rattle.hc_audit.specs.Endings.{EndsSo, IsSurveyOf}
 use Rattle.hc_audit.specs.Surveying.{Surveys}
+use Rattle.hc_explain.specs.Heads.{IsHead}
 use Rattle.hc_command.specs.declared.surveying.Outcome.{Outcome}
 use Rattle.hc_command.specs.declared.surveying.Outcome.TheVariants.{Whole, Broken}
 use Rattle.hc_command.specs.declared.surveying.Heard.{Heard}
 use Rattle.hc_command.specs.declared.surveying.Heard.TheVariants as heard
 use Rattle.hc_command.specs.declared.surveying.Heard.TheVariants.{More, End}
+use Rattle.hc_command.specs.Audit.{SaysLine}
 use Rattle.hc_command.specs.Line.{IsVerdictLine, status_of}
 
 -- ---- how the reading of octets ends
@@ -27,26 +32,29 @@ abbrev pub ending_of : Outcome → Ending
 ending_of (Whole counts) = ending.Whole
 ending_of (Broken position fault) = ending.Broken position fault
 
--- where the octets are whole and no reply is wrong, what is counted is what their yes says
-abbrev pub CountsYes : List ℕ → Settings → List WrongReply → Outcome → Type 0
-CountsYes octets settings wrongs (Whole counts) = wrongs ≡ [] → IsVerdict octets settings (Yes counts)
-CountsYes octets settings wrongs (Broken position fault) = Unit {0}
+-- where the octets are whole, what is counted is that of their items, right or wrong
+abbrev pub CountsAll : List Item → Outcome → Type 0
+CountsAll h (Whole counts) = counts ≡ counts_of h
+CountsAll h (Broken position fault) = Unit {0}
 
--- these are all wrong replies of the octets, which end so
-pub record IsSurveyed (octets : List ℕ) (settings : Settings) (wrongs : List WrongReply) (outcome : Outcome) : Type 0 where
-  pub are : AreWrongReplies octets settings wrongs (ending_of outcome)
-  pub counted : CountsYes octets settings wrongs outcome
+-- these are all items and all wrong replies of the octets, which end so
+pub record IsSurveyed (octets : List ℕ) (settings : Settings) (h : List Item) (wrongs : List WrongReply) (outcome : Outcome) : Type 0 where
+  pub is : IsSurveyOf octets settings h wrongs (ending_of outcome)
+  pub counted : CountsAll h outcome
 
 -- ---- what a survey of an input tells
 
--- what was read of the input was surveyed, and who was told of it tells its wrong replies; who has not seen enough was told of all that the input had
-pub record SurveysFor (tells : List WrongReply → Type 0) (enough : Type 0) (settings : Settings) (old new : Option (List ℕ)) (outcome : Outcome) : Type 0 where
+-- what was read of the input was surveyed, and who was told of it has heard of its items and tells its wrong replies; who has not seen enough was told of all
+-- that the input had
+pub record SurveysFor (tells : List WrongReply → Type 0) (hears : List Item → Type 0) (enough : Type 0) (settings : Settings) (old new : Option (List ℕ)) (outcome : Outcome) : Type 0 where
   pub read : List ℕ
   pub consumed : Consumes old new read
+  pub history : List Item
   pub wrongs : List WrongReply
   pub told : tells wrongs
-  pub are : IsSurveyed read settings wrongs outcome
-  pub all : enough ⊎ IfSome old (λ octets. IsSurveyed octets settings wrongs outcome)
+  pub heard : hears history
+  pub are : IsSurveyed read settings history wrongs outcome
+  pub all : enough ⊎ IfSome old (λ octets. IsSurveyed octets settings history wrongs outcome)
 
 -- ---- what is said
 
@@ -85,21 +93,61 @@ abbrev pub SaysIfSome : Settings → Option (List ℕ) → Option ℕ → Option
 SaysIfSome settings input None old new = ⊥
 SaysIfSome settings input (Some status) old new = SaysReport false settings input status old new
 
--- the writer got some text, if there is a status, and nothing else
-abbrev pub WritesIfSome : Option ℕ → Option (List ℕ) → Option (List ℕ) → Type 0
-WritesIfSome None old new = Keeps old new
-WritesIfSome (Some status) old new = (text : List ℕ) × Appends old new text
+-- ---- what is said of the reply at a position
+
+-- the exit status of a reply
+abbrev pub reply_status : Finding → ℕ
+reply_status Right = 0
+reply_status (Wrong why) = 1
+
+-- the line heads the explanation of the reply at that position
+abbrev pub IsHeadLine : ℕ → Finding → List ℕ → Type 0
+IsHeadLine position finding line = (head : List ℕ) × IsHead position finding head × (line ≡ head ++ 10 ∷ [])
+
+-- the writer got the line that heads the explanation of some reply, and behind it more, and this is the status of that reply
+pub record SaysReply (status : ℕ) (old new : Option (List ℕ)) : Type 0 where
+  pub position : ℕ
+  pub finding : Finding
+  pub line : List ℕ
+  pub more : List ℕ
+  pub has_status : status ≡ reply_status finding
+  pub is_line : IsHeadLine position finding line
+  pub written : Appends old new (line ++ more)
+
+-- the writer got the line that a record at that place or before it breaks the transcript, and nothing else, and this is its status
+pub record SaysBreak (place status : ℕ) (old new : Option (List ℕ)) : Type 0 where
+  pub position : ℕ
+  pub fault : RecordFault
+  pub no_later : position ≤ place
+  pub says : SaysLine (Malformed position fault) status old new
+
+-- the writer got an explanation or the line of a break, if there is a status, and else nothing
+abbrev pub WritesIfSome : ℕ → Option ℕ → Option (List ℕ) → Option (List ℕ) → Type 0
+WritesIfSome place None old new = Keeps old new
+WritesIfSome place (Some status) old new = SaysReply status old new ⊎ SaysBreak place status old new
+
+-- an explanation of the reply at that place says so on the output and leaves the faults as they were; where no reply stands there, the output gets nothing and
+-- the status is 64; where there is none for want of memory or by a device, the status is 3
+abbrev pub ExplainsAt : ℕ → ℕ → Option (List ℕ) → Option (List ℕ) → Option (List ℕ) → Option (List ℕ) → Type 0
+ExplainsAt place status old new faults_old faults_new =
+    (status ≡ 3) ⊎ ((status ≡ 64) × Keeps old new) ⊎ ((SaysReply status old new ⊎ SaysBreak place status old new) × Keeps faults_old faults_new)
 
 -- ---- where the input isn't known
 
--- a report on some input, in JSON or as text
-abbrev pub Reported : ℕ → Option (List ℕ) → Option (List ℕ) → Option (List ℕ) → Option (List ℕ) → Type 0
-Reported status old new faults_old faults_new =
-    (status ≡ 3) ⊎ ((text : List ℕ) × Appends old new text × Keeps faults_old faults_new)
+-- the writer got what a report says of some verdict, and this is its status
+pub record SaysSomeReport (json : Bool) (status : ℕ) (old new : Option (List ℕ)) : Type 0 where
+  pub verdict : Verdict
+  pub says : SaysOf json verdict status old new
 
--- an explanation, or the output gets nothing where there is no reply to explain
-abbrev pub Explained : ℕ → Option (List ℕ) → Option (List ℕ) → Option (List ℕ) → Option (List ℕ) → Type 0
-Explained status old new faults_old faults_new = ((status ≡ 64) × Keeps old new) ⊎ Reported status old new faults_old faults_new
+-- a report on some input, in JSON or as text
+abbrev pub Reported : Bool → ℕ → Option (List ℕ) → Option (List ℕ) → Option (List ℕ) → Option (List ℕ) → Type 0
+Reported json status old new faults_old faults_new =
+    (status ≡ 3) ⊎ (SaysSomeReport json status old new × Keeps faults_old faults_new)
+
+-- an explanation of a reply of some input: of the first wrong one, or else of the one at that place
+abbrev pub Explained : Option ℕ → ℕ → Option (List ℕ) → Option (List ℕ) → Option (List ℕ) → Option (List ℕ) → Type 0
+Explained None status old new faults_old faults_new = Reported false status old new faults_old faults_new
+Explained (Some place) status old new faults_old faults_new = ExplainsAt place status old new faults_old faults_new
 
 -- ---- what private functions promise
 
@@ -114,20 +162,24 @@ abbrev pub ending_at : Option (ℕ × RecordFault) → Option Ending
 ending_at None = None
 ending_at (Some broken) = Some (ending.Broken broken.0 broken.1)
 
--- the survey was fed what the reader gave, up to its end or to an ending that stands, and who was told of it tells the wrong replies
-pub record FeedsSurvey {I : Type 0} (seen : I → Seen) (survey : Survey I) (tells : List WrongReply → Type 0) (settings : Settings) (octets : List ℕ)
+-- the survey was fed what the reader gave, up to its end or to an ending that stands, and who was told of it has heard of the items and tells the wrong replies
+pub record FeedsSurvey {I : Type 0} (seen : I → Seen) (survey : Survey I) (tells : List WrongReply → Type 0) (hears : List Item → Type 0) (settings : Settings) (octets : List ℕ)
     (old new : Option (List ℕ)) (settled : Option Ending) : Type 0 where
   pub bytes : List ℕ
+  pub history : List Item
   pub wrongs : List WrongReply
-  pub surveys : Surveys seen survey settings (octets ++ bytes) wrongs
+  pub surveys : Surveys seen survey settings (octets ++ bytes) history wrongs
   pub told : tells wrongs
+  pub heard : hears history
   pub consumed : Consumes old new bytes
-  pub stands : IfSome settled (λ ending. EndsSo ending settings (octets ++ bytes) wrongs)
+  pub stands : IfSome settled (λ ending. EndsSo ending settings (octets ++ bytes) history wrongs)
 
 -- the survey was fed that piece, and an ending that it gives stands
-pub record FeedsPieceOfSurvey {I : Type 0} (seen : I → Seen) (survey : Survey I) (tells : List WrongReply → Type 0) (settings : Settings) (octets : List ℕ)
+pub record FeedsPieceOfSurvey {I : Type 0} (seen : I → Seen) (survey : Survey I) (tells : List WrongReply → Type 0) (hears : List Item → Type 0) (settings : Settings) (octets : List ℕ)
     (settled : Option Ending) : Type 0 where
+  pub history : List Item
   pub wrongs : List WrongReply
-  pub surveys : Surveys seen survey settings octets wrongs
+  pub surveys : Surveys seen survey settings octets history wrongs
   pub told : tells wrongs
-  pub stands : IfSome settled (λ ending. EndsSo ending settings octets wrongs)
+  pub heard : hears history
+  pub stands : IfSome settled (λ ending. EndsSo ending settings octets history wrongs)

@@ -153,8 +153,12 @@ fn feed<I: Index + Drop>(
     }
 }
 
-// Writes the verdict's line on `output`, and answers its status.
-fn said<W: Write>(alloc: Global, verdict: &Verdict, output: &mut W) -> Result<u8, Trouble>
+/// Writes the verdict's line on `output`, and answers its status.
+pub(crate) fn said<W: Write>(
+    alloc: Global,
+    verdict: &Verdict,
+    output: &mut W,
+) -> Result<u8, Trouble>
     ensures ok { IfOk result (λ status.
         SaysLine verdict.now status (W.contents output.old) (W.contents output.new)) }
     ensures status { IfOk result (λ status. status ≡ status_of verdict.now) }

@@ -1,9 +1,10 @@
 //! The explanation of one reply of a transcript, which is read twice: from two readers to text on a writer and an exit
 //! status.
-ghost use Rattle.std.specs.Prelude.{◌≡◌, None, false, IfOk, IsSome};
-ghost use Rattle.hc_explain.specs.Seeking.{first_of};
-ghost use Rattle.hc_command.specs.Report.{Explained, ReportsFor, SaysIfSome, SaysReport, WritesIfSome};
+ghost use Rattle.std.specs.Prelude.{◌≡◌, ℕ, None, Some, false, IfOk, IsSome, string_bytes};
+ghost use Rattle.hc_explain.specs.Seeking.{finding_of, first_of, position_of};
+ghost use Rattle.hc_command.specs.Report.{ExplainsAt, IsHeadLine, ReportsFor, SaysIfSome, SaysReply, SaysReport, WritesIfSome, reply_status};
 
+use crate::auditing::said;
 use crate::print::printed;
 use crate::saying::said_first;
 use crate::surveying::{Outcome, Reading, surveyed};
@@ -11,7 +12,7 @@ use crate::trouble::Trouble;
 use hc_explain::{FirstWrong, Found, ReplyAt, Retracing};
 use hc_history::{Finding, Settings, Verdict};
 use hc_index::Index;
-use std::alloc::Global;
+use std::alloc::{AllocError, Global};
 use std::io::{Read, Write};
 
 /// The exit status where no reply stands at the position that was asked for.
@@ -63,7 +64,9 @@ pub fn explain<R: Read, S: Read, W: Write, E: Write>(
     ensures first { position ≡ None
         → ReportsFor false settings (R.remaining input.old) result (W.contents output.old) (W.contents output.new)
         (E.contents faults.old) (E.contents faults.new) }
-    ensures explained { Explained result (W.contents output.old) (W.contents output.new)
+    // At a position the line that heads the explanation, or that of a break before it.
+    ensures at { (place : ℕ) → position ≡ Some place
+        → ExplainsAt place result (W.contents output.old) (W.contents output.new)
         (E.contents faults.old) (E.contents faults.new) }
 {
     match explained(alloc, settings, position, input, again, output) {
@@ -92,7 +95,8 @@ fn explained<R: Read, S: Read, W: Write>(
 ) -> Result<Option<u8>, Trouble>
     ensures first { position ≡ None
         → IfOk result (λ status. SaysIfSome settings (R.remaining input.old) status (W.contents output.old) (W.contents output.new)) }
-    ensures written { IfOk result (λ status. WritesIfSome status (W.contents output.old) (W.contents output.new)) }
+    ensures at { (place : ℕ) → position ≡ Some place
+        → IfOk result (λ status. WritesIfSome place status (W.contents output.old) (W.contents output.new)) }
 {
     match position {
         None => Ok(Some(first_explained(alloc, settings, input, again, output)?)),
@@ -130,13 +134,13 @@ fn reply_explained<R: Read, S: Read, W: Write>(
     again: &mut S,
     output: &mut W,
 ) -> Result<Option<u8>, Trouble>
-    ensures { IfOk result (λ status. WritesIfSome status (W.contents output.old) (W.contents output.new)) }
+    ensures { IfOk result (λ status. WritesIfSome position status (W.contents output.old) (W.contents output.new)) }
 {
     let same = settings.copy(alloc)?;
     let mut seeker = ReplyAt::new(alloc, position);
     let outcome = surveyed(alloc, settings, input, &mut seeker)?;
     match seeker.into_found() {
-        Some(found) => found_explained(alloc, same, found, again, output),
+        Some(found) => Ok(Some(found_explained(alloc, same, found, again, output)?)),
         None => not_found(alloc, &outcome, position, output),
     }
 }
@@ -148,22 +152,32 @@ fn found_explained<S: Read, W: Write>(
     found: Found,
     again: &mut S,
     output: &mut W,
-) -> Result<Option<u8>, Trouble>
-    ensures { IfOk result (λ status. WritesIfSome status (W.contents output.old) (W.contents output.new)) }
+) -> Result<u8, Trouble>
+    ensures { IfOk result (λ status. SaysReply status (W.contents output.old) (W.contents output.new)) }
 {
     let status = status_of(found.finding());
-    let mut text = String::new(alloc);
-    found.say_head(&mut text)?;
-    text.push('\n')?;
+    let mut text = head_line(alloc, &found)?;
     text.push_str(retraced(alloc, settings, found, again)?.as_str())?;
     match printed(text.as_str(), output) {
-        Ok(()) => Ok(Some(status)),
+        Ok(()) => Ok(status),
         Err(error) => Err(Trouble::Output(error)),
     }
 }
 
+// The line that heads the explanation of what was found.
+fn head_line(alloc: Global, found: &Found) -> Result<String, AllocError>
+    ensures { IfOk result (λ line. IsHeadLine (position_of found.now) (finding_of found.now) (string_bytes line)) }
+{
+    let mut line = String::new(alloc);
+    found.say_head(&mut line)?;
+    line.push('\n')?;
+    Ok(line)
+}
+
 // The exit status of a reply.
-fn status_of(finding: Finding) -> u8 {
+fn status_of(finding: Finding) -> u8
+    ensures { result ≡ reply_status finding }
+{
     match finding {
         Finding::Right => 0,
         Finding::Wrong(_) => 1,
@@ -191,13 +205,14 @@ fn not_found<W: Write>(
     position: u64,
     output: &mut W,
 ) -> Result<Option<u8>, Trouble>
-    ensures { IfOk result (λ status. WritesIfSome status (W.contents output.old) (W.contents output.new)) }
+    ensures { IfOk result (λ status. WritesIfSome position status (W.contents output.old) (W.contents output.new)) }
 {
-    match outcome {
-        Outcome::Broken(at, fault) if *at <= position => {
-            let verdict = Verdict::Malformed(*at, *fault);
-            Ok(Some(said_first(alloc, &verdict, "", output)?))
-        }
-        _ => Ok(None),
+    let Outcome::Broken(at, fault) = *outcome else {
+        return Ok(None);
+    };
+    if position < at {
+        return Ok(None);
     }
+    let verdict = Verdict::Malformed(at, fault);
+    Ok(Some(said(alloc, &verdict, output)?))
 }

@@ -1,8 +1,8 @@
 //! What the program does, over any system and any two writers.
-ghost use Rattle.std.specs.Prelude.{◌≡◌, ◌⊎◌, ◌∷◌, [], ℕ, Some, codes, map};
+ghost use Rattle.std.specs.Prelude.{◌≡◌, ◌⊎◌, ◌∷◌, [], ℕ, None, Some, codes, false, map};
 ghost use Rattle.std.specs.Io.KnownBytes.{Keeps};
 ghost use Rattle.clap.specs.Words.{Text, fault_of, kind_of};
-ghost use Rattle.hc_arguments.specs.Command.{Asks, CanBeDone, IsErrorStatus, IsFileName, IsWord, Task, command_of, hcache, service_words, task_of};
+ghost use Rattle.hc_arguments.specs.Command.{Asks, CanBeDone, IsErrorStatus, IsFileName, IsWord, Task, hcache, service_words, task_of};
 ghost use Rattle.hc_arguments.specs.Values.{connections_of};
 ghost use Rattle.hc_command.specs.Audit.{Answers};
 ghost use Rattle.hc_command.specs.Convert.{Converted};
@@ -83,16 +83,16 @@ where
         → Answers result (W.contents output.old) (W.contents output.new)
         (E.contents faults.old) (E.contents faults.new) }
 
-    // And `report FILE` by a report.
+    // And `report FILE` by a report in text.
     ensures report { (name file : Text) → IsWord file
         → map S.text words.now ≡ name ∷ codes "report" ∷ file ∷ []
-        → Reported result (W.contents output.old) (W.contents output.new)
+        → Reported false result (W.contents output.old) (W.contents output.new)
         (E.contents faults.old) (E.contents faults.new) }
 
-    // And `explain FILE`, where that is no standard input, by an explanation.
+    // And `explain FILE`, where that is no standard input, by an explanation of the first wrong reply.
     ensures explain { (name file : Text) → IsFileName file
         → map S.text words.now ≡ name ∷ codes "explain" ∷ file ∷ []
-        → Explained result (W.contents output.old) (W.contents output.new)
+        → Explained None result (W.contents output.old) (W.contents output.new)
         (E.contents faults.old) (E.contents faults.new) }
 
     // And `replay FILE` by a replay.
@@ -117,7 +117,7 @@ where
     // So are other words that ask for one of these, and have no fault.
     ensures asked { (task : Task) → fault_of hcache (map S.text words.now) ≡ []
         → Asks (map S.text words.now) task
-        → Does (command_of task) result (W.contents output.old) (W.contents output.new)
+        → Does task result (W.contents output.old) (W.contents output.new)
         (E.contents faults.old) (E.contents faults.new) }
     ensures ends { Ends result (W.contents output.old) (W.contents output.new)
         (E.contents faults.old) (E.contents faults.new) }
@@ -134,7 +134,7 @@ where
     R: Files + Input + Net + Clock + RandomSource + AllocGlobal,
     R::File: Claim,
     requires { CanBeDone (task_of order) }
-    ensures { Does (command_of (task_of order.entry)) result (W.contents output.old) (W.contents output.new)
+    ensures { Does (task_of order.entry) result (W.contents output.old) (W.contents output.new)
         (E.contents faults.old) (E.contents faults.new) }
 {
     match order {
@@ -209,7 +209,7 @@ fn reported<R, W: Write, E: Write>(
 ) -> u8
 where
     R: Files + Input + AllocGlobal,
-    ensures { Reported result (W.contents output.old) (W.contents output.new)
+    ensures { Reported json result (W.contents output.old) (W.contents output.new)
         (E.contents faults.old) (E.contents faults.new) }
 {
     let alloc = rt.alloc();
@@ -242,7 +242,7 @@ fn explained<R, W: Write, E: Write>(
 ) -> u8
 where
     R: Files + AllocGlobal,
-    ensures { Explained result (W.contents output.old) (W.contents output.new)
+    ensures { Explained position result (W.contents output.old) (W.contents output.new)
         (E.contents faults.old) (E.contents faults.new) }
 {
     let alloc = rt.alloc();

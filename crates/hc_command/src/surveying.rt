@@ -1,12 +1,13 @@
 //! The survey of one transcript: what a reader gives is told to a witness.
 ghost use Rattle.std.specs.Prelude.{◌≡◌, ◌⊎◌, ◌<◌, ◌++◌, ℕ, List, [], None, Ok, false, true, length, slice_get, IfErr, IfOk, IfSome};
 ghost use Rattle.std.specs.Io.KnownBytes.{IsAtEnd};
+ghost use Rattle.hc_transcript.specs.Items.{Item};
 ghost use Rattle.hc_history.specs.declared.settings.Settings.{Settings};
 ghost use Rattle.hc_history.specs.declared.wrong.WrongReply.{WrongReply};
 ghost use Rattle.hc_history.specs.declared.verdicts.Verdict.TheVariants.{No};
 ghost use Rattle.hc_history.specs.Verdicts.{IsVerdict};
 ghost use Rattle.hc_audit.specs.Surveying.{Surveys};
-ghost use Rattle.hc_audit.specs.Told.{AreToldOf};
+ghost use Rattle.hc_audit.specs.Told.{IsToldOf};
 ghost use Rattle.hc_command.specs.Report.{FeedsPieceOfSurvey, FeedsSurvey, IsSurveyed, SurveysFor, ending_at, ending_of, settled_of};
 ghost use Rattle.hc_command.specs.Trouble.{is_of_output};
 
@@ -21,7 +22,7 @@ use std::io;
 use std::io::{ErrorKind, Read};
 
 /// How the octets of a transcript end, and what was counted of them where they are whole.
-#[derive(Clone, Copy, Debug)]
+#[derive(Clone, Copy)]
 pub(crate) enum Outcome {
     /// With their last record.
     Whole(Counts),
@@ -50,8 +51,8 @@ impl Outcome {
 
     /// The verdict on them, where that is the first of their wrong replies.
     pub(crate) fn verdict(&self, first: Option<WrongReply>) -> Verdict
-        ensures verdict { (octets : List ℕ) (settings : Settings) (wrongs : List WrongReply)
-            → IsSurveyed octets settings wrongs self.now → first ≡ slice_get wrongs 0 → IsVerdict octets settings result }
+        ensures verdict { (octets : List ℕ) (settings : Settings) (h : List Item) (wrongs : List WrongReply)
+            → IsSurveyed octets settings h wrongs self.now → first ≡ slice_get wrongs 0 → IsVerdict octets settings result }
         ensures no { IfSome first (λ wrong. result ≡ No wrong.position wrong.reason) }
     {
         match first {
@@ -62,7 +63,8 @@ impl Outcome {
 
     // The verdict, where no reply is wrong.
     fn verdict_without(&self) -> Verdict
-        ensures { (octets : List ℕ) (settings : Settings) → IsSurveyed octets settings [] self.now → IsVerdict octets settings result }
+        ensures { (octets : List ℕ) (settings : Settings) (h : List Item) → IsSurveyed octets settings h [] self.now
+            → IsVerdict octets settings result }
     {
         match self {
             Outcome::Whole(counts) => Verdict::Yes(*counts),
@@ -89,8 +91,8 @@ pub(crate) fn surveyed<R: Read, T: Reading<MapIndex>>(
     input: &mut R,
     witness: &mut T,
 ) -> Result<Outcome, Trouble>
-    ensures surveyed { T.tells witness.old []
-        → IfOk result (SurveysFor (T.tells witness.new) (T.enough witness.new) settings (R.remaining input.old) (R.remaining input.new)) }
+    ensures surveyed { T.tells witness.old [] → T.hears witness.old []
+        → IfOk result (SurveysFor (T.tells witness.new) (T.hears witness.new) (T.enough witness.new) settings (R.remaining input.old) (R.remaining input.new)) }
     ensures err { IfErr result (λ trouble. is_of_output trouble ≡ false) }
 {
     let mut piece = buffer(alloc)?;
@@ -106,8 +108,8 @@ fn surveyed_by<I: Index + Drop, R: Read, T: Reading<I>>(
     witness: &mut T,
 ) -> Result<Outcome, Trouble>
     requires { 0 < length piece.old }
-    ensures surveyed { (settings : Settings) → AreToldOf (Surveys I.seen survey settings []) (T.tells witness.old)
-        → IfOk result (SurveysFor (T.tells witness.new) (T.enough witness.new) settings (R.remaining input.old) (R.remaining input.new)) }
+    ensures surveyed { (settings : Settings) → IsToldOf (Surveys I.seen survey settings []) (T.tells witness.old) (T.hears witness.old)
+        → IfOk result (SurveysFor (T.tells witness.new) (T.hears witness.new) (T.enough witness.new) settings (R.remaining input.old) (R.remaining input.new)) }
     ensures err { IfErr result (λ trouble. is_of_output trouble ≡ false) }
 {
     match survey_all(&mut survey, input, piece, witness)? {
@@ -118,8 +120,8 @@ fn surveyed_by<I: Index + Drop, R: Read, T: Reading<I>>(
 
 // The outcome of a survey of which no ending is known to hold however the octets go on.
 fn concluded<I: Index + Drop>(survey: Survey<I>) -> Result<Outcome, Trouble>
-    ensures outcome { (settings : Settings) (octets : List ℕ) (wrongs : List WrongReply) → Surveys I.seen survey settings octets wrongs
-        → IfOk result (IsSurveyed octets settings wrongs) }
+    ensures outcome { (settings : Settings) (octets : List ℕ) (h : List Item) (wrongs : List WrongReply)
+        → Surveys I.seen survey settings octets h wrongs → IfOk result (IsSurveyed octets settings h wrongs) }
     ensures err { IfErr result (λ trouble. is_of_output trouble ≡ false) }
 {
     // One that counts nothing has failed: it was refused memory.
@@ -142,8 +144,8 @@ fn survey_all<I: Index + Drop, R: Read, T: Reading<I>>(
 ) -> Result<Option<(u64, RecordFault)>, Trouble>
     requires { 0 < length piece.old }
     ensures fed { (settings : Settings) (octets : List ℕ)
-        → AreToldOf (Surveys I.seen survey.old settings octets) (T.tells witness.old)
-        → IfOk result (λ broken. FeedsSurvey I.seen survey.new (T.tells witness.new) settings octets (R.remaining input.old) (R.remaining input.new) (ending_at broken)) }
+        → IsToldOf (Surveys I.seen survey.old settings octets) (T.tells witness.old) (T.hears witness.old)
+        → IfOk result (λ broken. FeedsSurvey I.seen survey.new (T.tells witness.new) (T.hears witness.new) settings octets (R.remaining input.old) (R.remaining input.new) (ending_at broken)) }
     ensures end { IfOk result (λ broken. broken ≡ None → T.enough witness.new ⊎ IsAtEnd (R.remaining input.new)) }
     ensures err { IfErr result (λ trouble. is_of_output trouble ≡ false) }
 {
@@ -158,7 +160,7 @@ fn survey_all<I: Index + Drop, R: Read, T: Reading<I>>(
 }
 
 // What a piece of the input comes to.
-#[derive(Clone, Copy, Debug)]
+#[derive(Clone, Copy)]
 enum Heard {
     // More may come.
     More,
@@ -177,8 +179,8 @@ fn survey_piece<I: Index + Drop, R: Read, T: Reading<I>>(
 ) -> Result<Heard, Trouble>
     requires { 0 < length piece.old }
     ensures fed { (settings : Settings) (octets : List ℕ)
-        → AreToldOf (Surveys I.seen survey.old settings octets) (T.tells witness.old)
-        → IfOk result (λ heard. FeedsSurvey I.seen survey.new (T.tells witness.new) settings octets (R.remaining input.old) (R.remaining input.new) (settled_of heard)) }
+        → IsToldOf (Surveys I.seen survey.old settings octets) (T.tells witness.old) (T.hears witness.old)
+        → IfOk result (λ heard. FeedsSurvey I.seen survey.new (T.tells witness.new) (T.hears witness.new) settings octets (R.remaining input.old) (R.remaining input.new) (settled_of heard)) }
     ensures end { result ≡ Ok Heard.End → T.enough witness.new ⊎ IsAtEnd (R.remaining input.new) }
     ensures room { length piece.new ≡ length piece.old }
     ensures err { IfErr result (λ trouble. is_of_output trouble ≡ false) }
@@ -198,8 +200,8 @@ fn feed<I: Index + Drop, T: Reading<I>>(
     witness: &mut T,
 ) -> Result<Heard, AuditFault>
     ensures fed { (settings : Settings) (octets : List ℕ)
-        → AreToldOf (Surveys I.seen survey.old settings octets) (T.tells witness.old)
-        → IfOk result (λ heard. FeedsPieceOfSurvey I.seen survey.new (T.tells witness.new) settings (octets ++ piece.now) (settled_of heard)) }
+        → IsToldOf (Surveys I.seen survey.old settings octets) (T.tells witness.old) (T.hears witness.old)
+        → IfOk result (λ heard. FeedsPieceOfSurvey I.seen survey.new (T.tells witness.new) (T.hears witness.new) settings (octets ++ piece.now) (settled_of heard)) }
     ensures end { result ≡ Ok Heard.End → T.enough witness.new }
 {
     survey.feed(piece, witness)?;

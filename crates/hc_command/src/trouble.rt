@@ -10,7 +10,7 @@ use std::io;
 use std::io::Write;
 
 /// Why a task isn't done.
-#[derive(Clone, Copy, Debug)]
+#[derive(Clone, Copy)]
 pub enum Trouble {
     /// Memory was refused.
     Memory,

@@ -5,11 +5,13 @@ use crate::converting::say_same;
 use crate::marking::say_mark;
 use crate::names::{say_audit_faults, say_convert_faults, say_faults, say_reasons};
 use crate::reports::{say_by, say_many};
+use crate::shown::{say_moment, say_value};
 use crate::surveys::say_survey;
 use crate::tellers::Teller;
 use crate::words::{plain_words, say_ignored, words_of};
 use crate::writing::say_written;
 use hc_cases::{Ask, Case, Unanswered};
+use hc_shown::push_octets;
 use std::alloc::Global;
 
 /// What is asked of transcripts.
@@ -43,6 +45,9 @@ fn answer_of(
     let (octets, parts) = about.split_first().ok_or(Unanswered::Unknown)?;
     let octets = octets.as_slice();
     match question {
+        "shown" => Ok(push_octets(octets, out)?),
+        "shown value" => say_value(octets, parts, out),
+        "shown moment" => say_moment(octets, out),
         "mark" => say_mark(alloc, octets, out),
         "ignored" => say_ignored(alloc, octets, parts, out),
         "audit each" => say_each(alloc, octets, parts, out),

@@ -16,6 +16,7 @@ mod program;
 mod records;
 mod reports;
 mod runs;
+mod shown;
 mod surveys;
 mod tellers;
 mod words;

@@ -25,6 +25,8 @@ struct Told {
 impl<I: Index> Witness<I> for Told {
     ghost tells = { λ it wrongs. it.wrongs.items ≡ wrongs };
 
+    ghost hears = { λ it h. Unit {0} };
+
     fn pass(&mut self, _: &PassedRecord<'_, I>) -> Result<(), AllocError> {
         Ok(())
     }

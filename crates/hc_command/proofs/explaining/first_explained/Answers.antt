@@ -11,8 +11,8 @@ pub returns : goal.returns
 returns g c =
     let verdict = c.verdict-verdict.result in
     let first = first_of c.surveyed.new.witness in
-    let is = verdict_of_first (λ wrongs. first ≡ slice_get wrongs 0) c.args.settings _ _ c.in_ok-outcome.outcome verdict first
-    (c.in_ok-outcome.ensures.surveyed c.new-seeker.ensures)
-    (λ octets wrongs told surveyed. c.verdict-verdict.ensures.verdict octets c.args.settings wrongs surveyed (c.first_wrong.ensures ∙ told))
+    let is = verdict_of_first (λ wrongs. first ≡ slice_get wrongs 0) (λ h. Unit {0}) c.args.settings _ _ c.in_ok-outcome.outcome verdict first
+    (c.in_ok-outcome.ensures.surveyed c.new-seeker.ensures tt)
+    (λ octets h wrongs told surveyed. c.verdict-verdict.ensures.verdict octets c.args.settings h wrongs surveyed (c.first_wrong.ensures ∙ told))
     (subst (λ (o : Option WrongReply). IfSome o (λ wrong. verdict ≡ No wrong.position wrong.reason)) c.first_wrong.ensures c.verdict-verdict.ensures.no) in
     IfOk-weaker c.said_first.result _ _ (λ status said. record { verdict = verdict; is = is; says = said }) c.said_first.ensures

@@ -7,9 +7,9 @@ use Rattle.hc_command.proofs.reporting.reported.Goals as goal
 
 pub returns-then-json : goal.returns-then-json
 returns-then-json g c =
-    let is = verdict_of_all (TellsOf c.surveyed.new.witness) c.args.settings _ _ c.in_ok-outcome.outcome c.verdict-verdict.result
-    (c.in_ok-outcome.ensures.surveyed c.in_ok-report.ensures)
-    (λ octets wrongs told surveyed. c.verdict-verdict.ensures.verdict octets c.args.settings wrongs surveyed (c.first_wrong.ensures wrongs told)) in
+    let is = verdict_of_all (TellsOf c.surveyed.new.witness) (λ h. Unit {0}) c.args.settings _ _ c.in_ok-outcome.outcome c.verdict-verdict.result
+    (c.in_ok-outcome.ensures.surveyed c.in_ok-report.ensures tt)
+    (λ octets h wrongs told surveyed. c.verdict-verdict.ensures.verdict octets c.args.settings h wrongs surveyed (c.first_wrong.ensures wrongs told)) in
     IfOk-weaker c.said_in_json.result _ _ (λ status said. record {
       verdict = c.verdict-verdict.result;
       is = is;
@@ -18,9 +18,9 @@ returns-then-json g c =
 
 pub returns : goal.returns
 returns g c =
-    let is = verdict_of_all (TellsOf c.surveyed.new.witness) c.args.settings _ _ c.in_ok-outcome.outcome c.verdict-verdict.result
-    (c.in_ok-outcome.ensures.surveyed c.in_ok-report.ensures)
-    (λ octets wrongs told surveyed. c.verdict-verdict.ensures.verdict octets c.args.settings wrongs surveyed (c.first_wrong.ensures wrongs told)) in
+    let is = verdict_of_all (TellsOf c.surveyed.new.witness) (λ h. Unit {0}) c.args.settings _ _ c.in_ok-outcome.outcome c.verdict-verdict.result
+    (c.in_ok-outcome.ensures.surveyed c.in_ok-report.ensures tt)
+    (λ octets h wrongs told surveyed. c.verdict-verdict.ensures.verdict octets c.args.settings h wrongs surveyed (c.first_wrong.ensures wrongs told)) in
     IfOk-weaker c.said_in_text.result _ _ (λ status said. record {
       verdict = c.verdict-verdict.result;
       is = is;

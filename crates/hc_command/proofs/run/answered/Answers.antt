@@ -1,43 +1,43 @@
-use Rattle.std.proofs.Common.{ap, inl, inr, map, subst}
+use Rattle.std.proofs.Common.{false, inl, map, None, subst}
 use Rattle.clap.specs.declared.error.ErrorKind.{ErrorKind}
-use Rattle.hc_arguments.specs.Command.{IsErrorStatus, command_of, task_of}
-use Rattle.hc_arguments.specs.Command.Command.{Audits, Reports, Explains, Replays, Converts, Serves}
-use Rattle.hc_arguments.proofs.ArgumentLemmas.{asked_from, one_command}
+use Rattle.hc_arguments.specs.Command.{IsErrorStatus, task_of}
+use Rattle.hc_arguments.specs.Command.Task.{ToAudit, ToReport, ToExplain, ToReplay, ToConvert, ToServe}
+use Rattle.hc_arguments.specs.Values.{plain, plain_cache}
+use Rattle.hc_arguments.proofs.ArgumentLemmas.{asked_from, one_task}
 use Rattle.hc_command.proofs.EndLemmas.{does_as, does_ends, fails_with_3}
 use Rattle.hc_command.proofs.run.answered.Goals as goal
 
 pub returns-in-Ok-clause-audit : goal.returns-in-Ok-clause-audit
 returns-in-Ok-clause-audit g c = λ name file word same.
-    does_as (command_of (task_of c.in-Ok.order)) Audits _ _ _ _ _ (ap command_of (c.in-Ok.ensures.audit name file word same)) c.done.ensures
+    does_as (task_of c.in-Ok.order) (ToAudit file plain) _ _ _ _ _ (c.in-Ok.ensures.audit name file word same) c.done.ensures
 
 pub returns-in-Ok-clause-report : goal.returns-in-Ok-clause-report
 returns-in-Ok-clause-report g c = λ name file word same.
-    does_as (command_of (task_of c.in-Ok.order)) Reports _ _ _ _ _ (ap command_of (c.in-Ok.ensures.report name file word same)) c.done.ensures
+    does_as (task_of c.in-Ok.order) (ToReport file plain false) _ _ _ _ _ (c.in-Ok.ensures.report name file word same) c.done.ensures
 
 pub returns-in-Ok-clause-explain : goal.returns-in-Ok-clause-explain
 returns-in-Ok-clause-explain g c = λ name file word same.
-    does_as (command_of (task_of c.in-Ok.order)) Explains _ _ _ _ _ (ap command_of (c.in-Ok.ensures.explain name file word same)) c.done.ensures
+    does_as (task_of c.in-Ok.order) (ToExplain file None plain) _ _ _ _ _ (c.in-Ok.ensures.explain name file word same) c.done.ensures
 
 pub returns-in-Ok-clause-replay : goal.returns-in-Ok-clause-replay
 returns-in-Ok-clause-replay g c = λ name file word same.
-    does_as (command_of (task_of c.in-Ok.order)) Replays _ _ _ _ _ (ap command_of (c.in-Ok.ensures.replay name file word same)) c.done.ensures
+    does_as (task_of c.in-Ok.order) (ToReplay file) _ _ _ _ _ (c.in-Ok.ensures.replay name file word same) c.done.ensures
 
 pub returns-in-Ok-clause-convert : goal.returns-in-Ok-clause-convert
 returns-in-Ok-clause-convert g c = λ name file word same.
-    does_as (command_of (task_of c.in-Ok.order)) Converts _ _ _ _ _ (ap command_of (c.in-Ok.ensures.convert name file word same)) c.done.ensures
+    does_as (task_of c.in-Ok.order) (ToConvert file) _ _ _ _ _ (c.in-Ok.ensures.convert name file word same) c.done.ensures
 
 pub returns-in-Ok-clause-serve : goal.returns-in-Ok-clause-serve
 returns-in-Ok-clause-serve g c = λ name listen origin number file connections counts same.
-    does_as (command_of (task_of c.in-Ok.order)) Serves _ _ _ _ _
-    (ap command_of (c.in-Ok.ensures.serve name listen origin number file connections counts same)) c.done.ensures
+    does_as (task_of c.in-Ok.order) (ToServe listen origin connections file plain_cache) _ _ _ _ _
+    (c.in-Ok.ensures.serve name listen origin number file connections counts same) c.done.ensures
 
 pub returns-in-Ok-clause-asked : goal.returns-in-Ok-clause-asked
 returns-in-Ok-clause-asked g c = λ task none asks.
-    does_as (command_of (task_of c.in-Ok.order)) (command_of task) _ _ _ _ _
-    (one_command _ _ (task_of c.in-Ok.order) task c.in-Ok.ensures.asked asks) c.done.ensures
+    does_as (task_of c.in-Ok.order) task _ _ _ _ _ (one_task _ _ (task_of c.in-Ok.order) task c.in-Ok.ensures.asked asks) c.done.ensures
 
 pub returns-in-Ok-clause-ends : goal.returns-in-Ok-clause-ends
-returns-in-Ok-clause-ends g c = does_ends (command_of (task_of c.in-Ok.order)) _ _ _ _ _ c.done.ensures
+returns-in-Ok-clause-ends g c = does_ends (task_of c.in-Ok.order) _ _ _ _ _ c.done.ensures
 
 pub returns-in-Err-clause-audit : goal.returns-in-Err-clause-audit
 returns-in-Err-clause-audit g c = λ name file word same.
@@ -49,7 +49,7 @@ returns-in-Err-clause-report g c = λ name file word same.
 
 pub returns-in-Err-clause-explain : goal.returns-in-Err-clause-explain
 returns-in-Err-clause-explain g c = λ name file word same.
-    inr (inl (subst (λ (k : ErrorKind). IsErrorStatus k c.shown.result) (c.in-Err.ensures.explain name file word same) c.shown.ensures.status))
+    inl (subst (λ (k : ErrorKind). IsErrorStatus k c.shown.result) (c.in-Err.ensures.explain name file word same) c.shown.ensures.status)
 
 pub returns-in-Err-clause-replay : goal.returns-in-Err-clause-replay
 returns-in-Err-clause-replay g c = λ name file word same.
@@ -67,5 +67,5 @@ returns-in-Err-clause-serve g c = λ name listen origin number file connections 
 pub returns-in-Err-clause-asked : goal.returns-in-Err-clause-asked
 returns-in-Err-clause-asked g c = λ task none asks.
     let refused = asked_from (map g.S.AsStr.text c.args.words.now) task c.in-Err.error none asks c.in-Err.ensures.refused in
-    fails_with_3 (command_of task) c.shown.result _ _ _ _
+    fails_with_3 task c.shown.result _ _ _ _
     (subst (λ (k : ErrorKind). IsErrorStatus k c.shown.result) refused c.shown.ensures.status) (c.shown.ensures.memory refused)
