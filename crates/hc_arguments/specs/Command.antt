@@ -59,10 +59,17 @@ explain = with_settings (with_rule (with_rule (new_app (codes "explain")) file_r
 abbrev pub replay : App
 replay = with_rule (new_app (codes "replay")) file_rule
 
+-- a command with the options that say between whom it serves, how long, and where that is recorded
+abbrev pub with_service : App → App
+with_service app = with_rule (with_rule (with_rule (with_rule app (required_rule (codes "listen"))) (required_rule (codes "origin")))
+    (required_rule (codes "connections"))) (required_rule (codes "record"))
+
+-- a command with the options that say what its cache is
+abbrev pub with_cache : App → App
+with_cache app = with_rule (with_rule (with_rule app (option_rule (codes "keys"))) (option_rule (codes "bytes"))) (option_rule (codes "name"))
+
 abbrev pub serve : App
-serve = with_rule (with_rule (with_rule (with_rule (with_rule (with_rule (with_rule (new_app (codes "serve")) (required_rule (codes "listen")))
-    (required_rule (codes "origin"))) (required_rule (codes "connections"))) (required_rule (codes "record"))) (option_rule (codes "keys")))
-    (option_rule (codes "bytes"))) (option_rule (codes "name"))
+serve = with_cache (with_service (new_app (codes "serve")))
 
 -- the command above its subcommands, without them
 abbrev pub program : App
@@ -71,9 +78,12 @@ program = on_top (λ s. record s { has_version = true; subcommand_required = tru
 abbrev pub convert : App
 convert = with_rule (new_app (codes "convert")) file_rule
 
+-- the whole command, of its subcommands with those alone that judge
+abbrev pub judging : App
+judging = with_subcommand (with_subcommand (with_subcommand program audit.top) report.top) explain.top
+
 abbrev pub hcache : App
-hcache = with_subcommand (with_subcommand (with_subcommand (with_subcommand (with_subcommand (with_subcommand program audit.top) report.top) explain.top)
-    replay.top) serve.top) convert.top
+hcache = with_subcommand (with_subcommand (with_subcommand judging replay.top) serve.top) convert.top
 
 -- ---- what the words say
 

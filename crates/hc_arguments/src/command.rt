@@ -2,7 +2,7 @@
 
 ghost use Rattle.std.specs.Prelude.{◌≡◌, false};
 ghost use Rattle.clap.specs.Words.{App, new_app, rule_of, with_rule, with_subcommand};
-ghost use Rattle.hc_arguments.specs.Command.{IsMade, audit, convert, explain, file_rule, flag_rule, hcache, option_rule, position_rule, program, replay, report, required_rule, serve, with_settings};
+ghost use Rattle.hc_arguments.specs.Command.{IsMade, audit, convert, explain, file_rule, flag_rule, hcache, judging, option_rule, position_rule, program, replay, report, required_rule, serve, with_cache, with_service, with_settings};
 
 use clap::{Arg, ArgAction, Command};
 use std::alloc::{AllocError, Global};
@@ -113,12 +113,19 @@ Exit status:
 pub(crate) fn command<'a>(alloc: Global) -> Result<Command<'a>, AllocError>
     ensures { IsMade hcache result }
 {
-    let audited = with_subcommand(program(alloc), audit_command(alloc));
-    let reported = with_subcommand(audited, report_command(alloc));
-    let explained = with_subcommand(reported, explain_command(alloc));
-    let replayed = with_subcommand(explained, replay_command(alloc));
-    let served = with_subcommand(replayed, serve_command(alloc));
-    with_subcommand(served, convert_command(alloc))
+    let judging = judging_command(alloc);
+    let replaying = with_subcommand(judging, replay_command(alloc));
+    let serving = with_subcommand(replaying, serve_command(alloc));
+    with_subcommand(serving, convert_command(alloc))
+}
+
+// The whole command, of its subcommands with those alone that judge.
+fn judging_command<'a>(alloc: Global) -> Result<Command<'a>, AllocError>
+    ensures { IsMade judging result }
+{
+    let auditing = with_subcommand(program(alloc), audit_command(alloc));
+    let reporting = with_subcommand(auditing, report_command(alloc));
+    with_subcommand(reporting, explain_command(alloc))
 }
 
 /// The command of that name, without the one above it; the whole command where there is none.
@@ -216,19 +223,7 @@ fn serve_command<'a>(alloc: Global) -> Result<Command<'a>, AllocError>
     ensures { IsMade serve result }
 {
     let bare = begun(alloc, "serve", "hcache serve", SERVE_ABOUT, SERVE_STATUSES);
-    let listening = with_argument(bare, required(alloc, "listen", "HOST:PORT", LISTEN_HELP));
-    let forwarding = with_argument(
-        listening,
-        required(alloc, "origin", "HOST:PORT", ORIGIN_HELP),
-    );
-    let counting = with_argument(
-        forwarding,
-        required(alloc, "connections", "N", CONNECTIONS_HELP),
-    );
-    let recording = with_argument(counting, required(alloc, "record", "FILE", RECORD_HELP));
-    let with_keys = with_argument(recording, option(alloc, "keys", "N", KEYS_HELP));
-    let with_bytes = with_argument(with_keys, option(alloc, "bytes", "N", BYTES_HELP));
-    with_argument(with_bytes, option(alloc, "name", "NAME", NAME_HELP))
+    with_cache(alloc, with_service(alloc, bare))
 }
 
 // A subcommand of that name, without its arguments.
@@ -268,6 +263,37 @@ fn with_settings<'a>(
     let with_slack = with_argument(command, option(alloc, "slack", "N", SLACK_HELP));
     let with_names = with_argument(with_slack, option(alloc, "ignore", "NAME,..", IGNORE_HELP));
     with_argument(with_names, flag(alloc, "errors-only", ERRORS_ONLY_HELP))
+}
+
+// The command with the options that say between whom it serves, how long, and where that is recorded.
+fn with_service<'a>(
+    alloc: Global,
+    command: Result<Command<'a>, AllocError>,
+) -> Result<Command<'a>, AllocError>
+    ensures { (app : App) → IsMade app command.entry → IsMade (with_service app) result }
+{
+    let listening = with_argument(command, required(alloc, "listen", "HOST:PORT", LISTEN_HELP));
+    let forwarding = with_argument(
+        listening,
+        required(alloc, "origin", "HOST:PORT", ORIGIN_HELP),
+    );
+    let counting = with_argument(
+        forwarding,
+        required(alloc, "connections", "N", CONNECTIONS_HELP),
+    );
+    with_argument(counting, required(alloc, "record", "FILE", RECORD_HELP))
+}
+
+// The command with the options that say what its cache is.
+fn with_cache<'a>(
+    alloc: Global,
+    command: Result<Command<'a>, AllocError>,
+) -> Result<Command<'a>, AllocError>
+    ensures { (app : App) → IsMade app command.entry → IsMade (with_cache app) result }
+{
+    let with_keys = with_argument(command, option(alloc, "keys", "N", KEYS_HELP));
+    let with_bytes = with_argument(with_keys, option(alloc, "bytes", "N", BYTES_HELP));
+    with_argument(with_bytes, option(alloc, "name", "NAME", NAME_HELP))
 }
 
 // The command with one more subcommand.

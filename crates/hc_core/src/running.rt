@@ -1,7 +1,9 @@
 //! Runs of a cache.
 
-ghost use Rattle.std.specs.Prelude.{◌≡◌, ◌↔◌, IfOk, IsErrOf};
+ghost use Rattle.std.specs.Prelude.{◌≡◌, ◌↔◌, [], IfOk, IsErrOf};
+ghost use Rattle.hc_transcript.specs.Records.{opening};
 ghost use Rattle.hc_service.specs.declared.settings.CoreSettings.{CoreSettings};
+ghost use Rattle.hc_service.specs.Sending.{recorded_format};
 ghost use Rattle.hc_service.specs.Settings.{AreGood};
 ghost use Rattle.hc_service.specs.State.{new_state};
 ghost use Rattle.hc_machine.specs.Steps.{StandsFor};
@@ -38,16 +40,30 @@ fn run_all<S: BuildHasher + Drop>(
     ensures { (settings : CoreSettings) → AreGood settings → StandsFor settings core (new_state settings)
         → IfOk result (λ run. IsRunOf settings events.items run.results.items run.transcript) }
 {
+    let mut recording = new_recording(alloc)?;
+    take_steps(&mut core, events, &mut recording)?;
+    Ok(finished(recording))
+}
+
+/// Hands the events to a new cache, and records that where nothing was recorded before.
+fn take_steps<S: BuildHasher>(
+    core: &mut Core<S>,
+    events: Vec<Event>,
+    recording: &mut Recording,
+) -> Result<(), AllocError>
+    ensures { (settings : CoreSettings) → AreGood settings → StandsFor settings core.old (new_state settings)
+        → recording.old.results.items ≡ [] → recording.old.text.items ≡ opening recorded_format
+        → IfOk result (λ _. IsRunOf settings events.items recording.new.results.items recording.new.text.items) }
+{
     // Laws, which do nothing: what is proved below rests on them.
     steps_end_ready();
     steps_are_runs();
-    let mut recording = new_recording(alloc)?;
     'events: for event in events {
-        if !take_step(&mut core, event, &mut recording)? {
-            return Ok(finished(recording));
+        if !take_step(core, event, recording)? {
+            return Ok(());
         }
     }
-    Ok(finished(recording))
+    Ok(())
 }
 
 /// What came of the run.

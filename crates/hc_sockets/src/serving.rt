@@ -62,31 +62,27 @@ where
     R::File: Claim,
     requires { AreGood settings }
 {
-    let alloc = rt.alloc();
     let mut core = new_core(rt, settings)?;
-    let mut recorder = match begun(rt, service.file) {
-        Ok(file) => SystemLink::new(Recording { file }),
-        Err(reason) => return Err(ServeFault::Record(reason)),
-    };
-    let mut clients: Listening<R> = match TcpListener::bind(rt, service.listen) {
-        Ok(listener) => Listening::new(alloc, listener),
-        Err(reason) => return Err(ServeFault::Listener(reason)),
-    };
+    let mut recorder = new_recorder(rt, service.file)?;
+    let mut clients = new_listening(rt, service.listen)?;
+    serve_from(rt, service, &mut core, &mut clients, &mut recorder)
+}
+
+/// Serves the clients from the cache.
+fn serve_from<R: Net + Files + Clock + AllocGlobal>(
+    rt: &R,
+    service: Service<'_>,
+    core: &mut Core<RandomState>,
+    clients: &mut Listening<R>,
+    recorder: &mut SystemLink<Recording<R::File>>,
+) -> Result<(), ServeFault> {
     let origin = Origin {
         net: rt,
         address: service.origin,
     };
     let clock = SystemClock { system: rt };
     let count = service.connections;
-    match serve_clients(
-        alloc,
-        &mut core,
-        &mut clients,
-        &origin,
-        &clock,
-        &mut recorder,
-        count,
-    ) {
+    match serve_clients(rt.alloc(), core, clients, &origin, &clock, recorder, count) {
         Ok(()) => Ok(()),
         Err(fault) => Err(fault_of(fault, clients.reason(), recorder.reason())),
     }
@@ -110,6 +106,25 @@ fn new_core<R: RandomSource + AllocGlobal>(
         Err(CoreFault::Name) => unreachable!(),
         // It may keep responses of so many targets.
         Err(CoreFault::Size) => unreachable!(),
+    }
+}
+
+/// What records to the file of that name, which has the opening of a transcript.
+fn new_recorder<R: Files>(rt: &R, name: &str) -> Result<SystemLink<Recording<R::File>>, ServeFault>
+where
+    R::File: Claim,
+{
+    match begun(rt, name) {
+        Ok(file) => Ok(SystemLink::new(Recording { file })),
+        Err(reason) => Err(ServeFault::Record(reason)),
+    }
+}
+
+/// Clients who connect to that host and port.
+fn new_listening<R: Net + AllocGlobal>(rt: &R, address: &str) -> Result<Listening<R>, ServeFault> {
+    match TcpListener::bind(rt, address) {
+        Ok(listener) => Ok(Listening::new(rt.alloc(), listener)),
+        Err(reason) => Err(ServeFault::Listener(reason)),
     }
 }
 

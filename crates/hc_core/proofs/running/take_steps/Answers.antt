@@ -2,40 +2,38 @@ use Rattle.std.proofs.Common.{◌≡◌, ◌∙◌, ◌++◌, ◌∷◌, List, [
 use Rattle.hc_events.specs.declared.Event.{Event}
 use Rattle.hc_core.specs.Runs.{IsRunOf}
 use Rattle.hc_core.proofs.RunLemmas.{begins, ended, leads_to_runs, none_left, went_on, was_cut_off}
-use Rattle.hc_core.proofs.running.run_all.Goals as goal
+use Rattle.hc_core.proofs.running.take_steps.Goals as goal
 
 pub events-init : goal.events-init
 events-init g c = record {
-  recorded = λ settings good stands. begins settings _ _ c.args.core c.in_ok-recording.ensures.results c.in_ok-recording.ensures.text stands;
+  recorded = λ settings good stands none opens. begins settings _ _ c.args.core.now none opens stands;
   left = search rules;
 }
 
 pub events-preserved : goal.events-preserved
 events-preserved g c = record {
-  recorded = λ settings good stands.
+  recorded = λ settings good stands none opens.
       let on : c.in_ok-take_step.field-0 ≡ true = search rules in
       went_on settings (c.steps_end_ready.ensures settings good) c.in-Some.event c.events.yielded _ _ _ _ c.in_ok-take_step.field-0
-      (c.events.invariant.recorded settings good stands) c.in_ok-take_step.ensures on;
+      (c.events.invariant.recorded settings good stands none opens) c.in_ok-take_step.ensures on;
   left = append_assoc c.events.yielded (c.in-Some.event ∷ []) c.next.new.self.rest.items
       ∙ ap (λ (xs : List Event). c.events.yielded ++ xs) (sym c.in-Some.ensures.steps.0) ∙ c.events.invariant.left;
 }
 
 pub returns-then-not-branch : goal.returns-then-not-branch
-returns-then-not-branch g c = λ settings good stands.
+returns-then-not-branch g c = λ settings good stands none opens.
     let left : c.events.yielded ++ c.in-Some.event ∷ c.next.new.self.rest.items ≡ c.args.events.items =
     ap (λ (xs : List Event). c.events.yielded ++ xs) (sym c.in-Some.ensures.steps.0) ∙ c.events.invariant.left in
     let all = was_cut_off settings (c.steps_end_ready.ensures settings good) c.in-Some.event c.events.yielded _ _ _ _ c.in_ok-take_step.field-0
-    (c.events.invariant.recorded settings good stands) c.in_ok-take_step.ensures c.next.new.self.rest.items good
+    (c.events.invariant.recorded settings good stands none opens) c.in_ok-take_step.ensures c.next.new.self.rest.items good
     (leads_to_runs settings (c.steps_are_runs.ensures settings good)) c.if-not-branch.true in
-    rw (c.finished.ensures.results, c.finished.ensures.transcript) (subst (λ (xs : List Event).
-    IsRunOf settings xs c.take_step.new.recording.results.items c.take_step.new.recording.text.items) left all)
+    subst (λ (xs : List Event). IsRunOf settings xs c.take_step.new.recording.results.items c.take_step.new.recording.text.items) left all
 
 pub returns : goal.returns
-returns g c = λ settings good stands.
-    let none = none_left c.events.event-iterator.rest.items _ c.events.event-iterator.rest.ok.0 c.in-None.ensures.steps.0 in
+returns g c = λ settings good stands none opens.
+    let none_more = none_left c.events.event-iterator.rest.items _ c.events.event-iterator.rest.ok.0 c.in-None.ensures.steps.0 in
     let whole : c.events.yielded ≡ c.args.events.items =
-    sym (append-nil c.events.yielded) ∙ ap (λ (xs : List Event). c.events.yielded ++ xs) (sym none) ∙ c.events.invariant.left in
+    sym (append-nil c.events.yielded) ∙ ap (λ (xs : List Event). c.events.yielded ++ xs) (sym none_more) ∙ c.events.invariant.left in
     let all = ended settings c.events.yielded _ _ _ good (leads_to_runs settings (c.steps_are_runs.ensures settings good))
-    (c.events.invariant.recorded settings good stands) in
-    rw (c.finished-2.ensures.results, c.finished-2.ensures.transcript) (subst (λ (xs : List Event).
-    IsRunOf settings xs c.events.recording.results.items c.events.recording.text.items) whole all)
+    (c.events.invariant.recorded settings good stands none opens) in
+    subst (λ (xs : List Event). IsRunOf settings xs c.events.recording.results.items c.events.recording.text.items) whole all
