@@ -8,9 +8,13 @@ use hc_fields::Octets;
 use hc_machine::Core;
 use hc_service::{Action, CoreSettings};
 use std::alloc::{AllocError, Global};
+use std::hash::BuildHasherDefault;
 
 /// The moment of every event, in seconds since 1970, which the dates tell too.
 const MOMENT: u64 = 1_000;
+
+/// For how many connections there is room.
+const ROOM: usize = 65_536;
 
 /// How large a cache is measured.
 #[derive(Clone, Copy)]
@@ -31,7 +35,7 @@ pub fn filled(alloc: Global, size: Size, way: Way) -> Result<Core, Trouble> {
         keys: 1_024,
         bytes: 1 << 30,
     };
-    let mut core = Core::new(alloc, settings)?;
+    let mut core = Core::with_room(alloc, settings, BuildHasherDefault::new(), ROOM)?;
     open_all(&mut core, size.connections)?;
     store_all(alloc, &mut core, size, way)?;
     Ok(core)

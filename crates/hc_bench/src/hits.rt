@@ -20,13 +20,13 @@ const EXCHANGES: u64 = 20_000;
 /// The sizes that are measured: octets of a body, keys and connections.
 const SIZES: [(usize, u64, u64); 8] = [
     (1_024, 10, 1),
-    (1_024, 10, 1_000),
+    (1_024, 10, 10_000),
     (1_024, 1_000, 1),
-    (1_024, 1_000, 1_000),
+    (1_024, 1_000, 10_000),
     (65_536, 10, 1),
-    (65_536, 10, 1_000),
+    (65_536, 10, 10_000),
     (65_536, 1_000, 1),
-    (65_536, 1_000, 1_000),
+    (65_536, 1_000, 10_000),
 ];
 
 /// Says how many hits a few exchanges are, and how many validations a few others.

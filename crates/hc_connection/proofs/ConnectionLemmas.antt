@@ -3,10 +3,11 @@ use Rattle.std.proofs.Common.{◌≡◌, ℕ, ◌∷◌, Bool, List, Result, Ok,
 use Rattle.std.specs.declared.alloc.AllocError.{AllocError}
 use Rattle.hc_events.specs.declared.Event.{Event}
 use Rattle.hc_events.specs.declared.Happening.{Happening}
-use Rattle.hc_connection.specs.declared.links.Receiver.{Receiver}
+use Rattle.hc_order.specs.declared.receiver.Receiver.{Receiver}
 use Rattle.hc_connection.specs.Forwards.{AreInOrder, IsNext}
-use Rattle.hc_connection.specs.Moves.{AreMoments, Move}
-use Rattle.hc_connection.specs.Moves.Move.{Heard, Sent}
+use Rattle.hc_connection.specs.Moves.{AreMoments}
+use Rattle.hc_order.specs.Log.{Move}
+use Rattle.hc_order.specs.Log.Move.{Heard, Sent}
 use Rattle.hc_connection.specs.Sides.{Opens}
 use Rattle.hc_connection.specs.Telling.{TellsSent}
 use Rattle.hc_connection.proofs.TellLemmas.{opens_by}
@@ -15,9 +16,9 @@ pub all_sent : (tells keeps : List Move → Type 0) (may_tell : ℕ → Type 0) 
     → d ≡ c → Opens opened c log → AreMoments may_tell log → AreInOrder log → TellsSent tells result to octets log → TellsSent keeps result to octets log
     → TellsSent (λ log. tells log × Opens opened d log × AreMoments may_tell log × keeps log × AreInOrder log) result to octets log
 all_sent tells keeps may_tell opened c d (Ok done) to octets log is opens moments in_order told kept =
-    (told, opens_by opened c d log (Sent to octets ∷ log) refl is opens, moments, kept, in_order)
+    (told, opens_by opened c d log (Sent to octets ∷ log) refl refl is opens, moments, kept, in_order)
 all_sent tells keeps may_tell opened c d (Err refused) to octets log is opens moments in_order told kept =
-    (told, opens_by opened c d log log refl is opens, moments, kept, in_order)
+    (told, opens_by opened c d log log refl refl is opens, moments, kept, in_order)
 
 -- ---- what happens now
 

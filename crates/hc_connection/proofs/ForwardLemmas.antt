@@ -13,7 +13,7 @@ use Rattle.hc_events.specs.declared.Happening.TheVariants.{ClientOpened, ClientB
 use Rattle.hc_connection.specs.declared.sides.Came.{Came}
 use Rattle.hc_connection.specs.declared.sides.Came.TheVariants.{Octets, End, Failure}
 use Rattle.hc_connection.specs.Forwards.{AreKept, IsKept, IsLeastOpen, IsOfClient, KeepsCame, KeepsHappening, KeepsIfOk, KeepsPerhaps, KeepsSlot, NoneOpen, is_open_in, read_on, sent_on}
-use Rattle.hc_connection.specs.Moves.{Move}
+use Rattle.hc_order.specs.Log.{Move}
 use Rattle.hc_connection.specs.Sides.{TellsPerhaps}
 
 module _ {L : Type 0} (has_given has_got : L → List ℕ → Type 0) where

@@ -1,3 +1,4 @@
 pub mod ConnectionLemmas
 pub mod ForwardLemmas
+pub mod OrderLemmas
 pub mod TellLemmas

@@ -5,11 +5,14 @@ use Rattle.hc_events.specs.declared.Event.{Event}
 use Rattle.hc_events.specs.declared.Happening.{Happening}
 use Rattle.hc_events.specs.declared.Happening.TheVariants.{ClientBytes, ClientOpened}
 use Rattle.hc_connection.specs.declared.client_side.ClientSide.{ClientSide}
-use Rattle.hc_connection.specs.declared.links.Receiver.{Receiver}
-use Rattle.hc_connection.specs.declared.links.Receiver.TheVariants.{Client}
+use Rattle.hc_order.specs.declared.receiver.Receiver.{Receiver}
+use Rattle.hc_order.specs.declared.receiver.Receiver.TheVariants.{Client}
 use Rattle.hc_connection.specs.Links.{HasFailed, IsBeginning}
-use Rattle.hc_connection.specs.Moves.{Move, earlier_or, failures_before, first_in, given_in, most_octets, most_replies, one_for, replies_in, sent_by, sent_in}
-use Rattle.hc_connection.specs.Moves.Move.{Heard, Sent}
+use Rattle.hc_connection.specs.Moves.{earlier_or, failures_before, first_in, given_in, most_octets, most_replies, one_for, replies_in, sent_by, sent_in}
+use Rattle.hc_order.specs.Log.{Move}
+use Rattle.hc_order.specs.Log.Move.{Heard, Sent}
+use Rattle.hc_service.specs.Numbers.{is_later}
+use Rattle.hc_order.specs.Mirrors.{last_opened}
 use Rattle.hc_connection.specs.Sides.{CountsFailed, CountsReads, Opens, Tells, TellsSparing}
 
 same_itself : (n : ℕ) → (n == n) ≡ true
@@ -277,9 +280,9 @@ no_reply_of_its c d other = ap (λ (b : Bool). if b then 1 else 0) other
 
 -- ---- what happened first
 
-pub opens_by : (opened : Bool) (c d : ℕ) (log log' : List Move) → first_in log' ≡ first_in log → d ≡ c → Opens opened c log → Opens opened d log'
-opens_by true c d log log' same is o = same ∙ o ∙ ap (λ (n : ℕ). Some (ClientOpened n)) (sym is)
-opens_by false c d log log' same is o = same ∙ o
+pub opens_by : (opened : Bool) (c d : ℕ) (log log' : List Move) → first_in log' ≡ first_in log → last_opened log' ≡ last_opened log → d ≡ c → Opens opened c log → Opens opened d log'
+opens_by true c d log log' same last is o = same ∙ o ∙ ap (λ (n : ℕ). Some (ClientOpened n)) (sym is)
+opens_by false c d log log' same last is o = (same ∙ o.0, ap (λ (n : ℕ). is_later n (last_opened log')) is ∙ ap (is_later c) last ∙ o.1)
 
 pub opens_heard : (opened : Bool) (c d : ℕ) (event : Event) (log : List Move) → opened ≡ true → d ≡ c → Opens opened c log → Opens opened d (Heard event ∷ log)
 opens_heard true c d event log was is o = ap (λ (first : Option Happening). earlier_or first event.of) o ∙ ap (λ (n : ℕ). Some (ClientOpened n)) (sym is)

@@ -3,7 +3,8 @@ use Rattle.std.specs.Prelude.{ℕ, Bool, List, Option}
 use Rattle.std.specs.BTreeMap.{BTreeMap}
 use Rattle.hc_connection.specs.declared.client_side.ClientSide.{ClientSide}
 use Rattle.hc_connection.specs.Forwards.{AreInOrder, AreKept}
-use Rattle.hc_connection.specs.Moves.{AreMoments, Move}
+use Rattle.hc_connection.specs.Moves.{AreMoments}
+use Rattle.hc_order.specs.Log.{Move}
 use Rattle.hc_connection.specs.Sides.{Opens, Tells}
 
 -- what passed at the client's link, and at those of forwards that are open, is what the log says; what happened first is that the connection was opened; each moment is one that the clock may tell; and links were read in order

@@ -4,19 +4,15 @@ use Rattle.std.specs.declared.alloc.AllocError.{AllocError}
 use Rattle.std.specs.BTreeMap.{BTreeMap, get}
 use Rattle.std.specs.Ordering.{nat_cmp}
 use Rattle.hc_events.specs.declared.Happening.{Happening}
-use Rattle.hc_events.specs.declared.Happening.TheVariants.{ClientBytes, ClientEnd, OriginBytes, OriginEnd, OriginFailed}
-use Rattle.hc_connection.specs.declared.links.Receiver.{Receiver}
-use Rattle.hc_connection.specs.declared.links.Receiver.TheVariants.{Client, Origin}
+use Rattle.hc_events.specs.declared.Happening.TheVariants.{ClientOpened, ClientBytes, ClientEnd, OriginBytes, OriginEnd, OriginFailed}
 use Rattle.hc_connection.specs.declared.sides.Came.{Came}
 use Rattle.hc_connection.specs.declared.sides.Came.TheVariants.{Octets, End, Failure}
-use Rattle.hc_connection.specs.Moves.{Move, most_octets}
-use Rattle.hc_connection.specs.Moves.Move.{Before, Closed, Heard, Sent}
+use Rattle.hc_connection.specs.Moves.{first_in, most_octets}
+use Rattle.hc_order.specs.Log.{Move}
+use Rattle.hc_order.specs.Mirrors.{is_on}
+use Rattle.hc_order.specs.Log.Move.{Before, Closed, Heard, Sent}
 
 -- ---- what is open
-
-abbrev pub is_on : ℕ → Receiver → Bool
-is_on f (Client c) = false
-is_on f (Origin g) = g == f
 
 abbrev pub ends : ℕ → Happening → Bool
 ends f (OriginEnd g) = g == f
@@ -26,7 +22,7 @@ ends f other = false
 -- octets were sent on it, and since then neither its end nor its failure was heard, nor was it closed
 abbrev pub is_open_in : ℕ → List Move → Bool
 is_open_in f [] = false
-is_open_in f (Before number given got reads failures ∷ log) = false
+is_open_in f (Before last number given got reads failures ∷ log) = false
 is_open_in f (Heard event ∷ log) = if ends f event.of then false else is_open_in f log
 is_open_in f (Sent to octets ∷ log) = if is_on f to then true else is_open_in f log
 is_open_in f (Closed link ∷ log) = if is_on f link then false else is_open_in f log
@@ -48,7 +44,7 @@ read_behind f other before = before
 -- the octets that were read there since it was opened
 abbrev pub read_on : ℕ → List Move → List ℕ
 read_on f [] = []
-read_on f (Before number given got reads failures ∷ log) = []
+read_on f (Before last number given got reads failures ∷ log) = []
 read_on f (Heard event ∷ log) = read_behind f event.of (read_on f log)
 read_on f (Sent to octets ∷ log) = if is_on f to then [] else read_on f log
 read_on f (Closed link ∷ log) = read_on f log
@@ -56,7 +52,7 @@ read_on f (Closed link ∷ log) = read_on f log
 -- the octets that were sent there as it was opened
 abbrev pub sent_on : ℕ → List Move → List ℕ
 sent_on f [] = []
-sent_on f (Before number given got reads failures ∷ log) = []
+sent_on f (Before last number given got reads failures ∷ log) = []
 sent_on f (Heard event ∷ log) = sent_on f log
 sent_on f (Sent to octets ∷ log) = if is_on f to then octets else sent_on f log
 sent_on f (Closed link ∷ log) = sent_on f log
@@ -74,8 +70,9 @@ AreKept has_given has_got links log =
 
 -- ---- in which order links are read
 
--- octets, or an end, come of the open forward of the least number, a failure of one that is open; the client's octets where none is
+-- octets, or an end, come of the open forward of the least number, a failure of one that is open; the client's octets where none is; and the client opens its connection where nothing has happened
 abbrev pub IsNext : Happening → List Move → Type 0
+IsNext (ClientOpened c) log = first_in log ≡ None
 IsNext (ClientBytes c octets) log = NoneOpen log
 IsNext (OriginBytes f octets) log = IsLeastOpen f log
 IsNext (OriginEnd f) log = IsLeastOpen f log
@@ -84,7 +81,7 @@ IsNext other log = Unit {0}
 
 abbrev pub AreInOrder : List Move → Type 0
 AreInOrder [] = Unit {0}
-AreInOrder (Before number given got reads failures ∷ log) = AreInOrder log
+AreInOrder (Before last number given got reads failures ∷ log) = AreInOrder log
 AreInOrder (Heard event ∷ log) = IsNext event.of log × AreInOrder log
 AreInOrder (Sent to octets ∷ log) = AreInOrder log
 AreInOrder (Closed link ∷ log) = AreInOrder log

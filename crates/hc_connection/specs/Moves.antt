@@ -1,20 +1,12 @@
--- What passes at the links of a driver. The newest move comes first.
+-- What passes at the links of a connection. The newest move comes first.
 use Rattle.std.specs.Prelude.{◌≡◌, ℕ, ◌+◌, ◌<◌, ◌≤◌, ◌==◌, ◌||◌, Bool, true, false, List, [], ◌∷◌, ◌++◌, length, Option, Some, None, if◌then◌else◌}
-use Rattle.hc_events.specs.declared.Event.{Event}
 use Rattle.hc_events.specs.declared.Happening.{Happening}
 use Rattle.hc_events.specs.declared.Happening.TheVariants.{ClientOpened, ClientBytes, ClientEnd, OriginBytes, OriginEnd, OriginFailed}
-use Rattle.hc_connection.specs.declared.links.Receiver.{Receiver}
-use Rattle.hc_connection.specs.declared.links.Receiver.TheVariants.{Client, Origin}
-
-pub data Move : Type 0 where
-  -- before all others: that is the number of the client's connection, these octets were read from its link and written to it already, and it had been read and had failed so often
-  Before : (number : ℕ) (given got : List ℕ) (reads failures : ℕ) → Move
-  -- this happened
-  Heard : (event : Event) → Move
-  -- these octets were sent to that link, which may have failed before, or at that
-  Sent : (to : Receiver) (octets : List ℕ) → Move
-  -- that link was closed
-  Closed : (link : Receiver) → Move
+use Rattle.hc_order.specs.declared.receiver.Receiver.{Receiver}
+use Rattle.hc_order.specs.declared.receiver.Receiver.TheVariants.{Client, Origin}
+use Rattle.hc_order.specs.Log.{Move}
+use Rattle.hc_order.specs.Log.Move.{Before, Closed, Heard, Sent}
+use Rattle.hc_order.specs.Mirrors.{is_its}
 
 -- ---- the client of a connection
 
@@ -29,7 +21,7 @@ IsOf c (OriginFailed f) = Unit {0}
 
 abbrev pub AreOf : ℕ → List Move → Type 0
 AreOf c [] = Unit {0}
-AreOf c (Before number given got reads failures ∷ log) = number ≡ c
+AreOf c (Before last number given got reads failures ∷ log) = number ≡ c
 AreOf c (Heard event ∷ log) = IsOf c event.of × AreOf c log
 AreOf c (Sent to octets ∷ log) = AreOf c log
 AreOf c (Closed link ∷ log) = AreOf c log
@@ -41,7 +33,7 @@ given_by other = []
 -- the octets that were read from its link
 abbrev pub given_in : List Move → List ℕ
 given_in [] = []
-given_in (Before number given got reads failures ∷ log) = given
+given_in (Before last number given got reads failures ∷ log) = given
 given_in (Heard event ∷ log) = given_in log ++ given_by event.of
 given_in (Sent to octets ∷ log) = given_in log
 given_in (Closed link ∷ log) = given_in log
@@ -53,7 +45,7 @@ sent_by c (Origin f) octets = []
 -- the octets that were to be written to it
 abbrev pub sent_in : ℕ → List Move → List ℕ
 sent_in c [] = []
-sent_in c (Before number given got reads failures ∷ log) = got
+sent_in c (Before last number given got reads failures ∷ log) = got
 sent_in c (Heard event ∷ log) = sent_in c log
 sent_in c (Sent to octets ∷ log) = sent_in c log ++ sent_by c to octets
 sent_in c (Closed link ∷ log) = sent_in c log
@@ -61,7 +53,7 @@ sent_in c (Closed link ∷ log) = sent_in c log
 -- how often it had failed before
 abbrev pub failures_before : List Move → ℕ
 failures_before [] = 0
-failures_before (Before number given got reads failures ∷ log) = failures
+failures_before (Before last number given got reads failures ∷ log) = failures
 failures_before (Heard event ∷ log) = failures_before log
 failures_before (Sent to octets ∷ log) = failures_before log
 failures_before (Closed link ∷ log) = failures_before log
@@ -69,7 +61,7 @@ failures_before (Closed link ∷ log) = failures_before log
 -- how often it had been read before
 abbrev pub reads_before : List Move → ℕ
 reads_before [] = 0
-reads_before (Before number given got reads failures ∷ log) = reads
+reads_before (Before last number given got reads failures ∷ log) = reads
 reads_before (Heard event ∷ log) = reads_before log
 reads_before (Sent to octets ∷ log) = reads_before log
 reads_before (Closed link ∷ log) = reads_before log
@@ -82,7 +74,7 @@ earlier_or None of = Some of
 
 abbrev pub first_in : List Move → Option Happening
 first_in [] = None
-first_in (Before number given got reads failures ∷ log) = None
+first_in (Before last number given got reads failures ∷ log) = None
 first_in (Heard event ∷ log) = earlier_or (first_in log) event.of
 first_in (Sent to octets ∷ log) = first_in log
 first_in (Closed link ∷ log) = first_in log
@@ -96,7 +88,7 @@ one_for c (Origin f) = 0
 -- how many replies were sent to it
 abbrev pub replies_in : ℕ → List Move → ℕ
 replies_in c [] = 0
-replies_in c (Before number given got reads failures ∷ log) = 0
+replies_in c (Before last number given got reads failures ∷ log) = 0
 replies_in c (Heard event ∷ log) = replies_in c log
 replies_in c (Sent to octets ∷ log) = one_for c to + replies_in c log
 replies_in c (Closed link ∷ log) = replies_in c log
@@ -108,7 +100,7 @@ one_of_client other = 0
 -- how often octets of the client came
 abbrev pub client_reads_in : List Move → ℕ
 client_reads_in [] = 0
-client_reads_in (Before number given got reads failures ∷ log) = 0
+client_reads_in (Before last number given got reads failures ∷ log) = 0
 client_reads_in (Heard event ∷ log) = one_of_client event.of + client_reads_in log
 client_reads_in (Sent to octets ∷ log) = client_reads_in log
 client_reads_in (Closed link ∷ log) = client_reads_in log
@@ -121,7 +113,7 @@ one_of_origin other = 0
 -- how often octets of an origin came, or its end
 abbrev pub origin_reads_in : List Move → ℕ
 origin_reads_in [] = 0
-origin_reads_in (Before number given got reads failures ∷ log) = 0
+origin_reads_in (Before last number given got reads failures ∷ log) = 0
 origin_reads_in (Heard event ∷ log) = one_of_origin event.of + origin_reads_in log
 origin_reads_in (Sent to octets ∷ log) = origin_reads_in log
 origin_reads_in (Closed link ∷ log) = origin_reads_in log
@@ -138,14 +130,10 @@ most_replies = 100
 abbrev pub most_reads : ℕ
 most_reads = 1000000
 
-abbrev pub is_its : ℕ → Receiver → Bool
-is_its c (Client d) = d == c
-is_its c (Origin f) = false
-
 -- whether its connection was closed
 abbrev pub is_closed_in : ℕ → List Move → Bool
 is_closed_in c [] = false
-is_closed_in c (Before number given got reads failures ∷ log) = false
+is_closed_in c (Before last number given got reads failures ∷ log) = false
 is_closed_in c (Heard event ∷ log) = is_closed_in c log
 is_closed_in c (Sent to octets ∷ log) = is_closed_in c log
 is_closed_in c (Closed link ∷ log) = is_its c link || is_closed_in c log
@@ -157,7 +145,7 @@ is_end_of c other = false
 -- whether it was told that the client sends no more
 abbrev pub is_ended_in : ℕ → List Move → Bool
 is_ended_in c [] = false
-is_ended_in c (Before number given got reads failures ∷ log) = false
+is_ended_in c (Before last number given got reads failures ∷ log) = false
 is_ended_in c (Heard event ∷ log) = if is_end_of c event.of then true else is_ended_in c log
 is_ended_in c (Sent to octets ∷ log) = is_ended_in c log
 is_ended_in c (Closed link ∷ log) = is_ended_in c log
@@ -169,7 +157,7 @@ IsHeard c log = (is_ended_in c log ≡ false) × (is_closed_in c log ≡ false)
 -- no octets of it are read there, nor behind so many replies, and its end comes once at the most
 abbrev pub ReadsInTime : ℕ → List Move → Type 0
 ReadsInTime c [] = Unit {0}
-ReadsInTime c (Before number given got reads failures ∷ log) = Unit {0}
+ReadsInTime c (Before last number given got reads failures ∷ log) = Unit {0}
 ReadsInTime c (Heard event ∷ log) =
     (is_of_client event.of ≡ true → (replies_in c log < most_replies) × IsHeard c log) × (is_end_of c event.of ≡ true → IsHeard c log) × ReadsInTime c log
 ReadsInTime c (Sent to octets ∷ log) = ReadsInTime c log
@@ -180,7 +168,7 @@ ReadsInTime c (Closed link ∷ log) = ReadsInTime c log
 -- each moment is one that the clock may tell
 abbrev pub AreMoments : (ℕ → Type 0) → List Move → Type 0
 AreMoments may_tell [] = Unit {0}
-AreMoments may_tell (Before number given got reads failures ∷ log) = AreMoments may_tell log
+AreMoments may_tell (Before last number given got reads failures ∷ log) = AreMoments may_tell log
 AreMoments may_tell (Heard event ∷ log) = may_tell event.moment × AreMoments may_tell log
 AreMoments may_tell (Sent to octets ∷ log) = AreMoments may_tell log
 AreMoments may_tell (Closed link ∷ log) = AreMoments may_tell log
@@ -199,7 +187,7 @@ octets_of other = []
 -- each read brought at most so many octets
 abbrev pub ReadsFew : List Move → Type 0
 ReadsFew [] = Unit {0}
-ReadsFew (Before number given got reads failures ∷ log) = Unit {0}
+ReadsFew (Before last number given got reads failures ∷ log) = Unit {0}
 ReadsFew (Heard event ∷ log) = (length (octets_of event.of) ≤ most_octets) × ReadsFew log
 ReadsFew (Sent to octets ∷ log) = ReadsFew log
 ReadsFew (Closed link ∷ log) = ReadsFew log

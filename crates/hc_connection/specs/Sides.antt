@@ -4,9 +4,12 @@ use Rattle.std.specs.declared.alloc.AllocError.{AllocError}
 use Rattle.hc_events.specs.declared.Happening.{Happening}
 use Rattle.hc_events.specs.declared.Happening.TheVariants.{ClientOpened}
 use Rattle.hc_connection.specs.declared.client_side.ClientSide.{ClientSide}
+use Rattle.hc_service.specs.Numbers.{is_later}
+use Rattle.hc_order.specs.Mirrors.{last_opened}
 use Rattle.hc_connection.specs.Links.{HasFailed, IsBeginning}
-use Rattle.hc_connection.specs.Moves.{AreOf, Move, ReadsFew, ReadsInTime, client_reads_in, failures_before, first_in, given_in, is_closed_in, is_ended_in, most_reads, most_replies, origin_reads_in, reads_before, replies_in, sent_in}
-use Rattle.hc_connection.specs.Moves.Move.{Heard}
+use Rattle.hc_connection.specs.Moves.{AreOf, ReadsFew, ReadsInTime, client_reads_in, failures_before, first_in, given_in, is_closed_in, is_ended_in, most_reads, most_replies, origin_reads_in, reads_before, replies_in, sent_in}
+use Rattle.hc_order.specs.Log.{Move}
+use Rattle.hc_order.specs.Log.Move.{Heard}
 
 -- its link's failures: none where it works, else one more, as far as can be counted
 abbrev pub CountsFailed : Bool → ℕ → ℕ → Type 0
@@ -42,10 +45,10 @@ pub record TellsSparing {C : Type 0} (has_given has_got : C → List ℕ → Typ
 abbrev pub Tells : {C : Type 0} → (C → List ℕ → Type 0) → (C → List ℕ → Type 0) → (C → ℕ → Type 0) → (C → ℕ) → ClientSide C → List Move → Type 0
 Tells has_given has_got was_read count side log = TellsSparing has_given has_got was_read count 0 side log
 
--- once the cache was told that the client opened its connection, that is what happened first; before, nothing has happened
+-- once the cache was told that the client opened its connection, that is what happened first; before, nothing has happened, and its number is greater than that of the connection before
 abbrev pub Opens : Bool → ℕ → List Move → Type 0
 Opens true c log = first_in log ≡ Some (ClientOpened c)
-Opens false c log = first_in log ≡ None
+Opens false c log = (first_in log ≡ None) × (is_later c (last_opened log) ≡ true)
 
 -- it happens, whatever the moment, behind the log
 abbrev pub TellsHappening : (List Move → Type 0) → Happening → List Move → Type 0

@@ -1,6 +1,6 @@
 //! The client's side of a connection.
 
-ghost use Rattle.std.specs.Prelude.{◌≡◌, ◌<◌, false, true, ℕ, List, [], ◌∷◌, None, Ok, IfOk, IfSome};
+ghost use Rattle.std.specs.Prelude.{◌≡◌, ◌<◌, false, true, ℕ, List, [], ◌∷◌, Option, None, Ok, IfOk, IfSome};
 
 use crate::link::{Link, LinkFailure};
 use crate::sides::{Came, read_some, send_text};
@@ -33,17 +33,18 @@ pub(crate) struct ClientSide<C: Link> {
 }
 
 impl<C: Link> ClientSide<C> {
-    ghost use Rattle.hc_connection.specs.declared.links.Receiver.TheVariants.{Client};
+    ghost use Rattle.hc_order.specs.declared.receiver.Receiver.TheVariants.{Client};
     ghost use Rattle.hc_events.specs.declared.Happening.TheVariants.{ClientEnd};
     ghost use Rattle.hc_connection.specs.Forwards.{IsOfClient};
-    ghost use Rattle.hc_connection.specs.Moves.{Move, most_replies};
-    ghost use Rattle.hc_connection.specs.Moves.Move.{Before, Closed, Sent};
+    ghost use Rattle.hc_connection.specs.Moves.{most_replies};
+    ghost use Rattle.hc_order.specs.Log.{Move};
+    ghost use Rattle.hc_order.specs.Log.Move.{Before, Closed, Sent};
     ghost use Rattle.hc_connection.specs.Sides.{Tells, TellsIfOk, TellsPerhaps, TellsSparing, is_heard_out};
 
     /// That of a client who has just connected.
     pub(crate) fn new(number: u64, link: C) -> Self
-        ensures tells { (given got : List ℕ) (reads : ℕ) → C.has_given link given → C.has_got link got → C.was_read link reads
-            → Tells C.has_given C.has_got C.was_read C.count result (Before number given got reads (C.count link) ∷ []) }
+        ensures tells { (last : Option ℕ) (given got : List ℕ) (reads : ℕ) → C.has_given link given → C.has_got link got → C.was_read link reads
+            → Tells C.has_given C.has_got C.was_read C.count result (Before last number given got reads (C.count link) ∷ []) }
         ensures number { result.number ≡ number }
     {
         ClientSide {

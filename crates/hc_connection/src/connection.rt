@@ -1,13 +1,14 @@
 //! One client's connection.
 
-ghost use Rattle.std.specs.Prelude.{◌≡◌, ℕ, List, [], ◌∷◌, length, false};
+ghost use Rattle.std.specs.Prelude.{◌≡◌, ℕ, List, [], ◌∷◌, Option, length, false};
 
 use crate::client_side::ClientSide;
 use crate::link::{Clock, Link, Origins};
-use crate::links::{Links, Receiver};
+use crate::links::Links;
 use crate::peers::Peers;
 use hc_events::{Event, Happening};
 use hc_framing::MessageText;
+use hc_order::Receiver;
 use std::alloc::{AllocError, Global};
 
 /// One client's connection, and the forwards that are open for it. The forward of the least number is read, or, where
@@ -22,15 +23,15 @@ pub struct Connection<'a, C: Link, O: Origins, K: Clock> {
 
 impl<'a, C: Link, O: Origins, K: Clock> Connection<'a, C, O, K> {
     ghost use Rattle.hc_connection.specs.Forwards.{AreKept, NoneOpen};
-    ghost use Rattle.hc_connection.specs.Moves.{Move};
-    ghost use Rattle.hc_connection.specs.Moves.Move.{Before};
+    ghost use Rattle.hc_order.specs.Log.{Move};
+    ghost use Rattle.hc_order.specs.Log.Move.{Before};
     ghost use Rattle.hc_connection.specs.Sides.{Tells};
 
     /// A connection of that number, which a client has just opened. The number has to be greater than all that the cache
     /// was told before, else that answers `UnknownNumber`.
     pub fn new(alloc: Global, number: u64, client: C, origins: &'a O, clock: &'a K) -> Self
-        ensures tells { (given got : List ℕ) (reads : ℕ) → C.has_given client given → C.has_got client got → C.was_read client reads
-            → Tells C.has_given C.has_got C.was_read C.count result.peers.client (Before number given got reads (C.count client) ∷ []) }
+        ensures tells { (last : Option ℕ) (given got : List ℕ) (reads : ℕ) → C.has_given client given → C.has_got client got → C.was_read client reads
+            → Tells C.has_given C.has_got C.was_read C.count result.peers.client (Before last number given got reads (C.count client) ∷ []) }
         ensures number { result.peers.client.number ≡ number }
         ensures opened { result.opened ≡ false }
         ensures kept { (log : List Move) → NoneOpen log → AreKept O.Link.has_given O.Link.has_got result.peers.forwards.links log }
@@ -82,6 +83,8 @@ impl<'a, C: Link, O: Origins, K: Clock> Links for Connection<'a, C, O, K> {
 
     ghost tells = { λ connection log. HasPassed C.has_given C.has_got C.was_read C.count O.Link.has_given O.Link.has_got
         (K.may_tell connection.clock.now) connection.opened connection.peers.client connection.peers.forwards.links log };
+
+    ghost most = { λ _. 1 };
 
     ghost may_tell = { λ connection. K.may_tell connection.clock.now };
 

@@ -20,10 +20,10 @@ pub(crate) struct Forwards<'a, O: Origins> {
 
 impl<'a, O: Origins> Forwards<'a, O> {
     ghost use Rattle.hc_connection.specs.Forwards.{AreKept, KeepsCame, NoneOpen, TellsLeast, is_open_in};
-    ghost use Rattle.hc_connection.specs.Moves.{Move};
-    ghost use Rattle.hc_connection.specs.Moves.Move.{Closed, Heard};
+    ghost use Rattle.hc_order.specs.Log.{Move};
+    ghost use Rattle.hc_order.specs.Log.Move.{Closed, Heard};
     ghost use Rattle.hc_connection.specs.Telling.{TellsSent};
-    ghost use Rattle.hc_connection.specs.declared.links.Receiver.TheVariants.{Origin};
+    ghost use Rattle.hc_order.specs.declared.receiver.Receiver.TheVariants.{Origin};
     ghost use Rattle.hc_events.specs.declared.Happening.TheVariants.{OriginEnd, OriginFailed};
 
     /// None is open.

@@ -14,5 +14,5 @@ mod writing;
 pub use clients::Clients;
 pub use connection::Connection;
 pub use link::{Clock, Link, LinkFailure, Origins};
-pub use links::{Links, Receiver};
+pub use links::Links;
 pub use sides::send_octets;

@@ -1,22 +1,14 @@
 //! The links of a cache as its driver sees them: it hears what happens there, and sends what the cache gives out.
 
 ghost use Rattle.std.specs.Prelude.{◌≡◌, ℕ, List, ◌∷◌, Ok, None};
-ghost use Rattle.hc_connection.specs.Moves.{Move};
-ghost use Rattle.hc_connection.specs.Moves.Move.{Closed};
-ghost use Rattle.hc_connection.specs.Telling.{TellsNext, TellsSent};
+ghost use Rattle.hc_order.specs.Log.{Move};
+ghost use Rattle.hc_order.specs.Log.Move.{Closed};
+ghost use Rattle.hc_connection.specs.Telling.{MayBeNext, TellsNext, TellsSent};
 
 use hc_events::Event;
 use hc_framing::MessageText;
+use hc_order::Receiver;
 use std::alloc::AllocError;
-
-/// Where octets go.
-#[derive(Clone, Copy, PartialEq, Eq)]
-pub enum Receiver {
-    /// To the client of the connection of that number.
-    Client(u64),
-    /// To the origin, on the forward of that number.
-    Origin(u64),
-}
 
 /// The links of a cache, all together.
 pub trait Links {
@@ -26,6 +18,9 @@ pub trait Links {
     /// Nothing more will happen.
     ghost rests: { Self → Type 0 };
 
+    /// How many connections are open at once at most.
+    ghost most: { Self → ℕ };
+
     /// The moments at which things may happen.
     ghost may_tell: { Self → ℕ → Type 0 };
 
@@ -33,6 +28,9 @@ pub trait Links {
     /// is refused.
     fn next(&mut self) -> Result<Option<Event>, AllocError>
         ensures tells { (log : List Move) → tells self.old log → TellsNext (tells self.new) result log }
+        // It may happen by the log: no test of the event fails but that of its moment.
+        ensures orderly { (log : List Move) → tells self.old log → MayBeNext (most self.old) result log }
+        ensures as_many { most self.new ≡ most self.old }
         ensures rests { result ≡ Ok None → rests self.new }
         ensures moments { (moment : ℕ) → may_tell self.new moment → may_tell self.old moment };
 
@@ -41,10 +39,12 @@ pub trait Links {
     /// nothing then.
     fn send(&mut self, to: Receiver, octets: &MessageText) -> Result<(), AllocError>
         ensures sent { (log : List Move) → tells self.old log → TellsSent (tells self.new) result to octets.now log }
+        ensures as_many { most self.new ≡ most self.old }
         ensures moments { (moment : ℕ) → may_tell self.new moment → may_tell self.old moment };
 
     /// Closes a client's connection, or a forward.
     fn close(&mut self, link: Receiver)
         ensures closed { (log : List Move) → tells self.old log → tells self.new (Closed link ∷ log) }
+        ensures as_many { most self.new ≡ most self.old }
         ensures moments { (moment : ℕ) → may_tell self.new moment → may_tell self.old moment };
 }

@@ -5,10 +5,10 @@ ghost use Rattle.std.specs.Prelude.{◌≡◌, ◌<◌, false, true, ℕ, List, 
 use crate::client_side::ClientSide;
 use crate::forwards::Forwards;
 use crate::link::{Link, Origins};
-use crate::links::Receiver;
 use crate::sides::Came;
 use hc_events::Happening;
 use hc_framing::MessageText;
+use hc_order::Receiver;
 use std::alloc::{AllocError, Global};
 use std::collections::VecDeque;
 
@@ -33,11 +33,11 @@ pub(crate) struct Peers<'a, C: Link, O: Origins> {
 
 impl<'a, C: Link, O: Origins> Peers<'a, C, O> {
     ghost use Rattle.hc_connection.specs.Forwards.{AreKept, IsLeastOpen, KeepsIfOk, KeepsPerhaps, NoneOpen};
-    ghost use Rattle.hc_connection.specs.Moves.{Move};
-    ghost use Rattle.hc_connection.specs.Moves.Move.{Closed};
+    ghost use Rattle.hc_order.specs.Log.{Move};
+    ghost use Rattle.hc_order.specs.Log.Move.{Closed};
     ghost use Rattle.hc_connection.specs.Sides.{Tells, TellsIfOk, TellsPerhaps, TellsSparing, is_heard_out};
     ghost use Rattle.hc_connection.specs.Telling.{TellsSent};
-    ghost use Rattle.hc_connection.specs.declared.links.Receiver.TheVariants.{Client, Origin};
+    ghost use Rattle.hc_order.specs.declared.receiver.Receiver.TheVariants.{Client, Origin};
 
     /// A client who has just connected. No forward is open.
     pub(crate) fn new(alloc: Global, client: ClientSide<C>, origins: &'a O) -> Self

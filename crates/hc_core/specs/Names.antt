@@ -18,3 +18,4 @@ abbrev pub run_fault : CoreFault → RunFault
 run_fault core.Memory = Memory
 run_fault core.Name = Settings
 run_fault core.Size = Settings
+run_fault core.Room = Settings

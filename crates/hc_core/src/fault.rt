@@ -68,6 +68,7 @@ impl From<CoreFault> for RunFault {
             CoreFault::Memory => RunFault::Memory,
             CoreFault::Name => RunFault::Settings,
             CoreFault::Size => RunFault::Settings,
+            CoreFault::Room => RunFault::Settings,
         }
     }
 }

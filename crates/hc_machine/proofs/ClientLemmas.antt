@@ -7,7 +7,7 @@ use Rattle.hc_service.specs.declared.settings.CoreSettings.{CoreSettings}
 use Rattle.hc_service.specs.Numbers.{after_opening, is_later}
 use Rattle.hc_service.specs.Serves.Turn.{Opening, ClientSending}
 use Rattle.hc_service.specs.State.{State, Table, Connection, new_connection}
-use Rattle.hc_service.specs.Turns.{after_client_octets, most_connections}
+use Rattle.hc_service.specs.Turns.{after_client_octets}
 use Rattle.hc_machine.specs.declared.desk.Desk.{Desk}
 use Rattle.hc_open.specs.declared.links.Client.{Client}
 use Rattle.hc_open.specs.Links.{AreClients}
@@ -37,7 +37,7 @@ module _ (S H : Type 0) (settings : CoreSettings) (d : Desk S H) (s : State) whe
     in_time = stands.in_time;
   }
 
-  pub opened : (c : ℕ) (numbers : Numbers) (clients : BTreeMap ℕ Client) → DeskStandsFor {S = S} {H = H} settings d s → is_later c s.numbers.connection ≡ true → len s.connections < most_connections
+  pub opened : (c : ℕ) (numbers : Numbers) (clients : BTreeMap ℕ Client) → DeskStandsFor {S = S} {H = H} settings d s → is_later c s.numbers.connection ≡ true → len s.connections < s.numbers.room
       → numbers ≡ after_opening c d.numbers → AreClients clients (insert s.connections c new_connection)
       → GivesTurn {S = S} {H = H} (from_state settings s []) (Opening c) (at_desk [] (record { alloc = d.alloc; name = d.name; numbers = numbers; clients = clients; exchanges = d.exchanges; links = d.links; store = d.store }))
   opened c numbers clients stands later place is are = record {

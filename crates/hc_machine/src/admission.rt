@@ -9,9 +9,6 @@ use hc_fields::END_OF_MOMENTS;
 use hc_service::StepFault;
 use std::hash::BuildHasher;
 
-/// The most connections that are open.
-const MOST_CONNECTIONS: usize = 1_024;
-
 /// Whether the number is greater than those of all connections before.
 fn is_later(number: u64, last: Option<u64>) -> bool
     ensures { result ≡ is_later number last }
@@ -50,7 +47,7 @@ impl<S: BuildHasher> Desk<S> {
         ensures { (settings : CoreSettings) (s : State) → DeskStandsFor settings self.now s → result ≡ is_full of.now s }
     {
         match of {
-            Happening::ClientOpened(_) => MOST_CONNECTIONS <= self.clients.len(),
+            Happening::ClientOpened(_) => self.numbers.room <= self.clients.len(),
             Happening::ClientBytes(_, _) => false,
             Happening::ClientEnd(_) => false,
             Happening::OriginBytes(_, _) => false,

@@ -14,13 +14,12 @@ impl<S: BuildHasher> Desk<S> {
     ghost use Rattle.hc_service.specs.Numbers.{is_later};
     ghost use Rattle.hc_service.specs.State.{State, Connection};
     ghost use Rattle.hc_service.specs.Serves.Turn.{Opening, ClientSending};
-    ghost use Rattle.hc_service.specs.Turns.{most_connections};
     ghost use Rattle.hc_machine.specs.Standing.{GivesTurn, DeskStandsFor, from_state, at_desk};
 
     /// A connection opens, of a number greater than all before.
     pub(crate) fn open(&mut self, c: u64) -> Result<(), AllocError>
         ensures { (settings : CoreSettings) (s : State) → DeskStandsFor settings self.old s
-            → is_later c s.numbers.connection ≡ true → len s.connections < most_connections
+            → is_later c s.numbers.connection ≡ true → len s.connections < s.numbers.room
             → OnOk result (GivesTurn (from_state settings s []) (Opening c) (at_desk [] self.new)) }
     {
         self.clients.insert(c, Client::new(self.alloc))?;

@@ -24,21 +24,21 @@ pub(crate) struct Desk<S: BuildHasher> {
 }
 
 impl<S: BuildHasher> Desk<S> {
-    ghost use Rattle.std.specs.Prelude.{◌≡◌, ◌&&◌, ◌==◌};
+    ghost use Rattle.std.specs.Prelude.{◌≡◌, ◌&&◌, ◌==◌, ℕ};
     ghost use Rattle.std.specs.FinMap.{len};
     ghost use Rattle.hc_service.specs.declared.settings.CoreSettings.{CoreSettings};
-    ghost use Rattle.hc_service.specs.State.{State, new_state};
+    ghost use Rattle.hc_service.specs.State.{State, awaits_reply, new_state_with};
     ghost use Rattle.hc_machine.specs.Standing.{DeskStandsFor};
 
-    /// That of a cache to which nothing has happened, with an empty store.
-    pub(crate) fn new(alloc: Global, name: Octets, store: Store<S>) -> Self
-        ensures { (settings : CoreSettings) → name ≡ settings.name → store ≡ (new_state settings).store
-            → DeskStandsFor settings result (new_state settings) }
+    /// That of a cache to which nothing has happened, with an empty store, and with room for so many connections.
+    pub(crate) fn new(alloc: Global, name: Octets, store: Store<S>, room: usize) -> Self
+        ensures { (settings : CoreSettings) → name ≡ settings.name → store ≡ (new_state_with settings room).store
+            → DeskStandsFor settings result (new_state_with settings room) }
     {
         Desk {
             alloc,
             name,
-            numbers: Numbers::new(),
+            numbers: Numbers::new(room),
             clients: BTreeMap::new(alloc),
             exchanges: OpenExchanges::new(alloc),
             links: OpenLinks::new(alloc),
@@ -52,5 +52,15 @@ impl<S: BuildHasher> Desk<S> {
             → result ≡ (len s.connections == 0 && len s.forwards == 0) }
     {
         self.clients.len() == 0 && self.links.len() == 0
+    }
+    /// Whether a request of that connection awaits its reply.
+    pub(crate) fn awaits(&self, connection: u64) -> bool
+        ensures { (settings : CoreSettings) (s : State) → DeskStandsFor settings self.now s
+            → result ≡ awaits_reply connection s }
+    {
+        match self.clients.get(&connection) {
+            Some(client) => client.exchange.is_some(),
+            None => false,
+        }
     }
 }

@@ -5,7 +5,9 @@ ghost use Rattle.std.specs.Prelude.{◌≡◌};
 use crate::desk::Desk;
 use crate::keeping::steps_keep_agreement;
 use hc_events::Event;
-use hc_service::{Action, CoreFault, CoreSettings, StepFault, is_name, is_size};
+use hc_service::{
+    Action, CoreFault, CoreSettings, StepFault, USUAL_ROOM, is_name, is_room, is_size,
+};
 use hc_store::Store;
 use lru::DefaultHasher;
 use std::alloc::Global;
@@ -36,7 +38,7 @@ impl<S: BuildHasher> Model for Core<S> {
 impl Core<DefaultHasher> {
     ghost use Rattle.hc_machine.specs.Settings.{GivesCore};
 
-    /// A cache of those settings to which nothing has happened. Targets are hashed with a fixed seed; where an
+    /// A cache of those settings to which nothing has happened, with room for 1,024 connections. Targets are hashed with a fixed seed; where an
     /// attacker picks them, use `with_hasher` with a `RandomState`.
     pub fn new(alloc: Global, settings: CoreSettings) -> Result<Self, CoreFault>
         ensures { GivesCore result settings }
@@ -46,11 +48,24 @@ impl Core<DefaultHasher> {
 }
 
 impl<S: BuildHasher + Drop> Core<S> {
-    ghost use Rattle.hc_machine.specs.Settings.{GivesCore};
+    ghost use Rattle.hc_machine.specs.Settings.{GivesCore, GivesRoom};
 
     /// The same, whose store hashes targets with that.
     pub fn with_hasher(alloc: Global, settings: CoreSettings, hasher: S) -> Result<Self, CoreFault>
         ensures { GivesCore result settings }
+    {
+        Core::with_room(alloc, settings, hasher, USUAL_ROOM)
+    }
+
+    /// The same, with room for so many connections that are open, from 1 to 65,536. Beyond them one that opens is
+    /// refused, by `TooManyConnections`.
+    pub fn with_room(
+        alloc: Global,
+        settings: CoreSettings,
+        hasher: S,
+        connections: usize,
+    ) -> Result<Self, CoreFault>
+        ensures { GivesRoom result settings connections }
     {
         if !is_name(settings.name.as_slice()) {
             return Err(CoreFault::Name);
@@ -58,23 +73,26 @@ impl<S: BuildHasher + Drop> Core<S> {
         if !is_size(settings.keys) {
             return Err(CoreFault::Size);
         }
+        if !is_room(connections) {
+            return Err(CoreFault::Room);
+        }
         let store = Store::with_hasher(alloc, settings.keys, settings.bytes as usize, hasher)?;
         Ok(Core {
             failed: false,
-            desk: Desk::new(alloc, settings.name, store),
+            desk: Desk::new(alloc, settings.name, store, connections),
         })
     }
 }
 
 impl<S: BuildHasher> Core<S> {
-    ghost use Rattle.std.specs.Prelude.{◌≢◌, ◌&&◌, ◌==◌, true, false, IsErrOf, OnErr};
+    ghost use Rattle.std.specs.Prelude.{◌≢◌, ◌&&◌, ◌==◌, ℕ, true, false, IsErrOf, OnErr};
     ghost use Rattle.std.specs.FinMap.{len};
     ghost use Rattle.hc_service.specs.declared.fault.StepFault.TheVariants.{Failed, Memory};
     ghost use Rattle.hc_service.specs.declared.fault.StepFault.{StepFault};
     ghost use Rattle.hc_service.specs.declared.settings.CoreSettings.{CoreSettings};
     ghost use Rattle.hc_service.specs.Agreement.{Agrees, History, IsReady};
     ghost use Rattle.hc_service.specs.Settings.{AreGood};
-    ghost use Rattle.hc_service.specs.State.{State};
+    ghost use Rattle.hc_service.specs.State.{State, awaits_reply};
     ghost use Rattle.hc_machine.specs.Steps.{GivesAgreement, GivesStep, StandsFor, TellsFirst, records_given};
 
     /// Something happens. Where memory is refused, no event is served any more; any other fault changes
@@ -143,5 +161,14 @@ impl<S: BuildHasher> Core<S> {
         ensures failed { self.now.failed ≡ true → result ≡ false }
     {
         !self.failed && self.desk.is_idle()
+    }
+    /// Whether it hasn't failed, and a request of that connection awaits its reply. Who drives a cache reads no further from
+    /// such a client.
+    pub fn awaits(&self, connection: u64) -> bool
+        ensures state { (settings : CoreSettings) (s : State) → StandsFor settings self.now s
+            → result ≡ awaits_reply connection s }
+        ensures failed { self.now.failed ≡ true → result ≡ false }
+    {
+        !self.failed && self.desk.awaits(connection)
     }
 }

@@ -9,9 +9,9 @@ use Rattle.hc_service.specs.declared.action.Action.{Action}
 use Rattle.hc_service.specs.declared.action.Action.TheVariants as action
 use Rattle.hc_service.specs.Sending.{recorded_format, records_of}
 use Rattle.hc_connection.specs.Links.{IsBeginning}
-use Rattle.hc_connection.specs.Moves.{Move}
+use Rattle.hc_order.specs.Log.{Move, carried}
 use Rattle.hc_serve.specs.declared.fault.DriveFault.{DriveFault}
-use Rattle.hc_serve.specs.Carrying.{AreCut, AreDone, WritesRecord, carried, texts_in}
+use Rattle.hc_serve.specs.Carrying.{AreCut, AreDone, WritesRecord, texts_in}
 
 -- ---- octets behind others that were written
 

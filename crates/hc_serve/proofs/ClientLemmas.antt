@@ -1,39 +1,50 @@
 -- Connections of clients, one after another.
-use Rattle.std.proofs.Common.{◌≡◌, ◌⊎◌, ◌∙◌, ℕ, suc, ◌+◌, ◌<◌, ◌≤◌, List, [], ◌∷◌, ◌++◌, Bool, true, false, length, Option, Some, None, Result, Ok, Err, ap, append_assoc, append-nil, arith, length-append, inl, inr, refl, subst, sym}
+use Rattle.std.proofs.Common.{◌≡◌, ◌⊎◌, ◌∙◌, ℕ, suc, ◌+◌, ◌<◌, ◌≤◌, nat_lt, zero, List, [], ◌∷◌, ◌++◌, Bool, true, false, length, Option, Some, None, Result, Ok, Err, ap, append_assoc, append-nil, arith, length-append, inl, inr, refl, subst, sym}
+use Rattle.std.specs.Prelude.{is_some}
 use Rattle.std.specs.BTreeMap.{BTreeMap}
+use Rattle.std.specs.FinMap.{empty_of_len, get, len}
 use Rattle.hc_transcript.specs.declared.record.Record.{Record}
 use Rattle.hc_transcript.specs.Limits.{greatest_number}
 use Rattle.hc_transcript.specs.Records.{opening}
 use Rattle.hc_events.specs.declared.Event.{Event}
+use Rattle.hc_events.specs.declared.Happening.{Happening}
+use Rattle.hc_events.specs.declared.Happening.TheVariants.{ClientOpened, ClientBytes, ClientEnd, OriginBytes, OriginEnd, OriginFailed}
 use Rattle.hc_service.specs.declared.action.Action.{Action}
 use Rattle.hc_service.specs.declared.action.Action.TheVariants as action
 use Rattle.hc_service.specs.declared.settings.CoreSettings.{CoreSettings}
 use Rattle.hc_service.specs.Agreement.{Agrees, History}
+use Rattle.std.proofs.lemmas.Bool.Decides.{nat_tests}
+use Rattle.hc_service.specs.Numbers.{is_later}
 use Rattle.hc_service.specs.Runs.{IsJudgedRight, Runs, RunsOn, StepResult, nothing_yet, records_given}
 use Rattle.hc_service.specs.Sending.{recorded_format}
 use Rattle.hc_service.specs.Settings.{AreGood}
-use Rattle.hc_service.specs.State.{State, new_state}
+use Rattle.hc_service.specs.State.{State, Table, new_state, new_state_with, usual_room}
 use Rattle.hc_machine.specs.Steps.{Cache, StandsFor}
 use Rattle.hc_connection.specs.declared.client_side.ClientSide.{ClientSide}
-use Rattle.hc_connection.specs.declared.links.Receiver.TheVariants.{Client, Origin}
+use Rattle.hc_order.specs.declared.receiver.Receiver.TheVariants.{Client, Origin}
 use Rattle.hc_connection.specs.Clients.{HandsBack, IsFresh, Passage}
 use Rattle.hc_connection.specs.Connections.{HasPassed}
 use Rattle.hc_connection.specs.Forwards.{AreKept, NoneOpen}
 use Rattle.hc_connection.specs.Links.{IsBeginning}
-use Rattle.hc_connection.specs.Moves.{AreMoments, AreOf, Move, failures_before, given_in, sent_in}
-use Rattle.hc_connection.specs.Moves.Move.{Before, Closed, Heard, Sent}
+use Rattle.hc_service.specs.Follows.{last_by}
+use Rattle.hc_service.proofs.TableLemmas.{get_none}
+use Rattle.hc_order.specs.Mirrors.{Mirrors, last_opened}
+use Rattle.hc_connection.specs.Moves.{AreMoments, AreOf, IsOf, earlier_or, failures_before, first_in, given_in, sent_in}
+use Rattle.hc_order.specs.Log.{Move, carried}
+use Rattle.hc_order.specs.Log.Move.{Before, Closed, Heard, Sent}
 use Rattle.hc_connection.specs.Sides.{CountsFailed, Opens, Tells}
 use Rattle.hc_serve.specs.declared.fault.DriveFault.{DriveFault}
 use Rattle.hc_serve.specs.declared.fault.DriveFault.TheVariants as drive
 use Rattle.hc_serve.specs.declared.fault.ServingFault.{ServingFault}
 use Rattle.hc_serve.specs.declared.fault.ServingFault.TheVariants as fault
-use Rattle.hc_serve.specs.Carrying.{carried, texts_in}
-use Rattle.hc_serve.specs.Clients.{BreaksBefore, BreaksNext, ComeSince, Connections, CountsServing, EndsBefore, GivesNext, GivesServing, GivesTranscript, HoldsBeginning, HoldsTranscript, IsConnection, IsOwn, KeepsIdle, LeftSince, Serving, ServesNext, log_of, unserved}
-use Rattle.hc_serve.specs.Drives.{AreServed, AreRounds, BreakOff, EndStands, GivesUp, IsLeftIdle, LeadsTo, Leads, answers_by, events_by, passed, texts_given}
+use Rattle.hc_serve.specs.Carrying.{texts_in}
+use Rattle.hc_serve.specs.Clients.{LeadsToNext, BreaksBefore, BreaksNext, ComeSince, Connections, CountsServing, EndsBefore, GivesNext, GivesServing, GivesTranscript, HoldsBeginning, HoldsTranscript, IsConnection, IsOwn, KeepsIdle, LeftSince, Serving, ServesNext, log_of, number_before, unserved}
+use Rattle.hc_order.specs.Passed.{AreServed, passed}
+use Rattle.hc_serve.specs.Drives.{IsIdle, AreRounds, BreakOff, EndStands, GivesUp, IsLeftIdle, LeadsTo, Leads, answers_by, events_by, texts_given}
 use Rattle.hc_serve.specs.Rounds.{Break, IsToldBy, StopsAt}
 use Rattle.hc_serve.specs.Rounds.Break.{AtAnswer, Before as BeforeAll, Carrying}
 use Rattle.hc_serve.proofs.CarryLemmas.{texts_append}
-use Rattle.hc_serve.proofs.DriveLemmas.{fewer, given_append, served_append, texts_given_append, texts_of_one}
+use Rattle.hc_serve.proofs.DriveLemmas.{RunsAreCounted, fewer, given_append, served_append, texts_given_append, texts_of_one}
 
 -- ---- what laws say
 
@@ -41,16 +52,12 @@ abbrev pub RunsGoOn : Type 0
 RunsGoOn = (settings : CoreSettings) (events : List Event) (results : List StepResult) (s mid : State) (h : History) (records : List Record)
     → Runs settings s h events results records (Some mid) → RunsOn settings s h (record { events = events; results = results; records = records }) mid
 
-abbrev pub RunsAreCounted : Type 0
-RunsAreCounted = (settings : CoreSettings) (events : List Event) (results : List StepResult) (s mid : State) (h : History) (records : List Record)
-    → Runs settings s h events results records (Some mid) → mid.numbers.records ≡ s.numbers.records + length records
-
 abbrev pub RunsAreJudgedRight : Type 0
-RunsAreJudgedRight = (settings : CoreSettings) (events : List Event) (results : List StepResult) (records : List Record) (end : Option State)
-    → Runs settings (new_state settings) nothing_yet events results records end → IsJudgedRight records
+RunsAreJudgedRight = (settings : CoreSettings) (room : ℕ) (events : List Event) (results : List StepResult) (records : List Record) (end : Option State)
+    → Runs settings (new_state_with settings room) nothing_yet events results records end → IsJudgedRight records
 
 abbrev pub NewCacheAgrees : Type 0
-NewCacheAgrees = (settings : CoreSettings) → Agrees (new_state settings) nothing_yet
+NewCacheAgrees = (settings : CoreSettings) (room : ℕ) → Agrees (new_state_with settings room) nothing_yet
 
 -- ---- what more moves leave
 
@@ -87,12 +94,21 @@ failures_passed (event ∷ events) (Err step ∷ results) log = failures_passed 
 -- what a clock may tell another may, too
 moments_still : (P Q : ℕ → Type 0) → ((moment : ℕ) → P moment → Q moment) → (log : List Move) → AreMoments P log → AreMoments Q log
 moments_still P Q may [] moments = tt
-moments_still P Q may (Before number given got reads failures ∷ log) moments = moments_still P Q may log moments
+moments_still P Q may (Before last number given got reads failures ∷ log) moments = moments_still P Q may log moments
 moments_still P Q may (Heard event ∷ log) moments = (may event.moment moments.0, moments_still P Q may log moments.1)
 moments_still P Q may (Sent to octets ∷ log) moments = moments_still P Q may log moments
 moments_still P Q may (Closed link ∷ log) moments = moments_still P Q may log moments
 
 -- ---- one connection
+
+-- the number of a connection is greater than that of the one before
+later_before : (n : ℕ) → is_later n (number_before n) ≡ true
+later_before zero = refl
+later_before (suc zero) = refl
+later_before (suc (suc n)) = less (suc n) (suc (suc n)) (omega arith)
+  where
+    less : (m k : ℕ) → m < k → nat_lt m k ≡ true
+    less m k it = grind (arith, nat_tests)
 
 module _ {C L : Type 0} (client_gave client_got : C → List ℕ → Type 0) (was_read : C → ℕ → Type 0) (count : C → ℕ) (origin_gave origin_got : L → List ℕ → Type 0) (may_tell : ℕ → Type 0) where
   abbrev pub HasPassedAt : Bool → ClientSide C → BTreeMap ℕ (Option L) → List Move → Type 0
@@ -100,12 +116,12 @@ module _ {C L : Type 0} (client_gave client_got : C → List ℕ → Type 0) (wa
 
   -- nothing has passed at a fresh link
   pub nothing_passed : (n : ℕ) (link : C) (opened : Bool) (side : ClientSide C) (links : BTreeMap ℕ (Option L)) → IsFresh client_gave client_got was_read count link
-      → ((given got : List ℕ) (reads : ℕ) → client_gave link given → client_got link got → was_read link reads
-      → Tells client_gave client_got was_read count side (Before n given got reads (count link) ∷ []))
+      → ((last : Option ℕ) (given got : List ℕ) (reads : ℕ) → client_gave link given → client_got link got → was_read link reads
+      → Tells client_gave client_got was_read count side (Before last n given got reads (count link) ∷ []))
       → opened ≡ false → ((log : List Move) → NoneOpen log → AreKept origin_gave origin_got links log) → HasPassedAt opened side links (unserved n)
   nothing_passed n link opened side links fresh tells unopened kept = (
-    subst (λ (failures : ℕ). Tells client_gave client_got was_read count side (Before n [] [] 0 failures ∷ [])) fresh.3 (tells [] [] 0 fresh.0 fresh.1 fresh.2),
-    subst (λ (o : Bool). Opens o side.number (unserved n)) (sym unopened) refl,
+    subst (λ (failures : ℕ). Tells client_gave client_got was_read count side (Before (number_before n) n [] [] 0 failures ∷ [])) fresh.3 (tells (number_before n) [] [] 0 fresh.0 fresh.1 fresh.2),
+    subst (λ (o : Bool). Opens o side.number (unserved n)) (sym unopened) (refl, ap (λ (k : ℕ). is_later k (number_before n)) (sym (tells (number_before n) [] [] 0 fresh.0 fresh.1 fresh.2).own) ∙ later_before n),
     tt,
     kept (unserved n) (λ f. refl),
     tt,
@@ -145,7 +161,7 @@ module _ {C L : Type 0} (client_gave client_got : C → List ℕ → Type 0) (wa
   pub its_own : (may : ℕ → Type 0) → ((moment : ℕ) → may_tell moment → may moment) → (opened : Bool) (side : ClientSide C) (links : BTreeMap ℕ (Option L)) (log : List Move)
       → HasPassedAt opened side links log → IsOwn may side.number log
   its_own may still true side links log told = (told.0.own, moments_still may_tell may still log told.2, inr told.1)
-  its_own may still false side links log told = (told.0.own, moments_still may_tell may still log told.2, inl told.1)
+  its_own may still false side links log told = (told.0.own, moments_still may_tell may still log told.2, inl told.1.0)
 
 module _ (T T' : List Move → Type 0) (H : List ℕ → Type 0) (still : (log : List Move) → T log → T' log) where
   stops_still : (break : Break) (log : List Move) (text : List ℕ) → StopsAt break T H log text → StopsAt break T' H log text
@@ -168,13 +184,15 @@ module _ (T T' : List Move → Type 0) (H : List ℕ → Type 0) (still : (log :
   gives_up_still break why rests new rounds (inr (before, is, inl all)) = inr (before, is, inl all)
   gives_up_still break why rests new rounds (inr (before, is, inr (busy, rest))) = inr (before, is, inr (busy, tt))
 
-  breaks_still : (why : DriveFault) (rests : Type 0) (old new : Cache) (log : List Move) (text : List ℕ) → BreakOff why T H rests old new log text → BreakOff why T' H (Unit {0}) old new log text
+  breaks_still : (why : DriveFault) (rests : Type 0) (old new : Cache) (log : List Move) (text : List ℕ) → BreakOff 1 why T H rests old new log text → BreakOff 1 why T' H (Unit {0}) old new log text
   breaks_still why rests old new log text b = record {
     events = b.events;
     results = b.results;
     break = b.break;
     told_by = gives_up_still b.break why rests new (length b.events) b.told_by;
+    orderly = b.orderly;
     leads = b.leads;
+    usual = b.usual;
     served = b.served;
     stops = stops_still b.break (passed b.events b.results log) (text ++ texts_given b.results) b.stops;
   }
@@ -188,11 +206,71 @@ module _ (may : ℕ → Type 0) (H : List ℕ → Type 0) (c n : ℕ) where
       of_passed c events results (unserved n) (of_carried c stops.done (Heard event ∷ log_of n events results) stops.told.0).1
 
 pub broken_off : (may : ℕ → Type 0) (T : List Move → Type 0) (H : List ℕ → Type 0) (c n : ℕ) → ((log : List Move) → T log → IsOwn may c log)
-    → (why : DriveFault) (rests : Type 0) (old new : Cache) (text : List ℕ) → BreakOff why T H rests old new (unserved n) text → BreakOff why (IsOwn may n) H (Unit {0}) old new (unserved n) text
+    → (why : DriveFault) (rests : Type 0) (old new : Cache) (text : List ℕ) → BreakOff 1 why T H rests old new (unserved n) text → BreakOff 1 why (IsOwn may n) H (Unit {0}) old new (unserved n) text
 broken_off may T H c n own why rests old new text b =
     let broken = breaks_still T (IsOwn may c) H own why rests old new (unserved n) text b in
     let is = number_at may H c n broken.break broken.events broken.results (text ++ texts_given broken.results) broken.stops in
-    subst (λ (m : ℕ). BreakOff why (IsOwn may m) H (Unit {0}) old new (unserved n) text) (sym is) broken
+    subst (λ (m : ℕ). BreakOff 1 why (IsOwn may m) H (Unit {0}) old new (unserved n) text) (sym is) broken
+
+-- ---- what is open between connections
+
+-- what was opened first, and nothing else, was opened last
+last_is : (n : ℕ) (log : List Move) → first_in log ≡ Some (ClientOpened n) → AreOf n log → last_opened log ≡ Some n
+last_is n [] first own = absurd (cc)
+last_is n (Before last number given got reads failures ∷ log) first own = absurd (cc)
+last_is n (Heard event ∷ log) first own = by event.of (first_in log) (λ earlier. last_is n log earlier own.1) first own.0
+  where
+    by : (of : Happening) (o : Option Happening) → (o ≡ Some (ClientOpened n) → last_opened log ≡ Some n) → earlier_or o of ≡ Some (ClientOpened n) → IsOf n of
+        → last_by of (last_opened log) ≡ Some n
+    by (ClientOpened d) o before first its = ap (λ (k : ℕ). Some k) its
+    by (ClientBytes d octets) (Some earlier) before first its = before first
+    by (ClientBytes d octets) None before first its = absurd (cc)
+    by (ClientEnd d) (Some earlier) before first its = before first
+    by (ClientEnd d) None before first its = absurd (cc)
+    by (OriginBytes f octets) (Some earlier) before first its = before first
+    by (OriginBytes f octets) None before first its = absurd (cc)
+    by (OriginEnd f) (Some earlier) before first its = before first
+    by (OriginEnd f) None before first its = absurd (cc)
+    by (OriginFailed f) (Some earlier) before first its = before first
+    by (OriginFailed f) None before first its = absurd (cc)
+last_is n (Sent to octets ∷ log) first own = last_is n log first own
+last_is n (Closed link ∷ log) first own = last_is n log first own
+
+before_next : (n : ℕ) → 0 < n → number_before (suc n) ≡ Some n
+before_next zero some = absurd (omega (arith, some))
+before_next (suc n) some = refl
+
+none_there : {X : Type 0} (t : Table X) → len t ≡ 0 → (k : ℕ) → is_some (get t k) ≡ false
+none_there {X = X} t none k = ap is_some (ap (λ (t : Table X). get t k) (empty_of_len t none) ∙ get_none k)
+
+-- an idle cache mirrors the log before the next connection
+idle_mirrors : (room : ℕ) (s : State) (n : ℕ) (log : List Move) → 0 < n → Mirrors room s log → IsIdle s → last_opened log ≡ Some n → Mirrors room s (unserved (suc n))
+idle_mirrors room s n log some m idle last = record {
+  connections = none_there s.connections idle.0;
+  forwards = none_there s.forwards idle.1;
+  count = let none = idle.0 in omega (arith, none);
+  last = m.last ∙ last ∙ sym (before_next n some);
+  fresh = λ d later. refl;
+  has_room = m.has_room;
+}
+
+-- one connection behind others
+next_on : (old mid new : Cache) (n next : ℕ) (results answers : List StepResult) → LeadsToNext 1 n old mid results → LeadsToNext n next mid new answers
+    → LeadsToNext 1 next old new (results ++ answers)
+next_on old mid new n next results answers first second room settings s h good stands agrees few m =
+    let led = first room settings s h good stands agrees (fewer results answers s.numbers.records few) m in
+    let counts = led.counted in
+    let all = ap (λ (rs : List Record). length rs) (given_append results answers) in
+    let sums = length-append (records_given results) (records_given answers) in
+    let more = second room settings led.state led.later good led.stands led.agrees (omega (arith, few, counts, all, sums)) led.mirrors in
+    let more_counts = more.counted in record {
+      state = more.state;
+      stands = more.stands;
+      mirrors = more.mirrors;
+      later = more.later;
+      agrees = more.agrees;
+      counted = omega (arith, counts, more_counts, all, sums);
+    }
 
 -- ---- what clients tell
 
@@ -243,23 +321,34 @@ module _ {C L : Type 0} (client_gave client_got : C → List ℕ → Type 0) (wa
   PassesAt log = HasPassed client_gave client_got was_read count origin_gave origin_got may_tell opened side links log
 
   -- it was served, and its link was handed back
-  pub serves_next : AreRounds PassesAt H old new (unserved n) text → opened ≡ true → (link : C) → link ≡ side.link → ((n misses : ℕ) → MC n misses → AC n misses)
+  pub serves_next : AreRounds 1 PassesAt H old new (unserved n) text → IsLeftIdle new → opened ≡ true → (link : C) → link ≡ side.link → ((n misses : ℕ) → MC n misses → AC n misses)
       → HandsBack client_gave client_got count link ML AL → ServesNext may n (ComeSince BC AC) (LeftSince BL AL) H old new text
-  serves_next rounds was_opened link same stay back =
+  serves_next rounds idle was_opened link same stay back =
+      let is = is_connection client_gave client_got was_read count origin_gave origin_got may_tell n side opened links rounds.events rounds.results rounds.told may still was_opened in
       let hands = subst (λ (link : C). HandsBack client_gave client_got count link ML AL) same back in record {
         events = rounds.events;
         results = rounds.results;
         link = record { given = given_in (log_of n rounds.events rounds.results); got = rounds.told.0.got; failures = count side.link };
-        is_connection = is_connection client_gave client_got was_read count origin_gave origin_got may_tell n side opened links rounds.events rounds.results rounds.told may still was_opened;
+        is_connection = is;
         served = rounds.served;
         leads = rounds.leads;
+        mirrors = λ some room settings s h good stands agrees few m.
+            let led = rounds.mirrors room settings s h good stands agrees few m in record {
+              state = led.state;
+              stands = led.stands;
+              mirrors = idle_mirrors room led.state n (log_of n rounds.events rounds.results) some led.mirrors (idle.1 settings led.state led.stands)
+                  (last_is n (log_of n rounds.events rounds.results) is.opened is.own);
+              later = led.later;
+              agrees = led.agrees;
+              counted = led.counted;
+            };
         come_one = one_came BC MC AC comes stay;
         left_one = λ earlier had. hands earlier (given_in (log_of n rounds.events rounds.results)) rounds.told.0.got rounds.told.0.given rounds.told.0.has_it (stays earlier had);
         held = rounds.held;
       }
 
   -- it broke off
-  pub breaks_next : (why : DriveFault) (rests : Type 0) → BreakOff why PassesAt H rests old new (unserved n) text → BreaksNext may why n (ComeSince BC MC) (LeftSince BL ML) H old new text
+  pub breaks_next : (why : DriveFault) (rests : Type 0) → BreakOff 1 why PassesAt H rests old new (unserved n) text → BreaksNext may why n (ComeSince BC MC) (LeftSince BL ML) H old new text
   breaks_next why rests broken = record {
     come_one = one_came BC MC MC comes (λ n misses had. had);
     left_none = none_left BL ML stays;
@@ -289,6 +378,7 @@ none_served may cache = record {
   numbered = (refl, refl, refl);
   served = tt;
   leads = λ settings s h good stands agrees few. record { end = Some s; stands = stands; runs = (agrees, refl, refl) };
+  mirrors = λ room settings s h good stands agrees few m. record { state = s; stands = stands; mirrors = m; later = h; agrees = agrees; counted = omega arith };
 }
 
 pub serving_begins : (may : ℕ → Type 0) (B : ℕ → ℕ → Type 0) (L : List Passage → Type 0) (H : List ℕ → Type 0) (cache : Cache) (text : List ℕ) → H text → Serving may 0 0 (ComeSince B B) (LeftSince L L) H cache cache text
@@ -334,8 +424,8 @@ module _ (on : RunsGoOn) (counted : RunsAreCounted) where
 
   -- one more was served
   abbrev one_more : (may : ℕ → Type 0) (n : ℕ) (old mid new : Cache) (events : List Event) (results : List StepResult) (link : Passage) → Connections may n old mid → IsConnection may (suc n) events results link → AreServed results
-      → Leads mid new events results → Connections may (suc n) old new
-  one_more may n old mid new events results link all is served leads = record {
+      → Leads mid new events results → LeadsToNext (suc n) (suc (suc n)) mid new results → Connections may (suc n) old new
+  one_more may n old mid new events results link all is served leads mirrors = record {
     events = all.events ++ events;
     results = all.results ++ results;
     links = link ∷ all.links;
@@ -354,13 +444,14 @@ module _ (on : RunsGoOn) (counted : RunsAreCounted) where
     };
     served = served_append all.results results all.served served;
     leads = leads_on old mid new all.events events all.results results all.served all.leads leads;
+    mirrors = next_on old mid new (suc n) (suc (suc n)) all.results results all.mirrors mirrors;
   }
 
   module _ (may : ℕ → Type 0) (BC MC AC : ℕ → ℕ → Type 0) (BL ML AL : List Passage → Type 0) (MH AH : List ℕ → Type 0) (old mid new : Cache) (text : List ℕ) where
     goes_on_to : (n : ℕ) → (serving : Serving may n 0 (ComeSince BC MC) (LeftSince BL ML) MH old mid text)
         → ServesNext may (suc n) (ComeSince MC AC) (LeftSince ML AL) AH mid new (text ++ texts_given serving.all.results) → Serving may (suc n) 0 (ComeSince BC AC) (LeftSince BL AL) AH old new text
     goes_on_to n serving next = record {
-      all = one_more may n old mid new next.events next.results next.link serving.all next.is_connection next.served next.leads;
+      all = one_more may n old mid new next.events next.results next.link serving.all next.is_connection next.served next.leads (next.mirrors (omega arith));
       come_all = subst (λ (m : ℕ). ComeSince BC AC m 0) (sym (one_is n)) (more_came BC MC AC n 0 1 0 serving.come_all next.come_one);
       left_all = more_left BL ML AL serving.all.links (next.link ∷ []) serving.left_all next.left_one;
       held = subst AH (append_assoc text (texts_given serving.all.results) (texts_given next.results)
@@ -393,15 +484,24 @@ module _ (on : RunsGoOn) (counted : RunsAreCounted) where
     -- the next one broke off
     pub broke_before : (why : DriveFault) (n k count : ℕ) → n < count → k ≡ suc n → (serving : Serving may n 0 (ComeSince BC MC) (LeftSince BL ML) MH old mid text)
         → BreaksNext may why k (ComeSince MC AC) (LeftSince ML AL) AH mid new (text ++ texts_given serving.all.results) → BreaksBefore may why count (ComeSince BC AC) (LeftSince BL AL) AH old new text
-    broke_before why n k count less is_number serving next = record {
-      n = n;
-      fewer = less;
-      between = mid;
-      all = serving.all;
-      come_all = more_came BC MC AC n 0 1 0 serving.come_all next.come_one;
-      left_all = more_left BL ML AL serving.all.links [] serving.left_all next.left_none;
-      broken = subst (λ (k : ℕ). BreakOff why (IsOwn may k) AH (Unit {0}) mid new (unserved k) (text ++ texts_given serving.all.results)) (is_number ∙ one_is n) next.broken;
-    }
+    broke_before why n k count less is_number serving next =
+        let b : BreakOff 1 why (IsOwn may (1 + n)) AH (Unit {0}) mid new (unserved (1 + n)) (text ++ texts_given serving.all.results) =
+        subst (λ (k : ℕ). BreakOff 1 why (IsOwn may k) AH (Unit {0}) mid new (unserved k) (text ++ texts_given serving.all.results)) (is_number ∙ one_is n) next.broken in record {
+          n = n;
+          fewer = less;
+          between = mid;
+          all = serving.all;
+          come_all = more_came BC MC AC n 0 1 0 serving.come_all next.come_one;
+          left_all = more_left BL ML AL serving.all.links [] serving.left_all next.left_none;
+          broken = b;
+          usual = λ room settings s h good stands agrees few less_room m.
+              let led = serving.all.mirrors room settings s h good stands agrees (fewer serving.all.results (b.results ++ answers_by b.break) s.numbers.records few) m in
+              let counts = led.counted in
+              let all = ap (λ (rs : List Record). length rs) (given_append serving.all.results (b.results ++ answers_by b.break)) in
+              let sums = length-append (records_given serving.all.results) (records_given (b.results ++ answers_by b.break)) in
+              b.usual room settings led.state led.later good led.stands led.agrees (omega (arith, few, counts, all, sums)) less_room
+              (subst (λ (m : ℕ). Mirrors room led.state (unserved m)) (one_is n) led.mirrors);
+        }
 
     -- any fault of the next one
     pub at_fault : (T : Type 0) (why : ServingFault) (n k count : ℕ) → n < count → k ≡ suc n → (serving : Serving may n 0 (ComeSince BC MC) (LeftSince BL ML) MH old mid text)
@@ -441,7 +541,7 @@ module _ (on : RunsGoOn) (counted : RunsAreCounted) where
   module _ (judged : RunsAreJudgedRight) (begins : NewCacheAgrees) (settings : CoreSettings) (good : AreGood settings) (old : Cache) (is_new : StandsFor settings old (new_state settings)) where
     right : (new : Cache) (events : List Event) (results : List StepResult) → Leads old new events results → length (records_given results) ≤ greatest_number → IsJudgedRight (records_given results)
     right new events results leads few =
-        let led = leads settings (new_state settings) nothing_yet good is_new (begins settings) (still_few (length (records_given results)) few) in judged settings events results (records_given results) led.end led.runs
+        let led = leads settings (new_state settings) nothing_yet good is_new (begins settings usual_room) (still_few (length (records_given results)) few) in judged settings usual_room events results (records_given results) led.end led.runs
 
     pub holds_all : (may : ℕ → Type 0) (n misses : ℕ) (come : ℕ → ℕ → Type 0) (left : List Passage → Type 0) (H : List ℕ → Type 0) (new : Cache) → Serving may n misses come left H old new (opening recorded_format) → HoldsTranscript H
     holds_all may n misses come left H new serving = record {

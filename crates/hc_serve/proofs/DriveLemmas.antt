@@ -9,6 +9,8 @@ use Rattle.hc_transcript.specs.declared.record.Record.{Record}
 use Rattle.hc_transcript.specs.Limits.{greatest_number}
 use Rattle.hc_transcript.specs.Records.{record_text}
 use Rattle.hc_events.specs.declared.Event.{Event}
+use Rattle.hc_events.specs.declared.Happening.{Happening}
+use Rattle.hc_events.specs.declared.Happening.TheVariants.{ClientOpened, ClientBytes, ClientEnd, OriginBytes, OriginEnd, OriginFailed}
 use Rattle.hc_service.specs.declared.action.Action.{Action}
 use Rattle.hc_service.specs.declared.fault.StepFault.{StepFault}
 use Rattle.hc_service.specs.declared.fault.StepFault.TheVariants.{Memory, MomentTooLarge, UnknownNumber, TooManyConnections, Failed}
@@ -20,12 +22,15 @@ use Rattle.hc_service.specs.Settings.{AreGood}
 use Rattle.hc_service.specs.State.{State}
 use Rattle.hc_service.proofs.RunLemmas.{steps_append}
 use Rattle.hc_machine.specs.Steps.{Cache, GivesStep, StandsFor}
-use Rattle.hc_connection.specs.Moves.{Move}
+use Rattle.hc_order.specs.Log.{Move, carried}
+use Rattle.hc_order.specs.Log.Move.{Heard}
+use Rattle.hc_order.specs.Mirrors.{MayHappen, Mirrors}
 use Rattle.hc_serve.specs.declared.fault.DriveFault.{DriveFault}
 use Rattle.hc_serve.specs.declared.fault.DriveFault.TheVariants as fault
 use Rattle.hc_serve.specs.Carrying.{CountsRecorder, texts_in}
-use Rattle.hc_serve.specs.Drives.{AreServed, AreRounds, BreakOff, EndStands, GivesDrive, GivesUp, IsBusy, Leads, answers_by, events_by, most_rounds, passed, texts_given}
-use Rattle.hc_serve.specs.Rounds.{Answers, AnswersBy, Break, IsToldBy, IsRound, StopsAt}
+use Rattle.hc_order.specs.Passed.{AreOrderly, AreServed, AreUsual, IsUsual, passed}
+use Rattle.hc_serve.specs.Drives.{AreRounds, BreakOff, EndStands, GivesDrive, GivesUp, IsBusy, IsUsualFrom, Leads, answers_by, events_by, most_rounds, texts_given}
+use Rattle.hc_serve.specs.Rounds.{Answers, AnswersBy, Break, IsToldBy, IsRound, MayBreak, StopsAt}
 use Rattle.hc_serve.specs.Rounds.Break.{AtAnswer, Before, Carrying}
 
 -- ---- what laws say
@@ -41,6 +46,55 @@ RunsKeepAgreement = (settings : CoreSettings) (events : List Event) (results : L
 
 abbrev pub AgreementIsReady : Type 0
 AgreementIsReady = (s : State) (h : History) → Agrees s h → IsReady s
+
+abbrev pub RunsAreCounted : Type 0
+RunsAreCounted = (settings : CoreSettings) (events : List Event) (results : List StepResult) (s mid : State) (h : History) (records : List Record)
+    → Runs settings s h events results records (Some mid) → mid.numbers.records ≡ s.numbers.records + length records
+
+abbrev pub TurnsAreUsual : Type 0
+TurnsAreUsual = (room : ℕ) (settings : CoreSettings) (events : List Event) (results : List StepResult) (s : State) (end : Option State) (log : List Move)
+    → Steps settings s events results end → Mirrors room s log → AreOrderly room events results log → AreUsual events results
+
+abbrev pub TurnsAreMirrored : Type 0
+TurnsAreMirrored = (room : ℕ) (settings : CoreSettings) (events : List Event) (results : List StepResult) (s other : State) (log : List Move)
+    → Steps settings s events results (Some other) → Mirrors room s log → AreServed results → Mirrors room other (passed events results log)
+
+-- ---- what may happen in turn
+
+-- where more connections may be open it may happen as well
+may_in_more : (few many : ℕ) → few ≤ many → (happening : Happening) (log : List Move) → MayHappen few happening log → MayHappen many happening log
+may_in_more few many less (ClientOpened c) log may = (may.0, (let room = may.1 in omega (arith, room, less)))
+may_in_more few many less (ClientBytes c octets) log may = may
+may_in_more few many less (ClientEnd c) log may = may
+may_in_more few many less (OriginBytes f octets) log may = may
+may_in_more few many less (OriginEnd f) log may = may
+may_in_more few many less (OriginFailed f) log may = may
+
+orderly_in_more : (few many : ℕ) → few ≤ many → (events : List Event) (results : List StepResult) (log : List Move) → AreOrderly few events results log → AreOrderly many events results log
+orderly_in_more few many less [] results log o = tt
+orderly_in_more few many less (event ∷ events) [] log o = tt
+orderly_in_more few many less (event ∷ events) (Ok actions ∷ results) log o =
+    (may_in_more few many less event.of log o.0, orderly_in_more few many less events results (carried actions.items (Heard event ∷ log)) o.1)
+orderly_in_more few many less (event ∷ events) (Err step ∷ results) log o = may_in_more few many less event.of log o
+
+-- one event more
+orderly_then : (most : ℕ) (events others : List Event) (results answers : List StepResult) (log : List Move) → length events ≡ length results → AreServed results
+    → AreOrderly most events results log → AreOrderly most others answers (passed events results log) → AreOrderly most (events ++ others) (results ++ answers) log
+orderly_then most [] others [] answers log same served o more = more
+orderly_then most [] others (result ∷ results) answers log same served o more = absurd (cc)
+orderly_then most (event ∷ events) others [] answers log same served o more = absurd (cc)
+orderly_then most (event ∷ events) others (Ok actions ∷ results) answers log same served o more =
+    (o.0, orderly_then most events others results answers (carried actions.items (Heard event ∷ log)) (omega (arith, same)) served o.1 more)
+orderly_then most (event ∷ events) others (Err step ∷ results) answers log same served o more = absurd served
+
+-- the last of them wasn't served
+last_usual : (events : List Event) (results : List StepResult) (event : Event) (step : StepFault) → length events ≡ length results → AreServed results
+    → AreUsual (events ++ event ∷ []) (results ++ Err step ∷ []) → IsUsual event step
+last_usual [] [] event step same served usual = usual
+last_usual [] (result ∷ results) event step same served usual = absurd (cc)
+last_usual (first ∷ events) [] event step same served usual = absurd (cc)
+last_usual (first ∷ events) (Ok actions ∷ results) event step same served usual = last_usual events results event step (omega (arith, same)) served usual
+last_usual (first ∷ events) (Err fault ∷ results) event step same served usual = absurd served
 
 -- ---- records that are given
 
@@ -91,9 +145,10 @@ Leading old new events results = (settings : CoreSettings) (s : State) (h : Hist
     → s.numbers.records + length (records_given results) ≤ greatest_number → IsLed settings s new events results
 
 -- the rounds so far
-pub record SoFar (T : List Move → Type 0) (H : List ℕ → Type 0) (old new : Cache) (log : List Move) (text : List ℕ) (rounds : ℕ) : Type 0 where
+pub record SoFar (most : ℕ) (T : List Move → Type 0) (H : List ℕ → Type 0) (old new : Cache) (log : List Move) (text : List ℕ) (rounds : ℕ) : Type 0 where
   pub events : List Event
   pub results : List StepResult
+  pub orderly : AreOrderly most events results log
   pub leading : Leading old new events results
   pub many : length events ≡ rounds
   pub paired : length events ≡ length results
@@ -101,10 +156,11 @@ pub record SoFar (T : List Move → Type 0) (H : List ℕ → Type 0) (old new :
   pub told : T (passed events results log)
   pub held : H (text ++ texts_given results)
 
-pub begins : (T : List Move → Type 0) (H : List ℕ → Type 0) (cache : Cache) (log : List Move) (text : List ℕ) → T log → H text → SoFar T H cache cache log text 0
-begins T H cache log text told held = record {
+pub begins : (most : ℕ) (T : List Move → Type 0) (H : List ℕ → Type 0) (cache : Cache) (log : List Move) (text : List ℕ) → T log → H text → SoFar most T H cache cache log text 0
+begins most T H cache log text told held = record {
   events = [];
   results = [];
+  orderly = tt;
   leading = λ settings s h good stands agrees few. record { state = s; stands = stands; steps = refl };
   many = refl;
   paired = refl;
@@ -116,7 +172,7 @@ begins T H cache log text told held = record {
     unit : Unit {0}
     unit = search rules
 
-module _ (runs : StepsAreRuns) (keeps : RunsKeepAgreement) (is_ready : AgreementIsReady) where
+module _ (runs : StepsAreRuns) (keeps : RunsKeepAgreement) (is_ready : AgreementIsReady) (counted : RunsAreCounted) (usual : TurnsAreUsual) (mirrored : TurnsAreMirrored) where
   -- each forward can end there
   ready_there : (settings : CoreSettings) (s : State) (h : History) (cache : Cache) (events : List Event) (results : List StepResult) → AreGood settings → Agrees s h
       → s.numbers.records + length (records_given results) ≤ greatest_number → (led : IsLed settings s cache events results) → IsReady led.state
@@ -178,12 +234,13 @@ module _ (runs : StepsAreRuns) (keeps : RunsKeepAgreement) (is_ready : Agreement
         runs = runs settings good events results s h (Some led.state) agrees led.steps few;
       }
 
-  module _ (T T' : List Move → Type 0) (H H' : List ℕ → Type 0) (old mid new : Cache) (log : List Move) (text : List ℕ) (rounds : ℕ)
-      (f : SoFar T H old mid log text rounds) where
-    pub goes_on : IsRound T' H' mid new (passed f.events f.results log) (text ++ texts_given f.results) → SoFar T' H' old new log text (rounds + 1)
+  module _ (most : ℕ) (T T' : List Move → Type 0) (H H' : List ℕ → Type 0) (old mid new : Cache) (log : List Move) (text : List ℕ) (rounds : ℕ)
+      (f : SoFar most T H old mid log text rounds) where
+    pub goes_on : IsRound most T' H' mid new (passed f.events f.results log) (text ++ texts_given f.results) → SoFar most T' H' old new log text (rounds + 1)
     goes_on t = record {
       events = f.events ++ t.event ∷ [];
       results = f.results ++ Ok t.actions ∷ [];
+      orderly = orderly_then most f.events (t.event ∷ []) f.results (Ok t.actions ∷ []) log f.paired f.served f.orderly (t.may, tt);
       leading = leads_on old mid new f.events f.results f.leading t.event t.actions t.answers;
       many = omega (arith, f.many, length-append f.events (t.event ∷ []));
       paired = paired_append f.events (t.event ∷ []) f.results (Ok t.actions ∷ []) f.paired refl;
@@ -197,10 +254,22 @@ module _ (runs : StepsAreRuns) (keeps : RunsKeepAgreement) (is_ready : Agreement
         unit : Unit {0}
         unit = search rules
 
-    pub ended : new ≡ mid → T' (passed f.events f.results log) → H' (text ++ texts_given f.results) → AreRounds T' H' old new log text
+    pub ended : new ≡ mid → T' (passed f.events f.results log) → H' (text ++ texts_given f.results) → AreRounds most T' H' old new log text
     ended same told held = record {
       events = f.events;
       results = f.results;
+      orderly = f.orderly;
+      mirrors = λ room settings s h good stands agrees few m.
+          let led = f.leading settings s h good stands agrees few in
+          let run = runs settings good f.events f.results s h (Some led.state) agrees led.steps few in
+          let to = keeps settings f.events f.results s h (records_given f.results) (Some led.state) run in record {
+            state = led.state;
+            stands = subst (λ (cache : Cache). StandsFor settings cache led.state) (sym same) led.stands;
+            mirrors = mirrored room settings f.events f.results s led.state log led.steps m f.served;
+            later = to.later;
+            agrees = to.agrees;
+            counted = counted settings f.events f.results s led.state h (records_given f.results) run;
+          };
       leads = leads old new f.events f.results (subst (λ (cache : Cache). Leading old cache f.events f.results) (sym same) f.leading);
       served = f.served;
       told = told;
@@ -216,31 +285,54 @@ module _ (runs : StepsAreRuns) (keeps : RunsKeepAgreement) (is_ready : Agreement
     break_leads (Carrying event actions) answers =
         leads old new (f.events ++ event ∷ []) (f.results ++ Ok actions ∷ []) (leads_on old mid new f.events f.results f.leading event actions answers)
 
+    break_orderly : (break : Break) → MayBreak most break (passed f.events f.results log) → AreOrderly most (f.events ++ events_by break) (f.results ++ answers_by break) log
+    break_orderly Before may = orderly_then most f.events [] f.results [] log f.paired f.served f.orderly tt
+    break_orderly (AtAnswer event step) may = orderly_then most f.events (event ∷ []) f.results (Err step ∷ []) log f.paired f.served f.orderly may
+    break_orderly (Carrying event actions) may = orderly_then most f.events (event ∷ []) f.results (Ok actions ∷ []) log f.paired f.served f.orderly (may, tt)
+
+    break_usual : (break : Break) → AnswersBy break mid new → MayBreak most break (passed f.events f.results log) → IsUsualFrom most old log f.results break
+    break_usual Before same may room settings s h good stands agrees few less m = tt
+    break_usual (AtAnswer event step) answers may room settings s h good stands agrees few less m =
+        let parts = fewer f.results (Err step ∷ []) s.numbers.records few in
+        let led = f.leading settings s h good stands agrees parts in
+        let r = refused old mid new f.events f.results f.leading event step settings s led
+        (answers.gives settings led.state led.stands (ready_there settings s h mid f.events f.results good agrees parts led)) (answers.same step refl) in
+        last_usual f.events f.results event step f.paired f.served
+        (usual room settings (f.events ++ event ∷ []) (f.results ++ Err step ∷ []) s r.0 log r.2 m
+        (orderly_in_more most room less (f.events ++ event ∷ []) (f.results ++ Err step ∷ []) log (break_orderly (AtAnswer event step) may)))
+    break_usual (Carrying event actions) answers may room settings s h good stands agrees few less m = tt
+
     pub broke_off : (rests : Type 0) (why : DriveFault) (break : Break) → IsToldBy break why ⊎ GivesUp break why new rests (length f.events) → AnswersBy break mid new
-        → StopsAt break T' H' (passed f.events f.results log) (text ++ texts_given f.results) → BreakOff why T' H' rests old new log text
-    broke_off rests why break told answers stops = record {
+        → StopsAt break T' H' (passed f.events f.results log) (text ++ texts_given f.results) → MayBreak most break (passed f.events f.results log)
+        → BreakOff most why T' H' rests old new log text
+    broke_off rests why break told answers stops may = record {
       events = f.events;
       results = f.results;
       break = break;
       told_by = told;
+      orderly = break_orderly break may;
       leads = break_leads break answers;
+      usual = break_usual break answers may;
       served = f.served;
       stops = stops;
     }
 
 -- so many rounds were made, and no more are
-pub made_all : (T : List Move → Type 0) (H : List ℕ → Type 0) (rests : Type 0) (old new : Cache) (log : List Move) (text : List ℕ) (rounds : ℕ) (f : SoFar T H old new log text rounds) → rounds ≡ most_rounds
+pub made_all : (most : ℕ) (T : List Move → Type 0) (H : List ℕ → Type 0) (rests : Type 0) (old new : Cache) (log : List Move) (text : List ℕ) (rounds : ℕ) (f : SoFar most T H old new log text rounds) → rounds ≡ most_rounds
     → IsToldBy Before (fault.Core Failed) ⊎ GivesUp Before (fault.Core Failed) new rests (length f.events)
-made_all T H rests old new log text rounds f all = inr (refl, refl, inl (f.many ∙ all))
+made_all most T H rests old new log text rounds f all = inr (refl, refl, inl (f.many ∙ all))
 
 -- rounds that went well, and then no more is done, though the cache isn't idle
-pub as_broken : (T : List Move → Type 0) (H : List ℕ → Type 0) (rests : Type 0) (old new : Cache) (log : List Move) (text : List ℕ) → IsBusy new → rests
-    → AreRounds T H old new log text → BreakOff (fault.Core Failed) T H rests old new log text
-as_broken T H rests old new log text busy rest t = record {
+pub as_broken : (most : ℕ) (T : List Move → Type 0) (H : List ℕ → Type 0) (rests : Type 0) (old new : Cache) (log : List Move) (text : List ℕ) → IsBusy new → rests
+    → AreRounds most T H old new log text → BreakOff most (fault.Core Failed) T H rests old new log text
+as_broken most T H rests old new log text busy rest t = record {
   events = t.events;
   results = t.results;
   break = Before;
   told_by = inr (refl, refl, inr (busy, rest));
+  orderly = subst (λ (events : List Event). AreOrderly most events (t.results ++ []) log) (sym (append-nil t.events))
+      (subst (λ (results : List StepResult). AreOrderly most t.events results log) (sym (append-nil t.results)) t.orderly);
+  usual = λ room settings s h good stands agrees few less m. tt;
   leads = subst (λ (events : List Event). Leads old new events (t.results ++ [])) (sym (append-nil t.events))
       (subst (λ (results : List StepResult). Leads old new t.events results) (sym (append-nil t.results)) t.leads);
   served = t.served;
@@ -261,8 +353,8 @@ pub is_busy : (idle : Bool) (cache : Cache) → idle ≡ false
 is_busy idle cache none is settings s stands i = true_false (sym (none_open _ _ i.0 i.1) ∙ sym (is settings s stands) ∙ none)
 
 -- a fault behind which rounds broke off
-pub breaks : (T U : Type 0) (why : DriveFault) (tells : List Move → Type 0) (holds : List ℕ → Type 0) (rests : Type 0) (old new : Cache) (log : List Move) (text : List ℕ) (before after : ℕ)
-    → CountsRecorder {T = T} (Err why) before after → BreakOff why tells holds rests old new log text → GivesDrive {T = U} tells holds rests (Err why) old new log text
-breaks T U fault.Client tells holds rests old new log text before after counted b = absurd counted
-breaks T U fault.Recorder tells holds rests old new log text before after counted b = b
-breaks T U (fault.Core step) tells holds rests old new log text before after counted b = b
+pub breaks : (T U : Type 0) (most : ℕ) (why : DriveFault) (tells : List Move → Type 0) (holds : List ℕ → Type 0) (rests : Type 0) (old new : Cache) (log : List Move) (text : List ℕ) (before after : ℕ)
+    → CountsRecorder {T = T} (Err why) before after → BreakOff most why tells holds rests old new log text → GivesDrive {T = U} most tells holds rests (Err why) old new log text
+breaks T U most fault.Client tells holds rests old new log text before after counted b = absurd counted
+breaks T U most fault.Recorder tells holds rests old new log text before after counted b = b
+breaks T U most (fault.Core step) tells holds rests old new log text before after counted b = b

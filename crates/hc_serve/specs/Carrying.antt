@@ -3,13 +3,10 @@ use Rattle.std.specs.Prelude.{◌≡◌, ℕ, List, [], ◌∷◌, ◌++◌, ◌
 use Rattle.std.specs.List.{flat_map}
 use Rattle.hc_transcript.specs.Records.{record_text}
 use Rattle.hc_service.specs.declared.action.Action.{Action}
-use Rattle.hc_service.specs.declared.action.Action.TheVariants.{ToClient, CloseClient, Forward, CloseForward, Record}
 use Rattle.hc_service.specs.declared.fault.StepFault.TheVariants.{Memory}
 use Rattle.hc_service.specs.Sending.{recorded_format, records_of}
-use Rattle.hc_connection.specs.declared.links.Receiver.TheVariants.{Client, Origin}
 use Rattle.hc_connection.specs.Links.{HasFailed, IsBeginning}
-use Rattle.hc_connection.specs.Moves.{Move}
-use Rattle.hc_connection.specs.Moves.Move.{Closed, Sent}
+use Rattle.hc_order.specs.Log.{Move, carried}
 use Rattle.hc_serve.specs.declared.fault.DriveFault.{DriveFault}
 use Rattle.hc_serve.specs.declared.fault.DriveFault.TheVariants as fault
 
@@ -32,15 +29,6 @@ abbrev pub IsOfCarrying : DriveFault → Type 0
 IsOfCarrying why = (why ≡ fault.Recorder) ⊎ (why ≡ fault.Core Memory)
 
 -- ---- actions
-
--- what has passed once actions were carried out, in order
-abbrev pub carried : List Action → List Move → List Move
-carried [] log = log
-carried (ToClient c octets ∷ actions) log = carried actions (Sent (Client c) octets ∷ log)
-carried (Forward f octets ∷ actions) log = carried actions (Sent (Origin f) octets ∷ log)
-carried (CloseClient c ∷ actions) log = carried actions (Closed (Client c) ∷ log)
-carried (CloseForward f ∷ actions) log = carried actions (Closed (Origin f) ∷ log)
-carried (Record given ∷ actions) log = carried actions log
 
 -- the texts of the records among actions
 abbrev pub texts_in : List Action → List ℕ

@@ -1,26 +1,40 @@
 -- Connections of clients, one after another.
-use Rattle.std.specs.Prelude.{◌≡◌, ◌⊎◌, ℕ, zero, suc, ◌+◌, ◌<◌, ◌≤◌, List, [], ◌∷◌, ◌++◌, length, Some, None, Result, Ok, Err}
+use Rattle.std.specs.Prelude.{◌≡◌, ◌⊎◌, ℕ, zero, suc, ◌+◌, ◌<◌, ◌≤◌, List, [], ◌∷◌, ◌++◌, length, Option, Some, None, Result, Ok, Err}
 use Rattle.hc_transcript.specs.declared.record.Record.{Record}
 use Rattle.hc_transcript.specs.Limits.{greatest_number}
 use Rattle.hc_events.specs.declared.Event.{Event}
 use Rattle.hc_events.specs.declared.Happening.TheVariants.{ClientOpened}
-use Rattle.hc_service.specs.Runs.{IsJudgedRight, StepResult, transcript_of}
-use Rattle.hc_machine.specs.Steps.{Cache}
+use Rattle.hc_service.specs.declared.settings.CoreSettings.{CoreSettings}
+use Rattle.hc_service.specs.Agreement.{Agrees, History}
+use Rattle.hc_service.specs.Runs.{IsJudgedRight, StepResult, records_given, transcript_of}
+use Rattle.hc_service.specs.Settings.{AreGood}
+use Rattle.hc_service.specs.State.{State}
+use Rattle.hc_machine.specs.Steps.{Cache, StandsFor}
+use Rattle.hc_order.specs.Mirrors.{Mirrors}
+use Rattle.hc_serve.specs.Rounds.{Break}
 use Rattle.hc_connection.specs.Clients.{Passage}
 use Rattle.hc_connection.specs.Links.{HasFailed, IsBeginning}
-use Rattle.hc_connection.specs.Moves.{AreMoments, AreOf, Move, first_in, given_in, sent_in}
-use Rattle.hc_connection.specs.Moves.Move.{Before}
+use Rattle.hc_connection.specs.Moves.{AreMoments, AreOf, first_in, given_in, sent_in}
+use Rattle.hc_order.specs.Log.{Move}
+use Rattle.hc_order.specs.Log.Move.{Before}
 use Rattle.hc_serve.specs.declared.fault.DriveFault.{DriveFault}
 use Rattle.hc_serve.specs.declared.fault.DriveFault.TheVariants as drive
 use Rattle.hc_serve.specs.declared.fault.ServingFault.{ServingFault}
 use Rattle.hc_serve.specs.declared.fault.ServingFault.TheVariants as fault
-use Rattle.hc_serve.specs.Drives.{AreServed, BreakOff, IsLeftIdle, Leads, passed, texts_given}
+use Rattle.hc_order.specs.Passed.{AreServed, passed}
+use Rattle.hc_serve.specs.Drives.{BreakOff, BreaksAsUsual, IsLeftIdle, Leads, LedToMirror, answers_by, texts_given}
 
 -- ---- one connection
 
+-- the number of the connection before that one, if there was one
+abbrev pub number_before : ℕ → Option ℕ
+number_before zero = None
+number_before (suc zero) = None
+number_before (suc (suc n)) = Some (suc n)
+
 -- the connection of that number, on a fresh link, before anything has passed
 abbrev pub unserved : ℕ → List Move
-unserved n = Before n [] [] 0 0 ∷ []
+unserved n = Before (number_before n) n [] [] 0 0 ∷ []
 
 -- what passed at it, where the cache was handed the events and answered so
 abbrev pub log_of : ℕ → List Event → List StepResult → List Move
@@ -40,6 +54,14 @@ pub record IsConnection (may_tell : ℕ → Type 0) (n : ℕ) (events : List Eve
 -- what passed is of the connection of that number, at moments that the clock may tell: its opening happened first, if anything did
 abbrev pub IsOwn : (ℕ → Type 0) → ℕ → List Move → Type 0
 IsOwn may_tell n log = AreOf n log × AreMoments may_tell log × ((first_in log ≡ None) ⊎ (first_in log ≡ Some (ClientOpened n)))
+
+-- ---- what is open between connections
+
+-- from whatever state of the cache mirrors the log before the connection of that number, it was led to one that mirrors the log before the next, as far as records can be numbered
+abbrev pub LeadsToNext : ℕ → ℕ → Cache → Cache → List StepResult → Type 0
+LeadsToNext n next old new results = (room : ℕ) (settings : CoreSettings) (s : State) (h : History) → AreGood settings → StandsFor settings old s → Agrees s h
+    → s.numbers.records + length (records_given results) ≤ greatest_number → Mirrors room s (unserved n)
+    → LedToMirror room settings s new (length (records_given results)) (unserved next)
 
 -- ---- connections, one after another
 
@@ -70,6 +92,7 @@ pub record Connections (may_tell : ℕ → Type 0) (n : ℕ) (old new : Cache) :
   pub numbered : AreConnections may_tell n events results links
   pub served : AreServed results
   pub leads : Leads old new events results
+  pub mirrors : LeadsToNext 1 (suc n) old new results
 
 -- ---- what clients tell
 
@@ -91,6 +114,7 @@ pub record ServesNext (may_tell : ℕ → Type 0) (n : ℕ) (come : ℕ → ℕ 
   pub is_connection : IsConnection may_tell n events results link
   pub served : AreServed results
   pub leads : Leads old new events results
+  pub mirrors : 0 < n → LeadsToNext n (suc n) old new results
   pub come_one : come 1 0
   pub left_one : left (link ∷ [])
   pub held : holds (text ++ texts_given results)
@@ -99,7 +123,7 @@ pub record ServesNext (may_tell : ℕ → Type 0) (n : ℕ) (come : ℕ → ℕ 
 pub record BreaksNext (may_tell : ℕ → Type 0) (why : DriveFault) (n : ℕ) (come : ℕ → ℕ → Type 0) (left : List Passage → Type 0) (holds : List ℕ → Type 0) (old new : Cache) (text : List ℕ) : Type 0 where
   pub come_one : come 1 0
   pub left_none : left []
-  pub broken : BreakOff why (IsOwn may_tell n) holds (Unit {0}) old new (unserved n) text
+  pub broken : BreakOff 1 why (IsOwn may_tell n) holds (Unit {0}) old new (unserved n) text
 
 -- it was served, none came, or it broke off
 abbrev pub GivesNext : {T : Type 0} → (ℕ → Type 0) → (ℕ → ℕ → Type 0) → (List Passage → Type 0) → (List ℕ → Type 0) → Result T ServingFault → ℕ → Cache → Cache → List ℕ → Type 0
@@ -123,6 +147,11 @@ pub record EndsBefore (may_tell : ℕ → Type 0) (count : ℕ) (come : ℕ → 
   pub fewer : n < count
   pub serving : Serving may_tell n 1 come left holds old new text
 
+-- a break is as usual whatever the cache stood for before all, where that mirrored the log before the first connection and has room for one, as far as records can be numbered
+abbrev pub IsUsualBehind : Cache → List StepResult → Break → Type 0
+IsUsualBehind old results break = (room : ℕ) (settings : CoreSettings) (s : State) (h : History) → AreGood settings → StandsFor settings old s → Agrees s h
+    → s.numbers.records + length (records_given results) ≤ greatest_number → 1 ≤ room → Mirrors room s (unserved 1) → BreaksAsUsual break
+
 -- fewer were served, and behind them the next one broke off
 pub record BreaksBefore (may_tell : ℕ → Type 0) (why : DriveFault) (count : ℕ) (come : ℕ → ℕ → Type 0) (left : List Passage → Type 0) (holds : List ℕ → Type 0) (old new : Cache) (text : List ℕ) : Type 0 where
   pub n : ℕ
@@ -131,7 +160,8 @@ pub record BreaksBefore (may_tell : ℕ → Type 0) (why : DriveFault) (count : 
   pub all : Connections may_tell n old between
   pub come_all : come (1 + n) 0
   pub left_all : left all.links
-  pub broken : BreakOff why (IsOwn may_tell (1 + n)) holds (Unit {0}) between new (unserved (1 + n)) (text ++ texts_given all.results)
+  pub broken : BreakOff 1 why (IsOwn may_tell (1 + n)) holds (Unit {0}) between new (unserved (1 + n)) (text ++ texts_given all.results)
+  pub usual : IsUsualBehind old (all.results ++ (broken.results ++ answers_by broken.break)) broken.break
 
 -- so many connections were served, no further client came, or one broke off
 abbrev pub GivesServing : {T : Type 0} → (ℕ → Type 0) → (ℕ → ℕ → Type 0) → (List Passage → Type 0) → (List ℕ → Type 0) → Result T ServingFault → ℕ → Cache → Cache → List ℕ → Type 0

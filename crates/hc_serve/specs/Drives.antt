@@ -14,11 +14,11 @@ use Rattle.hc_service.specs.Settings.{AreGood}
 use Rattle.hc_service.specs.State.{State}
 use Rattle.hc_machine.specs.Steps.{Cache, StandsFor}
 use Rattle.hc_connection.specs.Links.{HasFailed}
-use Rattle.hc_connection.specs.Moves.{Move}
-use Rattle.hc_connection.specs.Moves.Move.{Heard}
+use Rattle.hc_order.specs.Log.{Move}
+use Rattle.hc_order.specs.Mirrors.{Mirrors}
+use Rattle.hc_order.specs.Passed.{AreOrderly, AreServed, IsUsual, passed}
 use Rattle.hc_serve.specs.declared.fault.DriveFault.{DriveFault}
 use Rattle.hc_serve.specs.declared.fault.DriveFault.TheVariants as fault
-use Rattle.hc_serve.specs.Carrying.{carried}
 use Rattle.hc_serve.specs.Rounds.{Break, IsToldBy, StopsAt}
 use Rattle.hc_serve.specs.Rounds.Break.{Before, AtAnswer, Carrying}
 
@@ -40,20 +40,7 @@ abbrev pub Leads : Cache → Cache → List Event → List StepResult → Type 0
 Leads old new events results = (settings : CoreSettings) (s : State) (h : History) → AreGood settings → StandsFor settings old s → Agrees s h
     → s.numbers.records + length (records_given results) ≤ greatest_number → LeadsTo settings s h new events results
 
--- each event was served
-abbrev pub AreServed : List StepResult → Type 0
-AreServed [] = Unit {0}
-AreServed (Ok actions ∷ results) = AreServed results
-AreServed (Err step ∷ results) = ⊥
-
 -- ---- what has passed
-
--- each event was heard, and then what the cache did for it was carried out
-abbrev pub passed : List Event → List StepResult → List Move → List Move
-passed (event ∷ events) (Ok actions ∷ results) log = passed events results (carried actions.items (Heard event ∷ log))
-passed (event ∷ events) (Err step ∷ results) log = passed events results (Heard event ∷ log)
-passed (event ∷ events) [] log = log
-passed [] results log = log
 
 -- the texts of the records that answers give out, in order
 abbrev pub texts_given : List StepResult → List ℕ
@@ -61,11 +48,29 @@ texts_given results = flat_map (record_text recorded_format) (records_given resu
 
 -- ---- whole rounds
 
--- the events were served by these answers, and all that the cache did was carried out; the texts of its records stand behind the text
-pub record AreRounds (tells : List Move → Type 0) (holds : List ℕ → Type 0) (old new : Cache) (log : List Move) (text : List ℕ) : Type 0 where
+-- the cache is led to a state that mirrors the log and agrees with what has happened then, behind so many records more
+pub record LedToMirror (room : ℕ) (settings : CoreSettings) (s : State) (new : Cache) (records : ℕ) (log : List Move) : Type 0 where
+  pub state : State
+  pub stands : StandsFor settings new state
+  pub mirrors : Mirrors room state log
+  pub later : History
+  pub agrees : Agrees state later
+  pub counted : state.numbers.records ≡ s.numbers.records + records
+
+-- from whatever state that mirrored the log before, the cache was led to one that mirrors what has passed, as far as records can be numbered
+abbrev pub LeadsToMirror : Cache → Cache → List Event → List StepResult → List Move → Type 0
+LeadsToMirror old new events results log = (room : ℕ) (settings : CoreSettings) (s : State) (h : History) → AreGood settings → StandsFor settings old s → Agrees s h
+    → s.numbers.records + length (records_given results) ≤ greatest_number → Mirrors room s log
+    → LedToMirror room settings s new (length (records_given results)) (passed events results log)
+
+-- the events may happen in turn, where so many connections are open at once at most, and were served by these answers, and all that the cache did was carried out;
+-- the texts of its records stand behind the text
+pub record AreRounds (most : ℕ) (tells : List Move → Type 0) (holds : List ℕ → Type 0) (old new : Cache) (log : List Move) (text : List ℕ) : Type 0 where
   pub events : List Event
   pub results : List StepResult
+  pub orderly : AreOrderly most events results log
   pub leads : Leads old new events results
+  pub mirrors : LeadsToMirror old new events results log
   pub served : AreServed results
   pub told : tells (passed events results log)
   pub held : holds (text ++ texts_given results)
@@ -102,20 +107,33 @@ most_rounds = 2 ^ 64 - 1
 abbrev pub GivesUp : Break → DriveFault → Cache → Type 0 → ℕ → Type 0
 GivesUp break why cache rests rounds = (break ≡ Before) × (why ≡ fault.Core Failed) × ((rounds ≡ most_rounds) ⊎ (IsBusy cache × rests))
 
-pub record BreakOff (why : DriveFault) (tells : List Move → Type 0) (holds : List ℕ → Type 0) (rests : Type 0) (old new : Cache) (log : List Move) (text : List ℕ) : Type 0 where
+-- where the cache didn't serve an event, memory was refused, or the event's moment was too large
+abbrev pub BreaksAsUsual : Break → Type 0
+BreaksAsUsual Before = Unit {0}
+BreaksAsUsual (AtAnswer event step) = IsUsual event step
+BreaksAsUsual (Carrying event actions) = Unit {0}
+
+-- so it is, whatever the cache stood for, where that mirrored the log before and has room for as many connections as the links have open, as far as records can be numbered
+abbrev pub IsUsualFrom : ℕ → Cache → List Move → List StepResult → Break → Type 0
+IsUsualFrom most old log results break = (room : ℕ) (settings : CoreSettings) (s : State) (h : History) → AreGood settings → StandsFor settings old s → Agrees s h
+    → s.numbers.records + length (records_given (results ++ answers_by break)) ≤ greatest_number → most ≤ room → Mirrors room s log → BreaksAsUsual break
+
+pub record BreakOff (most : ℕ) (why : DriveFault) (tells : List Move → Type 0) (holds : List ℕ → Type 0) (rests : Type 0) (old new : Cache) (log : List Move) (text : List ℕ) : Type 0 where
   pub events : List Event
   pub results : List StepResult
   pub break : Break
   pub told_by : IsToldBy break why ⊎ GivesUp break why new rests (length events)
+  pub orderly : AreOrderly most (events ++ events_by break) (results ++ answers_by break) log
   pub leads : Leads old new (events ++ events_by break) (results ++ answers_by break)
+  pub usual : IsUsualFrom most old log results break
   pub served : AreServed results
   pub stops : StopsAt break tells holds (passed events results log) (text ++ texts_given results)
 
-abbrev pub GivesDrive : {T : Type 0} → (List Move → Type 0) → (List ℕ → Type 0) → Type 0 → Result T DriveFault → Cache → Cache → List Move → List ℕ → Type 0
-GivesDrive tells holds rests (Ok done) old new log text = AreRounds tells holds old new log text
-GivesDrive tells holds rests (Err fault.Client) old new log text = AreRounds tells holds old new log text
-GivesDrive tells holds rests (Err fault.Recorder) old new log text = BreakOff fault.Recorder tells holds rests old new log text
-GivesDrive tells holds rests (Err (fault.Core step)) old new log text = BreakOff (fault.Core step) tells holds rests old new log text
+abbrev pub GivesDrive : {T : Type 0} → ℕ → (List Move → Type 0) → (List ℕ → Type 0) → Type 0 → Result T DriveFault → Cache → Cache → List Move → List ℕ → Type 0
+GivesDrive most tells holds rests (Ok done) old new log text = AreRounds most tells holds old new log text
+GivesDrive most tells holds rests (Err fault.Client) old new log text = AreRounds most tells holds old new log text
+GivesDrive most tells holds rests (Err fault.Recorder) old new log text = BreakOff most fault.Recorder tells holds rests old new log text
+GivesDrive most tells holds rests (Err (fault.Core step)) old new log text = BreakOff most (fault.Core step) tells holds rests old new log text
 
 -- ---- a connection that was served
 

@@ -11,8 +11,9 @@ use Rattle.hc_service.specs.Agreement.{IsReady}
 use Rattle.hc_service.specs.Runs.{StepResult}
 use Rattle.hc_service.specs.State.{State}
 use Rattle.hc_machine.specs.Steps.{Cache, GivesStep, StandsFor}
-use Rattle.hc_connection.specs.Moves.{Move}
-use Rattle.hc_connection.specs.Moves.Move.{Heard}
+use Rattle.hc_order.specs.Log.{Move}
+use Rattle.hc_order.specs.Mirrors.{MayHappen}
+use Rattle.hc_order.specs.Log.Move.{Heard}
 use Rattle.hc_serve.specs.declared.fault.DriveFault.{DriveFault}
 use Rattle.hc_serve.specs.declared.fault.DriveFault.TheVariants.{Core}
 use Rattle.hc_serve.specs.Carrying.{AreCut, AreDone, IsOfCarrying}
@@ -22,10 +23,11 @@ pub record Answers (event : Event) (answer : StepResult) (old new : Cache) : Typ
   pub gives : (settings : CoreSettings) (s : State) → StandsFor settings old s → IsReady s → GivesStep answer settings event s new
   pub same : (step : StepFault) → answer ≡ Err step → step ≢ Memory → new ≡ old
 
--- a whole round
-pub record IsRound (tells : List Move → Type 0) (holds : List ℕ → Type 0) (old new : Cache) (log : List Move) (text : List ℕ) : Type 0 where
+-- a whole round of links at which so many connections are open at once at most
+pub record IsRound (most : ℕ) (tells : List Move → Type 0) (holds : List ℕ → Type 0) (old new : Cache) (log : List Move) (text : List ℕ) : Type 0 where
   pub event : Event
   pub actions : Vec Action Global
+  pub may : MayHappen most event.of log
   pub answers : Answers event (Ok actions) old new
   pub done : AreDone tells holds actions.items (Heard event ∷ log) text
 
@@ -47,13 +49,20 @@ StopsAt Before tells holds log text = tells log × holds text
 StopsAt (AtAnswer event step) tells holds log text = tells (Heard event ∷ log) × holds text
 StopsAt (Carrying event actions) tells holds log text = AreCut tells holds actions.items (Heard event ∷ log) text
 
+-- what was handed to the cache by then may happen by the log
+abbrev pub MayBreak : ℕ → Break → List Move → Type 0
+MayBreak most Before log = Unit {0}
+MayBreak most (AtAnswer event step) log = MayHappen most event.of log
+MayBreak most (Carrying event actions) log = MayHappen most event.of log
+
 -- the fault that tells it: memory was refused to the driver, or what the cache answered, or what went wrong at its actions
 abbrev pub IsToldBy : Break → DriveFault → Type 0
 IsToldBy Before fault = fault ≡ Core Memory
 IsToldBy (AtAnswer event step) fault = fault ≡ Core step
 IsToldBy (Carrying event actions) fault = IsOfCarrying fault
 
-abbrev pub GivesRound : (List Move → Type 0) → (List ℕ → Type 0) → Result Bool DriveFault → Cache → Cache → List Move → List ℕ → Type 0
-GivesRound tells holds (Ok true) old new log text = IsRound tells holds old new log text
-GivesRound tells holds (Ok false) old new log text = (new ≡ old) × tells log × holds text
-GivesRound tells holds (Err fault) old new log text = (break : Break) × IsToldBy break fault × AnswersBy break old new × StopsAt break tells holds log text
+abbrev pub GivesRound : ℕ → (List Move → Type 0) → (List ℕ → Type 0) → Result Bool DriveFault → Cache → Cache → List Move → List ℕ → Type 0
+GivesRound most tells holds (Ok true) old new log text = IsRound most tells holds old new log text
+GivesRound most tells holds (Ok false) old new log text = (new ≡ old) × tells log × holds text
+GivesRound most tells holds (Err fault) old new log text =
+    (break : Break) × IsToldBy break fault × AnswersBy break old new × StopsAt break tells holds log text × MayBreak most break log

@@ -1,12 +1,13 @@
 //! What the cache does is carried out.
 
 ghost use Rattle.std.specs.Prelude.{◌≡◌, ℕ, List, [], ◌∷◌, IfErr};
-ghost use Rattle.hc_connection.specs.Moves.{Move};
+ghost use Rattle.hc_order.specs.Log.{Move};
 ghost use Rattle.hc_serve.specs.Carrying.{CountsRecorder, GivesDone, IsOfCarrying};
 
 use crate::fault::DriveFault;
 use crate::recorder::record;
-use hc_connection::{Link, Links, Receiver};
+use hc_connection::{Link, Links};
+use hc_order::Receiver;
 use hc_service::Action;
 use std::alloc::Global;
 
@@ -19,6 +20,7 @@ fn carry_out_one<L: Links, R: Link>(
 ) -> Result<(), DriveFault>
     ensures done { (log : List Move) (text : List ℕ) → L.tells links.old log → R.has_got recorder.old text
         → GivesDone (L.tells links.new) (R.has_got recorder.new) result («action».now ∷ []) log text }
+    ensures as_many { L.most links.new ≡ L.most links.old }
     ensures moments { (moment : ℕ) → L.may_tell links.new moment → L.may_tell links.old moment }
     ensures unread { (times : ℕ) → R.was_read recorder.old times → R.was_read recorder.new times }
     ensures count { CountsRecorder result (R.count recorder.old) (R.count recorder.new) }
@@ -43,6 +45,7 @@ pub(crate) fn carry_out<L: Links, R: Link>(
 ) -> Result<(), DriveFault>
     ensures done { (log : List Move) (text : List ℕ) → L.tells links.old log → R.has_got recorder.old text
         → GivesDone (L.tells links.new) (R.has_got recorder.new) result actions.now log text }
+    ensures as_many { L.most links.new ≡ L.most links.old }
     ensures moments { (moment : ℕ) → L.may_tell links.new moment → L.may_tell links.old moment }
     ensures unread { (times : ℕ) → R.was_read recorder.old times → R.was_read recorder.new times }
     ensures count { CountsRecorder result (R.count recorder.old) (R.count recorder.new) }

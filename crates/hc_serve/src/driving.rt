@@ -1,7 +1,7 @@
 //! Rounds, as long as something happens.
 
 ghost use Rattle.std.specs.Prelude.{◌≡◌, ℕ, List, IfOk};
-ghost use Rattle.hc_connection.specs.Moves.{Move};
+ghost use Rattle.hc_order.specs.Log.{Move};
 ghost use Rattle.hc_serve.specs.Carrying.{CountsRecorder};
 ghost use Rattle.hc_serve.specs.Drives.{GivesDrive};
 
@@ -9,7 +9,8 @@ use crate::fault::DriveFault;
 use crate::rounds::round;
 use hc_connection::{Link, Links};
 use hc_machine::Core;
-use hc_service::{StepFault, agreement_is_ready, runs_keep_agreement, steps_are_runs};
+use hc_order::what_may_happen_in_turn_is_served;
+use hc_service::{StepFault, agreement_is_ready, runs_go_on, runs_keep_agreement, steps_are_runs};
 use std::alloc::Global;
 use std::hash::BuildHasher;
 
@@ -22,8 +23,9 @@ pub fn drive<S: BuildHasher, L: Links, R: Link>(
     recorder: &mut R,
 ) -> Result<(), DriveFault>
     ensures drive { (log : List Move) (text : List ℕ) → L.tells links.old log → R.has_got recorder.old text
-        → GivesDrive (L.tells links.new) (R.has_got recorder.new) (L.rests links.new) result core.old core.new log text }
+        → GivesDrive (L.most links.old) (L.tells links.new) (R.has_got recorder.new) (L.rests links.new) result core.old core.new log text }
     ensures rest { IfOk result (λ _. L.rests links.new) }
+    ensures as_many { L.most links.new ≡ L.most links.old }
     ensures moments { (moment : ℕ) → L.may_tell links.new moment → L.may_tell links.old moment }
     ensures unread { (times : ℕ) → R.was_read recorder.old times → R.was_read recorder.new times }
     ensures count { CountsRecorder result (R.count recorder.old) (R.count recorder.new) }
@@ -32,6 +34,8 @@ pub fn drive<S: BuildHasher, L: Links, R: Link>(
     steps_are_runs();
     runs_keep_agreement();
     agreement_is_ready();
+    runs_go_on();
+    what_may_happen_in_turn_is_served();
     'rounds: for _ in 0..u64::MAX {
         if !round(alloc, core, links, recorder)? {
             return Ok(());

@@ -1,7 +1,7 @@
 //! One round: something happens, the cache is handed it, and what it does is carried out.
 
 ghost use Rattle.std.specs.Prelude.{◌≡◌, ℕ, List, Ok, false};
-ghost use Rattle.hc_connection.specs.Moves.{Move};
+ghost use Rattle.hc_order.specs.Log.{Move};
 ghost use Rattle.hc_serve.specs.Carrying.{CountsRecorder};
 ghost use Rattle.hc_serve.specs.Rounds.{GivesRound};
 
@@ -20,8 +20,9 @@ pub(crate) fn round<S: BuildHasher, L: Links, R: Link>(
     recorder: &mut R,
 ) -> Result<bool, DriveFault>
     ensures round { (log : List Move) (text : List ℕ) → L.tells links.old log → R.has_got recorder.old text
-        → GivesRound (L.tells links.new) (R.has_got recorder.new) result core.old core.new log text }
+        → GivesRound (L.most links.old) (L.tells links.new) (R.has_got recorder.new) result core.old core.new log text }
     ensures rest { result ≡ Ok false → L.rests links.new }
+    ensures as_many { L.most links.new ≡ L.most links.old }
     ensures moments { (moment : ℕ) → L.may_tell links.new moment → L.may_tell links.old moment }
     ensures unread { (times : ℕ) → R.was_read recorder.old times → R.was_read recorder.new times }
     ensures count { CountsRecorder result (R.count recorder.old) (R.count recorder.new) }

@@ -2,7 +2,7 @@
 
 ghost use Rattle.std.specs.Prelude.{◌≡◌, ℕ, List, length};
 ghost use Rattle.hc_connection.specs.Connections.{HasPassed};
-ghost use Rattle.hc_connection.specs.Moves.{Move};
+ghost use Rattle.hc_order.specs.Log.{Move};
 ghost use Rattle.hc_connection.specs.Sides.{Rests};
 ghost use Rattle.hc_serve.specs.Drives.{CountsServed, GivesDrive, LeavesIdle, LeavesOpened, LeavesResting, SaysFailed};
 
@@ -26,7 +26,7 @@ pub fn serve_connection<S: BuildHasher, C: Link, O: Origins, K: Clock, R: Link>(
         → HasPassed C.has_given C.has_got C.was_read C.count O.Link.has_given O.Link.has_got (K.may_tell connection.old.clock.now)
         connection.old.opened connection.old.peers.client connection.old.peers.forwards.links log
         → R.has_got recorder.old text
-        → GivesDrive (λ log. HasPassed C.has_given C.has_got C.was_read C.count O.Link.has_given O.Link.has_got (K.may_tell connection.new.clock.now)
+        → GivesDrive 1 (λ log. HasPassed C.has_given C.has_got C.was_read C.count O.Link.has_given O.Link.has_got (K.may_tell connection.new.clock.now)
         connection.new.opened connection.new.peers.client connection.new.peers.forwards.links log)
         (R.has_got recorder.new) (Rests connection.new.opened (length connection.new.peers.forwards.links.entries) connection.new.peers.client)
         result core.old core.new log text }

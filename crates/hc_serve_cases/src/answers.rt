@@ -2,6 +2,7 @@
 
 use crate::hits::say_hits;
 use crate::notebook::{Device, Fault};
+use crate::rooms::say_room;
 use crate::scene::{Scene, number_of};
 use crate::service::say_service;
 use crate::staged::Manner;
@@ -31,6 +32,9 @@ where
         } = *case;
         if let Some(manner) = manner_of(question)? {
             return say_service(self.system, alloc, about, manner, out);
+        }
+        if question == "room" {
+            return say_room(alloc, about, out);
         }
         answer_in_memory(alloc, question, &Scene::of(about)?, out)
     }

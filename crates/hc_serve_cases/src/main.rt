@@ -7,6 +7,7 @@ mod hearing;
 mod hits;
 mod links;
 mod notebook;
+mod rooms;
 mod runs;
 mod scene;
 mod service;

@@ -5,7 +5,7 @@ use Rattle.std.specs.List.{IsDistinct}
 use Rattle.std.specs.Ordering.{nat_cmp}
 use Rattle.hc_head.specs.Targets.{same_target}
 use Rattle.hc_service.specs.declared.settings.CoreSettings.{CoreSettings}
-use Rattle.hc_service.specs.State.{new_state}
+use Rattle.hc_service.specs.State.{new_state_with}
 use Rattle.hc_service.specs.Agreement.{Agrees}
 use Rattle.hc_service.specs.Runs.{nothing_yet}
 use Rattle.hc_service.proofs.TableLemmas.{get_none}
@@ -20,8 +20,8 @@ no_keys : IsDistinct same_target []
 unfolding IsDistinct
 no_keys = tt
 
-pub new_agrees : (settings : CoreSettings) → Agrees (new_state settings) nothing_yet
-new_agrees settings = record {
+pub new_agrees : (settings : CoreSettings) (room : ℕ) → Agrees (new_state_with settings room) nothing_yet
+new_agrees settings room = record {
   consistent = record {
     counted = record {
       are_read = tt;

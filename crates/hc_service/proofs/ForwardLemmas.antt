@@ -26,7 +26,7 @@ use Rattle.hc_service.specs.declared.open.Purpose.{Purpose}
 use Rattle.hc_service.specs.declared.open.Purpose.TheVariants as purpose
 use Rattle.hc_service.specs.declared.settings.CoreSettings.{CoreSettings}
 use Rattle.hc_service.specs.Numbers.{after_opening, asked, noted, one_more, sent}
-use Rattle.hc_service.specs.State.{State, Table, Awaited, exchange_for, new_state, open_now}
+use Rattle.hc_service.specs.State.{State, Table, Awaited, exchange_for, new_state_with, open_now}
 use Rattle.hc_service.specs.Joining.{AllHaveForwards, HasForward, HasOwnForward, LeavesNobody, WaitsUntilEnd, shared, waiting_for, waits_for}
 use Rattle.hc_service.specs.Reactions.{Reaction, forward_alone, forward_anew}
 use Rattle.hc_service.specs.Reactions.Reaction.{Replies as RepliesAtOnce, Sends, Waits}
@@ -954,14 +954,14 @@ each_leaves settings (event ∷ events) (Err TooManyConnections ∷ results) s h
 each_leaves settings (event ∷ events) (Err Failed ∷ results) s h records end have runs = tt
 
 -- in a new cache nothing is open
-new_have : (settings : CoreSettings) → AllHaveForwards (new_state settings)
-new_have settings e x is = absurd (none_some (get (new_state settings).exchanges e) x (get_none e) is)
+new_have : (settings : CoreSettings) (room : ℕ) → AllHaveForwards (new_state_with settings room)
+new_have settings room e x is = absurd (none_some (get (new_state_with settings room).exchanges e) x (get_none e) is)
 
-pub new_runs_leave : (settings : CoreSettings) (events : List Event) (results : List StepResult) (records : List Record) (s : State)
-    → Runs settings (new_state settings) nothing_yet events results records (Some s) → AllHaveForwards s
-new_runs_leave settings events results records s runs = (runs_leave settings events results (new_state settings) s nothing_yet records (new_have settings) runs).have_forwards
+pub new_runs_leave : (settings : CoreSettings) (room : ℕ) (events : List Event) (results : List StepResult) (records : List Record) (s : State)
+    → Runs settings (new_state_with settings room) nothing_yet events results records (Some s) → AllHaveForwards s
+new_runs_leave settings room events results records s runs = (runs_leave settings events results (new_state_with settings room) s nothing_yet records (new_have settings room) runs).have_forwards
 
-pub new_each_leaves : (settings : CoreSettings) (events : List Event) (results : List StepResult) (records : List Record) (end : Option State)
-    → (runs : Runs settings (new_state settings) nothing_yet events results records end)
-    → EachLeads LeavesNobody settings (new_state settings) nothing_yet events results records end runs
-new_each_leaves settings events results records end runs = each_leaves settings events results (new_state settings) nothing_yet records end (new_have settings) runs
+pub new_each_leaves : (settings : CoreSettings) (room : ℕ) (events : List Event) (results : List StepResult) (records : List Record) (end : Option State)
+    → (runs : Runs settings (new_state_with settings room) nothing_yet events results records end)
+    → EachLeads LeavesNobody settings (new_state_with settings room) nothing_yet events results records end runs
+new_each_leaves settings room events results records end runs = each_leaves settings events results (new_state_with settings room) nothing_yet records end (new_have settings room) runs

@@ -24,7 +24,7 @@ use Rattle.hc_service.specs.declared.settings.CoreSettings.{CoreSettings}
 use Rattle.hc_service.specs.Cases.{Case, case_before_store}
 use Rattle.hc_service.specs.Cases.Case.{Hit, Forward}
 use Rattle.hc_service.specs.Numbers.{one_more}
-use Rattle.hc_service.specs.State.{State, Table, Awaited, OpenNow, new_state, open_now}
+use Rattle.hc_service.specs.State.{State, Table, Awaited, OpenNow, new_state_with, open_now}
 use Rattle.hc_service.specs.Joining.{IsLeast, MayJoin, WaitForOpen, shared, waiting_for, waits_for}
 use Rattle.hc_service.specs.Reactions.{Reaction, ReactsBy, ReactsJoined, Reacts, WholeRequest, chosen_reaction, forward_alone, forward_anew, forward_reaction, is_asked_after, stored_forward, would_wait, wants_no_forward}
 use Rattle.hc_service.specs.Reactions.Reaction.{Replies as RepliesAtOnce, Sends, Waits}
@@ -414,6 +414,6 @@ steps_keep settings P keeps (event ∷ events) (Err UnknownNumber ∷ results) s
 steps_keep settings P keeps (event ∷ events) (Err TooManyConnections ∷ results) s end steps is = steps_keep settings P keeps events results s end steps.1 is
 steps_keep settings P keeps (event ∷ events) (Err Failed ∷ results) s end steps is = absurd steps
 
-pub steps_wait : (settings : CoreSettings) (events : List Event) (results : List StepResult) (s : State) → Steps settings (new_state settings) events results (Some s) → WaitForOpen s
-steps_wait settings events results s steps =
-    steps_keep settings WaitForOpen (event_waits settings) events results (new_state settings) s steps (λ e f x is waits. absurd (none_some (get (new_state settings).exchanges e) x (get_none e) is))
+pub steps_wait : (settings : CoreSettings) (room : ℕ) (events : List Event) (results : List StepResult) (s : State) → Steps settings (new_state_with settings room) events results (Some s) → WaitForOpen s
+steps_wait settings room events results s steps =
+    steps_keep settings WaitForOpen (event_waits settings) events results (new_state_with settings room) s steps (λ e f x is waits. absurd (none_some (get (new_state_with settings room).exchanges e) x (get_none e) is))

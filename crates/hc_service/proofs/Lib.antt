@@ -24,3 +24,4 @@ pub mod RunLemmas
 pub mod LeftLemmas
 pub mod FewLemmas
 pub mod ForwardLemmas
+pub mod FollowLemmas

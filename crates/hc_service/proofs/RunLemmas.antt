@@ -20,7 +20,7 @@ use Rattle.hc_service.specs.declared.settings.CoreSettings.{CoreSettings}
 use Rattle.hc_service.specs.Settings.{AreGood}
 use Rattle.hc_service.specs.Numbers.{one_more}
 use Rattle.hc_service.specs.Replying.{collapsed_reply}
-use Rattle.hc_service.specs.State.{State, new_state}
+use Rattle.hc_service.specs.State.{State, new_state_with}
 use Rattle.hc_service.specs.Sending.{recorded_format, records_of, ask_actions, send_actions, reply_actions, response_actions, failure_actions}
 use Rattle.hc_service.specs.Reactions.{Reaction, forward_anew}
 use Rattle.hc_service.specs.Reactions.Reaction.{Replies as RepliesAtOnce, Sends, Waits}
@@ -248,14 +248,14 @@ right_judged records end to =
       };
     }
 
-pub runs_judged : (settings : CoreSettings) (events : List Event) (results : List StepResult) (records : List Record) (end : Option State)
-    → Runs settings (new_state settings) nothing_yet events results records end → IsJudgedRight records
-runs_judged settings events results records end runs = right_judged records end (runs_to settings events results (new_state settings) nothing_yet records end runs)
+pub runs_judged : (settings : CoreSettings) (room : ℕ) (events : List Event) (results : List StepResult) (records : List Record) (end : Option State)
+    → Runs settings (new_state_with settings room) nothing_yet events results records end → IsJudgedRight records
+runs_judged settings room events results records end runs = right_judged records end (runs_to settings events results (new_state_with settings room) nothing_yet records end runs)
 
 -- ---- runs join
 
-pub right_begins : (settings : CoreSettings) → RunsTo [] nothing_yet (Some (new_state settings))
-right_begins settings = let agrees = new_agrees settings in stays_to [] (new_state settings) nothing_yet (Some (new_state settings)) refl agrees agrees
+pub right_begins : (settings : CoreSettings) (room : ℕ) → RunsTo [] nothing_yet (Some (new_state_with settings room))
+right_begins settings room = let agrees = new_agrees settings room in stays_to [] (new_state_with settings room) nothing_yet (Some (new_state_with settings room)) refl agrees agrees
 
 pub right_joins : (h : History) (records more : List Record) (mid end : Option State) → (to : RunsTo records h mid) → RunsTo more to.later end → RunsTo (records ++ more) h end
 right_joins h records more mid end to onward = record {
@@ -388,11 +388,11 @@ module _ (settings : CoreSettings) (good : AreGood settings) (laws : ForwardLaws
   steps_run (event ∷ events) (Err Failed ∷ results) s h end a steps le = absurd steps
 
   -- where steps have led a new cache, each forward can end
-  pub steps_ready : (events : List Event) (results : List StepResult) (s : State) → Steps settings (new_state settings) events results (Some s)
+  pub steps_ready : (room : ℕ) (events : List Event) (results : List StepResult) (s : State) → Steps settings (new_state_with settings room) events results (Some s)
       → length (records_given results) ≤ greatest_number → IsReady s
-  steps_ready events results s steps le =
-      let runs = steps_run events results (new_state settings) nothing_yet (Some s) (new_agrees settings) steps (omega arith) in
-      let to = runs_to settings events results (new_state settings) nothing_yet (records_given results) (Some s) runs in
+  steps_ready room events results s steps le =
+      let runs = steps_run events results (new_state_with settings room) nothing_yet (Some s) (new_agrees settings room) steps (omega arith) in
+      let to = runs_to settings events results (new_state_with settings room) nothing_yet (records_given results) (Some s) runs in
       agreement_ready s to.later to.agrees
 
 -- ---- a run is steps

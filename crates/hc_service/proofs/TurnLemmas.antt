@@ -45,7 +45,7 @@ use Rattle.std.specs.Prelude.{◌⊎◌, codes}
 use Rattle.hc_service.specs.Answers.{Outcome, Renews, is_news}
 use Rattle.hc_service.specs.Answers.Outcome.{GoesAnew}
 use Rattle.hc_service.specs.Choices.{Finds, Stores}
-use Rattle.hc_service.specs.Turns.{most_connections, after_client_octets, after_request, after_reply, after_leaving, after_origin_octets, sent_forward, replied, closes_behind, wanted_now, whole_request, Arrived, arrived_on, asker_now, answered_now, failed_now, KeepsAllButConnections, Opens, ClientSends, Drops, Leaves, Closes, Refuses, Asks, RepliesAlone, RepliesAndValidates, GoesForward, Joins, DoesReaction, RepliesShared, GoesAlone, DoesRelease, Releases, released, OriginSends, Answers, Breaks, EndsBehind, EndsWithReply, EndsWithForward, EndsByResponse, EndsByFailure, DoesOutcome, Failure, is_closed}
+use Rattle.hc_service.specs.Turns.{after_client_octets, after_request, after_reply, after_leaving, after_origin_octets, sent_forward, replied, closes_behind, wanted_now, whole_request, Arrived, arrived_on, asker_now, answered_now, failed_now, KeepsAllButConnections, Opens, ClientSends, Drops, Leaves, Closes, Refuses, Asks, RepliesAlone, RepliesAndValidates, GoesForward, Joins, DoesReaction, RepliesShared, GoesAlone, DoesRelease, Releases, released, OriginSends, Answers, Breaks, EndsBehind, EndsWithReply, EndsWithForward, EndsByResponse, EndsByFailure, DoesOutcome, Failure, is_closed}
 use Rattle.hc_service.specs.Serves.{Turn, Takes}
 use Rattle.hc_service.specs.Serves.Turn.{Opening, ClientSending, Asking, Refusal, Dropping, Leaving, Closing, OriginSending, Answering, Failing, Releasing}
 use Rattle.hc_service.specs.Agreement.{History, AreCounted, AreReceived, AreAsked, AreLinked, AreWaiting, CanReply, HasSource, IsConsistent, AsksFor, IsFor, KeepsPurpose, IsSeenExchange, seen_forward}
@@ -72,7 +72,7 @@ use Rattle.hc_service.proofs.OutcomeLemmas.{SoundStore, GetsReply, GetsBehind, G
 of_parts : (s : State) (h : History) (since : Target → ℕ) (n : Numbers) (ks : Table Connection) (xs : Table OpenExchange) (fs : Table Awaited) (store : Holdings)
     → s.numbers ≡ n → s.connections ≡ ks → s.exchanges ≡ xs → s.forwards ≡ fs → s.store ≡ store
     → AreCounted n h → SoundStore since h.items store → AreReceived n.connection n.forward ks fs h.client_octets h.origin_octets → AreAsked n.exchange n.forward xs fs h.items
-    → AreLinked n.connection ks xs → AreWaiting since xs fs h.items → len ks ≤ most_connections → IsConsistent s h
+    → AreLinked n.connection ks xs → AreWaiting since xs fs h.items → len ks ≤ n.room → IsConsistent s h
 of_parts s h since n ks xs fs store en ek ex ef es counted sound received asks linked waiting few =
     subst (λ (s : State). IsConsistent s h) (λ i. record { numbers = sym en i; connections = sym ek i; exchanges = sym ex i; forwards = sym ef i; store = sym es i })
     (record {
@@ -133,13 +133,13 @@ module _ (s : State) (h : History) (a : IsConsistent s h) where
   known : (c : ℕ) (k : Connection) → get s.connections c ≡ Some k → is_later c s.numbers.connection ≡ true → ⊥
   known c k is later = none_some (get s.connections c) k (a.linked.later c later) is
 
-  len_kept : (c : ℕ) (k k' : Connection) → get s.connections c ≡ Some k → len (insert s.connections c k') ≤ most_connections
+  len_kept : (c : ℕ) (k k' : Connection) → get s.connections c ≡ Some k → len (insert s.connections c k') ≤ s.numbers.room
   len_kept c k k' is = let few = a.few in omega (arith, len_old s.connections c k' k is)
 
-  len_fewer : (c : ℕ) → len (remove s.connections c) ≤ most_connections
+  len_fewer : (c : ℕ) → len (remove s.connections c) ≤ s.numbers.room
   len_fewer c = let few = a.few in omega (arith, len_less s.connections c)
 
-  len_replied : (closes : Bool) (c : ℕ) (unread : List ℕ) (k q : Connection) → get s.connections c ≡ Some q → len (replied closes c unread k s.connections) ≤ most_connections
+  len_replied : (closes : Bool) (c : ℕ) (unread : List ℕ) (k q : Connection) → get s.connections c ≡ Some q → len (replied closes c unread k s.connections) ≤ s.numbers.room
   len_replied true c unread k q is = len_fewer c
   len_replied false c unread k q is = len_kept c q (after_reply unread k) is
 

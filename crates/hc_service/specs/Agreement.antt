@@ -41,7 +41,6 @@ use Rattle.hc_service.specs.State.{State, Table, Connection, Awaited, exchange_f
 use Rattle.hc_service.specs.Joining.{is_joinable}
 use Rattle.hc_service.specs.Choices.{OnTest}
 use Rattle.hc_service.specs.Serves.{IsQuietAt, AwaitsStill}
-use Rattle.hc_service.specs.Turns.{most_connections}
 
 -- what has happened so far: the records, the newest first, and what they mean; and the octets that came on each connection and from the origin on each forward
 pub record History : Type 0 where
@@ -216,7 +215,7 @@ pub record IsConsistent (s : State) (h : History) : Type 0 where
   pub asked : AreAsked s.numbers.exchange s.numbers.forward s.exchanges s.forwards h.items
   pub linked : AreLinked s.numbers.connection s.connections s.exchanges
   pub waiting : AreWaiting since s.exchanges s.forwards h.items
-  pub few : len s.connections ≤ most_connections
+  pub few : len s.connections ≤ s.numbers.room
 
 -- 6: nothing that has come can be read yet, and while an exchange awaits its reply no more octets are unread than may be
 abbrev pub IsQuiet : State → Type 0

@@ -18,3 +18,4 @@ pub mod Agreement
 pub mod Runs
 pub mod Laws
 pub mod LowerLaws
+pub mod Follows

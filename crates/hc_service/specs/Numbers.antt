@@ -6,9 +6,9 @@ use Rattle.hc_service.specs.declared.numbers.Numbers.{Numbers}
 abbrev pub one_more : ℕ → ℕ
 one_more n = min (n + 1) (2 ^ 64 - 1)
 
--- those of a cache to which nothing has happened
-abbrev pub no_numbers : Numbers
-no_numbers = record { moment = 0; connection = None; exchange = 0; forward = 0; records = 0 }
+-- those of a cache to which nothing has happened, with room for so many connections
+abbrev pub no_numbers : ℕ → Numbers
+no_numbers room = record { moment = 0; connection = None; exchange = 0; forward = 0; records = 0; room = room }
 
 -- a moment that is earlier than the last counts as the last
 abbrev pub at_moment : ℕ → Numbers → Numbers

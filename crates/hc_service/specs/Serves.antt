@@ -17,7 +17,7 @@ use Rattle.hc_service.specs.declared.settings.CoreSettings.{CoreSettings}
 use Rattle.hc_service.specs.Numbers.{at_moment, is_later}
 use Rattle.hc_service.specs.Joining.{waiting_for}
 use Rattle.hc_service.specs.State.{State, Table, Connection, Awaited, exchange_for}
-use Rattle.hc_service.specs.Turns.{most_connections, most_unread, Failure, Opens, ClientSends, Drops, Leaves, Closes, Refuses, Asks, OriginSends, Answers, Breaks, Releases}
+use Rattle.hc_service.specs.Turns.{most_unread, Failure, Opens, ClientSends, Drops, Leaves, Closes, Refuses, Asks, OriginSends, Answers, Breaks, Releases}
 use Rattle.hc_service.specs.Turns.Failure.{IsBroken, IsCutOff, IsLost}
 
 -- ---- turns
@@ -165,7 +165,7 @@ is_known (OriginFailed f) s = is_some (get s.forwards f)
 
 -- as many connections are open as may be
 abbrev pub is_full : Happening → State → Bool
-is_full (ClientOpened c) s = nat_le most_connections (len s.connections)
+is_full (ClientOpened c) s = nat_le s.numbers.room (len s.connections)
 is_full other s = false
 
 -- the first test that an event fails, before memory is asked for

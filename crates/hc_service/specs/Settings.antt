@@ -17,6 +17,10 @@ is_name (first ∷ rest) = is_ascii_alphabetic first && nat_le (length rest) 31 
 abbrev pub is_size : ℕ → Bool
 is_size keys = nat_le 1 keys && nat_le keys 65536
 
+-- there may be room for so many connections
+abbrev pub is_room : ℕ → Bool
+is_room room = nat_le 1 room && nat_le room 65536
+
 -- settings with which a cache runs
 pub record AreGood (settings : CoreSettings) : Type 0 where
   pub name : is_name settings.name ≡ true

@@ -1,6 +1,6 @@
 -- What a cache knows, as contracts see it.
-use Rattle.std.specs.Prelude.{ℕ, Bool, true, false, List, [], Option, Some, None}
-use Rattle.std.specs.FinMap.{FinMap, empty}
+use Rattle.std.specs.Prelude.{ℕ, Bool, true, false, List, [], Option, Some, None, is_some, option_and_then}
+use Rattle.std.specs.FinMap.{FinMap, empty, get}
 use Rattle.std.specs.Ordering.{nat_cmp}
 use Rattle.hc_store.specs.Entries.{Holdings}
 use Rattle.hc_service.specs.declared.numbers.Numbers.{Numbers}
@@ -61,16 +61,28 @@ pub record OpenNow : Type 0 where
 abbrev pub open_now : State → OpenNow
 open_now s = record { exchanges = s.exchanges; forwards = s.forwards }
 
+-- an exchange of that connection awaits its reply
+abbrev pub awaits_reply : ℕ → State → Bool
+awaits_reply c s = is_some (option_and_then (λ (k : Connection). k.exchange) (get s.connections c))
+
 -- an empty store of so many keys and octets
 abbrev pub empty_store : CoreSettings → Holdings
 empty_store settings = record { entries = []; keys = settings.keys; bytes = settings.bytes }
 
--- a cache to which nothing has happened
-abbrev pub new_state : CoreSettings → State
-new_state settings = record {
-  numbers = no_numbers;
+-- a cache to which nothing has happened, with room for so many connections
+abbrev pub new_state_with : CoreSettings → ℕ → State
+new_state_with settings room = record {
+  numbers = no_numbers room;
   connections = empty;
   exchanges = empty;
   forwards = empty;
   store = empty_store settings;
 }
+
+-- for how many connections there is room where nothing else is said
+abbrev pub usual_room : ℕ
+usual_room = 1024
+
+-- a cache to which nothing has happened, with that room
+abbrev pub new_state : CoreSettings → State
+new_state settings = new_state_with settings usual_room

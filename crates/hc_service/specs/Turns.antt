@@ -35,10 +35,6 @@ use Rattle.hc_service.specs.Answers.Outcome.{Replies, GoesAnew}
 
 -- ---- limits
 
--- the most connections that are open
-abbrev pub most_connections : ℕ
-most_connections = 1024
-
 -- the most octets that stay unread while an exchange awaits its reply
 abbrev pub most_unread : ℕ
 most_unread = 65536
@@ -130,7 +126,7 @@ pub record KeepsAllButForwards (s s' : State) : Type 0 where
 -- a connection opens, of a number greater than all before
 pub record Opens (c : ℕ) (s : State) (actions : List Action) (s' : State) : Type 0 where
   pub later : is_later c s.numbers.connection ≡ true
-  pub has_place : len s.connections < most_connections
+  pub has_place : len s.connections < s.numbers.room
   pub numbers : s'.numbers ≡ after_opening c s.numbers
   pub connections : s'.connections ≡ insert s.connections c new_connection
   pub keeps : KeepsOpen s s'

@@ -39,7 +39,7 @@ ghost use Rattle.hc_service.specs.declared.settings.CoreSettings.{CoreSettings};
 ghost use Rattle.std.specs.FinMap.{get, insert, remove};
 ghost use Rattle.hc_rules.specs.Laws.{IsForwardable};
 ghost use Rattle.hc_service.specs.declared.open.OpenExchange.{OpenExchange};
-ghost use Rattle.hc_service.specs.State.{Awaited, Connection, State, Table, exchange_for, new_connection, new_state};
+ghost use Rattle.hc_service.specs.State.{Awaited, Connection, State, Table, exchange_for, new_connection, new_state_with};
 ghost use Rattle.hc_service.specs.Agreement.{AllHeld, CanReply, AreAsked, AreCounted, AreReceived, AreLinked, Agrees, History, IsReadOf, IsReady, IsSound, IsConsistent};
 ghost use Rattle.hc_service.specs.Runs.{EachLeads, Runs, RunsOn, RunsTo, nothing_yet, records_given, IsJudgedRight, StepResult, Steps, strict, with_octets};
 ghost use Rattle.hc_service.specs.Asking.{allows_age, asks_for_fresh, is_answered_by_store};
@@ -49,12 +49,14 @@ ghost use Rattle.hc_service.specs.Joining.{may_be_shared, AllHaveForwards, FewWa
 ghost use Rattle.hc_service.specs.Serving.{is_fresh, may_be_served, may_replace};
 ghost use Rattle.hc_service.specs.Turns.{IsAnswer, after_origin_octets, after_client_octets, after_request, replied};
 ghost use Rattle.hc_service.specs.Settings.{AreGood, is_name};
+ghost use Rattle.hc_service.specs.Follows.{Follows};
+ghost use Rattle.hc_events.specs.declared.Happening.TheVariants.{ClientOpened};
 
 use hc_rules::{forwards_are_writable, forwards_keep_the_target};
 
 /// A new cache agrees with nothing having happened.
 pub fn new_cache_agrees()
-    ensures { (settings : CoreSettings) → Agrees (new_state settings) nothing_yet }
+    ensures { (settings : CoreSettings) (room : ℕ) → Agrees (new_state_with settings room) nothing_yet }
 {}
 
 /// A run begins with a cache that agrees with what has happened.
@@ -356,8 +358,8 @@ pub fn runs_keep_agreement()
 
 /// The strictest audit says yes to what a new cache records.
 pub fn runs_are_judged_right()
-    ensures { (settings : CoreSettings) (events : List Event) (results : List StepResult) (records : List Record)
-        (end : Option State) → Runs settings (new_state settings) nothing_yet events results records end
+    ensures { (settings : CoreSettings) (room : ℕ) (events : List Event) (results : List StepResult) (records : List Record)
+        (end : Option State) → Runs settings (new_state_with settings room) nothing_yet events results records end
         → IsJudgedRight records }
 {}
 
@@ -365,7 +367,7 @@ pub fn runs_are_judged_right()
 /// run, the records so far go on by those of the next, and each reply among them is right. So the strictest
 /// audit says yes to what a cache records, over however many runs, and its count is that of all its records.
 pub fn right_runs_join()
-    ensures begins { (settings : CoreSettings) → RunsTo [] nothing_yet (Some (new_state settings)) }
+    ensures begins { (settings : CoreSettings) (room : ℕ) → RunsTo [] nothing_yet (Some (new_state_with settings room)) }
     ensures joins { (h : History) (records more : List Record) (mid end : Option State)
         → (to : RunsTo records h mid) → RunsTo more to.later end → RunsTo (records ++ more) h end }
     ensures counted { (records : List Record) (s : State) → RunsTo records nothing_yet (Some s)
@@ -393,8 +395,8 @@ pub fn steps_go_on()
 
 /// Where steps have led a new cache, each forward can end, as far as records can be numbered.
 pub fn steps_end_ready()
-    ensures { (settings : CoreSettings) → AreGood settings → (events : List Event) (results : List StepResult)
-        (s : State) → Steps settings (new_state settings) events results (Some s)
+    ensures { (settings : CoreSettings) → AreGood settings → (room : ℕ) (events : List Event) (results : List StepResult)
+        (s : State) → Steps settings (new_state_with settings room) events results (Some s)
         → length (records_given results) ≤ greatest_number → IsReady s }
 {
     forwards_are_writable();
@@ -410,8 +412,8 @@ pub fn steps_end_ready()
 pub fn nobody_is_left_waiting()
     ensures event { (settings : CoreSettings) (event : Event) (s : State) (actions : List Action) (other : State)
         → WaitForOpen s → Serves settings event s actions other → WaitForOpen other }
-    ensures run { (settings : CoreSettings) (events : List Event) (results : List StepResult) (s : State)
-        → Steps settings (new_state settings) events results (Some s) → WaitForOpen s }
+    ensures run { (settings : CoreSettings) (room : ℕ) (events : List Event) (results : List StepResult) (s : State)
+        → Steps settings (new_state_with settings room) events results (Some s) → WaitForOpen s }
     ensures served { (settings : CoreSettings) (event : Event) (s : State) (actions : List Action) (other : State)
         (h : History) → Agrees s h → AllHaveForwards s → Serves settings event s actions other
         → other.numbers.records ≤ greatest_number → LeavesNobody s other }
@@ -420,13 +422,13 @@ pub fn nobody_is_left_waiting()
         (h : History) (records : List Record) → AllHaveForwards s
         → Runs settings s h events results records (Some other) → LeavesNobody s other }
     // Where a run has led a new cache, and at each event on its way.
-    ensures runs { (settings : CoreSettings) (events : List Event) (results : List StepResult)
+    ensures runs { (settings : CoreSettings) (room : ℕ) (events : List Event) (results : List StepResult)
         (records : List Record) (s : State)
-        → Runs settings (new_state settings) nothing_yet events results records (Some s) → AllHaveForwards s }
-    ensures along { (settings : CoreSettings) (events : List Event) (results : List StepResult)
+        → Runs settings (new_state_with settings room) nothing_yet events results records (Some s) → AllHaveForwards s }
+    ensures along { (settings : CoreSettings) (room : ℕ) (events : List Event) (results : List StepResult)
         (records : List Record) (end : Option State)
-        → (runs : Runs settings (new_state settings) nothing_yet events results records end)
-        → EachLeads LeavesNobody settings (new_state settings) nothing_yet events results records end runs }
+        → (runs : Runs settings (new_state_with settings room) nothing_yet events results records end)
+        → EachLeads LeavesNobody settings (new_state_with settings room) nothing_yet events results records end runs }
 {}
 
 /// For each forward no more requests wait than may, behind each event and wherever steps, or a run, have led a
@@ -434,9 +436,18 @@ pub fn nobody_is_left_waiting()
 pub fn few_wait_for_each_forward()
     ensures event { (settings : CoreSettings) (event : Event) (s : State) (actions : List Action) (other : State)
         → FewWait s → Serves settings event s actions other → FewWait other }
-    ensures run { (settings : CoreSettings) (events : List Event) (results : List StepResult) (s : State)
-        → Steps settings (new_state settings) events results (Some s) → FewWait s }
-    ensures runs { (settings : CoreSettings) (events : List Event) (results : List StepResult)
+    ensures run { (settings : CoreSettings) (room : ℕ) (events : List Event) (results : List StepResult) (s : State)
+        → Steps settings (new_state_with settings room) events results (Some s) → FewWait s }
+    ensures runs { (settings : CoreSettings) (room : ℕ) (events : List Event) (results : List StepResult)
         (records : List Record) (s : State)
-        → Runs settings (new_state settings) nothing_yet events results records (Some s) → FewWait s }
+        → Runs settings (new_state_with settings room) nothing_yet events results records (Some s) → FewWait s }
+{}
+
+/// What is open behind an event is what was, but for what the event and the cache's actions opened and closed, in
+/// order; and there is room for as many connections as before. So whoever carries actions out knows of each connection
+/// and of each forward whether it is open in the cache.
+pub fn what_is_open_follows_the_actions()
+    ensures { (settings : CoreSettings) (event : Event) (s : State) (actions : List Action) (other : State)
+        → ((c : ℕ) → event.of ≡ ClientOpened c → get s.connections c ≡ None)
+        → Serves settings event s actions other → Follows event.of s actions other }
 {}

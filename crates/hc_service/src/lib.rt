@@ -28,7 +28,8 @@ pub use laws::{
     runs_go_on, runs_keep_agreement, runs_of_turns_keep_agreement, steps_are_runs, steps_end_ready,
     steps_go_on, stored_responses_are_those_of_the_records, turns_keep_agreement,
     unread_octets_are_those_that_came, what_forbids_serving_is_obeyed,
-    what_is_open_is_that_of_the_records, what_is_stored_can_be_a_reply,
+    what_is_open_follows_the_actions, what_is_open_is_that_of_the_records,
+    what_is_stored_can_be_a_reply,
 };
 pub use numbers::Numbers;
 pub use open::{ForwardKind, OpenExchange, OpenForward, Purpose};
@@ -39,5 +40,5 @@ pub use replying::{
 pub use serving::{
     age_at, has_still, is_fresh, may_be_served, may_replace, ttl_at, while_revalidating,
 };
-pub use settings::{CoreSettings, is_name, is_size};
+pub use settings::{CoreSettings, USUAL_ROOM, is_name, is_room, is_size};
 pub use settings_fault::CoreFault;

@@ -16,15 +16,17 @@ pub struct Numbers {
     pub forward: u64,
     /// How many records were given out.
     pub records: u64,
+    /// For how many connections there is room, from 1 to 65,536.
+    pub room: usize,
 }
 
 impl Numbers {
     ghost use Rattle.std.specs.Prelude.{◌≡◌, ℕ};
     ghost use Rattle.hc_service.specs.Numbers.{after_opening, asked, at_moment, no_numbers, noted, one_more, sent};
 
-    /// Those of a cache to which nothing has happened.
-    pub fn new() -> Self
-        ensures { result ≡ no_numbers }
+    /// Those of a cache to which nothing has happened, with room for so many connections.
+    pub fn new(room: usize) -> Self
+        ensures { result ≡ no_numbers room }
     {
         Numbers {
             moment: 0,
@@ -32,6 +34,7 @@ impl Numbers {
             exchange: 0,
             forward: 0,
             records: 0,
+            room,
         }
     }
 

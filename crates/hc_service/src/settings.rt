@@ -2,7 +2,7 @@
 
 ghost use Rattle.std.specs.Prelude.{◌≡◌};
 ghost use Rattle.std.specs.List.{list_all};
-ghost use Rattle.hc_service.specs.Settings.{is_name, is_name_octet, is_size};
+ghost use Rattle.hc_service.specs.Settings.{is_name, is_name_octet, is_room, is_size};
 
 use hc_fields::Octets;
 
@@ -20,6 +20,12 @@ pub struct CoreSettings {
 
 /// The most targets of which responses are kept.
 const MOST_KEYS: usize = 65_536;
+
+/// The most connections for which there may be room.
+const MOST_ROOM: usize = 65_536;
+
+/// For how many connections a cache has room where nothing else is said.
+pub const USUAL_ROOM: usize = 1_024;
 
 fn is_name_octet(octet: u8) -> bool
     ensures { result ≡ is_name_octet octet }
@@ -50,4 +56,11 @@ pub fn is_size(keys: usize) -> bool
     ensures { result ≡ is_size keys }
 {
     1 <= keys && keys <= MOST_KEYS
+}
+
+/// Whether a cache may have room for so many connections that are open.
+pub fn is_room(connections: usize) -> bool
+    ensures { result ≡ is_room connections }
+{
+    1 <= connections && connections <= MOST_ROOM
 }

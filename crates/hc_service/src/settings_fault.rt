@@ -18,6 +18,9 @@ pub enum CoreFault {
     /// Responses of no target, or of more than 65,536 targets would be kept.
     #[error("the number of keys is none from 1 to 65536")]
     Size,
+    /// There would be room for no connection, or for more than 65,536.
+    #[error("the number of connections is none from 1 to 65536")]
+    Room,
 }
 
 impl CoreFault {
@@ -32,6 +35,7 @@ impl CoreFault {
             CoreFault::Memory => 1,
             CoreFault::Name => 2,
             CoreFault::Size => 3,
+            CoreFault::Room => 4,
         }
     }
 
@@ -43,6 +47,7 @@ impl CoreFault {
             CoreFault::Memory => "Memory",
             CoreFault::Name => "Name",
             CoreFault::Size => "Size",
+            CoreFault::Room => "Room",
         }
     }
 }

@@ -106,6 +106,8 @@ fn new_core<R: RandomSource + AllocGlobal>(
         Err(CoreFault::Name) => unreachable!(),
         // It may keep responses of so many targets.
         Err(CoreFault::Size) => unreachable!(),
+        // It has the usual room.
+        Err(CoreFault::Room) => unreachable!(),
     }
 }
 

@@ -14,7 +14,7 @@ returns-in-Ok-serve_connection-clause-serves g c = λ text held.
     (g.R.Link.has_got c.serve_connection.new.recorder) c.args.core.now c.serve_connection.new.core c.args.number
     c.serve_connection.new.connection.peers.client c.serve_connection.new.connection.opened c.serve_connection.new.connection.peers.forwards.links text
     c.in-Ok.ensures.came c.in-Ok.ensures.left
-    (c.in-Ok-serve_connection.ensures.serves (unserved c.args.number) text told held)
+    (c.in-Ok-serve_connection.ensures.serves (unserved c.args.number) text told held) c.in-Ok-serve_connection.ensures.idle
     c.in-Ok-serve_connection.ensures.opened
     c.into_client.result c.into_client.ensures c.done.ensures.came c.done.ensures.left
 
@@ -30,6 +30,7 @@ returns-in-Err-Client-clause-serves g c = λ text held.
     c.serve_connection.new.connection.peers.client c.serve_connection.new.connection.opened c.serve_connection.new.connection.peers.forwards.links text
     c.in-Ok.ensures.came c.in-Ok.ensures.left
     (rw c.in-Err-Client.field-0-is at (c.in-Err-Client.ensures.serves (unserved c.args.number) text told held))
+    (rw c.in-Err-Client.field-0-is at c.in-Err-Client.ensures.idle)
     (rw c.in-Err-Client.field-0-is at c.in-Err-Client.ensures.opened)
     c.into_client-in-Err-Client.result c.into_client-in-Err-Client.ensures c.done-in-Err-Client.ensures.came c.done-in-Err-Client.ensures.left
 

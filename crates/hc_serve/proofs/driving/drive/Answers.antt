@@ -1,16 +1,20 @@
-use Rattle.std.proofs.Common.{◌≡◌, ◌∙◌, Bool, Err, ap, arith, inl, refl, rules, true, false}
+use Rattle.std.proofs.Common.{◌≡◌, ◌∙◌, ◌++◌, ℕ, Bool, Err, ap, arith, inl, refl, rules, subst, true, false}
 use Rattle.std.proofs.lemmas.Result.{err_from_is_err_and}
 use Rattle.hc_service.specs.declared.fault.StepFault.TheVariants.{Failed}
 use Rattle.hc_serve.specs.declared.fault.DriveFault.TheVariants.{Core}
+use Rattle.hc_order.specs.Passed.{passed}
+use Rattle.hc_serve.specs.Drives.{texts_given}
+use Rattle.hc_serve.specs.Rounds.{IsRound, MayBreak}
 use Rattle.hc_serve.specs.Rounds.Break.{Before}
 use Rattle.hc_serve.proofs.DriveLemmas.{begins, breaks, broke_off, ended, goes_on, made_all}
 use Rattle.hc_serve.proofs.driving.drive.Goals as goal
 
 pub rounds-init : goal.rounds-init
 rounds-init g c = record {
-  so_far = λ log text told held. begins (g.L.Links.tells c.args.links.now) (g.R.Link.has_got c.args.recorder.now) c.args.core.now log text told held;
+  so_far = λ log text told held. begins (g.L.Links.most c.args.links.now) (g.L.Links.tells c.args.links.now) (g.R.Link.has_got c.args.recorder.now) c.args.core.now log text told held;
   moments = λ moment may. may;
   unread = λ times was. was;
+  as_many = refl;
   count = refl;
 }
 
@@ -20,10 +24,14 @@ rounds-preserved g c = record {
       let on : c.in_ok-round.field-0 ≡ true = search rules in
       let f = c.rounds.invariant.so_far log text told held in
       goes_on c.steps_are_runs.ensures c.runs_keep_agreement.ensures c.agreement_is_ready.ensures
+      c.runs_go_on.ensures.counted c.what_may_happen_in_turn_is_served.ensures.usual c.what_may_happen_in_turn_is_served.ensures.mirrors (g.L.Links.most c.args.links.now)
       (g.L.Links.tells c.rounds.links) (g.L.Links.tells c.round.new.links) (g.R.Link.has_got c.rounds.recorder) (g.R.Link.has_got c.round.new.recorder)
-      _ _ c.round.new.core log text _ f ((rw on at c.in_ok-round.ensures.round) _ _ f.told f.held);
+      _ _ c.round.new.core log text _ f
+      (subst (λ (n : ℕ). IsRound n (g.L.Links.tells c.round.new.links) (g.R.Link.has_got c.round.new.recorder) c.rounds.core c.round.new.core (passed f.events f.results log) (text ++ texts_given f.results))
+      c.rounds.invariant.as_many ((rw on at c.in_ok-round.ensures.round) _ _ f.told f.held));
   moments = λ moment may. c.rounds.invariant.moments moment (c.in_ok-round.ensures.moments moment may);
   unread = λ times was. c.in_ok-round.ensures.unread times (c.rounds.invariant.unread times was);
+  as_many = c.in_ok-round.ensures.as_many ∙ c.rounds.invariant.as_many;
   count = c.in_ok-round.ensures.count ∙ c.rounds.invariant.count;
 }
 
@@ -33,10 +41,12 @@ returns-in_err-round-clause-drive g c =
     rw (p.1 ∙ ap Err p.2) (λ log text told held.
     let f = c.rounds.invariant.so_far log text told held in
     let b = c.in_err-round.ensures.round _ _ f.told f.held in
-    breaks Bool Bool c.in_err-round.field-0.0 (g.L.Links.tells c.round.new.links) (g.R.Link.has_got c.round.new.recorder) (g.L.Links.rests c.round.new.links) c.args.core.now c.round.new.core log text _ _ c.in_err-round.ensures.count
+    breaks Bool Bool (g.L.Links.most c.args.links.now) c.in_err-round.field-0.0 (g.L.Links.tells c.round.new.links) (g.R.Link.has_got c.round.new.recorder) (g.L.Links.rests c.round.new.links) c.args.core.now c.round.new.core log text _ _ c.in_err-round.ensures.count
     (broke_off c.steps_are_runs.ensures c.runs_keep_agreement.ensures c.agreement_is_ready.ensures
+    c.runs_go_on.ensures.counted c.what_may_happen_in_turn_is_served.ensures.usual c.what_may_happen_in_turn_is_served.ensures.mirrors (g.L.Links.most c.args.links.now)
     (g.L.Links.tells c.rounds.links) (g.L.Links.tells c.round.new.links) (g.R.Link.has_got c.rounds.recorder) (g.R.Link.has_got c.round.new.recorder)
-    c.args.core.now c.rounds.core c.round.new.core log text _ f (g.L.Links.rests c.round.new.links) c.in_err-round.field-0.0 b.0 (inl b.1) b.2 b.3))
+    c.args.core.now c.rounds.core c.round.new.core log text _ f (g.L.Links.rests c.round.new.links) c.in_err-round.field-0.0 b.0 (inl b.1) b.2 b.3
+    (subst (λ (n : ℕ). MayBreak n b.0 (passed f.events f.results log)) c.rounds.invariant.as_many b.4)))
 
 pub returns-then-not-branch-clause-drive : goal.returns-then-not-branch-clause-drive
 returns-then-not-branch-clause-drive g c = λ log text told held.
@@ -44,6 +54,7 @@ returns-then-not-branch-clause-drive g c = λ log text told held.
     let f = c.rounds.invariant.so_far log text told held in
     let d = (rw off at c.in_ok-round.ensures.round) _ _ f.told f.held in
     ended c.steps_are_runs.ensures c.runs_keep_agreement.ensures c.agreement_is_ready.ensures
+    c.runs_go_on.ensures.counted c.what_may_happen_in_turn_is_served.ensures.usual c.what_may_happen_in_turn_is_served.ensures.mirrors (g.L.Links.most c.args.links.now)
     (g.L.Links.tells c.rounds.links) (g.L.Links.tells c.round.new.links) (g.R.Link.has_got c.rounds.recorder) (g.R.Link.has_got c.round.new.recorder)
     c.args.core.now c.rounds.core c.round.new.core log text _ f d.0 d.1 d.2
 
@@ -51,5 +62,6 @@ pub returns-clause-drive : goal.returns-clause-drive
 returns-clause-drive g c = λ log text told held.
     let f = c.rounds.invariant.so_far log text told held in
     broke_off c.steps_are_runs.ensures c.runs_keep_agreement.ensures c.agreement_is_ready.ensures
+    c.runs_go_on.ensures.counted c.what_may_happen_in_turn_is_served.ensures.usual c.what_may_happen_in_turn_is_served.ensures.mirrors (g.L.Links.most c.args.links.now)
     (g.L.Links.tells c.rounds.links) (g.L.Links.tells c.rounds.links) (g.R.Link.has_got c.rounds.recorder) (g.R.Link.has_got c.rounds.recorder)
-    c.args.core.now c.rounds.core c.rounds.core log text _ f (g.L.Links.rests c.rounds.links) (Core Failed) Before (made_all _ _ _ _ _ log text _ f (omega (arith, c.rounds-test.false))) refl (f.told, f.held)
+    c.args.core.now c.rounds.core c.rounds.core log text _ f (g.L.Links.rests c.rounds.links) (Core Failed) Before (made_all _ _ _ _ _ _ log text _ f (omega (arith, c.rounds-test.false))) refl (f.told, f.held) tt

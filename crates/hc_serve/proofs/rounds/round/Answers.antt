@@ -1,6 +1,6 @@
 use Rattle.std.proofs.Common.{◌∷◌, subst, sym}
 use Rattle.std.proofs.lemmas.Result.{err_from_is_err_and}
-use Rattle.hc_connection.specs.Moves.Move.{Heard}
+use Rattle.hc_order.specs.Log.Move.{Heard}
 use Rattle.hc_serve.specs.Carrying.{IsOfCarrying}
 use Rattle.hc_serve.specs.Rounds.Break.{AtAnswer, Carrying}
 use Rattle.hc_serve.proofs.rounds.round.Goals as goal
@@ -13,6 +13,7 @@ returns-in_err-actions-clause-round g c =
       p.2,
       record { gives = c.in_err-actions.ensures.gives; same = c.in_err-actions.ensures.same },
       ((rw c.in-Some.is at c.in_ok-event.ensures.tells) log told, held),
+      (rw c.in-Some.is at c.in_ok-event.ensures.orderly) log told,
     ))
 
 pub returns-in_err-carry_out-clause-round : goal.returns-in_err-carry_out-clause-round
@@ -24,12 +25,14 @@ returns-in_err-carry_out-clause-round g c =
       record { gives = c.in_ok-actions.ensures.gives; same = c.in_ok-actions.ensures.same },
       (rw c.as_slice.ensures.value at c.in_err-carry_out.ensures.done) (Heard c.in-Some.event ∷ log) text
           ((rw c.in-Some.is at c.in_ok-event.ensures.tells) log told) held,
+      (rw c.in-Some.is at c.in_ok-event.ensures.orderly) log told,
     ))
 
 pub returns-clause-round : goal.returns-clause-round
 returns-clause-round g c = λ log text told held. record {
   event = c.in-Some.event;
   actions = c.in_ok-actions.actions;
+  may = (rw c.in-Some.is at c.in_ok-event.ensures.orderly) log told;
   answers = record { gives = c.in_ok-actions.ensures.gives; same = c.in_ok-actions.ensures.same };
   done = (rw c.as_slice.ensures.value at c.in_ok-carry_out.ensures.done) (Heard c.in-Some.event ∷ log) text
       ((rw c.in-Some.is at c.in_ok-event.ensures.tells) log told) held;

@@ -1,8 +1,10 @@
-use Rattle.std.proofs.Common.{refl}
+use Rattle.std.proofs.Common.{◌≡◌, refl, rules}
+use Rattle.hc_events.specs.declared.Happening.TheVariants.{ClientOpened}
 use Rattle.std.proofs.lemmas.Result.{err_from_is_err_and}
 use Rattle.hc_connection.specs.Forwards.{AreKept}
 use Rattle.hc_connection.specs.Sides.{Tells}
 use Rattle.hc_connection.proofs.ConnectionLemmas.{heard_now, next_now}
+use Rattle.hc_connection.proofs.OrderLemmas.{next_may, opening_may}
 use Rattle.hc_connection.proofs.TellLemmas.{opens_by, opens_heard}
 use Rattle.hc_connection.proofs.connection.ConnectionLinks.next.Goals as goal
 
@@ -11,7 +13,7 @@ returns-in_err-happening-clause-tells g c =
     let p = err_from_is_err_and c.from_residual.result c.from_residual.ensures.1 in
     rw p.1 (λ log t. (
       c.in_err-happening.ensures.tells log t.0,
-      opens_by c.args.self.now.opened _ _ log log refl c.in_err-happening.ensures.number t.1,
+      opens_by c.args.self.now.opened _ _ log log refl refl c.in_err-happening.ensures.number t.1,
       t.2,
       c.in_err-happening.ensures.kept log t.3,
       t.4,
@@ -20,7 +22,7 @@ returns-in_err-happening-clause-tells g c =
 pub returns-in-None-clause-tells : goal.returns-in-None-clause-tells
 returns-in-None-clause-tells g c = λ log t. (
   (rw c.in-None.is at c.in_ok-happening.ensures.tells) log t.0,
-  opens_by c.args.self.now.opened _ _ log log refl c.in_ok-happening.ensures.number t.1,
+  opens_by c.args.self.now.opened _ _ log log refl refl c.in_ok-happening.ensures.number t.1,
   t.2,
   (rw c.in-None.is at c.in_ok-happening.ensures.kept) log t.3,
   t.4,
@@ -38,3 +40,18 @@ returns-in-Some-clause-tells g c = λ log t.
       heard_now (AreKept g.O.Link.Link.has_given g.O.Link.Link.has_got c.happening.new.self.forwards.links) event c.in-Some.of log is kept.1,
       (next_now event c.in-Some.of log is kept.0, t.4),
     )
+
+pub returns-in-Some-clause-orderly : goal.returns-in-Some-clause-orderly
+returns-in-Some-clause-orderly g c = λ log t.
+    let event = c.now-in-Some.result in
+    let is = c.now-in-Some.ensures.of in
+    let kept = (rw c.in-Some.is at c.in_ok-happening.ensures.kept) log t.3 in
+    let told = heard_now (Tells g.C.Link.has_given g.C.Link.has_got g.C.Link.was_read g.C.Link.count c.happening.new.self.client) event c.in-Some.of log is
+    ((rw c.in-Some.is at c.in_ok-happening.ensures.tells) log t.0) in
+    next_may c.args.self.now.opened _ event log c.if-not-self.false (next_now event c.in-Some.of log is kept.0)
+    (opens_by c.args.self.now.opened _ _ log log refl refl c.in_ok-happening.ensures.number t.1) told.own told.in_time
+
+pub returns-then-not-self-clause-orderly : goal.returns-then-not-self-clause-orderly
+returns-then-not-self-clause-orderly g c = λ log t.
+    let is : c.now.result.of ≡ ClientOpened c.args.self.now.peers.client.number = search rules in
+    opening_may c.args.self.now.opened _ c.now.result log c.if-not-self.true is t.1

@@ -1,6 +1,6 @@
 use Rattle.std.proofs.Common.{◌≡◌, ◌==◌, false, arith}
 use Rattle.std.proofs.lemmas.Bool.Decides.{nat_tests}
-use Rattle.hc_connection.specs.declared.links.Receiver.TheVariants.{Client}
+use Rattle.hc_order.specs.declared.receiver.Receiver.TheVariants.{Client}
 use Rattle.hc_connection.proofs.TellLemmas.{elsewhere, no_reply_of_its, not_its}
 use Rattle.hc_connection.proofs.peers.Peers.reply.Goals as goal
 

@@ -1,6 +1,6 @@
 use Rattle.std.proofs.Common.{◌≡◌, List, length}
 use Rattle.hc_connection.specs.Forwards.{AreKept}
-use Rattle.hc_connection.specs.Moves.{Move}
+use Rattle.hc_order.specs.Log.{Move}
 use Rattle.hc_connection.specs.Sides.{Tells}
 use Rattle.hc_connection.proofs.peers.Peers.waited.Given as goal
 

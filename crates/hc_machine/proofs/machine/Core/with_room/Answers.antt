@@ -1,11 +1,11 @@
 use Rattle.std.proofs.Common.{rules, refl, inr}
-use Rattle.hc_service.specs.State.{new_state}
-use Rattle.hc_machine.proofs.machine.Core.with_hasher.Goals as goal
+use Rattle.hc_service.specs.State.{new_state_with}
+use Rattle.hc_machine.proofs.machine.Core.with_room.Goals as goal
 
 pub invariant_of-result : goal.invariant_of-result
 invariant_of-result g c = inr (record {
   settings = c.args.settings;
-  state = new_state c.args.settings;
+  state = new_state_with c.args.settings c.args.connections;
   stands = c.new.ensures c.args.settings refl c.in_ok-store.ensures;
 })
 
@@ -13,4 +13,5 @@ pub returns : goal.returns
 returns g c = (
   record { name = search rules; size = search rules },
   record { works = refl; stands = c.new.ensures c.args.settings refl c.in_ok-store.ensures },
+  search rules,
 )

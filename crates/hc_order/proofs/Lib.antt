@@ -1,0 +1,2 @@
+pub mod MirrorLemmas
+pub mod TurnByTurnLemmas
