@@ -5,17 +5,28 @@ ghost use Rattle.std.specs.Prelude.{◌≡◌, ◌≤◌, ◌-◌, ◌*◌, ◌+
 use std::alloc::{AllocError, Global};
 use std::marker::Model;
 
+/// The most octets that a buffer may have held which is kept while none waits.
+const MOST_KEPT: usize = 1_024;
+
 /// Octets in one buffer, of which those before `start` were read. Contracts see the rest of them.
 /// What was read is dropped once it is more than half, so each octet is moved at most once for each
-/// octet that was read.
+/// octet that was read. Once all were read, a buffer that has held more than 1,024 is given back.
 pub struct Waiting {
+    alloc: Global,
     bytes: Vec<u8>,
     start: usize,
+    /// The most octets that the buffer has held.
+    most: usize,
 }
 
 impl Drop for Waiting {
     fn drop(self) {
-        let Waiting { bytes, start: _ } = self;
+        let Waiting {
+            alloc: _,
+            bytes,
+            start: _,
+            most: _,
+        } = self;
         drop(bytes);
     }
 }
@@ -59,8 +70,10 @@ impl Waiting {
         ensures { result ≡ [] }
     {
         Waiting {
+            alloc,
             bytes: Vec::new(alloc),
             start: 0,
+            most: 0,
         }
     }
 
@@ -77,7 +90,9 @@ impl Waiting {
         ensures err { OnErr result (self.new ≡ self.old) }
     {
         self.compact();
-        self.bytes.extend_from_slice(piece)
+        self.bytes.extend_from_slice(piece)?;
+        self.most = self.most.max(self.bytes.len());
+        Ok(())
     }
 
     /// Drops what was read, once it is more than half.
@@ -98,13 +113,28 @@ impl Waiting {
         ensures { self.new ≡ drop count self.old }
     {
         self.start += count;
+        if self.start == self.bytes.len() {
+            self.empty();
+        }
     }
 
     /// Drops all octets.
     pub fn clear(&mut self)
         ensures { self.new ≡ [] }
     {
-        self.bytes.clear();
+        self.empty();
+    }
+
+    /// Empties the buffer, or gives it back where it has held more than may be kept.
+    fn empty(&mut self)
+        ensures { self.new ≡ [] }
+    {
         self.start = 0;
+        if self.most <= MOST_KEPT {
+            self.bytes.clear();
+            return;
+        }
+        self.bytes = Vec::new(self.alloc);
+        self.most = 0;
     }
 }
