@@ -1,3 +1,4 @@
+pub mod CountLemmas
 pub mod HeadLemmas
 pub mod BeginningLemmas
 pub mod RequestLemmas

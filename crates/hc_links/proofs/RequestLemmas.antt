@@ -1,5 +1,5 @@
 -- What is read of a client connection.
-use Rattle.std.proofs.Common.{◌≡◌, ◌≢◌, ℕ, ◌+◌, true, false, List, [], ◌++◌, length, take, drop, Option, Some, None, Ok, Err, rules, refl, sym, ap, subst, ◌∙◌, append_assoc, append-nil, inl, inr}
+use Rattle.std.proofs.Common.{◌≡◌, ◌≢◌, ℕ, ◌+◌, ◌^◌, ◌<◌, true, false, List, [], ◌++◌, length, take, drop, Option, Some, None, Ok, Err, rules, refl, sym, ap, subst, ◌∙◌, append_assoc, append-nil, inl, inr}
 use Rattle.std.specs.Option.{IsSome}
 use Rattle.std.proofs.lemmas.List.{take-append-drop}
 use Rattle.std.proofs.Math.Seq.{drop-append-add}
@@ -22,6 +22,7 @@ use Rattle.hc_framing.specs.Messages.{request_form}
 use Rattle.hc_framing.specs.Reader as framing
 use Rattle.hc_framing.proofs.ReaderLemmas.{agreeing_in_time, agreeing_shows, ok_shows}
 use Rattle.hc_links.proofs.BeginningLemmas.{begins_on, never_until_close}
+use Rattle.hc_links.proofs.CountLemmas.{counted_all}
 use Rattle.hc_links.specs.declared.arrival.Arrival.{Arrival}
 use Rattle.hc_links.specs.declared.arrival.Arrival.TheVariants as arrivals
 use Rattle.hc_links.specs.declared.requests.RequestReader.{RequestReader}
@@ -123,6 +124,7 @@ goes_on r s octets on none tested =
           reads = subst (λ (m : MessageReader RequestHead). framing.Agrees request_form Request RECEIVED m octets) (sym tested.0.reader_is) on.reads;
           passed = subst (λ (m : MessageReader RequestHead). HasPassed m.head s.target) (sym tested.0.reader_is) passed;
           all = sym (append-nil octets) ∙ ap (λ (o : List ℕ). octets ++ o) (sym waits);
+          counted = tested.0.heard_is ∙ on.counted;
         };
         none_unread = waits;
       },
@@ -143,9 +145,9 @@ ends_and_failed r s used octets status ends tested =
 
 pub takes : (r q s : RequestReader) (used : ℕ) (octets : List ℕ) (reader : MessageReader RequestHead) (message : Message RequestHead) (target : Target) → HasEnded r used octets
     → GivesTest (Ok None) r q → reader ≡ q.reader → q.target ≡ Some target → ((m : Message RequestHead) → framing.Holds reader m → message ≡ m)
-    → framing.Agrees request_form Request RECEIVED s.reader [] → s.reader.head ≡ None → s.target ≡ None → s.waits ≡ drop used q.waits
+    → framing.Agrees request_form Request RECEIVED s.reader [] → s.reader.head ≡ None → s.target ≡ None → s.waits ≡ drop used q.waits → s.heard ≡ length s.waits → s.heard < 2 ^ 64
     → TakesRequest s octets message target
-takes r q s used octets reader message target ends tested reader-is target-is taken fresh no-head no-target waits-are =
+takes r q s used octets reader message target ends tested reader-is target-is taken fresh no-head no-target waits-are heard-is few =
     let e = ends.ends in
     let same : message ≡ e.message = taken e.message (subst (λ (m : MessageReader RequestHead). framing.Holds m e.message) (sym (reader-is ∙ tested.0.reader_is)) e.holds) in
     let passed : HasPassed (Some e.message.head) (Some target) =
@@ -167,6 +169,7 @@ takes r q s used octets reader message target ends tested reader-is target-is ta
           reads = fresh;
           passed = subst (λ (x : Option RequestHead × Option Target). HasPassed x.0 x.1) (λ i. (sym no-head i, sym no-target i)) tt;
           all = sym left;
+          counted = counted_all s.heard (drop len octets) (heard-is ∙ ap length left) few;
         };
         all_unread = left;
       };
@@ -183,6 +186,7 @@ pub went_on : (r : RequestReader) (m : MessageReader RequestHead) (piece octets 
 went_on r m piece octets a is keeps reads = record {
   reads = subst (framing.Agrees request_form Request RECEIVED m) (fed_all r piece octets a is) reads;
   may_pass = may_pass r.reader.head m.head r.target a.passed keeps;
+  counted = a.counted;
 }
 
 pub has_met : (r : RequestReader) (m : MessageReader RequestHead) (fault : FrameFault) (piece octets : List ℕ) (a : WasGiven r octets) → piece ≡ r.waits → (IsSome r.reader.head → m.head ≡ r.reader.head)

@@ -1,5 +1,5 @@
 -- What is read of a forward's connection.
-use Rattle.std.proofs.Common.{◌≡◌, ◌≢◌, ℕ, zero, suc, ◌+◌, ◌≤◌, ◌<◌, Bool, true, false, List, [], ◌++◌, length, take, drop, Result, Ok, Err, rules, refl, sym, ap, subst, ◌∙◌, arith, append_assoc, length-append, length-drop, length-take, inl, inr}
+use Rattle.std.proofs.Common.{◌≡◌, ◌≢◌, ℕ, zero, suc, ◌+◌, ◌-◌, ◌^◌, ◌≤◌, ◌<◌, min, Bool, true, false, List, [], ◌++◌, length, take, drop, Result, Ok, Err, rules, refl, sym, ap, subst, ◌∙◌, arith, append_assoc, length-append, length-drop, length-take, inl, inr}
 use Rattle.std.proofs.lemmas.Bool.Decides.{nat_tests}
 use Rattle.std.proofs.lemmas.List.{drop-append-le, drop_all, take-append-drop}
 use Rattle.std.proofs.Math.Seq.{take-add}
@@ -26,6 +26,7 @@ use Rattle.hc_framing.specs.Messages.{IsWholeBody, response_form}
 use Rattle.hc_framing.specs.Reader as framing
 use Rattle.hc_framing.proofs.ReaderLemmas.{agreeing_has_none, agreeing_in_time}
 use Rattle.hc_links.proofs.BeginningLemmas.{begins_on, begins_within, takes_some}
+use Rattle.hc_links.proofs.CountLemmas.{counted_on, counted_front}
 use Rattle.hc_links.specs.declared.responses.ResponseReader.{ResponseReader}
 use Rattle.hc_links.specs.Responses.{most_interim, switching_protocols, Begins, BeginsInterim, AreInterimThen, Leaves, IsResponse, IsFailure, IsUnfinished, IsResponseAtEnd, IsFailureAtEnd}
 use Rattle.hc_links.specs.ResponseReading.{WasGiven}
@@ -75,13 +76,13 @@ fails to_head r octets piece fault a not stands = record {
   fails = inl (record { fault = fault; not_memory = not; stands = stands });
 }
 
-pub goes_on : (to_head : Bool) (r : ResponseReader) (m : MessageReader ResponseHead) (octets piece : List ℕ) (a : WasGiven to_head r octets)
-    → framing.Agrees response_form (Response to_head) RECEIVED m (a.rest ++ piece)
-    → IsUnfinished to_head (octets ++ piece) × WasGiven to_head (record r { reader = m }) (octets ++ piece)
-goes_on to_head r m octets piece a reads =
+pub goes_on : (to_head : Bool) (r : ResponseReader) (m : MessageReader ResponseHead) (heard : ℕ) (octets piece : List ℕ) (a : WasGiven to_head r octets)
+    → heard ≡ min (r.heard + length piece) (2 ^ 64 - 1) → framing.Agrees response_form (Response to_head) RECEIVED m (a.rest ++ piece)
+    → IsUnfinished to_head (octets ++ piece) × WasGiven to_head (record r { reader = m; heard = heard }) (octets ++ piece)
+goes_on to_head r m heard octets piece a is reads =
     let leaves = leaves_on to_head octets r.interim a.rest piece a.leaves in (
       record { count = r.interim; rest = a.rest ++ piece; leaves = leaves; in_time = agreeing_in_time response_form response_laws (Response to_head) RECEIVED m (a.rest ++ piece) reads },
-      record { to_head_is = a.to_head_is; rest = a.rest ++ piece; leaves = leaves; reads = reads },
+      record { to_head_is = a.to_head_is; rest = a.rest ++ piece; leaves = leaves; reads = reads; counted = is ∙ counted_on r.heard octets piece a.counted },
     )
 
 pub takes_those : (part : Part) (used : ℕ) (piece : List ℕ) → (0 < used) × (used ≤ length piece) → TakesThose part used → TakesSome (Ok part) piece
@@ -94,6 +95,7 @@ has_ended to_head r m octets piece used a ends = record {
   to_head_is = a.to_head_is;
   rest = a.rest;
   leaves = a.leaves;
+  counted = a.counted;
   some = takes_some response_form response_laws (Response to_head) RECEIVED r.reader m a.rest piece used a.reads ends;
   ends = ends;
 }
@@ -154,8 +156,8 @@ too_many to_head r octets piece used message e taken interim not most = record {
 
 pub is_dropped : (to_head : Bool) (r q s : ResponseReader) (octets piece : List ℕ) (used : ℕ) (message : Message ResponseHead) → HasEnded to_head r octets piece used
     → ((m : Message ResponseHead) → framing.Holds r.reader m → message ≡ m) → is_interim message.head.status ≡ true → message.head.status ≢ switching_protocols → q.interim < most_interim → BeginsNext r q
-    → s.to_head ≡ q.to_head → s.interim ≡ q.interim + 1 → s.reader ≡ q.reader → IsDropped to_head s octets piece used
-is_dropped to_head r q s octets piece used message e taken interim not few next to-head-is interim-is reader-is =
+    → s.to_head ≡ q.to_head → s.interim ≡ q.interim + 1 → s.heard ≡ min (q.heard + used) (2 ^ 64 - 1) → s.reader ≡ q.reader → IsDropped to_head s octets piece used
+is_dropped to_head r q s octets piece used message e taken interim not few next to-head-is interim-is heard-is reader-is =
     let same = taken e.ends.message e.ends.holds in
     let front = take used piece in
     let len = length e.rest + used in
@@ -176,6 +178,7 @@ is_dropped to_head r q s octets piece used message e taken interim not few next 
         };
         reads = subst (λ (m : MessageReader ResponseHead). framing.Agrees response_form (Response to_head) RECEIVED m []) (sym reader-is)
             (subst (λ (h : Bool). framing.Agrees response_form (Response h) RECEIVED q.reader []) e.to_head_is next.reads);
+        counted = heard-is ∙ ap (λ (n : ℕ). min (n + used) (2 ^ 64 - 1)) next.heard_is ∙ counted_front r.heard used octets piece e.counted e.ends.within;
       };
     }
 

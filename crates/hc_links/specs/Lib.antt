@@ -2,6 +2,7 @@ pub mod Requests
 pub mod Responses
 pub mod HeadParts
 pub mod Arrivals
+pub mod Counts
 pub mod RequestReading
 pub mod RequestParts
 pub mod ResponseReading

@@ -10,6 +10,7 @@ use Rattle.hc_framing.specs.Faults.{StandsIn}
 use Rattle.hc_framing.specs.Messages.{request_form}
 use Rattle.hc_framing.specs.Reader as framing
 use Rattle.hc_links.specs.declared.requests.RequestReader.{RequestReader}
+use Rattle.hc_links.specs.Counts.{count_of}
 use Rattle.hc_links.specs.Requests.{IsServed, IsUnserved}
 
 -- a target is kept of a head that has passed its tests alone; a head that has come may still have to be tested
@@ -23,6 +24,7 @@ MayPass (Some head) (Some target) = IsServed head target
 pub record SameOctets (r s : RequestReader) : Type 0 where
   pub reader_is : s.reader ≡ r.reader
   pub waits_are : s.waits ≡ r.waits
+  pub heard_is : s.heard ≡ r.heard
 
 -- the target that is kept once a head has passed its tests, if it has come
 abbrev pub PassesWith : Option RequestHead → Option Target → Option Target → Type 0
@@ -53,6 +55,7 @@ pub record HasMet (r : RequestReader) (fault : FrameFault) (octets : List ℕ) :
 pub record HasGoneOn (r : RequestReader) (octets : List ℕ) : Type 0 where
   pub reads : framing.Agrees request_form Request RECEIVED r.reader octets
   pub may_pass : MayPass r.reader.head r.target
+  pub counted : r.heard ≡ count_of octets
 
 -- a message ends with so many of the octets that waited
 pub record HasEnded (r : RequestReader) (used : ℕ) (octets : List ℕ) : Type 0 where

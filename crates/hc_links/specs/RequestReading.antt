@@ -11,6 +11,7 @@ use Rattle.hc_framing.specs.Reader as framing
 use Rattle.hc_links.specs.declared.arrival.Arrival.{Arrival}
 use Rattle.hc_links.specs.declared.arrival.Arrival.TheVariants.{Request, Refused, More}
 use Rattle.hc_links.specs.declared.requests.RequestReader.{RequestReader}
+use Rattle.hc_links.specs.Counts.{count_of}
 use Rattle.hc_links.specs.Requests.{IsServed, IsRequest, IsRefused, IsUnfinished, IsGivenUp}
 
 -- the head that has come passes its tests, and its target is kept
@@ -24,12 +25,13 @@ HasPassed (Some head) (Some target) = IsServed head target
 abbrev pub unread : RequestReader → List ℕ
 unread r = r.waits
 
--- the reader was given these octets behind the last whole request, in whatever pieces, and has read them but for those that wait
+-- the reader was given these octets behind the last whole request, in whatever pieces, has read them but for those that wait, and has counted them
 pub record WasGiven (r : RequestReader) (octets : List ℕ) : Type 0 where
   pub read : List ℕ
   pub reads : framing.Agrees request_form kinds.Request RECEIVED r.reader read
   pub passed : HasPassed r.reader.head r.target
   pub all : octets ≡ read ++ unread r
+  pub counted : r.heard ≡ count_of octets
 
 -- it can read on: it hasn't refused what it was given
 abbrev pub CanRead : RequestReader → Type 0

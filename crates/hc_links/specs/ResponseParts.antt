@@ -5,6 +5,7 @@ use Rattle.hc_head.specs.declared.head.TheConstants.Room.{RECEIVED}
 use Rattle.hc_framing.specs.declared.kind.Kind.TheVariants.{Response}
 use Rattle.hc_framing.specs.Messages.{response_form}
 use Rattle.hc_framing.specs.Reader as framing
+use Rattle.hc_links.specs.Counts.{count_of}
 use Rattle.hc_links.specs.Responses.{Leaves}
 use Rattle.hc_links.specs.declared.responses.Part.{Part}
 use Rattle.hc_links.specs.declared.responses.Part.TheVariants.{Interim, Last}
@@ -16,6 +17,7 @@ pub record HasEnded (to_head : Bool) (r : ResponseReader) (octets piece : List �
   pub to_head_is : r.to_head ≡ to_head
   pub rest : List ℕ
   pub leaves : Leaves to_head octets r.interim rest
+  pub counted : r.heard ≡ count_of octets
   pub some : 0 < used
   pub ends : framing.EndsAfter response_form (Response to_head) RECEIVED r.reader rest piece used
 
@@ -23,6 +25,7 @@ pub record HasEnded (to_head : Bool) (r : ResponseReader) (octets piece : List �
 pub record BeginsNext (r s : ResponseReader) : Type 0 where
   pub to_head_is : s.to_head ≡ r.to_head
   pub interim_is : s.interim ≡ r.interim
+  pub heard_is : s.heard ≡ r.heard
   pub reads : framing.Agrees response_form (Response r.to_head) RECEIVED s.reader []
 
 -- an interim response ends with so many octets of the piece

@@ -10,18 +10,20 @@ use Rattle.hc_framing.specs.Reader as framing
 use Rattle.hc_links.specs.declared.arrival.Heard.{Heard}
 use Rattle.hc_links.specs.declared.arrival.Heard.TheVariants.{Response, Failed, More}
 use Rattle.hc_links.specs.declared.responses.ResponseReader.{ResponseReader}
+use Rattle.hc_links.specs.Counts.{count_of}
 use Rattle.hc_links.specs.Responses.{Leaves, IsResponse, IsFailure, IsUnfinished, IsResponseAtEnd, IsFailureAtEnd}
 
 -- it can be given more: it has found neither a response nor a failure
 abbrev pub CanRead : ResponseReader → Type 0
 CanRead r = framing.CanFeed response_form r.reader
 
--- the reader of a response, to HEAD or another method, was given these octets, in whatever pieces
+-- the reader of a response, to HEAD or another method, was given these octets, in whatever pieces, and has counted them
 pub record WasGiven (to_head : Bool) (r : ResponseReader) (octets : List ℕ) : Type 0 where
   pub to_head_is : r.to_head ≡ to_head
   pub rest : List ℕ
   pub leaves : Leaves to_head octets r.interim rest
   pub reads : framing.Agrees response_form (kinds.Response to_head) RECEIVED r.reader rest
+  pub counted : r.heard ≡ count_of octets
 
 -- each answer on the octets stands only where this says so
 abbrev pub GivesHeard : Result Heard AllocError → Bool → ResponseReader → List ℕ → Type 0

@@ -20,6 +20,8 @@ pub struct RequestReader {
     target: Option<Target>,
     /// The octets that were heard and not yet read.
     waits: Waiting,
+    /// How many octets were heard behind the last whole request.
+    heard: usize,
 }
 
 impl Drop for RequestReader {
@@ -29,6 +31,7 @@ impl Drop for RequestReader {
             reader,
             target,
             waits,
+            heard: _,
         } = self;
         drop(reader);
         drop(target);
@@ -42,6 +45,7 @@ impl RequestReader {
     ghost use Rattle.hc_head.specs.declared.head.RequestHead.{RequestHead};
     ghost use Rattle.hc_head.specs.declared.head.Target.{Target};
     ghost use Rattle.hc_framing.specs.declared.message.Message.{Message};
+    ghost use Rattle.hc_links.specs.Counts.{count_of};
     ghost use Rattle.hc_links.specs.Requests.{IsRequest, IsUnfinished};
     ghost use Rattle.hc_links.specs.RequestReading.{WasGiven, CanRead, FindsRequest, GivesEnd, GivesNext, HasRead, HasUnread, ReadsOn, TakesSome, unread};
     ghost use Rattle.hc_links.specs.RequestParts.{GivesTest, HasEnded, HasGoneOn, HasMet};
@@ -56,6 +60,7 @@ impl RequestReader {
             reader: MessageReader::new(alloc, Kind::Request, Room::RECEIVED),
             target: None,
             waits: Waiting::new(alloc),
+            heard: 0,
         }
     }
 
@@ -67,7 +72,16 @@ impl RequestReader {
         ensures can { CanRead self.old → CanRead self.new }
         ensures err { OnErr result (self.new ≡ self.old) }
     {
-        self.waits.push(piece)
+        self.waits.push(piece)?;
+        self.heard = self.heard.saturating_add(piece.len());
+        Ok(())
+    }
+
+    /// How many octets were heard behind the last whole request, whether they were read or wait.
+    pub fn heard(&self) -> usize
+        ensures { (octets : List ℕ) → WasGiven self.now octets → result ≡ count_of octets }
+    {
+        self.heard
     }
 
     /// How many octets were heard and not yet read.
@@ -84,6 +98,7 @@ impl RequestReader {
         ensures can { CanRead self.old → CanRead self.new }
     {
         self.waits.clear();
+        self.heard = 0;
     }
 
     /// Reads the next request of the octets that wait. `More` leaves none of them unread; behind a
@@ -167,6 +182,7 @@ impl RequestReader {
             Some(status) => Ok(Arrival::Refused(status)),
             None => {
                 self.waits.skip(used);
+                self.heard = self.unread();
                 let target = self.target.take().unwrap();
                 let next = MessageReader::new(self.alloc, Kind::Request, Room::RECEIVED);
                 let reader = mem::replace(&mut self.reader, next);

@@ -35,6 +35,8 @@ pub struct ResponseReader {
     to_head: bool,
     /// How many interim responses have come.
     interim: u8,
+    /// How many octets were heard, while nothing was found.
+    heard: usize,
     /// The response that has begun.
     reader: MessageReader<ResponseHead>,
 }
@@ -45,6 +47,7 @@ impl Drop for ResponseReader {
             alloc: _,
             to_head: _,
             interim: _,
+            heard: _,
             reader,
         } = self;
         drop(reader);
@@ -56,6 +59,7 @@ impl ResponseReader {
     ghost use Rattle.hc_framing.specs.Reader.{HasMessage, Holds};
     ghost use Rattle.hc_head.specs.declared.head.ResponseHead.{ResponseHead};
     ghost use Rattle.hc_framing.specs.declared.message.Message.{Message};
+    ghost use Rattle.hc_links.specs.Counts.{count_of};
     ghost use Rattle.hc_links.specs.Responses.{IsResponse};
     ghost use Rattle.hc_links.specs.ResponseReading.{WasGiven, CanRead, FindsResponse, GivesEnd, GivesHeard, ReadsOn};
     ghost use Rattle.hc_links.specs.ResponseParts.{BeginsNext, GivesPart, HasEnded, PartReadsOn, TakesSome, TakesThose};
@@ -70,6 +74,7 @@ impl ResponseReader {
             alloc,
             to_head,
             interim: 0,
+            heard: 0,
             reader: MessageReader::new(alloc, Kind::Response { to_head }, Room::RECEIVED),
         }
     }
@@ -96,6 +101,13 @@ impl ResponseReader {
         }
     }
 
+    /// How many octets were heard, while neither a response nor a failure was found.
+    pub fn heard(&self) -> usize
+        ensures { (to_head : Bool) (octets : List ℕ) → WasGiven to_head self.now octets → result ≡ count_of octets }
+    {
+        self.heard
+    }
+
     /// Reads one response.
     fn read(&mut self, piece: &[u8]) -> Result<Part, AllocError>
         requires { CanRead self.old }
@@ -109,7 +121,10 @@ impl ResponseReader {
                 unless_memory(fault)?;
                 Ok(Part::Last(Heard::Failed))
             }
-            Ok(Progress::More) => Ok(Part::Last(Heard::More)),
+            Ok(Progress::More) => {
+                self.heard = self.heard.saturating_add(piece.len());
+                Ok(Part::Last(Heard::More))
+            }
             Ok(Progress::Whole(used)) => Ok(self.sort(used)),
         }
     }
@@ -145,6 +160,7 @@ impl ResponseReader {
             return Part::Last(Heard::Failed);
         }
         self.interim += 1;
+        self.heard = self.heard.saturating_add(used);
         Part::Interim(used)
     }
 

@@ -1,3 +1,4 @@
+use Rattle.std.proofs.Common.{rules}
 use Rattle.hc_head.specs.declared.head.TheConstants.Room.{RECEIVED}
 use Rattle.hc_framing.specs.declared.kind.Kind.TheVariants.{Response}
 use Rattle.hc_links.proofs.ResponseLemmas.{fails, goes_on, has_ended, takes_those}
@@ -12,7 +13,7 @@ returns-in_ok-unless_memory-in-Err-clause-gives c = λ to_head octets a.
 
 pub returns-in-Ok-More-clause-gives : goal.returns-in-Ok-More-clause-gives
 returns-in-Ok-More-clause-gives c = λ to_head octets a.
-    goes_on to_head c.args.self.now c.feed.new.self octets c.args.piece.now a (rw c.in-Ok-More.field-0-is at (c.in-Ok-More.ensures.gives (Response to_head) RECEIVED a.rest a.reads))
+    goes_on to_head c.args.self.now c.feed.new.self c.saturating_add-self.result octets c.args.piece.now a (search rules) (rw c.in-Ok-More.field-0-is at (c.in-Ok-More.ensures.gives (Response to_head) RECEIVED a.rest a.reads))
 
 pub returns-in-Ok-Whole-clause-gives : goal.returns-in-Ok-Whole-clause-gives
 returns-in-Ok-Whole-clause-gives c = λ to_head octets a.

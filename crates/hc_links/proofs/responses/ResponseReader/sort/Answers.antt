@@ -19,5 +19,5 @@ returns-then-eq-clause-gives c = λ to_head octets piece e. elim c.then-eq.branc
 
 pub returns-clause-gives : goal.returns-clause-gives
 returns-clause-gives c = λ to_head octets piece e.
-    is_dropped to_head c.args.self.now c.take_message-message.new.self (record c.take_message-message.new.self { interim = c.take_message-message.new.self.interim + 1 }) octets piece c.args.used c.take_message-message.result
-    e c.take_message-message.ensures.taken (search rules) (search rules) (omega arith) c.take_message-message.ensures.begins refl refl refl
+    is_dropped to_head c.args.self.now c.take_message-message.new.self (record c.take_message-message.new.self { interim = c.take_message-message.new.self.interim + 1; heard = c.saturating_add-self.result }) octets piece c.args.used c.take_message-message.result
+    e c.take_message-message.ensures.taken (search rules) (search rules) (omega arith) c.take_message-message.ensures.begins refl refl c.saturating_add-self.ensures refl
