@@ -6,3 +6,4 @@ pub mod Releasing
 pub mod Happenings
 pub mod Steps
 pub mod Settings
+pub mod Held

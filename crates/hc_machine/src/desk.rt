@@ -28,6 +28,7 @@ impl<S: BuildHasher> Desk<S> {
     ghost use Rattle.std.specs.FinMap.{len};
     ghost use Rattle.hc_service.specs.declared.settings.CoreSettings.{CoreSettings};
     ghost use Rattle.hc_service.specs.State.{State, awaits_reply, new_state_with};
+    ghost use Rattle.hc_machine.specs.Held.{held_of_client, held_of_forward};
     ghost use Rattle.hc_machine.specs.Standing.{DeskStandsFor};
 
     /// That of a cache to which nothing has happened, with an empty store, and with room for so many connections.
@@ -61,6 +62,28 @@ impl<S: BuildHasher> Desk<S> {
         match self.clients.get(&connection) {
             Some(client) => client.exchange.is_some(),
             None => false,
+        }
+    }
+
+    /// How many octets are unread of that connection.
+    pub(crate) fn held_of_client(&self, connection: u64) -> usize
+        ensures { (settings : CoreSettings) (s : State) → DeskStandsFor settings self.now s
+            → result ≡ held_of_client connection s }
+    {
+        match self.clients.get(&connection) {
+            Some(client) => client.reader.heard(),
+            None => 0,
+        }
+    }
+
+    /// How many octets have come on that forward.
+    pub(crate) fn held_of_forward(&self, forward: u64) -> usize
+        ensures { (settings : CoreSettings) (s : State) → DeskStandsFor settings self.now s
+            → result ≡ held_of_forward forward s }
+    {
+        match self.links.by_number.get(&forward) {
+            Some(link) => link.reader.heard(),
+            None => 0,
         }
     }
 }

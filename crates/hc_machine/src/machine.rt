@@ -93,6 +93,7 @@ impl<S: BuildHasher> Core<S> {
     ghost use Rattle.hc_service.specs.Agreement.{Agrees, History, IsReady};
     ghost use Rattle.hc_service.specs.Settings.{AreGood};
     ghost use Rattle.hc_service.specs.State.{State, awaits_reply};
+    ghost use Rattle.hc_machine.specs.Held.{held_of_client, held_of_forward};
     ghost use Rattle.hc_machine.specs.Steps.{GivesAgreement, GivesStep, StandsFor, TellsFirst, records_given};
 
     /// Something happens. Where memory is refused, no event is served any more; any other fault changes
@@ -170,5 +171,31 @@ impl<S: BuildHasher> Core<S> {
         ensures failed { self.now.failed ≡ true → result ≡ false }
     {
         !self.failed && self.desk.awaits(connection)
+    }
+
+    /// How many octets have come from the client of that connection behind the last request that was read, and weren't
+    /// dropped. None where it isn't open, or the cache has failed.
+    pub fn held_of_client(&self, connection: u64) -> usize
+        ensures state { (settings : CoreSettings) (s : State) → StandsFor settings self.now s
+            → result ≡ held_of_client connection s }
+        ensures failed { self.now.failed ≡ true → result ≡ 0 }
+    {
+        if self.failed {
+            return 0;
+        }
+        self.desk.held_of_client(connection)
+    }
+
+    /// How many octets have come on that forward, whose response isn't whole. None where it isn't open, or the cache has
+    /// failed.
+    pub fn held_of_forward(&self, forward: u64) -> usize
+        ensures state { (settings : CoreSettings) (s : State) → StandsFor settings self.now s
+            → result ≡ held_of_forward forward s }
+        ensures failed { self.now.failed ≡ true → result ≡ 0 }
+    {
+        if self.failed {
+            return 0;
+        }
+        self.desk.held_of_forward(forward)
     }
 }
