@@ -5,6 +5,7 @@ mod client_side;
 mod clients;
 mod connection;
 mod forwards;
+mod happened;
 mod link;
 mod links;
 mod peers;
