@@ -27,7 +27,7 @@ rounds-preserved g c = record {
       c.runs_go_on.ensures.counted c.what_may_happen_in_turn_is_served.ensures.usual c.what_may_happen_in_turn_is_served.ensures.mirrors (g.L.Links.most c.args.links.now)
       (g.L.Links.tells c.rounds.links) (g.L.Links.tells c.round.new.links) (g.R.Link.has_got c.rounds.recorder) (g.R.Link.has_got c.round.new.recorder)
       _ _ c.round.new.core log text _ f
-      (subst (λ (n : ℕ). IsRound n (g.L.Links.tells c.round.new.links) (g.R.Link.has_got c.round.new.recorder) c.rounds.core c.round.new.core (passed f.events f.results log) (text ++ texts_given f.results))
+      (subst (λ (n : ℕ). IsRound n (g.L.Links.tells c.round.new.links) (g.R.Link.has_got c.round.new.recorder) c.rounds.core c.round.new.core (passed f.occurrences f.results log) (text ++ texts_given f.results))
       c.rounds.invariant.as_many ((rw on at c.in_ok-round.ensures.round) _ _ f.told f.held));
   moments = λ moment may. c.rounds.invariant.moments moment (c.in_ok-round.ensures.moments moment may);
   unread = λ times was. c.in_ok-round.ensures.unread times (c.rounds.invariant.unread times was);
@@ -46,7 +46,7 @@ returns-in_err-round-clause-drive g c =
     c.runs_go_on.ensures.counted c.what_may_happen_in_turn_is_served.ensures.usual c.what_may_happen_in_turn_is_served.ensures.mirrors (g.L.Links.most c.args.links.now)
     (g.L.Links.tells c.rounds.links) (g.L.Links.tells c.round.new.links) (g.R.Link.has_got c.rounds.recorder) (g.R.Link.has_got c.round.new.recorder)
     c.args.core.now c.rounds.core c.round.new.core log text _ f (g.L.Links.rests c.round.new.links) c.in_err-round.field-0.0 b.0 (inl b.1) b.2 b.3
-    (subst (λ (n : ℕ). MayBreak n b.0 (passed f.events f.results log)) c.rounds.invariant.as_many b.4)))
+    (subst (λ (n : ℕ). MayBreak n b.0 (passed f.occurrences f.results log)) c.rounds.invariant.as_many b.4)))
 
 pub returns-then-not-branch-clause-drive : goal.returns-then-not-branch-clause-drive
 returns-then-not-branch-clause-drive g c = λ log text told held.
