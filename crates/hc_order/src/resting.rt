@@ -1,0 +1,63 @@
+//! Laws of clients that have ended and of a cache at rest: each holds of the definitions, and the functions that bear them
+//! do nothing.
+
+ghost use Rattle.std.specs.Prelude.{◌≡◌, ◌≤◌, ℕ, Bool, true, List, Option, Some, None};
+ghost use Rattle.std.specs.FinMap.{get};
+ghost use Rattle.hc_transcript.specs.Limits.{greatest_number};
+ghost use Rattle.hc_events.specs.declared.Event.{Event};
+ghost use Rattle.hc_events.specs.declared.Happening.TheVariants.{ClientEnd, ClientOpened, OriginEnd, OriginFailed};
+ghost use Rattle.hc_service.specs.declared.action.Action.{Action};
+ghost use Rattle.hc_service.specs.declared.settings.CoreSettings.{CoreSettings};
+ghost use Rattle.hc_service.specs.Agreement.{Agrees, History};
+ghost use Rattle.hc_service.specs.Joining.{AllHaveForwards};
+ghost use Rattle.hc_service.specs.Runs.{StepResult, Steps};
+ghost use Rattle.hc_service.specs.Serves.{Serves};
+ghost use Rattle.hc_service.specs.State.{Connection, State, new_state_with};
+ghost use Rattle.hc_order.specs.Resting.{AwaitWhereLeft, HasEnded, HasNoExchange, HasNoForward, IsAtRest, IsOver, ended_by};
+
+/// A connection of which nothing more is read awaits a reply, behind which it closes: in a new cache, behind each event
+/// that is served, and so wherever steps have led a new cache; and where a cache agrees with what has happened.
+pub fn leaving_connections_await_a_reply()
+    ensures begins { (settings : CoreSettings) (room : ℕ) → AwaitWhereLeft (new_state_with settings room) }
+    ensures event { (settings : CoreSettings) (event : Event) (s : State) (actions : List Action) (other : State)
+        → AwaitWhereLeft s → Serves settings event s actions other → AwaitWhereLeft other }
+    ensures run { (settings : CoreSettings) (room : ℕ) (events : List Event) (results : List StepResult) (s : State)
+        → Steps settings (new_state_with settings room) events results (Some s) → AwaitWhereLeft s }
+    ensures agrees { (s : State) (h : History) → Agrees s h → AwaitWhereLeft s }
+{}
+
+/// Where a client's end is served, its connection isn't open any more, or nothing more is read of it; and so it stays,
+/// unless a connection of its number opens anew.
+pub fn an_end_stays()
+    ensures ends { (settings : CoreSettings) (event : Event) (s : State) (actions : List Action) (other : State) (c : ℕ)
+        → event.of ≡ ClientEnd c → Serves settings event s actions other → HasEnded c other }
+    ensures stays { (settings : CoreSettings) (event : Event) (s : State) (actions : List Action) (other : State) (c : ℕ)
+        → (event.of ≡ ClientOpened c → ⊥) → HasEnded c s → Serves settings event s actions other → HasEnded c other }
+    // Both, as the events tell it.
+    ensures told { (settings : CoreSettings) (event : Event) (s : State) (actions : List Action) (other : State) (c : ℕ)
+        (was : Bool) → (was ≡ true → HasEnded c s) → Serves settings event s actions other
+        → ended_by c event.of was ≡ true → HasEnded c other }
+{}
+
+/// Where an origin's end or its failure is served, the forward isn't open behind it, whatever had come; and so it stays.
+pub fn an_origins_end_closes_the_forward()
+    ensures ended { (settings : CoreSettings) (event : Event) (s : State) (actions : List Action) (other : State)
+        (h : History) (f : ℕ) → Agrees s h → event.of ≡ OriginEnd f → Serves settings event s actions other
+        → IsOver f other }
+    ensures failed { (settings : CoreSettings) (event : Event) (s : State) (actions : List Action) (other : State)
+        (h : History) (f : ℕ) → Agrees s h → event.of ≡ OriginFailed f → Serves settings event s actions other
+        → IsOver f other }
+    ensures stays { (settings : CoreSettings) (event : Event) (s : State) (actions : List Action) (other : State) (f : ℕ)
+        → f ≤ greatest_number → IsOver f s → Serves settings event s actions other → IsOver f other }
+{}
+
+/// Where no forward is open and each open exchange has one, no request awaits its reply, and so nothing that has ended is
+/// open: where all clients have ended the cache is at rest. A cache at rest has no exchange without a forward.
+pub fn what_has_ended_is_at_rest()
+    ensures exchanges { (s : State) → HasNoForward s → AllHaveForwards s → HasNoExchange s }
+    ensures connections { (s : State) (h : History) → Agrees s h → HasNoExchange s → (c : ℕ) (k : Connection)
+        → get s.connections c ≡ Some k → k.exchange ≡ None }
+    ensures rests { (s : State) (h : History) → Agrees s h → AllHaveForwards s → HasNoForward s
+        → ((c : ℕ) → HasEnded c s) → IsAtRest s }
+    ensures begins { (s : State) (h : History) → Agrees s h → IsAtRest s → AllHaveForwards s }
+{}
