@@ -139,24 +139,37 @@ module _ (n n' : ℕ) (fs fs' : Table Awaited) where
 -- ---- turns that open no connection
 
 pub record Passes (s s' : State) : Type 0 where
+  pub last : s'.numbers.connection ≡ s.numbers.connection
   pub leave : LeaveOn s.connections s'.connections
   pub over : StayOver s.numbers.forward s'.numbers.forward s.forwards s'.forwards
 
 passes_then : (s mid s' : State) → Passes s mid → Passes mid s' → Passes s s'
 passes_then s mid s' one more = record {
+  last = more.last ∙ one.last;
   leave = leave_then s.connections mid.connections s'.connections one.leave more.leave;
   over = λ f less le none. let then = one.over f less le none in more.over f less then.0 then.1;
 }
 
-number_of : (n m : Numbers) → n ≡ m → n.forward ≡ m.forward
-number_of n m e = ap (λ (n : Numbers). n.forward) e
+module _ (s s' : State) (m : Numbers) (numbers : s'.numbers ≡ m) (last : m.connection ≡ s.numbers.connection) (leave : LeaveOn s.connections s'.connections) where
+  passes_by : StayOver s.numbers.forward s'.numbers.forward s.forwards s'.forwards → Passes s s'
+  passes_by over = record { last = ap (λ (n : Numbers). n.connection) numbers ∙ last; leave = leave; over = over }
+
+  number_is : (k : ℕ) → m.forward ≡ k → s'.numbers.forward ≡ k
+  number_is k is = ap (λ (n : Numbers). n.forward) numbers ∙ is
+
+  -- no forward is sent, nor ends
+  passes_same : m.forward ≡ s.numbers.forward → s'.forwards ≡ s.forwards → Passes s s'
+  passes_same is same = passes_by (over_same s.numbers.forward s'.numbers.forward s.forwards s'.forwards (number_is s.numbers.forward is) same)
+
+  passes_sent : (b : Awaited) → m.forward ≡ one_more s.numbers.forward → s'.forwards ≡ insert s.forwards (one_more s.numbers.forward) b → Passes s s'
+  passes_sent b is same = passes_by (over_sent s.numbers.forward s'.numbers.forward s.forwards s'.forwards b (number_is (one_more s.numbers.forward) is) same)
+
+  passes_heard : (g : ℕ) (a b : Awaited) → get s.forwards g ≡ Some a → m.forward ≡ s.numbers.forward → s'.forwards ≡ insert s.forwards g b → Passes s s'
+  passes_heard g a b there is same = passes_by (over_heard s.numbers.forward s'.numbers.forward s.forwards s'.forwards g a b there (number_is s.numbers.forward is) same)
 
 -- one that changes connections alone
 alone_passes : (s s' : State) → LeaveOn s.connections s'.connections → KeepsAllButConnections s s' → Passes s s'
-alone_passes s s' leave keeps = record {
-  leave = leave;
-  over = over_same s.numbers.forward s'.numbers.forward s.forwards s'.forwards (number_of s'.numbers s.numbers keeps.numbers) keeps.forwards;
-}
+alone_passes s s' leave keeps = passes_same s s' s.numbers keeps.numbers refl leave refl keeps.forwards
 
 asking_passes : (settings : CoreSettings) (c : ℕ) (s : State) (actions : List Action) (s' : State) → Asks settings c s actions s' → Passes s s'
 asking_passes settings c s actions s' t = by_reaction t.reaction t.does
@@ -174,64 +187,55 @@ asking_passes settings c s actions s' t = by_reaction t.reaction t.does
         (λ leaves. leaves) (λ awaits leaves. refl)
 
     by_reaction : (r : Reaction) → DoesReaction r (arrived_on c t.connection t.size (whole_request settings s t.request t.target t.connection)) s actions s' → Passes s s'
-    by_reaction (RepliesAtOnce reply None) d = record {
-      leave = at_once d.connections;
-      over = over_same s.numbers.forward s'.numbers.forward s.forwards s'.forwards (number_of s'.numbers (noted (asked s.numbers)) d.numbers) d.keeps.forwards;
-    }
-    by_reaction (RepliesAtOnce reply (Some validation)) d = record {
-      leave = at_once d.connections;
-      over = over_sent s.numbers.forward s'.numbers.forward s.forwards s'.forwards _ (number_of s'.numbers (sent (noted (asked s.numbers))) d.numbers) d.forwards;
-    }
-    by_reaction (Sends forward why kind) d = record {
-      leave = awaiting d.connections;
-      over = over_sent s.numbers.forward s'.numbers.forward s.forwards s'.forwards _ (number_of s'.numbers (sent (asked s.numbers)) d.numbers) d.forwards;
-    }
-    by_reaction (Waits f) d = record {
-      leave = awaiting d.connections;
-      over = over_same s.numbers.forward s'.numbers.forward s.forwards s'.forwards (number_of s'.numbers (asked s.numbers) d.numbers) d.forwards;
-    }
+    by_reaction (RepliesAtOnce reply None) d = passes_same s s' (noted (asked s.numbers)) d.numbers refl (at_once d.connections) refl d.keeps.forwards
+    by_reaction (RepliesAtOnce reply (Some validation)) d = passes_sent s s' (sent (noted (asked s.numbers))) d.numbers refl (at_once d.connections) _ refl d.forwards
+    by_reaction (Sends forward why kind) d = passes_sent s s' (sent (asked s.numbers)) d.numbers refl (awaiting d.connections) _ refl d.forwards
+    by_reaction (Waits f) d = passes_same s s' (asked s.numbers) d.numbers refl (awaiting d.connections) refl d.forwards
 
 -- the reply goes to the connection of the exchange
 answered_leaves : (settings : CoreSettings) (s : State) (x : OpenExchange) (k : Connection) (s' : State) → get s.connections x.connection ≡ Some k
     → s'.connections ≡ replied_to (asker_now settings s x k) s.connections → LeaveOn s.connections s'.connections
 answered_leaves settings s x k s' there same =
-    leave_replied s.connections s'.connections (wanted_now settings s x.request k).closes x.connection k.unread k there (leaves_closing (ends_connection x.request) k.leaves) same
+    leave_replied s.connections s'.connections (wanted_now settings s x.request k).closes x.connection k.unread k there
+    (leaves_closing (ends_connection x.request) k.leaves) same
 
 -- ---- a forward ends
 
--- where a turn ends one, others stay over, and it is over
+-- where a turn ends one, it is over behind that
 pub record Ends (f : ℕ) (s s' : State) : Type 0 where
   pub passes : Passes s s'
   pub over : f < 18446744073709551615 → f ≤ s.numbers.forward → (f ≤ s'.numbers.forward) × (get s'.forwards f ≡ None)
 
-ends_out : (f : ℕ) (s s' : State) → LeaveOn s.connections s'.connections → s'.numbers.forward ≡ s.numbers.forward → s'.forwards ≡ remove s.forwards f → Ends f s s'
-ends_out f s s' leave is same = record {
-  passes = record { leave = leave; over = over_out s.numbers.forward s'.numbers.forward s.forwards s'.forwards f is same };
-  over = λ less le. (omega (arith, is, le), at_same (remove s.forwards f) s'.forwards f same ∙ get_gone s.forwards f);
-}
+module _ (f : ℕ) (s s' : State) (m : Numbers) (numbers : s'.numbers ≡ m) (last : m.connection ≡ s.numbers.connection) (leave : LeaveOn s.connections s'.connections) where
+  ends_out : m.forward ≡ s.numbers.forward → s'.forwards ≡ remove s.forwards f → Ends f s s'
+  ends_out is same =
+      let number = number_is s s' m numbers last leave s.numbers.forward is in record {
+        passes = passes_by s s' m numbers last leave (over_out s.numbers.forward s'.numbers.forward s.forwards s'.forwards f number same);
+        over = λ less le. (omega (arith, number, le), at_same (remove s.forwards f) s'.forwards f same ∙ get_gone s.forwards f);
+      }
 
--- another one is sent in its place
-ends_replaced : (f : ℕ) (b : Awaited) (s s' : State) → LeaveOn s.connections s'.connections → s'.numbers.forward ≡ one_more s.numbers.forward
-    → s'.forwards ≡ insert (remove s.forwards f) (one_more s.numbers.forward) b → Ends f s s'
-ends_replaced f b s s' leave is same = record {
-  passes = record { leave = leave; over = over_replaced s.numbers.forward s'.numbers.forward s.forwards s'.forwards f b is same };
-  over = λ less le. (
-    omega (arith, is, less, le),
-    at_same (insert (remove s.forwards f) (one_more s.numbers.forward) b) s'.forwards f same
-        ∙ get_other (remove s.forwards f) (one_more s.numbers.forward) b f (λ e. absurd (omega (arith, less, le, e))) ∙ get_gone s.forwards f,
-  );
-}
+  -- another one is sent in its place
+  ends_replaced : (b : Awaited) → m.forward ≡ one_more s.numbers.forward → s'.forwards ≡ insert (remove s.forwards f) (one_more s.numbers.forward) b → Ends f s s'
+  ends_replaced b is same =
+      let number = number_is s s' m numbers last leave (one_more s.numbers.forward) is in record {
+        passes = passes_by s s' m numbers last leave (over_replaced s.numbers.forward s'.numbers.forward s.forwards s'.forwards f b number same);
+        over = λ less le. (
+          omega (arith, number, less, le),
+          at_same (insert (remove s.forwards f) (one_more s.numbers.forward) b) s'.forwards f same
+              ∙ get_other (remove s.forwards f) (one_more s.numbers.forward) b f (λ e. absurd (omega (arith, less, le, e))) ∙ get_gone s.forwards f,
+        );
+      }
 
 behind_ends : (f : ℕ) (first : List Action) (s : State) (actions : List Action) (s' : State) → EndsBehind f first s actions s' → Ends f s s'
 behind_ends f first s actions s' d =
-    ends_out f s s' (leave_same s.connections s'.connections d.keeps.connections) (number_of s'.numbers (noted s.numbers) d.numbers) d.forwards
+    ends_out f s s' (noted s.numbers) d.numbers refl (leave_same s.connections s'.connections d.keeps.connections) refl d.forwards
 
 outcome_ends : (settings : CoreSettings) (ended : Ended) (x : OpenExchange) (k : Connection) (o : Outcome) (s : State) (actions : List Action) (s' : State)
     → get s.connections x.connection ≡ Some k → DoesOutcome o ended (asker_now settings s x k) s actions s' → Ends ended.forward s s'
 outcome_ends settings ended x k (Replies reply) s actions s' there d =
-    ends_out ended.forward s s' (answered_leaves settings s x k s' there d.connections) (number_of s'.numbers (noted (noted s.numbers)) d.numbers) d.forwards
+    ends_out ended.forward s s' (noted (noted s.numbers)) d.numbers refl (answered_leaves settings s x k s' there d.connections) refl d.forwards
 outcome_ends settings ended x k GoesAnew s actions s' there d =
-    ends_replaced ended.forward _ s s' (leave_same s.connections s'.connections d.keeps.connections) (number_of s'.numbers (sent (noted s.numbers)) d.numbers) d.forwards
+    ends_replaced ended.forward s s' (sent (noted s.numbers)) d.numbers refl (leave_same s.connections s'.connections d.keeps.connections) _ refl d.forwards
 
 pub answering_ends : (settings : CoreSettings) (f : ℕ) (ended : Bool) (s : State) (actions : List Action) (s' : State) → Answers settings f ended s actions s' → Ends f s s'
 answering_ends settings f ended s actions s' t = by_purpose t.awaited.forward.purpose t.ends
@@ -255,14 +259,8 @@ releasing_passes : (settings : CoreSettings) (e : ℕ) (s : State) (actions : Li
 releasing_passes settings e s actions s' t = by_choice (shared s.numbers.moment t.chosen) t.does
   where
     by_choice : (o : _) → DoesRelease o e (asker_now settings s t.exchange t.connection) s actions s' → Passes s s'
-    by_choice (Some stored) d = record {
-      leave = answered_leaves settings s t.exchange t.connection s' t.is_open d.connections;
-      over = over_same s.numbers.forward s'.numbers.forward s.forwards s'.forwards (number_of s'.numbers (noted s.numbers) d.numbers) d.forwards;
-    }
-    by_choice None d = record {
-      leave = leave_same s.connections s'.connections d.connections;
-      over = over_sent s.numbers.forward s'.numbers.forward s.forwards s'.forwards _ (number_of s'.numbers (sent s.numbers) d.numbers) d.forwards;
-    }
+    by_choice (Some stored) d = passes_same s s' (noted s.numbers) d.numbers refl (answered_leaves settings s t.exchange t.connection s' t.is_open d.connections) refl d.forwards
+    by_choice None d = passes_sent s s' (sent s.numbers) d.numbers refl (leave_same s.connections s'.connections d.connections) _ refl d.forwards
 
 -- ---- turns, one after another
 
@@ -289,11 +287,8 @@ turn_passes settings (Leaving c) s actions s' is t =
     (leave_put s.connections s'.connections c t.connection (after_leaving t.connection) t.is_open t.connections (λ leaves. refl)
     (λ awaits leaves. subst IsSome (sym t.awaits) refl)) t.keeps
 turn_passes settings (Closing c) s actions s' is t = alone_passes s s' (leave_out s.connections s'.connections c t.connections) t.keeps
-turn_passes settings (OriginSending f octets) s actions s' is t = record {
-  leave = leave_same s.connections s'.connections t.keeps.connections;
-  over = over_heard s.numbers.forward s'.numbers.forward s.forwards s'.forwards f t.awaited (after_origin_octets octets t.awaited) t.is_open
-      (number_of s'.numbers s.numbers t.keeps.numbers) t.forwards;
-}
+turn_passes settings (OriginSending f octets) s actions s' is t =
+    passes_heard s s' s.numbers t.keeps.numbers refl (leave_same s.connections s'.connections t.keeps.connections) f t.awaited (after_origin_octets octets t.awaited) t.is_open refl t.forwards
 turn_passes settings (Answering f ended) s actions s' is t = (answering_ends settings f ended s actions s' t).passes
 turn_passes settings (Failing f how) s actions s' is t = (failing_ends settings f how s actions s' t).passes
 turn_passes settings (Releasing e) s actions s' is t = releasing_passes settings e s actions s' t
@@ -301,7 +296,7 @@ turn_passes settings (Releasing e) s actions s' is t = releasing_passes settings
 passes_nowhere : (s s' : State) → s' ≡ s → Passes s s'
 passes_nowhere s s' same =
     subst (Passes s) (sym same)
-    (record { leave = leave_same s.connections s.connections refl; over = λ f less le none. (le, none) })
+    (record { last = refl; leave = leave_same s.connections s.connections refl; over = λ f less le none. (le, none) })
 
 pub run_passes : (settings : CoreSettings) (turns : List Turn) (s : State) (actions : List Action) (s' : State) → AllByRecursion IsPlain turns → Run settings turns s actions s' → Passes s s'
 run_passes settings [] s actions s' are r = passes_nowhere s s' r.1

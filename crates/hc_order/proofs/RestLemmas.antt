@@ -1,16 +1,23 @@
 -- Where no forward is open and the clients have ended, nothing is open.
-use Rattle.std.proofs.Common.{◌≡◌, ℕ, Bool, true, false, Option, Some, None, refl, sym, ap, ◌∙◌, subst}
+use Rattle.std.proofs.Common.{◌≡◌, ℕ, Bool, true, false, List, Option, Some, None, refl, sym, ap, ◌∙◌, subst}
 use Rattle.std.specs.FinMap.{empty, empty_of_len, get, len, len-empty, nat_cmp-IsAntisymmetric, same_map}
 use Rattle.std.specs.Cmp.{nat_cmp_total}
 use Rattle.std.specs.Option.{IsSome, is_some}
 use Rattle.std.specs.Ordering.{nat_cmp}
+use Rattle.hc_transcript.specs.declared.record.Record.{Record}
+use Rattle.hc_events.specs.declared.Event.{Event}
+use Rattle.hc_service.specs.declared.settings.CoreSettings.{CoreSettings}
 use Rattle.hc_service.specs.Agreement.{Agrees, HasLeft, History}
 use Rattle.hc_service.specs.Choices.{OnTest}
 use Rattle.hc_service.specs.Joining.{AllHaveForwards, HasForward}
+use Rattle.hc_service.specs.Runs.{Runs, StepResult}
 use Rattle.hc_service.specs.State.{State, Table, Connection}
+use Rattle.hc_service.proofs.ForwardLemmas.{runs_leave}
 use Rattle.hc_service.proofs.LinkLemmas.{none_some}
+use Rattle.hc_service.proofs.RunLemmas.{runs_agree, runs_to}
 use Rattle.hc_service.proofs.TableLemmas.{get_none}
-use Rattle.hc_order.specs.Resting.{AwaitWhereLeft, HasEnded, HasNoExchange, HasNoForward, IsAtRest}
+use Rattle.hc_order.specs.Resting.{AllHaveEnded, AwaitWhereLeft, HasNoExchange, HasNoForward, IsAtRest, ended_behind_all, open_behind_all}
+use Rattle.hc_order.proofs.EndLemmas.{runs_open, runs_told}
 
 -- ---- tables
 
@@ -59,14 +66,29 @@ none_awaits s h a none c k is =
     unless k.exchange
     (λ e awaits. let its = a.consistent.linked.busy c e k is awaits in none_some (get s.exchanges e) its.exchange (none e) its.is_open)
 
-pub at_rest : (s : State) (h : History) → Agrees s h → AllHaveForwards s → HasNoForward s → ((c : ℕ) → HasEnded c s) → IsAtRest s
+pub at_rest : (s : State) (h : History) → Agrees s h → AllHaveForwards s → HasNoForward s → AllHaveEnded s → IsAtRest s
 at_rest s h a have none ended = (none_in s.connections (λ c. unless (get s.connections c) (no_connection c)), none_in s.forwards none)
   where
     no_connection : (c : ℕ) (k : Connection) → get s.connections c ≡ Some k → ⊥
-    no_connection c k is = nothing_some k.exchange (none_awaits s h a (no_exchange s none have) c k is) (agreed_awaits s h a c k is (ended c k is))
+    no_connection c k is =
+        nothing_some k.exchange (none_awaits s h a (no_exchange s none have) c k is)
+        (agreed_awaits s h a c k is ((ended c (subst IsSome (sym is) refl)).is_left k is))
 
 -- where no connection is open no exchange is
 pub rest_has : (s : State) (h : History) → Agrees s h → IsAtRest s → AllHaveForwards s
 rest_has s h a rest e x is =
     let on = a.consistent.linked.on_connections e x is in
     absurd (none_some (get s.connections x.connection) on.connection (in_none s.connections rest.0 x.connection) on.is_open)
+
+-- ---- behind a run from rest
+
+pub runs_rest : (settings : CoreSettings) (events : List Event) (results : List StepResult) (s s' : State) (h : History) (records : List Record) → IsAtRest s
+    → Runs settings s h events results records (Some s') → ((f : ℕ) → open_behind_all f events results false ≡ false)
+    → ((c : ℕ) → IsSome (get s'.connections c) → ended_behind_all c events results false ≡ true) → IsAtRest s'
+runs_rest settings events results s s' h records rest runs closed ended =
+    let to = runs_to settings events results s h records (Some s') runs in
+    let have = (runs_leave settings events results s s' h records (rest_has s h (runs_agree settings events results s h records (Some s') runs) rest) runs).have_forwards in
+    at_rest s' to.later to.agrees have
+    (λ f. unless (get s'.forwards f)
+    (λ a is. false_true (sym (closed f) ∙ runs_open settings f events results s s' h records false runs (λ there. absurd (nothing_some (get s.forwards f) (in_none s.forwards rest.1 f) there)) (ap is_some is))))
+    (λ c is. runs_told settings c events results s s' h records false runs (λ told. absurd (false_true told)) (ended c is))

@@ -1,4 +1,4 @@
-use Rattle.hc_order.proofs.RestLemmas.{at_rest, no_exchange, none_awaits, rest_has}
+use Rattle.hc_order.proofs.RestLemmas.{at_rest, no_exchange, none_awaits, rest_has, runs_rest}
 use Rattle.hc_order.proofs.resting.what_has_ended_is_at_rest.Goals as goal
 
 pub returns-clause-exchanges : goal.returns-clause-exchanges
@@ -12,3 +12,6 @@ returns-clause-rests c = at_rest
 
 pub returns-clause-begins : goal.returns-clause-begins
 returns-clause-begins c = rest_has
+
+pub returns-clause-runs : goal.returns-clause-runs
+returns-clause-runs c = runs_rest
