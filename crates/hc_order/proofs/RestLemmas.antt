@@ -10,8 +10,9 @@ use Rattle.hc_service.specs.declared.settings.CoreSettings.{CoreSettings}
 use Rattle.hc_service.specs.Agreement.{Agrees, HasLeft, History}
 use Rattle.hc_service.specs.Choices.{OnTest}
 use Rattle.hc_service.specs.Joining.{AllHaveForwards, HasForward}
+use Rattle.hc_service.specs.Numbers.{is_later}
 use Rattle.hc_service.specs.Runs.{Runs, StepResult}
-use Rattle.hc_service.specs.State.{State, Table, Connection}
+use Rattle.hc_service.specs.State.{State, Table, Connection, Awaited}
 use Rattle.hc_service.proofs.ForwardLemmas.{runs_leave}
 use Rattle.hc_service.proofs.LinkLemmas.{none_some}
 use Rattle.hc_service.proofs.RunLemmas.{runs_agree, runs_to}
@@ -82,13 +83,20 @@ rest_has s h a rest e x is =
 
 -- ---- behind a run from rest
 
-pub runs_rest : (settings : CoreSettings) (events : List Event) (results : List StepResult) (s s' : State) (h : History) (records : List Record) → IsAtRest s
-    → Runs settings s h events results records (Some s') → ((f : ℕ) → open_behind_all f events results false ≡ false)
-    → ((c : ℕ) → IsSome (get s'.connections c) → ended_behind_all c events results false ≡ true) → IsAtRest s'
-runs_rest settings events results s s' h records rest runs closed ended =
+pub runs_rest : (settings : CoreSettings) (events : List Event) (results : List StepResult) (s s' : State) (h : History) (records : List Record) (opened ended : ℕ → Bool) → IsAtRest s
+    → ((c : ℕ) → ended c ≡ true → is_later c s.numbers.connection ≡ false) → Runs settings s h events results records (Some s')
+    → ((f : ℕ) → open_behind_all f events results (opened f) ≡ false)
+    → ((c : ℕ) → IsSome (get s'.connections c) → ended_behind_all c events results (ended c) ≡ true) → IsAtRest s'
+runs_rest settings events results s s' h records opened ended rest earlier runs closed told =
     let to = runs_to settings events results s h records (Some s') runs in
     let have = (runs_leave settings events results s s' h records (rest_has s h (runs_agree settings events results s h records (Some s') runs) rest) runs).have_forwards in
-    at_rest s' to.later to.agrees have
-    (λ f. unless (get s'.forwards f)
-    (λ a is. false_true (sym (closed f) ∙ runs_open settings f events results s s' h records false runs (λ there. absurd (nothing_some (get s.forwards f) (in_none s.forwards rest.1 f) there)) (ap is_some is))))
-    (λ c is. runs_told settings c events results s s' h records false runs (λ told. absurd (false_true told)) (ended c is))
+    at_rest s' to.later to.agrees have (λ f. unless (get s'.forwards f) (no_forward f))
+    (λ c is. runs_told settings c events results s s' h records (ended c) runs (λ was. record { was_opened = earlier c was; is_left = λ k there. absurd (none_there c k there) }) (told c is))
+  where
+    none_there : (c : ℕ) (k : Connection) → get s.connections c ≡ Some k → ⊥
+    none_there c k is = none_some (get s.connections c) k (in_none s.connections rest.0 c) is
+
+    no_forward : (f : ℕ) (a : Awaited) → get s'.forwards f ≡ Some a → ⊥
+    no_forward f a is =
+        false_true (sym (closed f)
+        ∙ runs_open settings f events results s s' h records (opened f) runs (λ there. absurd (nothing_some (get s.forwards f) (in_none s.forwards rest.1 f) there)) (ap is_some is))

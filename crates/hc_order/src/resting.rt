@@ -13,6 +13,7 @@ ghost use Rattle.hc_service.specs.declared.settings.CoreSettings.{CoreSettings};
 ghost use Rattle.hc_service.specs.Agreement.{Agrees, History};
 ghost use Rattle.hc_service.specs.Follows.{forward_after};
 ghost use Rattle.hc_service.specs.Joining.{AllHaveForwards};
+ghost use Rattle.hc_service.specs.Numbers.{is_later};
 ghost use Rattle.hc_service.specs.Runs.{Runs, StepResult, Steps};
 ghost use Rattle.hc_service.specs.Serves.{Serves};
 ghost use Rattle.hc_service.specs.State.{Connection, State, new_state_with};
@@ -80,9 +81,12 @@ pub fn what_has_ended_is_at_rest()
     ensures rests { (s : State) (h : History) → Agrees s h → AllHaveForwards s → HasNoForward s → AllHaveEnded s
         → IsAtRest s }
     ensures begins { (s : State) (h : History) → Agrees s h → IsAtRest s → AllHaveForwards s }
+    // Whatever was told before of forwards, and of clients that had opened connections.
     ensures runs { (settings : CoreSettings) (events : List Event) (results : List StepResult) (s other : State)
-        (h : History) (records : List Record) → IsAtRest s → Runs settings s h events results records (Some other)
-        → ((f : ℕ) → open_behind_all f events results false ≡ false)
-        → ((c : ℕ) → IsSome (get other.connections c) → ended_behind_all c events results false ≡ true)
+        (h : History) (records : List Record) (opened ended : ℕ → Bool) → IsAtRest s
+        → ((c : ℕ) → ended c ≡ true → is_later c s.numbers.connection ≡ false)
+        → Runs settings s h events results records (Some other)
+        → ((f : ℕ) → open_behind_all f events results (opened f) ≡ false)
+        → ((c : ℕ) → IsSome (get other.connections c) → ended_behind_all c events results (ended c) ≡ true)
         → IsAtRest other }
 {}
