@@ -62,18 +62,25 @@ agreed_awaits s h a c k is leaves =
     subst IsSome (sym left.awaits) refl
 
 -- no connection awaits a reply
-pub none_awaits : (s : State) (h : History) → Agrees s h → HasNoExchange s → (c : ℕ) (k : Connection) → get s.connections c ≡ Some k → k.exchange ≡ None
+none_awaits : (s : State) (h : History) → Agrees s h → HasNoExchange s → (c : ℕ) (k : Connection) → get s.connections c ≡ Some k → k.exchange ≡ None
 none_awaits s h a none c k is =
     unless k.exchange
     (λ e awaits. let its = a.consistent.linked.busy c e k is awaits in none_some (get s.exchanges e) its.exchange (none e) its.is_open)
+
+-- and so of each more is read
+pub none_leaves : (s : State) (h : History) → Agrees s h → HasNoExchange s → (c : ℕ) (k : Connection) → get s.connections c ≡ Some k → (k.exchange ≡ None) × (k.leaves ≡ false)
+none_leaves s h a none c k is = (none_awaits s h a none c k is, by k.leaves refl)
+  where
+    by : (b : Bool) → k.leaves ≡ b → b ≡ false
+    by true leaves = absurd (nothing_some k.exchange (none_awaits s h a none c k is) (agreed_awaits s h a c k is leaves))
+    by false reads = refl
 
 pub at_rest : (s : State) (h : History) → Agrees s h → AllHaveForwards s → HasNoForward s → AllHaveEnded s → IsAtRest s
 at_rest s h a have none ended = (none_in s.connections (λ c. unless (get s.connections c) (no_connection c)), none_in s.forwards none)
   where
     no_connection : (c : ℕ) (k : Connection) → get s.connections c ≡ Some k → ⊥
     no_connection c k is =
-        nothing_some k.exchange (none_awaits s h a (no_exchange s none have) c k is)
-        (agreed_awaits s h a c k is ((ended c (subst IsSome (sym is) refl)).is_left k is))
+        false_true (sym (none_leaves s h a (no_exchange s none have) c k is).1 ∙ (ended c (subst IsSome (sym is) refl)).is_left k is)
 
 -- where no connection is open no exchange is
 pub rest_has : (s : State) (h : History) → Agrees s h → IsAtRest s → AllHaveForwards s

@@ -69,15 +69,15 @@ pub fn an_origins_end_closes_the_forward()
         → open_behind_all f events results was ≡ true }
 {}
 
-/// Where no forward is open and each open exchange has one, no request awaits its reply, and so no connection is open
-/// whose client has ended: where all have ended, the cache is at rest.
+/// Where no forward is open and each open exchange has one, no request awaits its reply, and so of each connection that
+/// is open more is read: where all clients have ended, the cache is at rest.
 ///
 /// So is a cache that was at rest, behind a run of events by which no forward is open at its link, and each client whose
 /// connection is open has ended.
 pub fn what_has_ended_is_at_rest()
     ensures exchanges { (s : State) → HasNoForward s → AllHaveForwards s → HasNoExchange s }
     ensures connections { (s : State) (h : History) → Agrees s h → HasNoExchange s → (c : ℕ) (k : Connection)
-        → get s.connections c ≡ Some k → k.exchange ≡ None }
+        → get s.connections c ≡ Some k → (k.exchange ≡ None) × (k.leaves ≡ false) }
     ensures rests { (s : State) (h : History) → Agrees s h → AllHaveForwards s → HasNoForward s → AllHaveEnded s
         → IsAtRest s }
     ensures begins { (s : State) (h : History) → Agrees s h → IsAtRest s → AllHaveForwards s }

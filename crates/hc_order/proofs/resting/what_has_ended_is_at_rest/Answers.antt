@@ -1,11 +1,11 @@
-use Rattle.hc_order.proofs.RestLemmas.{at_rest, no_exchange, none_awaits, rest_has, runs_rest}
+use Rattle.hc_order.proofs.RestLemmas.{at_rest, no_exchange, none_leaves, rest_has, runs_rest}
 use Rattle.hc_order.proofs.resting.what_has_ended_is_at_rest.Goals as goal
 
 pub returns-clause-exchanges : goal.returns-clause-exchanges
 returns-clause-exchanges c = no_exchange
 
 pub returns-clause-connections : goal.returns-clause-connections
-returns-clause-connections c = none_awaits
+returns-clause-connections c = none_leaves
 
 pub returns-clause-rests : goal.returns-clause-rests
 returns-clause-rests c = at_rest
