@@ -8,6 +8,7 @@ mod forwards;
 mod link;
 mod links;
 mod peers;
+mod resting;
 mod sides;
 mod writing;
 
@@ -15,4 +16,5 @@ pub use clients::Clients;
 pub use connection::Connection;
 pub use link::{Clock, Link, LinkFailure, Origins};
 pub use links::Links;
+pub use resting::a_connection_at_rest_leaves_a_cache_at_rest;
 pub use sides::send_octets;
