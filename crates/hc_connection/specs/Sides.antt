@@ -84,3 +84,9 @@ is_heard_out side = if side.ended then true else side.closed
 -- nothing more happens at a connection: that it was opened was told, no forward is open, and nothing more is heard of the client
 abbrev pub Rests : {C : Type 0} → Bool → ℕ → ClientSide C → Type 0
 Rests opened forwards side = (opened ≡ true) × (forwards ≡ 0) × (is_heard_out side ≡ true)
+
+-- nothing has happened of a connection yet: no event, and neither has its client ended nor was it closed
+pub record IsUntouched (c : ℕ) (log : List Move) : Type 0 where
+  pub first : first_in log ≡ None
+  pub ended : is_ended_in c log ≡ false
+  pub closed : is_closed_in c log ≡ false
