@@ -4,7 +4,6 @@ use Rattle.std.specs.BTreeMap.{BTreeMap}
 use Rattle.std.proofs.lemmas.Bool.{eqb-true}
 use Rattle.std.proofs.lemmas.Bool.Decides.{nat_tests}
 use Rattle.hc_transcript.specs.declared.record.Record.{Record}
-use Rattle.hc_events.specs.declared.Event.{Event}
 use Rattle.hc_events.specs.declared.Happening.{Happening}
 use Rattle.hc_events.specs.declared.Happening.TheVariants.{ClientOpened, ClientBytes, ClientEnd, OriginBytes, OriginEnd, OriginFailed}
 use Rattle.hc_service.specs.declared.action.Action.{Action}
@@ -15,11 +14,12 @@ use Rattle.hc_service.specs.Follows.{forward_after}
 use Rattle.hc_service.specs.Numbers.{is_later}
 use Rattle.hc_service.specs.Runs.{Runs, StepResult}
 use Rattle.hc_service.specs.State.{State}
+use Rattle.hc_order.specs.declared.occurrence.Occurrence.{Occurrence}
 use Rattle.hc_order.specs.declared.receiver.Receiver.TheVariants.{Client, Origin}
 use Rattle.hc_order.specs.Log.{Move, carried}
 use Rattle.hc_order.specs.Log.Move.{Before, Heard, Sent, Closed}
 use Rattle.hc_order.specs.Mirrors.{MayHappen, Mirrors, is_connected, last_opened}
-use Rattle.hc_order.specs.Passed.{AreOrderly, AreServed, passed}
+use Rattle.hc_order.specs.Passed.{AreOrderly, AreServed, events_of, passed}
 use Rattle.hc_order.specs.Resting.{IsAtRest, ended_behind, ended_behind_all, open_behind, open_behind_all}
 use Rattle.hc_order.proofs.RestLemmas.{runs_rest}
 use Rattle.hc_connection.specs.Forwards.{NoneOpen, is_open_in}
@@ -27,7 +27,7 @@ use Rattle.hc_connection.specs.declared.client_side.ClientSide.{ClientSide}
 use Rattle.hc_connection.specs.Connections.{HasPassed}
 use Rattle.hc_connection.specs.Sides.{IsUntouched, Opens, Rests}
 use Rattle.hc_connection.proofs.ForwardLemmas.{none_is}
-use Rattle.hc_connection.specs.Moves.{AreOf, IsOf, earlier_or, first_in, is_closed_in, is_ended_in}
+use Rattle.hc_connection.specs.Moves.{AreOf, IsOf, earlier_or, first_in, is_closed_in, is_ended_in, occurs}
 
 -- ---- the log tells of forwards and of ends as the events do
 
@@ -39,10 +39,10 @@ open_then f (action.Forward g octets ∷ actions) log = open_then f actions (Sen
 open_then f (action.CloseForward g ∷ actions) log = open_then f actions (Closed (Origin g) ∷ log)
 open_then f (action.Record r ∷ actions) log = open_then f actions log
 
-open_heard : (f : ℕ) (event : Event) (log : List Move) → is_open_in f (Heard event ∷ log) ≡ open_behind f event.of (is_open_in f log)
-open_heard f event log = by event.of
+open_heard : (f : ℕ) (occurrence : Occurrence) (log : List Move) → is_open_in f (Heard occurrence ∷ log) ≡ open_behind f occurrence.event.of (is_open_in f log)
+open_heard f occurrence log = by occurrence.event.of
   where
-    by : (happening : Happening) → is_open_in f (Heard (record { moment = event.moment; of = happening }) ∷ log) ≡ open_behind f happening (is_open_in f log)
+    by : (happening : Happening) → is_open_in f (Heard (occurs occurrence.event.moment happening occurrence.reason) ∷ log) ≡ open_behind f happening (is_open_in f log)
     by (ClientOpened c) = refl
     by (ClientBytes c octets) = refl
     by (ClientEnd c) = refl
@@ -50,14 +50,14 @@ open_heard f event log = by event.of
     by (OriginEnd g) = refl
     by (OriginFailed g) = refl
 
-open_passed : (f : ℕ) (events : List Event) (results : List StepResult) (log : List Move) → AreServed results
-    → is_open_in f (passed events results log) ≡ open_behind_all f events results (is_open_in f log)
+open_passed : (f : ℕ) (occurrences : List Occurrence) (results : List StepResult) (log : List Move) → AreServed results
+    → is_open_in f (passed occurrences results log) ≡ open_behind_all f (events_of occurrences) results (is_open_in f log)
 open_passed f [] results log served = refl
-open_passed f (event ∷ events) [] log served = refl
-open_passed f (event ∷ events) (Ok actions ∷ results) log served =
-    open_passed f events results (carried actions.items (Heard event ∷ log)) served
-    ∙ ap (open_behind_all f events results) (open_then f actions.items (Heard event ∷ log) ∙ ap (forward_after f actions.items) (open_heard f event log))
-open_passed f (event ∷ events) (Err step ∷ results) log served = absurd served
+open_passed f (occurrence ∷ occurrences) [] log served = refl
+open_passed f (occurrence ∷ occurrences) (Ok actions ∷ results) log served =
+    open_passed f occurrences results (carried actions.items (Heard occurrence ∷ log)) served
+    ∙ ap (open_behind_all f (events_of occurrences) results) (open_then f actions.items (Heard occurrence ∷ log) ∙ ap (forward_after f actions.items) (open_heard f occurrence log))
+open_passed f (occurrence ∷ occurrences) (Err step ∷ results) log served = absurd served
 
 ended_then : (c : ℕ) (actions : List Action) (log : List Move) → is_ended_in c (carried actions log) ≡ is_ended_in c log
 ended_then c [] log = refl
@@ -67,10 +67,10 @@ ended_then c (action.Forward g octets ∷ actions) log = ended_then c actions (S
 ended_then c (action.CloseForward g ∷ actions) log = ended_then c actions (Closed (Origin g) ∷ log)
 ended_then c (action.Record r ∷ actions) log = ended_then c actions log
 
-ended_heard : (c : ℕ) (event : Event) (log : List Move) → is_ended_in c (Heard event ∷ log) ≡ ended_behind c event.of (is_ended_in c log)
-ended_heard c event log = by event.of
+ended_heard : (c : ℕ) (occurrence : Occurrence) (log : List Move) → is_ended_in c (Heard occurrence ∷ log) ≡ ended_behind c occurrence.event.of (is_ended_in c log)
+ended_heard c occurrence log = by occurrence.event.of
   where
-    by : (happening : Happening) → is_ended_in c (Heard (record { moment = event.moment; of = happening }) ∷ log) ≡ ended_behind c happening (is_ended_in c log)
+    by : (happening : Happening) → is_ended_in c (Heard (occurs occurrence.event.moment happening occurrence.reason) ∷ log) ≡ ended_behind c happening (is_ended_in c log)
     by (ClientOpened d) = refl
     by (ClientBytes d octets) = refl
     by (ClientEnd d) = refl
@@ -78,14 +78,14 @@ ended_heard c event log = by event.of
     by (OriginEnd g) = refl
     by (OriginFailed g) = refl
 
-ended_passed : (c : ℕ) (events : List Event) (results : List StepResult) (log : List Move) → AreServed results
-    → is_ended_in c (passed events results log) ≡ ended_behind_all c events results (is_ended_in c log)
+ended_passed : (c : ℕ) (occurrences : List Occurrence) (results : List StepResult) (log : List Move) → AreServed results
+    → is_ended_in c (passed occurrences results log) ≡ ended_behind_all c (events_of occurrences) results (is_ended_in c log)
 ended_passed c [] results log served = refl
-ended_passed c (event ∷ events) [] log served = refl
-ended_passed c (event ∷ events) (Ok actions ∷ results) log served =
-    ended_passed c events results (carried actions.items (Heard event ∷ log)) served
-    ∙ ap (ended_behind_all c events results) (ended_then c actions.items (Heard event ∷ log) ∙ ended_heard c event log)
-ended_passed c (event ∷ events) (Err step ∷ results) log served = absurd served
+ended_passed c (occurrence ∷ occurrences) [] log served = refl
+ended_passed c (occurrence ∷ occurrences) (Ok actions ∷ results) log served =
+    ended_passed c occurrences results (carried actions.items (Heard occurrence ∷ log)) served
+    ∙ ap (ended_behind_all c (events_of occurrences) results) (ended_then c actions.items (Heard occurrence ∷ log) ∙ ended_heard c occurrence log)
+ended_passed c (occurrence ∷ occurrences) (Err step ∷ results) log served = absurd served
 
 -- ---- no other client's connection is open
 
@@ -95,13 +95,13 @@ false_true e = cc
 its_own : (n c : ℕ) (log : List Move) → AreOf n log → is_connected c log ≡ true → c ≡ n
 its_own n c [] own is = absurd (false_true is)
 its_own n c (Before last number given got reads failures ∷ log) own is = absurd (false_true is)
-its_own n c (Heard event ∷ log) own is = by event.of own.0 is (λ was. its_own n c log own.1 was)
+its_own n c (Heard occurrence ∷ log) own is = by occurrence.event.of own.0 is (λ was. its_own n c log own.1 was)
   where
     opened : (d : ℕ) (b : Bool) → nat_eq d c ≡ b → d ≡ n → cond b true (is_connected c log) ≡ true → (is_connected c log ≡ true → c ≡ n) → c ≡ n
     opened d true same of_it is rest = sym (eqb-true d c same) ∙ of_it
     opened d false other of_it is rest = rest is
 
-    by : (happening : Happening) → IsOf n happening → is_connected c (Heard (record { moment = event.moment; of = happening }) ∷ log) ≡ true
+    by : (happening : Happening) → IsOf n happening → is_connected c (Heard (occurs occurrence.event.moment happening occurrence.reason) ∷ log) ≡ true
         → (is_connected c log ≡ true → c ≡ n) → c ≡ n
     by (ClientOpened d) of_it is rest = opened d (nat_eq d c) refl of_it is rest
     by (ClientBytes d octets) of_it is rest = rest is
@@ -139,10 +139,10 @@ closed_then n (action.Record r ∷ actions) log stays = closed_then n actions lo
 not_later : (n : ℕ) → is_later n (Some n) ≡ true → ⊥
 not_later n is = grind (arith, nat_tests)
 
-closed_heard : (room n : ℕ) (event : Event) (log : List Move) → MayHappen room event.of log → IsOf n event.of → StaysClosed n log → StaysClosed n (Heard event ∷ log)
-closed_heard room n event log may of_it stays = by event.of may of_it
+closed_heard : (room n : ℕ) (occurrence : Occurrence) (log : List Move) → MayHappen room occurrence.event.of log → IsOf n occurrence.event.of → StaysClosed n log → StaysClosed n (Heard occurrence ∷ log)
+closed_heard room n occurrence log may of_it stays = by occurrence.event.of may of_it
   where
-    by : (happening : Happening) → MayHappen room happening log → IsOf n happening → StaysClosed n (Heard (record { moment = event.moment; of = happening }) ∷ log)
+    by : (happening : Happening) → MayHappen room happening log → IsOf n happening → StaysClosed n (Heard (occurs occurrence.event.moment happening occurrence.reason) ∷ log)
     by (ClientOpened d) may of_it = absurd (not_later n (sym (ap (is_later n) stays.last) ∙ ap (λ (m : ℕ). is_later m (last_opened log)) (sym of_it) ∙ may.0))
     by (ClientBytes d octets) may of_it = record { last = stays.last; closed = stays.closed }
     by (ClientEnd d) may of_it = record { last = stays.last; closed = stays.closed }
@@ -158,22 +158,22 @@ of_carried n (action.Forward g octets ∷ actions) log own = of_carried n action
 of_carried n (action.CloseForward g ∷ actions) log own = of_carried n actions (Closed (Origin g) ∷ log) own
 of_carried n (action.Record r ∷ actions) log own = of_carried n actions log own
 
-of_passed : (n : ℕ) (events : List Event) (results : List StepResult) (log : List Move) → AreOf n (passed events results log) → AreOf n log
+of_passed : (n : ℕ) (occurrences : List Occurrence) (results : List StepResult) (log : List Move) → AreOf n (passed occurrences results log) → AreOf n log
 of_passed n [] results log own = own
-of_passed n (event ∷ events) [] log own = own
-of_passed n (event ∷ events) (Ok actions ∷ results) log own =
-    (of_carried n actions.items (Heard event ∷ log) (of_passed n events results (carried actions.items (Heard event ∷ log)) own)).1
-of_passed n (event ∷ events) (Err step ∷ results) log own = (of_passed n events results (Heard event ∷ log) own).1
+of_passed n (occurrence ∷ occurrences) [] log own = own
+of_passed n (occurrence ∷ occurrences) (Ok actions ∷ results) log own =
+    (of_carried n actions.items (Heard occurrence ∷ log) (of_passed n occurrences results (carried actions.items (Heard occurrence ∷ log)) own)).1
+of_passed n (occurrence ∷ occurrences) (Err step ∷ results) log own = (of_passed n occurrences results (Heard occurrence ∷ log) own).1
 
-closed_passed : (room n : ℕ) (events : List Event) (results : List StepResult) (log : List Move) → AreServed results → AreOrderly room events results log
-    → AreOf n (passed events results log) → StaysClosed n log → StaysClosed n (passed events results log)
+closed_passed : (room n : ℕ) (occurrences : List Occurrence) (results : List StepResult) (log : List Move) → AreServed results → AreOrderly room occurrences results log
+    → AreOf n (passed occurrences results log) → StaysClosed n log → StaysClosed n (passed occurrences results log)
 closed_passed room n [] results log served order own stays = stays
-closed_passed room n (event ∷ events) [] log served order own stays = stays
-closed_passed room n (event ∷ events) (Ok actions ∷ results) log served order own stays =
-    let of_it = (of_carried n actions.items (Heard event ∷ log) (of_passed n events results (carried actions.items (Heard event ∷ log)) own)).0 in
-    closed_passed room n events results (carried actions.items (Heard event ∷ log)) served order.1 own
-    (closed_then n actions.items (Heard event ∷ log) (closed_heard room n event log order.0 of_it stays))
-closed_passed room n (event ∷ events) (Err step ∷ results) log served order own stays = absurd served
+closed_passed room n (occurrence ∷ occurrences) [] log served order own stays = stays
+closed_passed room n (occurrence ∷ occurrences) (Ok actions ∷ results) log served order own stays =
+    let of_it = (of_carried n actions.items (Heard occurrence ∷ log) (of_passed n occurrences results (carried actions.items (Heard occurrence ∷ log)) own)).0 in
+    closed_passed room n occurrences results (carried actions.items (Heard occurrence ∷ log)) served order.1 own
+    (closed_then n actions.items (Heard occurrence ∷ log) (closed_heard room n occurrence log order.0 of_it stays))
+closed_passed room n (occurrence ∷ occurrences) (Err step ∷ results) log served order own stays = absurd served
 
 -- ---- what happened first
 
@@ -185,13 +185,13 @@ first_carried (action.Forward g octets ∷ actions) log = first_carried actions 
 first_carried (action.CloseForward g ∷ actions) log = first_carried actions (Closed (Origin g) ∷ log)
 first_carried (action.Record r ∷ actions) log = first_carried actions log
 
-first_passed : (events : List Event) (results : List StepResult) (log : List Move) (first : Happening) → first_in log ≡ Some first → first_in (passed events results log) ≡ Some first
+first_passed : (occurrences : List Occurrence) (results : List StepResult) (log : List Move) (first : Happening) → first_in log ≡ Some first → first_in (passed occurrences results log) ≡ Some first
 first_passed [] results log first is = is
-first_passed (event ∷ events) [] log first is = is
-first_passed (event ∷ events) (Ok actions ∷ results) log first is =
-    first_passed events results (carried actions.items (Heard event ∷ log)) first
-    (first_carried actions.items (Heard event ∷ log) ∙ ap (λ (o : Option Happening). earlier_or o event.of) is)
-first_passed (event ∷ events) (Err step ∷ results) log first is = first_passed events results (Heard event ∷ log) first (ap (λ (o : Option Happening). earlier_or o event.of) is)
+first_passed (occurrence ∷ occurrences) [] log first is = is
+first_passed (occurrence ∷ occurrences) (Ok actions ∷ results) log first is =
+    first_passed occurrences results (carried actions.items (Heard occurrence ∷ log)) first
+    (first_carried actions.items (Heard occurrence ∷ log) ∙ ap (λ (o : Option Happening). earlier_or o occurrence.event.of) is)
+first_passed (occurrence ∷ occurrences) (Err step ∷ results) log first is = first_passed occurrences results (Heard occurrence ∷ log) first (ap (λ (o : Option Happening). earlier_or o occurrence.event.of) is)
 
 same_first : (a b : Happening) → Some a ≡ Some b → a ≡ b
 same_first a b e = cc
@@ -200,61 +200,61 @@ none_first : (a : Happening) → None ≡ Some a → ⊥
 none_first a e = cc
 
 -- of a connection of which nothing had happened before
-closed_since : (room n : ℕ) (events : List Event) (results : List StepResult) (log : List Move) → AreServed results → AreOrderly room events results log
-    → AreOf n (passed events results log) → first_in log ≡ None → is_closed_in n log ≡ false → first_in (passed events results log) ≡ Some (ClientOpened n)
-    → StaysClosed n (passed events results log)
+closed_since : (room n : ℕ) (occurrences : List Occurrence) (results : List StepResult) (log : List Move) → AreServed results → AreOrderly room occurrences results log
+    → AreOf n (passed occurrences results log) → first_in log ≡ None → is_closed_in n log ≡ false → first_in (passed occurrences results log) ≡ Some (ClientOpened n)
+    → StaysClosed n (passed occurrences results log)
 closed_since room n [] results log served order own none closed first = absurd (none_first (ClientOpened n) (sym none ∙ first))
-closed_since room n (event ∷ events) [] log served order own none closed first = absurd (none_first (ClientOpened n) (sym none ∙ first))
-closed_since room n (event ∷ events) (Ok actions ∷ results) log served order own none closed first =
-    closed_passed room n events results (carried actions.items (Heard event ∷ log)) served order.1 own
-    (closed_then n actions.items (Heard event ∷ log) (opened event.of (sym (same_first event.of (ClientOpened n) (sym now ∙ first)))))
+closed_since room n (occurrence ∷ occurrences) [] log served order own none closed first = absurd (none_first (ClientOpened n) (sym none ∙ first))
+closed_since room n (occurrence ∷ occurrences) (Ok actions ∷ results) log served order own none closed first =
+    closed_passed room n occurrences results (carried actions.items (Heard occurrence ∷ log)) served order.1 own
+    (closed_then n actions.items (Heard occurrence ∷ log) (opened occurrence.event.of (sym (same_first occurrence.event.of (ClientOpened n) (sym now ∙ first)))))
   where
-    now : first_in (passed events results (carried actions.items (Heard event ∷ log))) ≡ Some event.of
+    now : first_in (passed occurrences results (carried actions.items (Heard occurrence ∷ log))) ≡ Some occurrence.event.of
     now =
-        first_passed events results (carried actions.items (Heard event ∷ log)) event.of
-        (first_carried actions.items (Heard event ∷ log) ∙ ap (λ (o : Option Happening). earlier_or o event.of) none)
+        first_passed occurrences results (carried actions.items (Heard occurrence ∷ log)) occurrence.event.of
+        (first_carried actions.items (Heard occurrence ∷ log) ∙ ap (λ (o : Option Happening). earlier_or o occurrence.event.of) none)
 
-    opened : (happening : Happening) → ClientOpened n ≡ happening → StaysClosed n (Heard (record { moment = event.moment; of = happening }) ∷ log)
+    opened : (happening : Happening) → ClientOpened n ≡ happening → StaysClosed n (Heard (occurs occurrence.event.moment happening occurrence.reason) ∷ log)
     opened happening is =
-        subst (λ (happening : Happening). StaysClosed n (Heard (record { moment = event.moment; of = happening }) ∷ log)) is
+        subst (λ (happening : Happening). StaysClosed n (Heard (occurs occurrence.event.moment happening occurrence.reason) ∷ log)) is
         (record { last = refl; closed = λ was. absurd (false_true (sym closed ∙ was)) })
-closed_since room n (event ∷ events) (Err step ∷ results) log served order own none closed first = absurd served
+closed_since room n (occurrence ∷ occurrences) (Err step ∷ results) log served order own none closed first = absurd served
 
 -- ---- all
 
-module _ (most room : ℕ) (settings : CoreSettings) (events : List Event) (results : List StepResult) (s s' : State) (h : History) (records : List Record) (n : ℕ) (log : List Move)
-    (rest : IsAtRest s) (untouched : IsUntouched n log) (runs : Runs settings s h events results records (Some s')) (served : AreServed results)
-    (order : AreOrderly most events results log) (mirrors : Mirrors room s' (passed events results log)) (own : AreOf n (passed events results log))
-    (first : first_in (passed events results log) ≡ Some (ClientOpened n)) where
+module _ (most room : ℕ) (settings : CoreSettings) (occurrences : List Occurrence) (results : List StepResult) (s s' : State) (h : History) (records : List Record) (n : ℕ) (log : List Move)
+    (rest : IsAtRest s) (untouched : IsUntouched n log) (runs : Runs settings s h (events_of occurrences) results records (Some s')) (served : AreServed results)
+    (order : AreOrderly most occurrences results log) (mirrors : Mirrors room s' (passed occurrences results log)) (own : AreOf n (passed occurrences results log))
+    (first : first_in (passed occurrences results log) ≡ Some (ClientOpened n)) where
   -- by what is heard of the client
-  ended_by_then : (b : Bool) → is_ended_in n (passed events results log) ≡ b → cond b true (is_closed_in n (passed events results log)) ≡ true
-      → (c : ℕ) → c ≡ n → is_connected c (passed events results log) ≡ true → ended_behind_all c events results false ≡ true
+  ended_by_then : (b : Bool) → is_ended_in n (passed occurrences results log) ≡ b → cond b true (is_closed_in n (passed occurrences results log)) ≡ true
+      → (c : ℕ) → c ≡ n → is_connected c (passed occurrences results log) ≡ true → ended_behind_all c (events_of occurrences) results false ≡ true
   ended_by_then true is heard c same connected =
-      subst (λ (m : ℕ). ended_behind_all m events results false ≡ true) (sym same)
-      (ap (ended_behind_all n events results) (sym untouched.ended) ∙ sym (ended_passed n events results log served) ∙ is)
+      subst (λ (m : ℕ). ended_behind_all m (events_of occurrences) results false ≡ true) (sym same)
+      (ap (ended_behind_all n (events_of occurrences) results) (sym untouched.ended) ∙ sym (ended_passed n occurrences results log served) ∙ is)
   ended_by_then false is heard c same connected =
-      absurd (false_true (sym ((closed_since most n events results log served order own untouched.first untouched.closed first).closed heard)
-      ∙ subst (λ (m : ℕ). is_connected m (passed events results log) ≡ true) same connected))
+      absurd (false_true (sym ((closed_since most n occurrences results log served order own untouched.first untouched.closed first).closed heard)
+      ∙ subst (λ (m : ℕ). is_connected m (passed occurrences results log) ≡ true) same connected))
 
-  connection_rests : NoneOpen (passed events results log) → cond (is_ended_in n (passed events results log)) true (is_closed_in n (passed events results log)) ≡ true → IsAtRest s'
+  connection_rests : NoneOpen (passed occurrences results log) → cond (is_ended_in n (passed occurrences results log)) true (is_closed_in n (passed occurrences results log)) ≡ true → IsAtRest s'
   connection_rests quiet heard =
-      runs_rest settings events results s s' h records (λ f. is_open_in f log) (λ c. false) rest (λ c was. absurd (false_true was)) runs
-      (λ f. sym (open_passed f events results log served) ∙ quiet f)
+      runs_rest settings (events_of occurrences) results s s' h records (λ f. is_open_in f log) (λ c. false) rest (λ c was. absurd (false_true was)) runs
+      (λ f. sym (open_passed f occurrences results log served) ∙ quiet f)
       (λ c is.
       let connected = sym (mirrors.connections c) ∙ is in
-      ended_by_then (is_ended_in n (passed events results log)) refl heard c (its_own n c (passed events results log) own connected) connected)
+      ended_by_then (is_ended_in n (passed occurrences results log)) refl heard c (its_own n c (passed occurrences results log) own connected) connected)
 
 pub links_rest : {C L : Type 0} (client_gave client_got : C → List ℕ → Type 0) (client_was_read : C → ℕ → Type 0) (count : C → ℕ) (origin_gave origin_got : L → List ℕ → Type 0)
-    (may_tell : ℕ → Type 0) (opened : Bool) (client : ClientSide C) (links : BTreeMap ℕ (Option L)) (most room : ℕ) (settings : CoreSettings) (events : List Event)
+    (may_tell : ℕ → Type 0) (opened : Bool) (client : ClientSide C) (links : BTreeMap ℕ (Option L)) (most room : ℕ) (settings : CoreSettings) (occurrences : List Occurrence)
     (results : List StepResult) (s s' : State) (h : History) (records : List Record) (log : List Move) → IsAtRest s → IsUntouched client.number log
-    → Runs settings s h events results records (Some s') → AreServed results → AreOrderly most events results log → Mirrors room s' (passed events results log)
-    → HasPassed client_gave client_got client_was_read count origin_gave origin_got may_tell opened client links (passed events results log)
+    → Runs settings s h (events_of occurrences) results records (Some s') → AreServed results → AreOrderly most occurrences results log → Mirrors room s' (passed occurrences results log)
+    → HasPassed client_gave client_got client_was_read count origin_gave origin_got may_tell opened client links (passed occurrences results log)
     → Rests opened (length links.entries) client → IsAtRest s'
-links_rest client_gave client_got client_was_read count origin_gave origin_got may_tell opened client links most room settings events results s s' h records log rest untouched runs served order mirrors passed_there
+links_rest client_gave client_got client_was_read count origin_gave origin_got may_tell opened client links most room settings occurrences results s s' h records log rest untouched runs served order mirrors passed_there
     rests =
     let tells = passed_there.0 in
-    connection_rests most room settings events results s s' h records client.number log rest untouched runs served order mirrors tells.own
-    (subst (λ (b : Bool). Opens b client.number (passed events results log)) rests.0 passed_there.1)
-    (none_is origin_gave origin_got links rests.1 (passed events results log) passed_there.3)
-    (ap (λ (b : Bool). cond b true (is_closed_in client.number (passed events results log))) (sym tells.ended)
+    connection_rests most room settings occurrences results s s' h records client.number log rest untouched runs served order mirrors tells.own
+    (subst (λ (b : Bool). Opens b client.number (passed occurrences results log)) rests.0 passed_there.1)
+    (none_is origin_gave origin_got links rests.1 (passed occurrences results log) passed_there.3)
+    (ap (λ (b : Bool). cond b true (is_closed_in client.number (passed occurrences results log))) (sym tells.ended)
     ∙ ap (λ (b : Bool). cond client.ended true b) (sym tells.closed) ∙ rests.2)

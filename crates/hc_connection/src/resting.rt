@@ -3,14 +3,14 @@
 ghost use Rattle.std.specs.Prelude.{ℕ, Bool, List, Option, Some, length};
 ghost use Rattle.std.specs.BTreeMap.{BTreeMap};
 ghost use Rattle.hc_transcript.specs.declared.record.Record.{Record};
-ghost use Rattle.hc_events.specs.declared.Event.{Event};
 ghost use Rattle.hc_service.specs.declared.settings.CoreSettings.{CoreSettings};
 ghost use Rattle.hc_service.specs.Agreement.{History};
 ghost use Rattle.hc_service.specs.Runs.{Runs, StepResult};
 ghost use Rattle.hc_service.specs.State.{State};
+ghost use Rattle.hc_order.specs.declared.occurrence.Occurrence.{Occurrence};
 ghost use Rattle.hc_order.specs.Log.{Move};
 ghost use Rattle.hc_order.specs.Mirrors.{Mirrors};
-ghost use Rattle.hc_order.specs.Passed.{AreOrderly, AreServed, passed};
+ghost use Rattle.hc_order.specs.Passed.{AreOrderly, AreServed, events_of, passed};
 ghost use Rattle.hc_order.specs.Resting.{IsAtRest};
 ghost use Rattle.hc_connection.specs.declared.client_side.ClientSide.{ClientSide};
 ghost use Rattle.hc_connection.specs.Connections.{HasPassed};
@@ -22,11 +22,11 @@ use crate::link::{Clock, Link, Origins};
 /// what has passed, it is at rest again once the links of the connection rest.
 pub fn a_connection_at_rest_leaves_a_cache_at_rest<C: Link, O: Origins, K: Clock>()
     ensures { (clock : K) (opened : Bool) (client : ClientSide C) (links : BTreeMap ℕ (Option O.Link)) (most room : ℕ)
-        (settings : CoreSettings) (events : List Event) (results : List StepResult) (s other : State) (h : History)
+        (settings : CoreSettings) (occurrences : List Occurrence) (results : List StepResult) (s other : State) (h : History)
         (records : List Record) (log : List Move) → IsAtRest s → IsUntouched client.number log
-        → Runs settings s h events results records (Some other) → AreServed results
-        → AreOrderly most events results log → Mirrors room other (passed events results log)
+        → Runs settings s h (events_of occurrences) results records (Some other) → AreServed results
+        → AreOrderly most occurrences results log → Mirrors room other (passed occurrences results log)
         → HasPassed C.has_given C.has_got C.was_read C.count O.Link.has_given O.Link.has_got (K.may_tell clock) opened client links
-        (passed events results log)
+        (passed occurrences results log)
         → Rests opened (length links.entries) client → IsAtRest other }
 {}
