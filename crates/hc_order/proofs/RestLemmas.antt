@@ -1,5 +1,5 @@
--- Where no forward is open and the clients have ended, nothing is open.
-use Rattle.std.proofs.Common.{◌≡◌, ℕ, Bool, true, false, List, Option, Some, None, refl, sym, ap, ◌∙◌, subst}
+-- Where no forward is open and the clients have ended, nothing is open; nor is anything before all others.
+use Rattle.std.proofs.Common.{◌≡◌, ℕ, Bool, true, false, List, [], ◌∷◌, Option, Some, None, refl, sym, ap, ◌∙◌, subst, arith}
 use Rattle.std.specs.FinMap.{empty, empty_of_len, get, len, len-empty, nat_cmp-IsAntisymmetric, same_map}
 use Rattle.std.specs.Cmp.{nat_cmp_total}
 use Rattle.std.specs.Option.{IsSome, is_some}
@@ -12,11 +12,13 @@ use Rattle.hc_service.specs.Choices.{OnTest}
 use Rattle.hc_service.specs.Joining.{AllHaveForwards, HasForward}
 use Rattle.hc_service.specs.Numbers.{is_later}
 use Rattle.hc_service.specs.Runs.{Runs, StepResult}
-use Rattle.hc_service.specs.State.{State, Table, Connection, Awaited}
+use Rattle.hc_service.specs.State.{State, Table, Connection, Awaited, new_state_with}
 use Rattle.hc_service.proofs.ForwardLemmas.{runs_leave}
 use Rattle.hc_service.proofs.LinkLemmas.{none_some}
 use Rattle.hc_service.proofs.RunLemmas.{runs_agree, runs_to}
 use Rattle.hc_service.proofs.TableLemmas.{get_none}
+use Rattle.hc_order.specs.Log.Move.{Before}
+use Rattle.hc_order.specs.Mirrors.{Mirrors}
 use Rattle.hc_order.specs.Resting.{AllHaveEnded, AwaitWhereLeft, HasNoExchange, HasNoForward, IsAtRest, ended_behind_all, open_behind_all}
 use Rattle.hc_order.proofs.EndLemmas.{runs_open, runs_told}
 
@@ -107,3 +109,24 @@ runs_rest settings events results s s' h records opened ended rest earlier runs 
     no_forward f a is =
         false_true (sym (closed f)
         ∙ runs_open settings f events results s s' h records (opened f) runs (λ there. absurd (nothing_some (get s.forwards f) (in_none s.forwards rest.1 f) there)) (ap is_some is))
+
+-- ---- before all others
+
+none_of : {X : Type 0} (o : Option X) → is_some o ≡ false → o ≡ None
+none_of o none = unless o (λ x is. false_true (sym none ∙ ap is_some is))
+
+pub new_mirrors : (room : ℕ) (settings : CoreSettings) (number : ℕ) (given got : List ℕ) (reads failures : ℕ)
+    → Mirrors room (new_state_with settings room) (Before None number given got reads failures ∷ [])
+new_mirrors room settings number given got reads failures = record {
+  connections = λ c. ap is_some (get_none c);
+  forwards = λ f. ap is_some (get_none f);
+  count = let none = len-empty nat_cmp Connection in omega (arith, none);
+  last = refl;
+  fresh = λ c later. refl;
+  has_room = refl;
+}
+
+pub before_rests : (room : ℕ) (s : State) (last : Option ℕ) (number : ℕ) (given got : List ℕ) (reads failures : ℕ)
+    → Mirrors room s (Before last number given got reads failures ∷ []) → IsAtRest s
+before_rests room s last number given got reads failures m =
+    (none_in s.connections (λ c. none_of (get s.connections c) (m.connections c)), none_in s.forwards (λ f. none_of (get s.forwards f) (m.forwards f)))
