@@ -12,6 +12,8 @@ use Rattle.hc_events.specs.declared.Happening.{Happening}
 use Rattle.hc_events.specs.declared.Happening.TheVariants.{ClientOpened, ClientBytes, ClientEnd, OriginBytes, OriginEnd, OriginFailed}
 use Rattle.hc_service.specs.declared.action.Action.{Action}
 use Rattle.hc_service.specs.declared.action.Action.TheVariants as action
+use Rattle.hc_service.specs.declared.fault.StepFault.{StepFault}
+use Rattle.hc_service.specs.declared.fault.StepFault.TheVariants.{Memory, MomentTooLarge, UnknownNumber, TooManyConnections, Failed}
 use Rattle.hc_service.specs.declared.settings.CoreSettings.{CoreSettings}
 use Rattle.hc_service.specs.Agreement.{Agrees, History}
 use Rattle.hc_service.specs.Numbers.{is_later}
@@ -27,7 +29,8 @@ use Rattle.hc_order.specs.declared.receiver.Receiver.TheVariants.{Client, Origin
 use Rattle.hc_order.specs.Mirrors.{Mirrors, last_opened}
 use Rattle.hc_order.specs.Log.{Move, carried}
 use Rattle.hc_order.specs.Log.Move.{Before, Closed, Heard, Sent}
-use Rattle.hc_order.specs.Passed.{AreServed, events_of, passed}
+use Rattle.hc_order.specs.Passed.{AreServed, IsUsual, events_of, passed}
+use Rattle.hc_order.specs.Resting.{IsAtRest}
 use Rattle.hc_connection.specs.declared.client_side.ClientSide.{ClientSide}
 use Rattle.hc_connection.specs.Clients.{HandsBack, IsFresh, Passage}
 use Rattle.hc_connection.specs.Connections.{HasPassed}
@@ -40,12 +43,12 @@ use Rattle.hc_serve.specs.declared.fault.DriveFault.TheVariants as drive
 use Rattle.hc_serve.specs.declared.fault.ServingFault.{ServingFault}
 use Rattle.hc_serve.specs.declared.fault.ServingFault.TheVariants as fault
 use Rattle.hc_serve.specs.Carrying.{texts_in}
-use Rattle.hc_serve.specs.Clients.{BreaksBefore, BreaksNext, ComeSince, Connections, CountsServing, EndsBefore, GivesNext, GivesServing, GivesTranscript, HoldsBeginning, HoldsTranscript, IsConnection, IsOwn, KeepsIdle, LeadsToNext, LeftSince, ServesNext, Serving, log_of, number_before, unserved}
-use Rattle.hc_serve.specs.Drives.{AreRounds, BreakOff, EndStands, GivesUp, IsIdle, IsLeftIdle, Leads, LeadsTo, answers_by, occurrences_by, texts_given}
+use Rattle.hc_serve.specs.Clients.{BreaksBefore, BreaksNext, ComeSince, Connections, CountsServing, EndsBefore, GivesNext, GivesServing, GivesTranscript, GivesUpLateBehind, HoldsBeginning, HoldsTranscript, IsConnection, IsExpected, IsExpectedOfNew, IsOwn, IsUsualBehind, KeepsIdle, LeadsToNext, LeftSince, ServesNext, Serving, log_of, number_before, unserved}
+use Rattle.hc_serve.specs.Drives.{AreRounds, BreakOff, BreaksAsUsual, EndStands, GivesUp, GivesUpLate, IsLeftIdle, Leads, LeadsTo, answers_by, occurrences_by, texts_given}
 use Rattle.hc_serve.specs.Rounds.{Break, IsToldBy, StopsAt}
 use Rattle.hc_serve.specs.Rounds.Break.{AtAnswer, Before as BeforeAll, Carrying}
 use Rattle.hc_serve.proofs.CarryLemmas.{texts_append}
-use Rattle.hc_serve.proofs.DriveLemmas.{RunsAreCounted, events_append, fewer, given_append, served_append, texts_given_append, texts_of_one}
+use Rattle.hc_serve.proofs.DriveLemmas.{RunsAreCounted, events_append, fewer, given_append, never_none, served_append, texts_given_append, texts_of_one}
 
 -- ---- what laws say
 
@@ -59,6 +62,14 @@ RunsAreJudgedRight = (settings : CoreSettings) (room : ℕ) (events : List Event
 
 abbrev pub NewCacheAgrees : Type 0
 NewCacheAgrees = (settings : CoreSettings) (room : ℕ) → Agrees (new_state_with settings room) nothing_yet
+
+abbrev pub NewCacheMirrors : Type 0
+NewCacheMirrors = (room : ℕ) (settings : CoreSettings) (number : ℕ) (given got : List ℕ) (reads failures : ℕ)
+    → Mirrors room (new_state_with settings room) (Before None number given got reads failures ∷ [])
+
+abbrev pub MirrorsAtRest : Type 0
+MirrorsAtRest = (room : ℕ) (s : State) (last : Option ℕ) (number : ℕ) (given got : List ℕ) (reads failures : ℕ)
+    → Mirrors room s (Before last number given got reads failures ∷ []) → IsAtRest s
 
 -- ---- what more moves leave
 
@@ -195,6 +206,7 @@ module _ (T T' : List Move → Type 0) (H : List ℕ → Type 0) (still : (log :
     orderly = b.orderly;
     leads = b.leads;
     usual = b.usual;
+    late = b.late;
     served = b.served;
     stops = stops_still b.break (passed b.occurrences b.results log) (text ++ texts_given b.results) b.stops;
   }
@@ -246,7 +258,7 @@ none_there : {X : Type 0} (t : Table X) → len t ≡ 0 → (k : ℕ) → is_som
 none_there {X = X} t none k = ap is_some (ap (λ (t : Table X). get t k) (empty_of_len t none) ∙ get_none k)
 
 -- an idle cache mirrors the log before the next connection
-idle_mirrors : (room : ℕ) (s : State) (n : ℕ) (log : List Move) → 0 < n → Mirrors room s log → IsIdle s → last_opened log ≡ Some n → Mirrors room s (unserved (suc n))
+idle_mirrors : (room : ℕ) (s : State) (n : ℕ) (log : List Move) → 0 < n → Mirrors room s log → IsAtRest s → last_opened log ≡ Some n → Mirrors room s (unserved (suc n))
 idle_mirrors room s n log some m idle last = record {
   connections = none_there s.connections idle.0;
   forwards = none_there s.forwards idle.1;
@@ -359,18 +371,6 @@ module _ {C L : Type 0} (client_gave client_got : C → List ℕ → Type 0) (wa
 
 -- ---- connections, one after another
 
--- where each event was served a cache is left
-never_none : (settings : CoreSettings) (events : List Event) (results : List StepResult) (s : State) (h : History) (records : List Record) → AreServed results
-    → Runs settings s h events results records None → ⊥
-never_none settings [] [] s h records served runs = none_some s runs.2
-  where
-    none_some : (s : State) → None ≡ Some s → ⊥
-    none_some s e = cc
-never_none settings [] (result ∷ results) s h records served runs = absurd runs
-never_none settings (event ∷ events) [] s h records served runs = absurd runs
-never_none settings (event ∷ events) (Ok actions ∷ results) s h records served runs = never_none settings events results runs.1 runs.2 runs.3 served runs.7
-never_none settings (event ∷ events) (Err step ∷ results) s h records served runs = absurd served
-
 -- none was served yet
 abbrev none_served : (may : ℕ → Type 0) (cache : Cache) → Connections may 0 cache cache
 none_served may cache = record {
@@ -402,6 +402,71 @@ idle_behind T (fault.Core step) old mid new before keeps = tt
 
 pub counted_from : (T : Type 0) (why : ServingFault) (old mid new : ℕ) → mid ≡ old → CountsServing {T = T} (Err why) mid new → CountsServing {T = T} (Err why) old new
 counted_from T why old mid new same counts = subst (λ (n : ℕ). CountsServing {T = T} (Err why) n new) same counts
+
+-- ---- why the next connection broke off
+
+-- what is given further is in range where all is
+further_few : (before more : List StepResult) (a b : ℕ) → b ≡ a + length (records_given before) → a + length (records_given (before ++ more)) ≤ greatest_number
+    → b + length (records_given more) ≤ greatest_number
+further_few before more a b counts few =
+    let all = ap (λ (rs : List Record). length rs) (given_append before more) in
+    let sums = length-append (records_given before) (records_given more) in
+    omega (arith, counts, few, all, sums)
+
+-- what was told, as usual and late, is expected
+is_expected : (why : DriveFault) (break : Break) (new : Cache) (rounds : ℕ) → IsToldBy break why ⊎ GivesUp break why new (Unit {0}) rounds → BreaksAsUsual break → GivesUpLate break why rounds
+    → IsExpected why break rounds
+is_expected why break new rounds told usual late = by break told usual late
+  where
+    at_answer : (occurrence : Occurrence) (step : StepFault) → IsUsual occurrence.event step → IsExpected (drive.Core step) (AtAnswer occurrence step) rounds
+    at_answer occurrence Memory usual = tt
+    at_answer occurrence MomentTooLarge usual = (occurrence, refl, usual)
+    at_answer occurrence UnknownNumber usual = absurd usual
+    at_answer occurrence TooManyConnections usual = absurd usual
+    at_answer occurrence Failed usual = absurd usual
+
+    by : (break : Break) → IsToldBy break why ⊎ GivesUp break why new (Unit {0}) rounds → BreaksAsUsual break → GivesUpLate break why rounds → IsExpected why break rounds
+    by BeforeAll (inl is) usual late = subst (λ (why : DriveFault). IsExpected why BeforeAll rounds) (sym is) tt
+    by BeforeAll (inr gives) usual late = subst (λ (why : DriveFault). IsExpected why BeforeAll rounds) (sym gives.1) (late refl gives.1)
+    by (AtAnswer occurrence step) (inl is) usual late = subst (λ (why : DriveFault). IsExpected why (AtAnswer occurrence step) rounds) (sym is) (at_answer occurrence step usual)
+    by (AtAnswer occurrence step) (inr gives) usual late = absurd (apart gives.0)
+      where
+        apart : AtAnswer occurrence step ≡ BeforeAll → ⊥
+        apart e = cc
+    by (Carrying occurrence actions) (inl (inl is)) usual late = subst (λ (why : DriveFault). IsExpected why (Carrying occurrence actions) rounds) (sym is) tt
+    by (Carrying occurrence actions) (inl (inr is)) usual late = subst (λ (why : DriveFault). IsExpected why (Carrying occurrence actions) rounds) (sym is) tt
+    by (Carrying occurrence actions) (inr gives) usual late = absurd (apart gives.0)
+      where
+        apart : Carrying occurrence actions ≡ BeforeAll → ⊥
+        apart e = cc
+
+module _ (begins : NewCacheAgrees) (new_mirrors : NewCacheMirrors) (at_rest : MirrorsAtRest) (may : ℕ → Type 0) (old mid new : Cache) (n : ℕ) (why : DriveFault) (T : List Move → Type 0) (H : List ℕ → Type 0)
+    (text : List ℕ) (all : Connections may n old mid) (b : BreakOff 1 why T H (Unit {0}) mid new (unserved (1 + n)) text) where
+  abbrev given_behind : List StepResult
+  given_behind = b.results ++ answers_by b.break
+
+  usual_behind : IsUsualBehind old (all.results ++ given_behind) b.break
+  usual_behind room settings s h good stands agrees few less_room m =
+      let led = all.mirrors room settings s h good stands agrees (fewer all.results given_behind s.numbers.records few) m in
+      b.usual room settings led.state led.later good led.stands led.agrees (further_few all.results given_behind s.numbers.records led.state.numbers.records led.counted few) less_room
+      (subst (λ (m : ℕ). Mirrors room led.state (unserved m)) (one_is n) led.mirrors)
+
+  late_behind : GivesUpLateBehind old (all.results ++ given_behind) b.break why (length b.occurrences)
+  late_behind room settings s h good stands agrees few m =
+      let led = all.mirrors room settings s h good stands agrees (fewer all.results given_behind s.numbers.records few) m in
+      let there = subst (λ (m : ℕ). Mirrors room led.state (unserved m)) (one_is n) led.mirrors in
+      b.late room settings led.state led.later good led.stands led.agrees
+      (fewer b.results (answers_by b.break) led.state.numbers.records (further_few all.results given_behind s.numbers.records led.state.numbers.records led.counted few))
+      (at_rest room led.state (number_before (1 + n)) (1 + n) [] [] 0 0 there) there refl
+
+  expected_of_new : IsExpectedOfNew old (all.results ++ given_behind) b.break why (length b.occurrences)
+  expected_of_new settings good is_new few =
+      let m = new_mirrors usual_room settings 1 [] [] 0 0 in
+      let agrees = begins settings usual_room in
+      let in_range = still_few (length (records_given (all.results ++ given_behind))) few in
+      is_expected why b.break new (length b.occurrences) b.told_by
+      (usual_behind usual_room settings (new_state settings) nothing_yet good is_new agrees in_range (omega arith) m)
+      (late_behind usual_room settings (new_state settings) nothing_yet good is_new agrees in_range m)
 
 module _ (on : RunsGoOn) (counted : RunsAreCounted) where
   leads_on : (old mid new : Cache) (events others : List Event) (results answers : List StepResult) → AreServed results → Leads old mid events results → Leads mid new others answers
@@ -485,9 +550,9 @@ module _ (on : RunsGoOn) (counted : RunsAreCounted) where
         })
 
     -- the next one broke off
-    pub broke_before : (why : DriveFault) (n k count : ℕ) → n < count → k ≡ suc n → (serving : Serving may n 0 (ComeSince BC MC) (LeftSince BL ML) MH old mid text)
+    pub broke_before : NewCacheAgrees → NewCacheMirrors → MirrorsAtRest → (why : DriveFault) (n k count : ℕ) → n < count → k ≡ suc n → (serving : Serving may n 0 (ComeSince BC MC) (LeftSince BL ML) MH old mid text)
         → BreaksNext may why k (ComeSince MC AC) (LeftSince ML AL) AH mid new (text ++ texts_given serving.all.results) → BreaksBefore may why count (ComeSince BC AC) (LeftSince BL AL) AH old new text
-    broke_before why n k count less is_number serving next =
+    broke_before begins new_mirrors at_rest why n k count less is_number serving next =
         let b : BreakOff 1 why (IsOwn may (1 + n)) AH (Unit {0}) mid new (unserved (1 + n)) (text ++ texts_given serving.all.results) =
         subst (λ (k : ℕ). BreakOff 1 why (IsOwn may k) AH (Unit {0}) mid new (unserved k) (text ++ texts_given serving.all.results)) (is_number ∙ one_is n) next.broken in record {
           n = n;
@@ -497,22 +562,18 @@ module _ (on : RunsGoOn) (counted : RunsAreCounted) where
           come_all = more_came BC MC AC n 0 1 0 serving.come_all next.come_one;
           left_all = more_left BL ML AL serving.all.links [] serving.left_all next.left_none;
           broken = b;
-          usual = λ room settings s h good stands agrees few less_room m.
-              let led = serving.all.mirrors room settings s h good stands agrees (fewer serving.all.results (b.results ++ answers_by b.break) s.numbers.records few) m in
-              let counts = led.counted in
-              let all = ap (λ (rs : List Record). length rs) (given_append serving.all.results (b.results ++ answers_by b.break)) in
-              let sums = length-append (records_given serving.all.results) (records_given (b.results ++ answers_by b.break)) in
-              b.usual room settings led.state led.later good led.stands led.agrees (omega (arith, few, counts, all, sums)) less_room
-              (subst (λ (m : ℕ). Mirrors room led.state (unserved m)) (one_is n) led.mirrors);
+          usual = usual_behind begins new_mirrors at_rest may old mid new n why (IsOwn may (1 + n)) AH (text ++ texts_given serving.all.results) serving.all b;
+          late = late_behind begins new_mirrors at_rest may old mid new n why (IsOwn may (1 + n)) AH (text ++ texts_given serving.all.results) serving.all b;
+          expected = expected_of_new begins new_mirrors at_rest may old mid new n why (IsOwn may (1 + n)) AH (text ++ texts_given serving.all.results) serving.all b;
         }
 
     -- any fault of the next one
-    pub at_fault : (T : Type 0) (why : ServingFault) (n k count : ℕ) → n < count → k ≡ suc n → (serving : Serving may n 0 (ComeSince BC MC) (LeftSince BL ML) MH old mid text)
+    pub at_fault : NewCacheAgrees → NewCacheMirrors → MirrorsAtRest → (T : Type 0) (why : ServingFault) (n k count : ℕ) → n < count → k ≡ suc n → (serving : Serving may n 0 (ComeSince BC MC) (LeftSince BL ML) MH old mid text)
         → GivesNext {T = T} may (ComeSince MC AC) (LeftSince ML AL) AH (Err why) k mid new (text ++ texts_given serving.all.results)
         → GivesServing {T = T} may (ComeSince BC AC) (LeftSince BL AL) AH (Err why) count old new text
-    at_fault T fault.Clients n k count less is_number serving next = ended_before n count less serving next
-    at_fault T fault.Recorder n k count less is_number serving next = broke_before drive.Recorder n k count less is_number serving next
-    at_fault T (fault.Core step) n k count less is_number serving next = broke_before (drive.Core step) n k count less is_number serving next
+    at_fault begins new_mirrors at_rest T fault.Clients n k count less is_number serving next = ended_before n count less serving next
+    at_fault begins new_mirrors at_rest T fault.Recorder n k count less is_number serving next = broke_before begins new_mirrors at_rest drive.Recorder n k count less is_number serving next
+    at_fault begins new_mirrors at_rest T (fault.Core step) n k count less is_number serving next = broke_before begins new_mirrors at_rest (drive.Core step) n k count less is_number serving next
 
   -- ---- the recording
 

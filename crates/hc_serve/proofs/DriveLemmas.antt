@@ -20,17 +20,21 @@ use Rattle.hc_service.specs.Runs.{Runs, RunsTo, StepResult, Steps, records_given
 use Rattle.hc_service.specs.Sending.{recorded_format, records_of}
 use Rattle.hc_service.specs.Settings.{AreGood}
 use Rattle.hc_service.specs.State.{State}
-use Rattle.hc_service.proofs.RunLemmas.{steps_append}
+use Rattle.hc_service.proofs.RunLemmas.{runs_steps, steps_append}
 use Rattle.hc_machine.specs.Steps.{Cache, GivesStep, StandsFor}
 use Rattle.hc_order.specs.declared.occurrence.Occurrence.{Occurrence}
 use Rattle.hc_order.specs.Log.{Move, carried}
-use Rattle.hc_order.specs.Log.Move.{Heard}
-use Rattle.hc_order.specs.Mirrors.{MayHappen, Mirrors}
+use Rattle.hc_order.specs.Log.Move.{Before as BeforeAll, Closed, Heard, Sent}
+use Rattle.hc_order.specs.declared.receiver.Receiver.TheVariants.{Client, Origin}
+use Rattle.hc_order.specs.Mirrors.{MayHappen, Mirrors, closed_in, opened_in}
+use Rattle.hc_order.specs.Resting.{IsAtRest}
+use Rattle.hc_connection.specs.Moves.{earlier_or, first_in, is_closed_in, is_ended_in}
+use Rattle.hc_connection.specs.Sides.{IsUntouched}
 use Rattle.hc_serve.specs.declared.fault.DriveFault.{DriveFault}
 use Rattle.hc_serve.specs.declared.fault.DriveFault.TheVariants as fault
 use Rattle.hc_serve.specs.Carrying.{CountsRecorder, texts_in}
 use Rattle.hc_order.specs.Passed.{AreOrderly, AreServed, AreUsual, IsUsual, events_of, passed}
-use Rattle.hc_serve.specs.Drives.{AreRounds, BreakOff, EndStands, GivesDrive, GivesUp, IsBusy, IsUsualFrom, Leads, answers_by, most_rounds, occurrences_by, texts_given}
+use Rattle.hc_serve.specs.Drives.{AreRounds, BreakOff, EndStands, GivesDrive, GivesUp, GivesUpLate, IsBusy, IsUsualFrom, Leads, answers_by, most_rounds, occurrences_by, texts_given}
 use Rattle.hc_serve.specs.Rounds.{Answers, AnswersBy, Break, IsRound, IsToldBy, MayBreak, StopsAt}
 use Rattle.hc_serve.specs.Rounds.Break.{AtAnswer, Before, Carrying}
 
@@ -315,9 +319,9 @@ module _ (runs : StepsAreRuns) (keeps : RunsKeepAgreement) (is_ready : Agreement
     break_usual (Carrying occurrence actions) answers may room settings s h good stands agrees few less m = tt
 
     pub broke_off : (rests : Type 0) (why : DriveFault) (break : Break) → IsToldBy break why ⊎ GivesUp break why new rests (length f.occurrences) → AnswersBy break mid new
-        → StopsAt break T' H' (passed f.occurrences f.results log) (text ++ texts_given f.results) → MayBreak most break (passed f.occurrences f.results log)
-        → BreakOff most why T' H' rests old new log text
-    broke_off rests why break told answers stops may = record {
+        → GivesUpLate break why (length f.occurrences) → StopsAt break T' H' (passed f.occurrences f.results log) (text ++ texts_given f.results)
+        → MayBreak most break (passed f.occurrences f.results log) → BreakOff most why T' H' rests old new log text
+    broke_off rests why break told answers late stops may = record {
       occurrences = f.occurrences;
       results = f.results;
       break = break;
@@ -325,6 +329,7 @@ module _ (runs : StepsAreRuns) (keeps : RunsKeepAgreement) (is_ready : Agreement
       orderly = break_orderly break may;
       leads = break_leads break answers;
       usual = break_usual break answers may;
+      late = λ room settings s h good stands agrees few rest m none. late;
       served = f.served;
       stops = stops;
     }
@@ -334,22 +339,102 @@ pub made_all : (most : ℕ) (T : List Move → Type 0) (H : List ℕ → Type 0)
     → IsToldBy Before (fault.Core Failed) ⊎ GivesUp Before (fault.Core Failed) new rests (length f.occurrences)
 made_all most T H rests old new log text rounds f all = inr (refl, refl, inl (f.many ∙ all))
 
--- rounds that went well, and then no more is done, though the cache isn't idle
-pub as_broken : (most : ℕ) (T : List Move → Type 0) (H : List ℕ → Type 0) (rests : Type 0) (old new : Cache) (log : List Move) (text : List ℕ) → IsBusy new → rests
-    → AreRounds most T H old new log text → BreakOff most (fault.Core Failed) T H rests old new log text
-as_broken most T H rests old new log text busy rest t = record {
-  occurrences = t.occurrences;
-  results = t.results;
-  break = Before;
-  told_by = inr (refl, refl, inr (busy, rest));
-  orderly = subst (λ (occurrences : List Occurrence). AreOrderly most occurrences (t.results ++ []) log) (sym (append-nil t.occurrences))
-      (subst (λ (results : List StepResult). AreOrderly most t.occurrences results log) (sym (append-nil t.results)) t.orderly);
-  usual = λ room settings s h good stands agrees few less m. tt;
-  leads = subst (λ (occurrences : List Occurrence). Leads old new (events_of occurrences) (t.results ++ [])) (sym (append-nil t.occurrences))
-      (subst (λ (results : List StepResult). Leads old new (events_of t.occurrences) results) (sym (append-nil t.results)) t.leads);
-  served = t.served;
-  stops = (t.told, t.held);
+pub late_all : (most : ℕ) (T : List Move → Type 0) (H : List ℕ → Type 0) (old new : Cache) (log : List Move) (text : List ℕ) (rounds : ℕ) (f : SoFar most T H old new log text rounds) → rounds ≡ most_rounds
+    → GivesUpLate Before (fault.Core Failed) (length f.occurrences)
+late_all most T H old new log text rounds f all before is = f.many ∙ all
+
+-- what a round tells is no giving up
+pub never_late : (break : Break) (why : DriveFault) (rounds : ℕ) → IsToldBy break why → GivesUpLate break why rounds
+never_late break why rounds told before is = absurd (apart (sym (subst (λ (break : Break). IsToldBy break why) before told) ∙ is))
+  where
+    apart : fault.Core Memory ≡ fault.Core Failed → ⊥
+    apart e = cc
+
+-- ---- a cache that was at rest
+
+-- where each event was served a cache is left
+pub never_none : (settings : CoreSettings) (events : List Event) (results : List StepResult) (s : State) (h : History) (records : List Record) → AreServed results
+    → Runs settings s h events results records None → ⊥
+never_none settings [] [] s h records served runs = none_some s runs.2
+  where
+    none_some : (s : State) → None ≡ Some s → ⊥
+    none_some s e = cc
+never_none settings [] (result ∷ results) s h records served runs = absurd runs
+never_none settings (event ∷ events) [] s h records served runs = absurd runs
+never_none settings (event ∷ events) (Ok actions ∷ results) s h records served runs = never_none settings events results runs.1 runs.2 runs.3 served runs.7
+never_none settings (event ∷ events) (Err step ∷ results) s h records served runs = absurd served
+
+never_first : (o : Option Happening) (of : Happening) → earlier_or o of ≡ None → ⊥
+never_first None of none = cc
+never_first (Some first) of none = cc
+
+-- where nothing has happened no connection was opened, and no client has ended
+none_opened : (log : List Move) → first_in log ≡ None → opened_in log ≡ 0
+none_opened [] none = refl
+none_opened (BeforeAll last number given got reads failures ∷ log) none = refl
+none_opened (Heard occurrence ∷ log) none = absurd (never_first (first_in log) occurrence.event.of none)
+none_opened (Sent to octets ∷ log) none = none_opened log none
+none_opened (Closed link ∷ log) none = none_opened log none
+
+none_ended : (c : ℕ) (log : List Move) → first_in log ≡ None → is_ended_in c log ≡ false
+none_ended c [] none = refl
+none_ended c (BeforeAll last number given got reads failures ∷ log) none = refl
+none_ended c (Heard occurrence ∷ log) none = absurd (never_first (first_in log) occurrence.event.of none)
+none_ended c (Sent to octets ∷ log) none = none_ended c log none
+none_ended c (Closed link ∷ log) none = none_ended c log none
+
+none_closed : (c : ℕ) (log : List Move) → closed_in log ≡ 0 → is_closed_in c log ≡ false
+none_closed c [] none = refl
+none_closed c (BeforeAll last number given got reads failures ∷ log) none = refl
+none_closed c (Heard occurrence ∷ log) none = none_closed c log none
+none_closed c (Sent to octets ∷ log) none = none_closed c log none
+none_closed c (Closed (Client d) ∷ log) none = absurd (omega (arith, none))
+none_closed c (Closed (Origin f) ∷ log) none = none_closed c log (omega (arith, none))
+
+-- nothing has happened of any connection where nothing has happened, and nothing was open
+untouched : (room : ℕ) (s : State) (c : ℕ) (log : List Move) → IsAtRest s → Mirrors room s log → first_in log ≡ None → IsUntouched c log
+untouched room s c log rest m none = record {
+  first = none;
+  ended = none_ended c log none;
+  closed = none_closed c log (let count = m.count in let open_none = rest.0 in let opened = none_opened log none in omega (arith, count, open_none, opened));
 }
+
+-- what a law says of links that rest: a cache that was at rest is at rest once what has passed is what was told
+abbrev pub RestsAgain : (List Move → Type 0) → ℕ → List Move → Type 0
+RestsAgain T c log = (room : ℕ) (settings : CoreSettings) (occurrences : List Occurrence) (results : List StepResult) (s other : State) (h : History) (records : List Record)
+    → IsAtRest s → IsUntouched c log → Runs settings s h (events_of occurrences) results records (Some other) → AreServed results → AreOrderly 1 occurrences results log
+    → Mirrors room other (passed occurrences results log) → T (passed occurrences results log) → IsAtRest other
+
+module _ (mirrored : TurnsAreMirrored) (T : List Move → Type 0) (H : List ℕ → Type 0) (rests : Type 0) (old new : Cache) (log : List Move) (text : List ℕ) (c : ℕ) (again : RestsAgain T c log)
+    (busy : IsBusy new) (rest : rests) (t : AreRounds 1 T H old new log text) where
+  -- rounds that went well don't leave a cache busy that was at rest before
+  never_busy : (room : ℕ) (settings : CoreSettings) (s : State) (h : History) → IsAtRest s → Mirrors room s log → first_in log ≡ None → (end : Option State) → EndStands settings end new
+      → Runs settings s h (events_of t.occurrences) t.results (records_given t.results) end → ⊥
+  never_busy room settings s h was m none None fails runs = never_none settings (events_of t.occurrences) t.results s h (records_given t.results) t.served runs
+  never_busy room settings s h was m none (Some other) works runs =
+      let steps = runs_steps settings (events_of t.occurrences) t.results s h (records_given t.results) (Some other) runs in
+      busy settings other works
+      (again room settings t.occurrences t.results s other h (records_given t.results) was (untouched room s c log was m none) runs t.served t.orderly
+      (mirrored room settings t.occurrences t.results s other log steps m t.served) t.told)
+
+  -- rounds that went well, and then no more is done, though the cache isn't idle
+  pub as_broken : BreakOff 1 (fault.Core Failed) T H rests old new log text
+  as_broken = record {
+    occurrences = t.occurrences;
+    results = t.results;
+    break = Before;
+    told_by = inr (refl, refl, inr (busy, rest));
+    orderly = subst (λ (occurrences : List Occurrence). AreOrderly 1 occurrences (t.results ++ []) log) (sym (append-nil t.occurrences))
+        (subst (λ (results : List StepResult). AreOrderly 1 t.occurrences results log) (sym (append-nil t.results)) t.orderly);
+    usual = λ room settings s h good stands agrees few less m. tt;
+    late = λ room settings s h good stands agrees few was m none before is.
+        let led = t.leads settings s h good stands agrees few in
+        absurd (never_busy room settings s h was m none led.end led.stands led.runs);
+    leads = subst (λ (occurrences : List Occurrence). Leads old new (events_of occurrences) (t.results ++ [])) (sym (append-nil t.occurrences))
+        (subst (λ (results : List StepResult). Leads old new (events_of t.occurrences) results) (sym (append-nil t.results)) t.leads);
+    served = t.served;
+    stops = (t.told, t.held);
+  }
 
 -- ---- a cache that is idle
 

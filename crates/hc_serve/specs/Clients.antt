@@ -1,17 +1,19 @@
 -- Connections of clients, one after another.
-use Rattle.std.specs.Prelude.{◌≡◌, ◌⊎◌, ℕ, zero, suc, ◌+◌, ◌<◌, ◌≤◌, List, [], ◌∷◌, ◌++◌, length, Option, Some, None, Result, Ok, Err}
+use Rattle.std.specs.Prelude.{◌≡◌, ◌⊎◌, ℕ, zero, suc, ◌+◌, ◌<◌, ◌≤◌, true, nat_lt, List, [], ◌∷◌, ◌++◌, length, Option, Some, None, Result, Ok, Err}
 use Rattle.hc_transcript.specs.declared.record.Record.{Record}
-use Rattle.hc_transcript.specs.Limits.{greatest_number}
+use Rattle.hc_transcript.specs.Limits.{greatest_moment, greatest_number}
 use Rattle.hc_events.specs.declared.Happening.TheVariants.{ClientOpened}
+use Rattle.hc_service.specs.declared.fault.StepFault.TheVariants.{Memory, MomentTooLarge, UnknownNumber, TooManyConnections, Failed}
 use Rattle.hc_service.specs.declared.settings.CoreSettings.{CoreSettings}
 use Rattle.hc_service.specs.Agreement.{Agrees, History}
 use Rattle.hc_service.specs.Runs.{IsJudgedRight, StepResult, records_given, transcript_of}
 use Rattle.hc_service.specs.Settings.{AreGood}
-use Rattle.hc_service.specs.State.{State}
+use Rattle.hc_service.specs.State.{State, new_state}
 use Rattle.hc_machine.specs.Steps.{Cache, StandsFor}
 use Rattle.hc_order.specs.declared.occurrence.Occurrence.{Occurrence}
 use Rattle.hc_order.specs.Mirrors.{Mirrors}
 use Rattle.hc_serve.specs.Rounds.{Break}
+use Rattle.hc_serve.specs.Rounds.Break.{AtAnswer}
 use Rattle.hc_connection.specs.Clients.{Passage}
 use Rattle.hc_connection.specs.Links.{HasFailed, IsBeginning}
 use Rattle.hc_connection.specs.Moves.{AreMoments, AreOf, HaveReasons, first_in, given_in, sent_in}
@@ -22,7 +24,7 @@ use Rattle.hc_serve.specs.declared.fault.DriveFault.TheVariants as drive
 use Rattle.hc_serve.specs.declared.fault.ServingFault.{ServingFault}
 use Rattle.hc_serve.specs.declared.fault.ServingFault.TheVariants as fault
 use Rattle.hc_order.specs.Passed.{AreServed, events_of, passed}
-use Rattle.hc_serve.specs.Drives.{BreakOff, BreaksAsUsual, IsLeftIdle, Leads, LedToMirror, answers_by, texts_given}
+use Rattle.hc_serve.specs.Drives.{BreakOff, BreaksAsUsual, GivesUpLate, IsLeftIdle, Leads, LedToMirror, answers_by, most_rounds, texts_given}
 
 -- ---- one connection
 
@@ -153,6 +155,27 @@ abbrev pub IsUsualBehind : Cache → List StepResult → Break → Type 0
 IsUsualBehind old results break = (room : ℕ) (settings : CoreSettings) (s : State) (h : History) → AreGood settings → StandsFor settings old s → Agrees s h
     → s.numbers.records + length (records_given results) ≤ greatest_number → 1 ≤ room → Mirrors room s (unserved 1) → BreaksAsUsual break
 
+-- where the driver gave up, it had made as many rounds as it makes, whatever the cache stood for before all, where that mirrored the log before the first connection, as far as records can be numbered
+abbrev pub GivesUpLateBehind : Cache → List StepResult → Break → DriveFault → ℕ → Type 0
+GivesUpLateBehind old results break why rounds = (room : ℕ) (settings : CoreSettings) (s : State) (h : History) → AreGood settings → StandsFor settings old s → Agrees s h
+    → s.numbers.records + length (records_given results) ≤ greatest_number → Mirrors room s (unserved 1) → GivesUpLate break why rounds
+
+-- the recorder failed, memory was refused, an event's moment was too large to be told, or as many rounds were made as a driver makes
+abbrev pub IsExpected : DriveFault → Break → ℕ → Type 0
+IsExpected drive.Client break rounds = ⊥
+IsExpected drive.Recorder break rounds = Unit {0}
+IsExpected (drive.Core Memory) break rounds = Unit {0}
+IsExpected (drive.Core MomentTooLarge) break rounds =
+    (occurrence : Occurrence) × (break ≡ AtAnswer occurrence MomentTooLarge) × (nat_lt greatest_moment occurrence.event.moment ≡ true)
+IsExpected (drive.Core UnknownNumber) break rounds = ⊥
+IsExpected (drive.Core TooManyConnections) break rounds = ⊥
+IsExpected (drive.Core Failed) break rounds = rounds ≡ most_rounds
+
+-- so it is where the cache was a new one before all, as far as records can be numbered
+abbrev pub IsExpectedOfNew : Cache → List StepResult → Break → DriveFault → ℕ → Type 0
+IsExpectedOfNew old results break why rounds = (settings : CoreSettings) → AreGood settings → StandsFor settings old (new_state settings)
+    → length (records_given results) ≤ greatest_number → IsExpected why break rounds
+
 -- fewer were served, and behind them the next one broke off
 pub record BreaksBefore (may_tell : ℕ → Type 0) (why : DriveFault) (count : ℕ) (come : ℕ → ℕ → Type 0) (left : List Passage → Type 0) (holds : List ℕ → Type 0) (old new : Cache) (text : List ℕ) : Type 0 where
   pub n : ℕ
@@ -163,6 +186,8 @@ pub record BreaksBefore (may_tell : ℕ → Type 0) (why : DriveFault) (count : 
   pub left_all : left all.links
   pub broken : BreakOff 1 why (IsOwn may_tell (1 + n)) holds (Unit {0}) between new (unserved (1 + n)) (text ++ texts_given all.results)
   pub usual : IsUsualBehind old (all.results ++ (broken.results ++ answers_by broken.break)) broken.break
+  pub late : GivesUpLateBehind old (all.results ++ (broken.results ++ answers_by broken.break)) broken.break why (length broken.occurrences)
+  pub expected : IsExpectedOfNew old (all.results ++ (broken.results ++ answers_by broken.break)) broken.break why (length broken.occurrences)
 
 -- so many connections were served, no further client came, or one broke off
 abbrev pub GivesServing : {T : Type 0} → (ℕ → Type 0) → (ℕ → ℕ → Type 0) → (List Passage → Type 0) → (List ℕ → Type 0) → Result T ServingFault → ℕ → Cache → Cache → List ℕ → Type 0

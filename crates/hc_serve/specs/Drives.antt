@@ -1,6 +1,5 @@
 -- Rounds, one after another.
 use Rattle.std.specs.Prelude.{◌≡◌, ◌⊎◌, ℕ, ◌+◌, ◌-◌, ◌^◌, ◌≤◌, Bool, true, false, List, [], ◌∷◌, ◌++◌, length, Option, Some, None, Result, Ok, Err}
-use Rattle.std.specs.FinMap.{len}
 use Rattle.std.specs.List.{flat_map}
 use Rattle.hc_transcript.specs.Limits.{greatest_number}
 use Rattle.hc_transcript.specs.Records.{record_text}
@@ -14,10 +13,12 @@ use Rattle.hc_service.specs.Settings.{AreGood}
 use Rattle.hc_service.specs.State.{State}
 use Rattle.hc_machine.specs.Steps.{Cache, StandsFor}
 use Rattle.hc_connection.specs.Links.{HasFailed}
+use Rattle.hc_connection.specs.Moves.{first_in}
 use Rattle.hc_order.specs.declared.occurrence.Occurrence.{Occurrence}
 use Rattle.hc_order.specs.Log.{Move}
 use Rattle.hc_order.specs.Mirrors.{Mirrors}
 use Rattle.hc_order.specs.Passed.{AreOrderly, AreServed, IsUsual, events_of, passed}
+use Rattle.hc_order.specs.Resting.{IsAtRest}
 use Rattle.hc_serve.specs.declared.fault.DriveFault.{DriveFault}
 use Rattle.hc_serve.specs.declared.fault.DriveFault.TheVariants as fault
 use Rattle.hc_serve.specs.Rounds.{Break, IsToldBy, StopsAt}
@@ -88,15 +89,11 @@ answers_by Before = []
 answers_by (AtAnswer occurrence step) = Err step ∷ []
 answers_by (Carrying occurrence actions) = Ok actions ∷ []
 
--- ---- a cache that is idle
+-- ---- a cache that isn't idle
 
--- no connection and no forward is open
-abbrev pub IsIdle : State → Type 0
-IsIdle s = (len s.connections ≡ 0) × (len s.forwards ≡ 0)
-
--- it stands for no state that is
+-- it stands for no state at rest
 abbrev pub IsBusy : Cache → Type 0
-IsBusy cache = (settings : CoreSettings) (s : State) → StandsFor settings cache s → IsIdle s → ⊥
+IsBusy cache = (settings : CoreSettings) (s : State) → StandsFor settings cache s → IsAtRest s → ⊥
 
 -- ---- why they broke off
 
@@ -119,6 +116,15 @@ abbrev pub IsUsualFrom : ℕ → Cache → List Move → List StepResult → Bre
 IsUsualFrom most old log results break = (room : ℕ) (settings : CoreSettings) (s : State) (h : History) → AreGood settings → StandsFor settings old s → Agrees s h
     → s.numbers.records + length (records_given (results ++ answers_by break)) ≤ greatest_number → most ≤ room → Mirrors room s log → BreaksAsUsual break
 
+-- where the driver gave up, it had made as many rounds as it makes
+abbrev pub GivesUpLate : Break → DriveFault → ℕ → Type 0
+GivesUpLate break why rounds = break ≡ Before → why ≡ fault.Core Failed → rounds ≡ most_rounds
+
+-- so it is, whatever the cache stood for, where that was at rest before and mirrored the log, and nothing had happened by that, as far as records can be numbered
+abbrev pub GivesUpLateFrom : Cache → List Move → List StepResult → Break → DriveFault → ℕ → Type 0
+GivesUpLateFrom old log results break why rounds = (room : ℕ) (settings : CoreSettings) (s : State) (h : History) → AreGood settings → StandsFor settings old s → Agrees s h
+    → s.numbers.records + length (records_given results) ≤ greatest_number → IsAtRest s → Mirrors room s log → first_in log ≡ None → GivesUpLate break why rounds
+
 pub record BreakOff (most : ℕ) (why : DriveFault) (tells : List Move → Type 0) (holds : List ℕ → Type 0) (rests : Type 0) (old new : Cache) (log : List Move) (text : List ℕ) : Type 0 where
   pub occurrences : List Occurrence
   pub results : List StepResult
@@ -127,6 +133,7 @@ pub record BreakOff (most : ℕ) (why : DriveFault) (tells : List Move → Type 
   pub orderly : AreOrderly most (occurrences ++ occurrences_by break) (results ++ answers_by break) log
   pub leads : Leads old new (events_of (occurrences ++ occurrences_by break)) (results ++ answers_by break)
   pub usual : IsUsualFrom most old log results break
+  pub late : GivesUpLateFrom old log results break why (length occurrences)
   pub served : AreServed results
   pub stops : StopsAt break tells holds (passed occurrences results log) (text ++ texts_given results)
 
@@ -145,9 +152,9 @@ CountsServed (Err fault.Client) before after = after ≡ before
 CountsServed (Err fault.Recorder) before after = HasFailed before after
 CountsServed (Err (fault.Core step)) before after = after ≡ before
 
--- it works, and what it stands for is idle
+-- it works, and what it stands for is at rest
 abbrev pub IsLeftIdle : Cache → Type 0
-IsLeftIdle cache = (cache.failed ≡ false) × ((settings : CoreSettings) (s : State) → StandsFor settings cache s → IsIdle s)
+IsLeftIdle cache = (cache.failed ≡ false) × ((settings : CoreSettings) (s : State) → StandsFor settings cache s → IsAtRest s)
 
 -- the cache is idle where all was served
 abbrev pub LeavesIdle : {T : Type 0} → Result T DriveFault → Cache → Type 0
