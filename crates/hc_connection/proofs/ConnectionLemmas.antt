@@ -1,11 +1,12 @@
 -- What a connection tells, once octets were sent.
 use Rattle.std.proofs.Common.{◌≡◌, ℕ, ◌∷◌, Bool, List, Result, Ok, Err, refl, subst, sym}
 use Rattle.std.specs.declared.alloc.AllocError.{AllocError}
-use Rattle.hc_events.specs.declared.Event.{Event}
 use Rattle.hc_events.specs.declared.Happening.{Happening}
+use Rattle.hc_order.specs.declared.occurrence.Occurrence.{Occurrence}
+use Rattle.hc_order.specs.declared.occurrence.Reason.{Reason}
 use Rattle.hc_order.specs.declared.receiver.Receiver.{Receiver}
 use Rattle.hc_connection.specs.Forwards.{AreInOrder, IsNext}
-use Rattle.hc_connection.specs.Moves.{AreMoments}
+use Rattle.hc_connection.specs.Moves.{AreMoments, occurs}
 use Rattle.hc_order.specs.Log.{Move}
 use Rattle.hc_order.specs.Log.Move.{Heard, Sent}
 use Rattle.hc_connection.specs.Sides.{Opens}
@@ -22,9 +23,11 @@ all_sent tells keeps may_tell opened c d (Err refused) to octets log is opens mo
 
 -- ---- what happens now
 
-pub heard_now : (P : List Move → Type 0) (event : Event) (of : Happening) (log : List Move) → event.of ≡ of → ((moment : ℕ) → P (Heard (record { moment = moment; of = of }) ∷ log))
-    → P (Heard event ∷ log)
-heard_now P event of log is at_any = subst (λ (o : Happening). P (Heard (record { moment = event.moment; of = o }) ∷ log)) (sym is) (at_any event.moment)
+pub heard_now : (P : List Move → Type 0) (occurrence : Occurrence) (of : Happening) (reason : Reason) (log : List Move) → occurrence.event.of ≡ of → occurrence.reason ≡ reason
+    → ((moment : ℕ) → P (Heard (occurs moment of reason) ∷ log)) → P (Heard occurrence ∷ log)
+heard_now P occurrence of reason log is why at_any =
+    subst (λ (o : Happening). P (Heard (occurs occurrence.event.moment o occurrence.reason) ∷ log)) (sym is)
+    (subst (λ (r : Reason). P (Heard (occurs occurrence.event.moment of r) ∷ log)) (sym why) (at_any occurrence.event.moment))
 
-pub next_now : (event : Event) (of : Happening) (log : List Move) → event.of ≡ of → IsNext of log → IsNext event.of log
-next_now event of log is next = subst (λ (o : Happening). IsNext o log) (sym is) next
+pub next_now : (occurrence : Occurrence) (of : Happening) (log : List Move) → occurrence.event.of ≡ of → IsNext of log → IsNext occurrence.event.of log
+next_now occurrence of log is next = subst (λ (o : Happening). IsNext o log) (sym is) next

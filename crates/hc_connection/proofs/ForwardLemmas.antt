@@ -10,9 +10,11 @@ use Rattle.std.specs.Ordering.{eq_by_cmp, nat_cmp}
 use Rattle.std.specs.declared.alloc.AllocError.{AllocError}
 use Rattle.hc_events.specs.declared.Happening.{Happening}
 use Rattle.hc_events.specs.declared.Happening.TheVariants.{ClientOpened, ClientBytes, ClientEnd, OriginBytes, OriginEnd, OriginFailed}
+use Rattle.hc_connection.specs.declared.happened.Happened.{Happened}
 use Rattle.hc_connection.specs.declared.sides.Came.{Came}
 use Rattle.hc_connection.specs.declared.sides.Came.TheVariants.{Octets, End, Failure}
 use Rattle.hc_connection.specs.Forwards.{AreKept, IsKept, IsLeastOpen, IsOfClient, KeepsCame, KeepsHappening, KeepsIfOk, KeepsPerhaps, KeepsSlot, NoneOpen, is_open_in, read_on, sent_on}
+use Rattle.hc_order.specs.declared.occurrence.Reason.{Reason}
 use Rattle.hc_order.specs.Log.{Move}
 use Rattle.hc_connection.specs.Sides.{TellsPerhaps}
 
@@ -94,27 +96,28 @@ module _ {L : Type 0} (has_given has_got : L → List ℕ → Type 0) where
 -- ---- what happens to the client
 
 -- where no forward is open it may be anything of the client's
-pub of_client : {L : Type 0} (has_given has_got : L → List ℕ → Type 0) (links : BTreeMap ℕ (Option L)) (of : Happening) → IsOfClient of
-    → (log : List Move) → NoneOpen log → AreKept has_given has_got links log → KeepsHappening (AreKept has_given has_got links) of log
-of_client has_given has_got links (ClientBytes c octets) its log none kept = (none, λ moment. kept)
-of_client has_given has_got links (ClientEnd c) its log none kept = search rules
-of_client has_given has_got links (ClientOpened c) its log none kept = absurd its
-of_client has_given has_got links (OriginBytes f octets) its log none kept = absurd its
-of_client has_given has_got links (OriginEnd f) its log none kept = absurd its
-of_client has_given has_got links (OriginFailed f) its log none kept = absurd its
+pub of_client : {L : Type 0} (has_given has_got : L → List ℕ → Type 0) (links : BTreeMap ℕ (Option L)) (of : Happening) (reason : Reason) → IsOfClient of
+    → (log : List Move) → NoneOpen log → AreKept has_given has_got links log → KeepsHappening (AreKept has_given has_got links) (record { of = of; reason = reason }) log
+of_client has_given has_got links (ClientBytes c octets) reason its log none kept = (none, λ moment. kept)
+of_client has_given has_got links (ClientEnd c) reason its log none kept = search rules
+of_client has_given has_got links (ClientOpened c) reason its log none kept = absurd its
+of_client has_given has_got links (OriginBytes f octets) reason its log none kept = absurd its
+of_client has_given has_got links (OriginEnd f) reason its log none kept = absurd its
+of_client has_given has_got links (OriginFailed f) reason its log none kept = absurd its
 
-pub client_heard : {L : Type 0} (has_given has_got : L → List ℕ → Type 0) (links : BTreeMap ℕ (Option L)) (result : Result (Option Happening) AllocError)
-    → IfOk result (λ perhaps. IfSome perhaps IsOfClient) → (log : List Move) → NoneOpen log → AreKept has_given has_got links log → KeepsIfOk (AreKept has_given has_got links) result log
-client_heard has_given has_got links (Ok (Some of)) its log none kept = of_client has_given has_got links of its log none kept
+pub client_heard : {L : Type 0} (has_given has_got : L → List ℕ → Type 0) (links : BTreeMap ℕ (Option L)) (result : Result (Option Happened) AllocError)
+    → IfOk result (λ perhaps. IfSome perhaps (λ happened. IsOfClient happened.of)) → (log : List Move) → NoneOpen log → AreKept has_given has_got links log
+    → KeepsIfOk (AreKept has_given has_got links) result log
+client_heard has_given has_got links (Ok (Some happened)) its log none kept = of_client has_given has_got links happened.of happened.reason its log none kept
 client_heard has_given has_got links (Ok None) its log none kept = kept
 client_heard has_given has_got links (Err refused) its log none kept = kept
 
 -- ---- nothing happens
 
-pub keeps_none : (keeps : List Move → Type 0) (perhaps : Option Happening) (log : List Move) → is_some perhaps ≡ false → KeepsPerhaps keeps perhaps log → keeps log
+pub keeps_none : (keeps : List Move → Type 0) (perhaps : Option Happened) (log : List Move) → is_some perhaps ≡ false → KeepsPerhaps keeps perhaps log → keeps log
 keeps_none keeps None log none kept = kept
-keeps_none keeps (Some of) log none kept = absurd (cc)
+keeps_none keeps (Some happened) log none kept = absurd (cc)
 
-pub tells_none : (tells : List Move → Type 0) (perhaps : Option Happening) (log : List Move) → is_some perhaps ≡ false → TellsPerhaps tells perhaps log → tells log
+pub tells_none : (tells : List Move → Type 0) (perhaps : Option Happened) (log : List Move) → is_some perhaps ≡ false → TellsPerhaps tells perhaps log → tells log
 tells_none tells None log none told = told
-tells_none tells (Some of) log none told = absurd (cc)
+tells_none tells (Some happened) log none told = absurd (cc)

@@ -2,3 +2,4 @@ pub mod ConnectionLemmas
 pub mod ForwardLemmas
 pub mod OrderLemmas
 pub mod TellLemmas
+pub mod RestingLemmas

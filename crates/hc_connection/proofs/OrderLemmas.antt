@@ -1,10 +1,10 @@
 -- What happens next at a connection may happen by the log.
 use Rattle.std.proofs.Common.{◌≡◌, ℕ, ◌<◌, ◌==◌, ◌||◌, Bool, true, false, cond, List, [], ◌∷◌, Option, Some, None, nat_eq, refl, sym, ap, ◌∙◌, subst, arith}
 use Rattle.std.proofs.lemmas.Bool.Decides.{nat_tests}
-use Rattle.hc_events.specs.declared.Event.{Event}
 use Rattle.hc_events.specs.declared.Happening.{Happening}
 use Rattle.hc_events.specs.declared.Happening.TheVariants.{ClientOpened, ClientBytes, ClientEnd, OriginBytes, OriginEnd, OriginFailed}
 use Rattle.hc_service.specs.Follows.{opened_by, lost_by}
+use Rattle.hc_order.specs.declared.occurrence.Occurrence.{Occurrence}
 use Rattle.hc_order.specs.Log.{Move}
 use Rattle.hc_order.specs.Log.Move.{Before, Closed, Heard, Sent}
 use Rattle.hc_order.specs.Mirrors.{MayHappen, is_connected, is_its, is_on, is_underway, opened_in}
@@ -40,12 +40,12 @@ opens_it c was = ap (λ (b : Bool). cond b true was) (same_itself c)
 opened_connected : (c : ℕ) (log : List Move) → first_in log ≡ Some (ClientOpened c) → is_closed_in c log ≡ false → is_connected c log ≡ true
 opened_connected c [] first unclosed = absurd (cc)
 opened_connected c (Before last number given got reads failures ∷ log) first unclosed = absurd (cc)
-opened_connected c (Heard event ∷ log) first unclosed = by (first_in log) refl first (λ earlier. opened_connected c log earlier unclosed)
+opened_connected c (Heard occurrence ∷ log) first unclosed = by (first_in log) refl first (λ earlier. opened_connected c log earlier unclosed)
   where
-    by : (o : Option Happening) → first_in log ≡ o → earlier_or o event.of ≡ Some (ClientOpened c) → (first_in log ≡ Some (ClientOpened c) → is_connected c log ≡ true)
-        → opened_by c event.of (is_connected c log) ≡ true
-    by (Some earlier) is same before = ap (opened_by c event.of) (before (is ∙ same)) ∙ kept_open c event.of
-    by None is same before = ap (λ (of : Happening). opened_by c of (is_connected c log)) (some_same event.of (ClientOpened c) same) ∙ opens_it c (is_connected c log)
+    by : (o : Option Happening) → first_in log ≡ o → earlier_or o occurrence.event.of ≡ Some (ClientOpened c) → (first_in log ≡ Some (ClientOpened c) → is_connected c log ≡ true)
+        → opened_by c occurrence.event.of (is_connected c log) ≡ true
+    by (Some earlier) is same before = ap (opened_by c occurrence.event.of) (before (is ∙ same)) ∙ kept_open c occurrence.event.of
+    by None is same before = ap (λ (of : Happening). opened_by c of (is_connected c log)) (some_same occurrence.event.of (ClientOpened c) same) ∙ opens_it c (is_connected c log)
       where
         some_same : (a b : Happening) → Some a ≡ Some b → a ≡ b
         some_same a b e = cc
@@ -58,9 +58,9 @@ opened_connected c (Closed link ∷ log) first unclosed =
 none_opened : (log : List Move) → first_in log ≡ None → opened_in log ≡ 0
 none_opened [] none = refl
 none_opened (Before last number given got reads failures ∷ log) none = refl
-none_opened (Heard event ∷ log) none = absurd (by (first_in log) none)
+none_opened (Heard occurrence ∷ log) none = absurd (by (first_in log) none)
   where
-    by : (o : Option Happening) → earlier_or o event.of ≡ None → ⊥
+    by : (o : Option Happening) → earlier_or o occurrence.event.of ≡ None → ⊥
     by (Some earlier) is = cc
     by None is = cc
 none_opened (Sent to octets ∷ log) none = none_opened log none
@@ -96,23 +96,23 @@ by_closed false was now on is = on is
 open_underway : (f : ℕ) (log : List Move) → is_open_in f log ≡ true → is_underway f log ≡ true
 open_underway f [] is = absurd (cc)
 open_underway f (Before last number given got reads failures ∷ log) is = absurd (cc)
-open_underway f (Heard event ∷ log) is = still_underway f event.of (is_open_in f log) (is_underway f log) (open_underway f log) is
+open_underway f (Heard occurrence ∷ log) is = still_underway f occurrence.event.of (is_open_in f log) (is_underway f log) (open_underway f log) is
 open_underway f (Sent to octets ∷ log) is = by_sent (is_on f to) (is_open_in f log) (is_underway f log) (open_underway f log) is
 open_underway f (Closed link ∷ log) is = by_closed (is_on f link) (is_open_in f log) (is_underway f log) (open_underway f log) is
 
 -- ---- what happens next
 
 -- the client opens its connection
-pub opening_may : (opened : Bool) (c : ℕ) (event : Event) (log : List Move) → opened ≡ false → event.of ≡ ClientOpened c → Opens opened c log → MayHappen 1 event.of log
-opening_may true c event log none is o = absurd (cc)
-opening_may false c event log none is o =
+pub opening_may : (opened : Bool) (c : ℕ) (occurrence : Occurrence) (log : List Move) → opened ≡ false → occurrence.event.of ≡ ClientOpened c → Opens opened c log → MayHappen 1 occurrence.event.of log
+opening_may true c occurrence log none is o = absurd (cc)
+opening_may false c occurrence log none is o =
     subst (λ (of : Happening). MayHappen 1 of log) (sym is) (o.1, (let zero = none_opened log o.0 in omega (arith, zero)))
 
 -- anything else
-pub next_may : (opened : Bool) (c : ℕ) (event : Event) (log : List Move) → opened ≡ true → IsNext event.of log → Opens opened c log
-    → AreOf c (Heard event ∷ log) → ReadsInTime c (Heard event ∷ log) → MayHappen 1 event.of log
-next_may false c event log was next o own in_time = absurd (cc)
-next_may true c event log was next o own in_time = by event.of next own.0 in_time.0 in_time.1
+pub next_may : (opened : Bool) (c : ℕ) (occurrence : Occurrence) (log : List Move) → opened ≡ true → IsNext occurrence.event.of log → Opens opened c log
+    → AreOf c (Heard occurrence ∷ log) → ReadsInTime c (Heard occurrence ∷ log) → MayHappen 1 occurrence.event.of log
+next_may false c occurrence log was next o own in_time = absurd (cc)
+next_may true c occurrence log was next o own in_time = by occurrence.event.of next own.0 in_time.0 in_time.1
   where
     connected : (d : ℕ) → d ≡ c → is_closed_in c log ≡ false → is_connected d log ≡ true
     connected d same unclosed = ap (λ (n : ℕ). is_connected n log) same ∙ opened_connected c log o unclosed

@@ -1,19 +1,21 @@
 -- What the client's side of a connection tells, behind one move more.
 use Rattle.std.proofs.Common.{◌≡◌, ℕ, ◌+◌, ◌<◌, ◌==◌, Bool, true, false, Option, Some, List, [], ◌∷◌, ◌++◌, ◌≤◌, length, if◌then◌else◌, min, sym, ap, ◌∙◌, subst, arith, append_assoc, append-nil, refl}
 use Rattle.std.proofs.lemmas.Bool.Decides.{nat_tests}
-use Rattle.hc_events.specs.declared.Event.{Event}
 use Rattle.hc_events.specs.declared.Happening.{Happening}
-use Rattle.hc_events.specs.declared.Happening.TheVariants.{ClientBytes, ClientOpened}
+use Rattle.hc_events.specs.declared.Happening.TheVariants.{ClientBytes, ClientEnd, ClientOpened}
 use Rattle.hc_connection.specs.declared.client_side.ClientSide.{ClientSide}
+use Rattle.hc_order.specs.declared.occurrence.Occurrence.{Occurrence}
+use Rattle.hc_order.specs.declared.occurrence.Reason.{Reason}
+use Rattle.hc_order.specs.declared.occurrence.Reason.TheVariants.{Peer, Replies, Reads}
 use Rattle.hc_order.specs.declared.receiver.Receiver.{Receiver}
 use Rattle.hc_order.specs.declared.receiver.Receiver.TheVariants.{Client}
 use Rattle.hc_connection.specs.Links.{HasFailed, IsBeginning}
-use Rattle.hc_connection.specs.Moves.{earlier_or, failures_before, first_in, given_in, most_octets, most_replies, one_for, replies_in, sent_by, sent_in}
+use Rattle.hc_connection.specs.Moves.{AreRead, HappensFor, IsOf, earlier_or, failures_before, first_in, given_by, given_in, is_end_of, is_ended_in, is_of_client, is_of_reads, is_spent_in, most_octets, most_reads, most_replies, occurs, octets_of, one_for, one_of_client, one_of_origin, replies_in, sent_by, sent_in}
 use Rattle.hc_order.specs.Log.{Move}
 use Rattle.hc_order.specs.Log.Move.{Heard, Sent}
 use Rattle.hc_service.specs.Numbers.{is_later}
 use Rattle.hc_order.specs.Mirrors.{last_opened}
-use Rattle.hc_connection.specs.Sides.{CountsFailed, CountsReads, Opens, Tells, TellsSparing}
+use Rattle.hc_connection.specs.Sides.{CountsFailed, CountsReads, MayEndFor, Opens, Tells, TellsSparing, most_counted}
 
 same_itself : (n : ℕ) → (n == n) ≡ true
 same_itself n = grind (arith, nat_tests)
@@ -25,11 +27,31 @@ its_own : (c : ℕ) (octets : List ℕ) → (if c == c then octets else []) ≡ 
 its_own c octets = ap (λ (b : Bool). if b then octets else []) (same_itself c)
 
 -- a count that stays at its last value
-pub counts_on : (before after : ℕ) → after ≡ min (before + 1) 4294967295 → after < most_replies → after ≡ 1 + before
-counts_on before after is few = omega (arith, is, few)
+counts_on : (sent before after : ℕ) → before ≡ min sent most_counted → after ≡ min (before + 1) most_counted → after ≡ min (1 + sent) most_counted
+counts_on sent before after was is = omega (arith, was, is)
 
-none_more : (n sent after : ℕ) → n ≡ 0 → sent ≡ after → n + sent ≡ after
-none_more n sent after none same = omega (arith, none, same)
+few_sent : (sent counted : ℕ) → counted ≡ min sent most_counted → counted < most_replies → sent < most_replies
+few_sent sent counted is few = omega (arith, is, few)
+
+many_sent : (sent counted : ℕ) → counted ≡ min sent most_counted → most_replies ≤ counted → most_replies ≤ sent
+many_sent sent counted is many = omega (arith, is, many)
+
+none_more : (n sent : ℕ) → n ≡ 0 → sent ≡ n + sent
+none_more n sent none = omega (arith, none)
+
+-- ---- reads that are left
+
+false_true : false ≡ true → ⊥
+false_true e = cc
+
+unspent : (spent : Bool) (spare reads : ℕ) → (spent ≡ true → spare + most_reads ≤ reads) → reads < spare + most_reads → spent ≡ false
+unspent false spare reads none few = refl
+unspent true spare reads none few = let all = none refl in absurd (omega (arith, all, few))
+
+spent_by : (of_reads spent : Bool) (spare reads : ℕ) → (of_reads ≡ true → most_reads ≤ reads) → (spent ≡ true → spare + most_reads ≤ reads)
+    → (if of_reads then true else spent) ≡ true → 0 + most_reads ≤ reads
+spent_by true spent spare reads now before is = now refl
+spent_by false spent spare reads now before is = let all = before is in omega (arith, all)
 
 -- ---- failures
 
@@ -63,6 +85,15 @@ module _ {C : Type 0} {was_read : C → ℕ → Type 0} {link : C} {before came 
   pub reads_kept : (now : C) → ((times : ℕ) → was_read link times → was_read now times) → CountsReads was_read now before came others spare counted
   reads_kept now keeps = record { since = r.since; was = keeps (r.since + before) r.was; all = r.all; within = r.within }
 
+  -- a read of another link, or none
+  pub of_another : {mine other : ℕ} → mine ≡ 0 → other ≤ spare → CountsReads was_read link before (mine + came) (other + others) 0 counted
+  of_another none once = let within = r.within in let all = r.all in record {
+    since = r.since;
+    was = r.was;
+    all = omega (arith, all, none);
+    within = omega (arith, within, once);
+  }
+
 module _ {C : Type 0} {was_read : C → ℕ → Type 0} {link : C} {before came others counted : ℕ} (r : CountsReads was_read link before came others 1 counted) where
   -- it came, and brought octets
   pub read_came : (now : C) → ((times : ℕ) → was_read link times → was_read now (1 + times)) → CountsReads was_read now before (1 + came) (0 + others) 0 counted
@@ -94,16 +125,24 @@ module _ {C : Type 0} (has_given has_got : C → List ℕ → Type 0) (was_read 
   replied side link failed replies =
       record { number = side.number; link = link; failed = failed; ended = side.ended; closed = side.closed; reads = side.reads; replies = replies }
 
+  -- where reads are left links are read still
+  pub still_read : (spare : ℕ) (side : ClientSide C) (log : List Move) → TellsSparing has_given has_got was_read count spare side log → side.reads < spare + most_reads → AreRead log
+  still_read spare side log t few =
+      let within = t.reads.within in
+      let all = t.reads.all in (
+        unspent (is_spent_in log) spare side.reads t.spent few,
+        omega (arith, all, within, few),
+      )
+
   module _ (side : ClientSide C) (log : List Move) (t : Tells has_given has_got was_read count side log) (octets : List ℕ) (replies : ℕ)
-      (more : replies < most_replies → replies ≡ 1 + side.replies) where
+      (more : replies ≡ min (side.replies + 1) most_counted) where
     sent_is : sent_in side.number log ++ sent_by side.number (Client side.number) octets ≡ sent_in side.number log ++ octets
     sent_is = ap (λ (o : List ℕ). sent_in side.number log ++ o) (its_own side.number octets)
 
-    count_is : replies < most_replies → one_for side.number (Client side.number) + replies_in side.number log ≡ replies
-    count_is few =
-        let is = more few in
-        let before = t.replies (omega (arith, is, few)) in
-        ap (λ (n : ℕ). n + replies_in side.number log) (one_for_itself side.number) ∙ ap (λ (n : ℕ). 1 + n) before ∙ sym is
+    count_is : replies ≡ min (one_for side.number (Client side.number) + replies_in side.number log) most_counted
+    count_is =
+        counts_on (replies_in side.number log) side.replies replies t.replies more
+        ∙ ap (λ (n : ℕ). min (n + replies_in side.number log) most_counted) (sym (one_for_itself side.number))
 
     -- the link had failed before
     pub lost : side.failed ≡ true → Tells has_given has_got was_read count (replied side side.link side.failed replies) (Sent (Client side.number) octets ∷ log)
@@ -118,10 +157,12 @@ module _ {C : Type 0} (has_given has_got : C → List ℕ → Type 0) (was_read 
       replies = count_is;
       reads = t.reads;
       few = t.few;
+      spent = t.spent;
       closed = t.closed;
       ended = t.ended;
       in_time = t.in_time;
       short = t.short;
+      reasons = t.reasons;
     }
       where
         true_false : true ≡ false → ⊥
@@ -142,10 +183,12 @@ module _ {C : Type 0} (has_given has_got : C → List ℕ → Type 0) (was_read 
       replies = count_is;
       reads = reads_kept t.reads link reads;
       few = t.few;
+      spent = t.spent;
       closed = t.closed;
       ended = t.ended;
       in_time = t.in_time;
       short = t.short;
+      reasons = t.reasons;
     }
       where
         all : t.got ++ octets ≡ sent_in side.number log ++ sent_by side.number (Client side.number) octets
@@ -169,10 +212,12 @@ module _ {C : Type 0} (has_given has_got : C → List ℕ → Type 0) (was_read 
           replies = count_is;
           reads = reads_kept t.reads link reads;
           few = t.few;
+          spent = t.spent;
           closed = t.closed;
           ended = t.ended;
           in_time = t.in_time;
           short = t.short;
+          reasons = t.reasons;
         }
       where
         true_false : true ≡ false → ⊥
@@ -183,7 +228,7 @@ module _ {C : Type 0} (has_given has_got : C → List ℕ → Type 0) (was_read 
     -- octets were read
     pub heard : (octets : List ℕ) (moment : ℕ) → side.replies < most_replies → side.closed ≡ false → side.ended ≡ false → length octets ≤ most_octets
         → ((given : List ℕ) → has_given side.link given → has_given link (given ++ octets)) → ((times : ℕ) → was_read side.link times → was_read link (1 + times)) → count link ≡ count side.link
-        → Tells has_given has_got was_read count (replied side link side.failed side.replies) (Heard (record { moment = moment; of = ClientBytes side.number octets }) ∷ log)
+        → Tells has_given has_got was_read count (replied side link side.failed side.replies) (Heard (occurs moment (ClientBytes side.number octets) Peer) ∷ log)
     heard octets moment few still_open on short gives reads same = record {
       own = (refl, t.own);
       given = gives (given_in log) t.given;
@@ -195,18 +240,20 @@ module _ {C : Type 0} (has_given has_got : C → List ℕ → Type 0) (was_read 
       replies = t.replies;
       reads = read_came t.reads link reads;
       few = t.few;
+      spent = λ is. absurd (false_true (sym read_on.0 ∙ is));
       closed = t.closed;
       ended = t.ended;
       in_time = (
-        (λ is_read. (subst (λ (n : ℕ). n < most_replies) (sym (t.replies few)) few, (sym t.ended ∙ on, sym t.closed ∙ still_open))),
+        (λ is_read. (few_sent (replies_in side.number log) side.replies t.replies few, (sym t.ended ∙ on, sym t.closed ∙ still_open))),
         (λ is_end. absurd (false_true is_end)),
         t.in_time,
       );
       short = (short, t.short);
+      reasons = ((refl, read_on), t.reasons);
     }
       where
-        false_true : false ≡ true → ⊥
-        false_true e = cc
+        read_on : AreRead log
+        read_on = let at_most = t.few in still_read 1 side log t (omega (arith, at_most))
 
     -- no more will come
     pub ended : ((given : List ℕ) → has_given side.link given → has_given link given) → ((times : ℕ) → was_read side.link times → was_read link (1 + times))
@@ -222,10 +269,12 @@ module _ {C : Type 0} (has_given has_got : C → List ℕ → Type 0) (was_read 
       replies = t.replies;
       reads = read_perhaps t.reads link (λ times was. (1, omega arith, reads times was));
       few = t.few;
+      spent = λ is. let all = t.spent is in omega (arith, all);
       closed = t.closed;
       ended = t.ended;
       in_time = t.in_time;
       short = t.short;
+      reasons = t.reasons;
     }
 
     -- the link failed
@@ -243,10 +292,78 @@ module _ {C : Type 0} (has_given has_got : C → List ℕ → Type 0) (was_read 
       replies = t.replies;
       reads = read_perhaps t.reads link reads;
       few = t.few;
+      spent = λ is. let all = t.spent is in omega (arith, all);
       closed = t.closed;
       ended = t.ended;
       in_time = t.in_time;
       short = t.short;
+      reasons = t.reasons;
+    }
+      where
+        true_false : true ≡ false → ⊥
+        true_false e = cc
+
+  -- ---- what is told, and why
+
+  -- where one more read may be there are reads left
+  pub read_still : (side : ClientSide C) (log : List Move) → TellsSparing has_given has_got was_read count 1 side log → AreRead log
+  read_still side log t = let few = t.few in still_read 1 side log t (omega (arith, few))
+
+  module _ (side : ClientSide C) (log : List Move) (t : Tells has_given has_got was_read count side log) where
+    pub replies_reached : most_replies ≤ side.replies → MayEndFor side Replies log
+    replies_reached many = (many_sent (replies_in side.number log) side.replies t.replies many, λ is. absurd (false_true is))
+
+    pub reads_reached : side.replies < most_replies → most_reads ≤ side.reads → MayEndFor side Reads log
+    reads_reached few all = (few_sent (replies_in side.number log) side.replies t.replies few, λ is. all)
+
+    pub by_peer : side.replies < most_replies → AreRead log → MayEndFor side Peer log
+    by_peer few still = ((few_sent (replies_in side.number log) side.replies t.replies few, still), λ is. absurd (false_true is))
+
+    -- the client sends no more
+    pub left : (moment : ℕ) (reason : Reason) → MayEndFor side reason log → side.ended ≡ false → side.closed ≡ false
+        → Tells has_given has_got was_read count (record { number = side.number; link = side.link; failed = side.failed; ended = true; closed = side.closed; reads = side.reads; replies = side.replies })
+        (Heard (occurs moment (ClientEnd side.number) reason) ∷ log)
+    left moment reason may on still_open = record {
+      own = (refl, t.own);
+      given = subst (has_given side.link) (sym (append-nil (given_in log))) t.given;
+      got = t.got;
+      has_it = t.has_it;
+      begins = t.begins;
+      whole = t.whole;
+      counted = t.counted;
+      replies = t.replies;
+      reads = of_another t.reads refl (omega arith);
+      few = t.few;
+      spent = spent_by (is_of_reads reason) (is_spent_in log) 0 side.reads may.1 t.spent;
+      closed = t.closed;
+      ended = sym (ap (λ (b : Bool). if b then true else is_ended_in side.number log) (same_itself side.number));
+      in_time = ((λ is_read. absurd (false_true is_read)), (λ is_end. (sym t.ended ∙ on, sym t.closed ∙ still_open)), t.in_time);
+      short = (omega arith, t.short);
+      reasons = (may.0, t.reasons);
+    }
+
+  -- what happens on a forward
+  module _ (spare : ℕ) (side : ClientSide C) (log : List Move) (t : TellsSparing has_given has_got was_read count spare side log) where
+    pub on_forward : (moment : ℕ) (of : Happening) (reason : Reason) → IsOf side.number of → given_by of ≡ [] → one_of_client of ≡ 0 → one_of_origin of ≤ spare → is_of_client of ≡ false
+        → is_end_of side.number of ≡ false → length (octets_of of) ≤ most_octets → HappensFor side.number of reason log → (is_of_reads reason ≡ true → most_reads ≤ side.reads)
+        → Tells has_given has_got was_read count side (Heard (occurs moment of reason) ∷ log)
+    on_forward moment of reason its none no_client once not_client not_end short why reached = record {
+      own = (its, t.own);
+      given = subst (has_given side.link) (sym (append-nil (given_in log)) ∙ ap (λ (o : List ℕ). given_in log ++ o) (sym none)) t.given;
+      got = t.got;
+      has_it = t.has_it;
+      begins = t.begins;
+      whole = t.whole;
+      counted = t.counted;
+      replies = t.replies;
+      reads = of_another t.reads no_client once;
+      few = t.few;
+      spent = spent_by (is_of_reads reason) (is_spent_in log) spare side.reads reached t.spent;
+      closed = t.closed;
+      ended = t.ended ∙ ap (λ (b : Bool). if b then true else is_ended_in side.number log) (sym not_end);
+      in_time = ((λ is_read. absurd (true_false (sym is_read ∙ not_client))), (λ is_end. absurd (true_false (sym is_end ∙ not_end))), t.in_time);
+      short = (short, t.short);
+      reasons = (why, t.reasons);
     }
       where
         true_false : true ≡ false → ⊥
@@ -263,14 +380,20 @@ module _ {C : Type 0} (has_given has_got : C → List ℕ → Type 0) (was_read 
     begins = begins_more t.got (sent_in side.number log) (sent_by side.number to octets) t.begins;
     whole = λ works_still. t.whole works_still ∙ sym (append-nil (sent_in side.number log)) ∙ ap (λ (o : List ℕ). sent_in side.number log ++ o) (sym none);
     counted = t.counted;
-    replies = λ few. none_more _ _ _ no_reply (t.replies few);
+    replies = t.replies ∙ ap (λ (n : ℕ). min n most_counted) (none_more (one_for side.number to) (replies_in side.number log) no_reply);
     reads = t.reads;
     few = t.few;
+    spent = t.spent;
     closed = t.closed;
     ended = t.ended;
     in_time = t.in_time;
     short = t.short;
+    reasons = t.reasons;
   }
+
+-- the other side did it, so nothing is said of reads
+pub no_reads : is_of_reads Peer ≡ true → (n : ℕ) → most_reads ≤ n
+no_reads is n = absurd (false_true is)
 
 pub not_its : (c d : ℕ) (octets : List ℕ) → (d == c) ≡ false → sent_by c (Client d) octets ≡ []
 not_its c d octets other = ap (λ (b : Bool). if b then octets else []) other
@@ -284,9 +407,9 @@ pub opens_by : (opened : Bool) (c d : ℕ) (log log' : List Move) → first_in l
 opens_by true c d log log' same last is o = same ∙ o ∙ ap (λ (n : ℕ). Some (ClientOpened n)) (sym is)
 opens_by false c d log log' same last is o = (same ∙ o.0, ap (λ (n : ℕ). is_later n (last_opened log')) is ∙ ap (is_later c) last ∙ o.1)
 
-pub opens_heard : (opened : Bool) (c d : ℕ) (event : Event) (log : List Move) → opened ≡ true → d ≡ c → Opens opened c log → Opens opened d (Heard event ∷ log)
-opens_heard true c d event log was is o = ap (λ (first : Option Happening). earlier_or first event.of) o ∙ ap (λ (n : ℕ). Some (ClientOpened n)) (sym is)
-opens_heard false c d event log was is o = absurd (cc)
+pub opens_heard : (opened : Bool) (c d : ℕ) (occurrence : Occurrence) (log : List Move) → opened ≡ true → d ≡ c → Opens opened c log → Opens opened d (Heard occurrence ∷ log)
+opens_heard true c d occurrence log was is o = ap (λ (first : Option Happening). earlier_or first occurrence.event.of) o ∙ ap (λ (n : ℕ). Some (ClientOpened n)) (sym is)
+opens_heard false c d occurrence log was is o = absurd (cc)
 
 -- ---- a client of whom more is heard
 

@@ -7,7 +7,9 @@ use Rattle.hc_events.specs.declared.Happening.{Happening}
 use Rattle.hc_events.specs.declared.Happening.TheVariants.{ClientOpened, ClientBytes, ClientEnd, OriginBytes, OriginEnd, OriginFailed}
 use Rattle.hc_connection.specs.declared.sides.Came.{Came}
 use Rattle.hc_connection.specs.declared.sides.Came.TheVariants.{Octets, End, Failure}
-use Rattle.hc_connection.specs.Moves.{first_in, most_octets}
+use Rattle.hc_connection.specs.declared.happened.Happened.{Happened}
+use Rattle.hc_connection.specs.Moves.{first_in, most_octets, occurs}
+use Rattle.hc_order.specs.declared.occurrence.Reason.TheVariants.{Peer}
 use Rattle.hc_order.specs.Log.{Move}
 use Rattle.hc_order.specs.Mirrors.{is_on}
 use Rattle.hc_order.specs.Log.Move.{Before, Closed, Heard, Sent}
@@ -23,7 +25,7 @@ ends f other = false
 abbrev pub is_open_in : ℕ → List Move → Bool
 is_open_in f [] = false
 is_open_in f (Before last number given got reads failures ∷ log) = false
-is_open_in f (Heard event ∷ log) = if ends f event.of then false else is_open_in f log
+is_open_in f (Heard occurrence ∷ log) = if ends f occurrence.event.of then false else is_open_in f log
 is_open_in f (Sent to octets ∷ log) = if is_on f to then true else is_open_in f log
 is_open_in f (Closed link ∷ log) = if is_on f link then false else is_open_in f log
 
@@ -45,7 +47,7 @@ read_behind f other before = before
 abbrev pub read_on : ℕ → List Move → List ℕ
 read_on f [] = []
 read_on f (Before last number given got reads failures ∷ log) = []
-read_on f (Heard event ∷ log) = read_behind f event.of (read_on f log)
+read_on f (Heard occurrence ∷ log) = read_behind f occurrence.event.of (read_on f log)
 read_on f (Sent to octets ∷ log) = if is_on f to then [] else read_on f log
 read_on f (Closed link ∷ log) = read_on f log
 
@@ -53,7 +55,7 @@ read_on f (Closed link ∷ log) = read_on f log
 abbrev pub sent_on : ℕ → List Move → List ℕ
 sent_on f [] = []
 sent_on f (Before last number given got reads failures ∷ log) = []
-sent_on f (Heard event ∷ log) = sent_on f log
+sent_on f (Heard occurrence ∷ log) = sent_on f log
 sent_on f (Sent to octets ∷ log) = if is_on f to then octets else sent_on f log
 sent_on f (Closed link ∷ log) = sent_on f log
 
@@ -82,19 +84,19 @@ IsNext other log = Unit {0}
 abbrev pub AreInOrder : List Move → Type 0
 AreInOrder [] = Unit {0}
 AreInOrder (Before last number given got reads failures ∷ log) = AreInOrder log
-AreInOrder (Heard event ∷ log) = IsNext event.of log × AreInOrder log
+AreInOrder (Heard occurrence ∷ log) = IsNext occurrence.event.of log × AreInOrder log
 AreInOrder (Sent to octets ∷ log) = AreInOrder log
 AreInOrder (Closed link ∷ log) = AreInOrder log
 
 -- it happens, whatever the moment, behind the log, and in order
-abbrev pub KeepsHappening : (List Move → Type 0) → Happening → List Move → Type 0
-KeepsHappening keeps of log = IsNext of log × ((moment : ℕ) → keeps (Heard (record { moment = moment; of = of }) ∷ log))
+abbrev pub KeepsHappening : (List Move → Type 0) → Happened → List Move → Type 0
+KeepsHappening keeps happened log = IsNext happened.of log × ((moment : ℕ) → keeps (Heard (occurs moment happened.of happened.reason) ∷ log))
 
-abbrev pub KeepsPerhaps : (List Move → Type 0) → Option Happening → List Move → Type 0
-KeepsPerhaps keeps (Some of) log = KeepsHappening keeps of log
+abbrev pub KeepsPerhaps : (List Move → Type 0) → Option Happened → List Move → Type 0
+KeepsPerhaps keeps (Some happened) log = KeepsHappening keeps happened log
 KeepsPerhaps keeps None log = keeps log
 
-abbrev pub KeepsIfOk : (List Move → Type 0) → Result (Option Happening) AllocError → List Move → Type 0
+abbrev pub KeepsIfOk : (List Move → Type 0) → Result (Option Happened) AllocError → List Move → Type 0
 KeepsIfOk keeps (Ok perhaps) log = KeepsPerhaps keeps perhaps log
 KeepsIfOk keeps (Err refused) log = keeps log
 
@@ -111,7 +113,7 @@ HasFew other = Unit {0}
 
 -- octets that came were read there
 abbrev pub KeepsCame : (List Move → Type 0) → ℕ → Result Came AllocError → List Move → Type 0
-KeepsCame keeps f (Ok (Octets octets)) log = (moment : ℕ) → keeps (Heard (record { moment = moment; of = OriginBytes f octets }) ∷ log)
+KeepsCame keeps f (Ok (Octets octets)) log = (moment : ℕ) → keeps (Heard (occurs moment (OriginBytes f octets) Peer) ∷ log)
 KeepsCame keeps f (Ok End) log = keeps log
 KeepsCame keeps f (Ok Failure) log = keeps log
 KeepsCame keeps f (Err refused) log = keeps log

@@ -2,6 +2,9 @@
 use Rattle.std.specs.Prelude.{◌≡◌, ℕ, ◌+◌, ◌<◌, ◌≤◌, ◌==◌, ◌||◌, Bool, true, false, List, [], ◌∷◌, ◌++◌, length, Option, Some, None, if◌then◌else◌}
 use Rattle.hc_events.specs.declared.Happening.{Happening}
 use Rattle.hc_events.specs.declared.Happening.TheVariants.{ClientOpened, ClientBytes, ClientEnd, OriginBytes, OriginEnd, OriginFailed}
+use Rattle.hc_order.specs.declared.occurrence.Occurrence.{Occurrence}
+use Rattle.hc_order.specs.declared.occurrence.Reason.{Reason}
+use Rattle.hc_order.specs.declared.occurrence.Reason.TheVariants.{Peer, Replies, Reads}
 use Rattle.hc_order.specs.declared.receiver.Receiver.{Receiver}
 use Rattle.hc_order.specs.declared.receiver.Receiver.TheVariants.{Client, Origin}
 use Rattle.hc_order.specs.Log.{Move}
@@ -22,7 +25,7 @@ IsOf c (OriginFailed f) = Unit {0}
 abbrev pub AreOf : ℕ → List Move → Type 0
 AreOf c [] = Unit {0}
 AreOf c (Before last number given got reads failures ∷ log) = number ≡ c
-AreOf c (Heard event ∷ log) = IsOf c event.of × AreOf c log
+AreOf c (Heard occurrence ∷ log) = IsOf c occurrence.event.of × AreOf c log
 AreOf c (Sent to octets ∷ log) = AreOf c log
 AreOf c (Closed link ∷ log) = AreOf c log
 
@@ -34,7 +37,7 @@ given_by other = []
 abbrev pub given_in : List Move → List ℕ
 given_in [] = []
 given_in (Before last number given got reads failures ∷ log) = given
-given_in (Heard event ∷ log) = given_in log ++ given_by event.of
+given_in (Heard occurrence ∷ log) = given_in log ++ given_by occurrence.event.of
 given_in (Sent to octets ∷ log) = given_in log
 given_in (Closed link ∷ log) = given_in log
 
@@ -46,7 +49,7 @@ sent_by c (Origin f) octets = []
 abbrev pub sent_in : ℕ → List Move → List ℕ
 sent_in c [] = []
 sent_in c (Before last number given got reads failures ∷ log) = got
-sent_in c (Heard event ∷ log) = sent_in c log
+sent_in c (Heard occurrence ∷ log) = sent_in c log
 sent_in c (Sent to octets ∷ log) = sent_in c log ++ sent_by c to octets
 sent_in c (Closed link ∷ log) = sent_in c log
 
@@ -54,7 +57,7 @@ sent_in c (Closed link ∷ log) = sent_in c log
 abbrev pub failures_before : List Move → ℕ
 failures_before [] = 0
 failures_before (Before last number given got reads failures ∷ log) = failures
-failures_before (Heard event ∷ log) = failures_before log
+failures_before (Heard occurrence ∷ log) = failures_before log
 failures_before (Sent to octets ∷ log) = failures_before log
 failures_before (Closed link ∷ log) = failures_before log
 
@@ -62,7 +65,7 @@ failures_before (Closed link ∷ log) = failures_before log
 abbrev pub reads_before : List Move → ℕ
 reads_before [] = 0
 reads_before (Before last number given got reads failures ∷ log) = reads
-reads_before (Heard event ∷ log) = reads_before log
+reads_before (Heard occurrence ∷ log) = reads_before log
 reads_before (Sent to octets ∷ log) = reads_before log
 reads_before (Closed link ∷ log) = reads_before log
 
@@ -75,7 +78,7 @@ earlier_or None of = Some of
 abbrev pub first_in : List Move → Option Happening
 first_in [] = None
 first_in (Before last number given got reads failures ∷ log) = None
-first_in (Heard event ∷ log) = earlier_or (first_in log) event.of
+first_in (Heard occurrence ∷ log) = earlier_or (first_in log) occurrence.event.of
 first_in (Sent to octets ∷ log) = first_in log
 first_in (Closed link ∷ log) = first_in log
 
@@ -89,7 +92,7 @@ one_for c (Origin f) = 0
 abbrev pub replies_in : ℕ → List Move → ℕ
 replies_in c [] = 0
 replies_in c (Before last number given got reads failures ∷ log) = 0
-replies_in c (Heard event ∷ log) = replies_in c log
+replies_in c (Heard occurrence ∷ log) = replies_in c log
 replies_in c (Sent to octets ∷ log) = one_for c to + replies_in c log
 replies_in c (Closed link ∷ log) = replies_in c log
 
@@ -101,7 +104,7 @@ one_of_client other = 0
 abbrev pub client_reads_in : List Move → ℕ
 client_reads_in [] = 0
 client_reads_in (Before last number given got reads failures ∷ log) = 0
-client_reads_in (Heard event ∷ log) = one_of_client event.of + client_reads_in log
+client_reads_in (Heard occurrence ∷ log) = one_of_client occurrence.event.of + client_reads_in log
 client_reads_in (Sent to octets ∷ log) = client_reads_in log
 client_reads_in (Closed link ∷ log) = client_reads_in log
 
@@ -114,7 +117,7 @@ one_of_origin other = 0
 abbrev pub origin_reads_in : List Move → ℕ
 origin_reads_in [] = 0
 origin_reads_in (Before last number given got reads failures ∷ log) = 0
-origin_reads_in (Heard event ∷ log) = one_of_origin event.of + origin_reads_in log
+origin_reads_in (Heard occurrence ∷ log) = one_of_origin occurrence.event.of + origin_reads_in log
 origin_reads_in (Sent to octets ∷ log) = origin_reads_in log
 origin_reads_in (Closed link ∷ log) = origin_reads_in log
 
@@ -134,7 +137,7 @@ most_reads = 1000000
 abbrev pub is_closed_in : ℕ → List Move → Bool
 is_closed_in c [] = false
 is_closed_in c (Before last number given got reads failures ∷ log) = false
-is_closed_in c (Heard event ∷ log) = is_closed_in c log
+is_closed_in c (Heard occurrence ∷ log) = is_closed_in c log
 is_closed_in c (Sent to octets ∷ log) = is_closed_in c log
 is_closed_in c (Closed link ∷ log) = is_its c link || is_closed_in c log
 
@@ -146,7 +149,7 @@ is_end_of c other = false
 abbrev pub is_ended_in : ℕ → List Move → Bool
 is_ended_in c [] = false
 is_ended_in c (Before last number given got reads failures ∷ log) = false
-is_ended_in c (Heard event ∷ log) = if is_end_of c event.of then true else is_ended_in c log
+is_ended_in c (Heard occurrence ∷ log) = if is_end_of c occurrence.event.of then true else is_ended_in c log
 is_ended_in c (Sent to octets ∷ log) = is_ended_in c log
 is_ended_in c (Closed link ∷ log) = is_ended_in c log
 
@@ -158,10 +161,61 @@ IsHeard c log = (is_ended_in c log ≡ false) × (is_closed_in c log ≡ false)
 abbrev pub ReadsInTime : ℕ → List Move → Type 0
 ReadsInTime c [] = Unit {0}
 ReadsInTime c (Before last number given got reads failures ∷ log) = Unit {0}
-ReadsInTime c (Heard event ∷ log) =
-    (is_of_client event.of ≡ true → (replies_in c log < most_replies) × IsHeard c log) × (is_end_of c event.of ≡ true → IsHeard c log) × ReadsInTime c log
+ReadsInTime c (Heard occurrence ∷ log) =
+    (is_of_client occurrence.event.of ≡ true → (replies_in c log < most_replies) × IsHeard c log) × (is_end_of c occurrence.event.of ≡ true → IsHeard c log) × ReadsInTime c log
 ReadsInTime c (Sent to octets ∷ log) = ReadsInTime c log
 ReadsInTime c (Closed link ∷ log) = ReadsInTime c log
+
+-- ---- reasons
+
+-- what happens at that moment, and is told for that reason
+abbrev pub occurs : ℕ → Happening → Reason → Occurrence
+occurs moment of reason = record { event = record { moment = moment; of = of }; reason = reason }
+
+-- it is told because no link is read any more
+abbrev pub is_of_reads : Reason → Bool
+is_of_reads Peer = false
+is_of_reads Replies = false
+is_of_reads Reads = true
+
+-- something was told for that
+abbrev pub is_spent_in : List Move → Bool
+is_spent_in [] = false
+is_spent_in (Before last number given got reads failures ∷ log) = false
+is_spent_in (Heard occurrence ∷ log) = if is_of_reads occurrence.reason then true else is_spent_in log
+is_spent_in (Sent to octets ∷ log) = is_spent_in log
+is_spent_in (Closed link ∷ log) = is_spent_in log
+
+-- links are read still: nothing was told for that, and fewer reads brought something than there may be
+abbrev pub AreRead : List Move → Type 0
+AreRead log = (is_spent_in log ≡ false) × (client_reads_in log + origin_reads_in log < most_reads)
+
+-- the client's end is told for the replies where so many were sent to it; else for the reads, or because the client sends no more, while links are read still
+abbrev pub EndsFor : ℕ → Reason → List Move → Type 0
+EndsFor c Peer log = (replies_in c log < most_replies) × AreRead log
+EndsFor c Replies log = most_replies ≤ replies_in c log
+EndsFor c Reads log = replies_in c log < most_replies
+
+-- a forward's failure is told for the reads, or because it failed, while links are read still
+abbrev pub FailsFor : Reason → List Move → Type 0
+FailsFor Peer log = AreRead log
+FailsFor Replies log = ⊥
+FailsFor Reads log = Unit {0}
+
+-- all else is told because the other side did it: it opens a connection, or is read
+abbrev pub HappensFor : ℕ → Happening → Reason → List Move → Type 0
+HappensFor c (ClientEnd d) reason log = EndsFor c reason log
+HappensFor c (OriginFailed f) reason log = FailsFor reason log
+HappensFor c (ClientOpened d) reason log = reason ≡ Peer
+HappensFor c other reason log = (reason ≡ Peer) × AreRead log
+
+-- each is told for its reason
+abbrev pub HaveReasons : ℕ → List Move → Type 0
+HaveReasons c [] = Unit {0}
+HaveReasons c (Before last number given got reads failures ∷ log) = Unit {0}
+HaveReasons c (Heard occurrence ∷ log) = HappensFor c occurrence.event.of occurrence.reason log × HaveReasons c log
+HaveReasons c (Sent to octets ∷ log) = HaveReasons c log
+HaveReasons c (Closed link ∷ log) = HaveReasons c log
 
 -- ---- moments
 
@@ -169,7 +223,7 @@ ReadsInTime c (Closed link ∷ log) = ReadsInTime c log
 abbrev pub AreMoments : (ℕ → Type 0) → List Move → Type 0
 AreMoments may_tell [] = Unit {0}
 AreMoments may_tell (Before last number given got reads failures ∷ log) = AreMoments may_tell log
-AreMoments may_tell (Heard event ∷ log) = may_tell event.moment × AreMoments may_tell log
+AreMoments may_tell (Heard occurrence ∷ log) = may_tell occurrence.event.moment × AreMoments may_tell log
 AreMoments may_tell (Sent to octets ∷ log) = AreMoments may_tell log
 AreMoments may_tell (Closed link ∷ log) = AreMoments may_tell log
 
@@ -188,6 +242,6 @@ octets_of other = []
 abbrev pub ReadsFew : List Move → Type 0
 ReadsFew [] = Unit {0}
 ReadsFew (Before last number given got reads failures ∷ log) = Unit {0}
-ReadsFew (Heard event ∷ log) = (length (octets_of event.of) ≤ most_octets) × ReadsFew log
+ReadsFew (Heard occurrence ∷ log) = (length (octets_of occurrence.event.of) ≤ most_octets) × ReadsFew log
 ReadsFew (Sent to octets ∷ log) = ReadsFew log
 ReadsFew (Closed link ∷ log) = ReadsFew log

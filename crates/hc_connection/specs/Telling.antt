@@ -1,21 +1,21 @@
 -- What the links of a driver tell.
 use Rattle.std.specs.Prelude.{ℕ, List, ◌∷◌, Option, Some, None, Result, Ok, Err}
 use Rattle.std.specs.declared.alloc.AllocError.{AllocError}
-use Rattle.hc_events.specs.declared.Event.{Event}
+use Rattle.hc_order.specs.declared.occurrence.Occurrence.{Occurrence}
 use Rattle.hc_order.specs.Log.{Move}
 use Rattle.hc_order.specs.Mirrors.{MayHappen}
 use Rattle.hc_order.specs.declared.receiver.Receiver.{Receiver}
 use Rattle.hc_order.specs.Log.Move.{Heard, Sent}
 
 -- something happened next, or nothing did
-abbrev pub TellsNext : (List Move → Type 0) → Result (Option Event) AllocError → List Move → Type 0
-TellsNext tells (Ok (Some event)) log = tells (Heard event ∷ log)
+abbrev pub TellsNext : (List Move → Type 0) → Result (Option Occurrence) AllocError → List Move → Type 0
+TellsNext tells (Ok (Some occurrence)) log = tells (Heard occurrence ∷ log)
 TellsNext tells (Ok None) log = tells log
 TellsNext tells (Err refused) log = tells log
 
 -- what happens next may happen by the log, where so many connections are open at once at most
-abbrev pub MayBeNext : ℕ → Result (Option Event) AllocError → List Move → Type 0
-MayBeNext most (Ok (Some event)) log = MayHappen most event.of log
+abbrev pub MayBeNext : ℕ → Result (Option Occurrence) AllocError → List Move → Type 0
+MayBeNext most (Ok (Some occurrence)) log = MayHappen most occurrence.event.of log
 MayBeNext most (Ok None) log = Unit {0}
 MayBeNext most (Err refused) log = Unit {0}
 

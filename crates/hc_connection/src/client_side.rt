@@ -1,11 +1,13 @@
 //! The client's side of a connection.
 
-ghost use Rattle.std.specs.Prelude.{◌≡◌, ◌<◌, false, true, ℕ, List, [], ◌∷◌, Option, None, Ok, IfOk, IfSome};
+ghost use Rattle.std.specs.Prelude.{◌≡◌, ◌<◌, ◌≤◌, false, true, ℕ, List, [], ◌∷◌, Option, None, Ok, IfOk, IfSome};
 
+use crate::happened::Happened;
 use crate::link::{Link, LinkFailure};
 use crate::sides::{Came, read_some, send_text};
 use hc_events::Happening;
 use hc_framing::MessageText;
+use hc_order::Reason;
 use std::alloc::{AllocError, Global};
 
 /// So many replies, and the client is read no more.
@@ -36,10 +38,10 @@ impl<C: Link> ClientSide<C> {
     ghost use Rattle.hc_order.specs.declared.receiver.Receiver.TheVariants.{Client};
     ghost use Rattle.hc_events.specs.declared.Happening.TheVariants.{ClientEnd};
     ghost use Rattle.hc_connection.specs.Forwards.{IsOfClient};
-    ghost use Rattle.hc_connection.specs.Moves.{most_replies};
+    ghost use Rattle.hc_connection.specs.Moves.{most_reads, most_replies};
     ghost use Rattle.hc_order.specs.Log.{Move};
     ghost use Rattle.hc_order.specs.Log.Move.{Before, Closed, Sent};
-    ghost use Rattle.hc_connection.specs.Sides.{Tells, TellsIfOk, TellsPerhaps, TellsSparing, is_heard_out};
+    ghost use Rattle.hc_connection.specs.Sides.{MayEndFor, Tells, TellsIfOk, TellsPerhaps, TellsSparing, is_heard_out};
 
     /// That of a client who has just connected.
     pub(crate) fn new(number: u64, link: C) -> Self
@@ -100,6 +102,7 @@ impl<C: Link> ClientSide<C> {
             → Tells C.has_given C.has_got C.was_read C.count self.new log }
         ensures may { (log : List Move) → Tells C.has_given C.has_got C.was_read C.count self.old log
             → result ≡ true → TellsSparing C.has_given C.has_got C.was_read C.count 1 self.new log }
+        ensures spent { result ≡ false → most_reads ≤ self.new.reads }
         ensures same { (self.new.link ≡ self.old.link) × (self.new.failed ≡ self.old.failed) × (self.new.replies ≡ self.old.replies)
             × (self.new.closed ≡ self.old.closed) × (self.new.ended ≡ self.old.ended) }
         ensures number { self.new.number ≡ self.old.number }
@@ -112,7 +115,10 @@ impl<C: Link> ClientSide<C> {
     }
 
     /// Whether there may be no more reads.
-    pub(crate) fn is_spent(&self) -> bool {
+    pub(crate) fn is_spent(&self) -> bool
+        ensures spent { result ≡ true → most_reads ≤ self.now.reads }
+        ensures unspent { result ≡ false → self.now.reads < most_reads }
+    {
         self.reads >= MOST_READS
     }
 
@@ -130,13 +136,27 @@ impl<C: Link> ClientSide<C> {
         self.ended || self.closed
     }
 
-    /// That the client sends no more, unless that was told, or the connection has closed.
-    pub(crate) fn leave(&mut self) -> Option<Happening>
-        ensures tells { (log : List Move) → Tells C.has_given C.has_got C.was_read C.count self.old log
+    /// Why the client is read no more.
+    fn reason(&self) -> Reason
+        ensures { (log : List Move) → Tells C.has_given C.has_got C.was_read C.count self.now log → MayEndFor self.now result log }
+    {
+        if self.replies >= MOST_REPLIES {
+            return Reason::Replies;
+        }
+        if self.is_spent() {
+            return Reason::Reads;
+        }
+        Reason::Peer
+    }
+
+    /// That the client sends no more, told for that reason, unless it was told, or the connection has closed.
+    fn leave_for(&mut self, reason: Reason) -> Option<Happened>
+        ensures tells { (log : List Move) → Tells C.has_given C.has_got C.was_read C.count self.old log → MayEndFor self.old reason log
             → TellsPerhaps (Tells C.has_given C.has_got C.was_read C.count self.new) result log }
         ensures number { self.new.number ≡ self.old.number }
+        ensures reads { self.new.reads ≡ self.old.reads }
         ensures rests { result ≡ None → is_heard_out self.new ≡ true }
-        ensures its { IfSome result (λ of. of ≡ ClientEnd self.old.number) }
+        ensures its { IfSome result (λ happened. happened.of ≡ ClientEnd self.old.number) }
     {
         if self.ended {
             return None;
@@ -145,15 +165,31 @@ impl<C: Link> ClientSide<C> {
             return None;
         }
         self.ended = true;
-        Some(Happening::ClientEnd(self.number))
+        Some(Happened {
+            of: Happening::ClientEnd(self.number),
+            reason,
+        })
     }
 
-    /// The same, where the client is read no more, though its link works.
-    pub(crate) fn leave_in_time(&mut self) -> Option<Happening>
+    /// The same, told for the reason for which the client is read no more.
+    pub(crate) fn leave(&mut self) -> Option<Happened>
         ensures tells { (log : List Move) → Tells C.has_given C.has_got C.was_read C.count self.old log
             → TellsPerhaps (Tells C.has_given C.has_got C.was_read C.count self.new) result log }
         ensures number { self.new.number ≡ self.old.number }
-        ensures its { IfSome result (λ of. of ≡ ClientEnd self.old.number) }
+        ensures reads { self.new.reads ≡ self.old.reads }
+        ensures rests { result ≡ None → is_heard_out self.new ≡ true }
+        ensures its { IfSome result (λ happened. happened.of ≡ ClientEnd self.old.number) }
+    {
+        let reason = self.reason();
+        self.leave_for(reason)
+    }
+
+    /// The same, where the client is read no more, though its link works.
+    pub(crate) fn leave_in_time(&mut self) -> Option<Happened>
+        ensures tells { (log : List Move) → Tells C.has_given C.has_got C.was_read C.count self.old log
+            → TellsPerhaps (Tells C.has_given C.has_got C.was_read C.count self.new) result log }
+        ensures number { self.new.number ≡ self.old.number }
+        ensures its { IfSome result (λ happened. happened.of ≡ ClientEnd self.old.number) }
     {
         if !self.is_left() {
             return None;
@@ -162,12 +198,12 @@ impl<C: Link> ClientSide<C> {
     }
 
     /// What comes of the client next, if something may.
-    pub(crate) fn hear(&mut self, alloc: Global) -> Result<Option<Happening>, AllocError>
+    pub(crate) fn hear(&mut self, alloc: Global) -> Result<Option<Happened>, AllocError>
         ensures tells { (log : List Move) → Tells C.has_given C.has_got C.was_read C.count self.old log
             → TellsIfOk (Tells C.has_given C.has_got C.was_read C.count self.new) result log }
         ensures number { self.new.number ≡ self.old.number }
         ensures rests { result ≡ Ok None → is_heard_out self.new ≡ true }
-        ensures its { IfOk result (λ perhaps. IfSome perhaps IsOfClient) }
+        ensures its { IfOk result (λ perhaps. IfSome perhaps (λ happened. IsOfClient happened.of)) }
     {
         if self.is_heard_out() {
             return Ok(None);
@@ -182,11 +218,14 @@ impl<C: Link> ClientSide<C> {
             return Ok(self.leave());
         }
         match read_some(alloc, &mut self.link)? {
-            Came::Octets(octets) => Ok(Some(Happening::ClientBytes(self.number, octets))),
-            Came::End => Ok(self.leave()),
+            Came::Octets(octets) => Ok(Some(Happened {
+                of: Happening::ClientBytes(self.number, octets),
+                reason: Reason::Peer,
+            })),
+            Came::End => Ok(self.leave_for(Reason::Peer)),
             Came::Failure => {
                 self.failed = true;
-                Ok(self.leave())
+                Ok(self.leave_for(Reason::Peer))
             }
         }
     }

@@ -3,12 +3,13 @@
 ghost use Rattle.std.specs.Prelude.{◌≡◌, ℕ, List, [], ◌∷◌, Option, length, false};
 
 use crate::client_side::ClientSide;
+use crate::happened::Happened;
 use crate::link::{Clock, Link, Origins};
 use crate::links::Links;
 use crate::peers::Peers;
 use hc_events::{Event, Happening};
 use hc_framing::MessageText;
-use hc_order::Receiver;
+use hc_order::{Occurrence, Reason, Receiver};
 use std::alloc::{AllocError, Global};
 
 /// One client's connection, and the forwards that are open for it. The forward of the least number is read, or, where
@@ -59,14 +60,17 @@ impl<'a, C: Link, O: Origins, K: Clock> Connection<'a, C, O, K> {
     }
 
     /// That happens now.
-    fn now(&self, of: Happening) -> Event
-        ensures of { result.of ≡ of }
-        ensures moment { K.may_tell self.now.clock.now result.moment }
+    fn now(&self, happened: Happened) -> Occurrence
+        ensures of { result.event.of ≡ happened.of }
+        ensures reason { result.reason ≡ happened.reason }
+        ensures moment { K.may_tell self.now.clock.now result.event.moment }
     {
-        Event {
+        let Happened { of, reason } = happened;
+        let event = Event {
             moment: self.clock.now(),
             of,
-        }
+        };
+        Occurrence { event, reason }
     }
 
     /// Whether the client's link has failed.
@@ -90,15 +94,18 @@ impl<'a, C: Link, O: Origins, K: Clock> Links for Connection<'a, C, O, K> {
 
     ghost rests = { λ connection. Rests connection.opened (length connection.peers.forwards.links.entries) connection.peers.client };
 
-    fn next(&mut self) -> Result<Option<Event>, AllocError> {
+    fn next(&mut self) -> Result<Option<Occurrence>, AllocError> {
         if !self.opened {
             self.opened = true;
             let number = self.peers.client().number();
-            return Ok(Some(self.now(Happening::ClientOpened(number))));
+            return Ok(Some(self.now(Happened {
+                of: Happening::ClientOpened(number),
+                reason: Reason::Peer,
+            })));
         }
         match self.peers.happening()? {
             None => Ok(None),
-            Some(of) => Ok(Some(self.now(of))),
+            Some(happened) => Ok(Some(self.now(happened))),
         }
     }
 

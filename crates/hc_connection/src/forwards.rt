@@ -22,7 +22,9 @@ impl<'a, O: Origins> Forwards<'a, O> {
     ghost use Rattle.hc_connection.specs.Forwards.{AreKept, KeepsCame, NoneOpen, TellsLeast, is_open_in};
     ghost use Rattle.hc_order.specs.Log.{Move};
     ghost use Rattle.hc_order.specs.Log.Move.{Closed, Heard};
+    ghost use Rattle.hc_connection.specs.Moves.{occurs};
     ghost use Rattle.hc_connection.specs.Telling.{TellsSent};
+    ghost use Rattle.hc_order.specs.declared.occurrence.Reason.{Reason};
     ghost use Rattle.hc_order.specs.declared.receiver.Receiver.TheVariants.{Origin};
     ghost use Rattle.hc_events.specs.declared.Happening.TheVariants.{OriginEnd, OriginFailed};
 
@@ -75,10 +77,10 @@ impl<'a, O: Origins> Forwards<'a, O> {
 
     /// Forgets a forward, and answers whether it was open.
     pub(crate) fn forget(&mut self, forward: u64) -> bool
-        ensures failed { (log : List Move) (moment : ℕ) → AreKept O.Link.has_given O.Link.has_got self.old.links log
-            → AreKept O.Link.has_given O.Link.has_got self.new.links (Heard (record { moment = moment; of = OriginFailed forward }) ∷ log) }
-        ensures ended { (log : List Move) (moment : ℕ) → AreKept O.Link.has_given O.Link.has_got self.old.links log
-            → AreKept O.Link.has_given O.Link.has_got self.new.links (Heard (record { moment = moment; of = OriginEnd forward }) ∷ log) }
+        ensures failed { (log : List Move) (moment : ℕ) (reason : Reason) → AreKept O.Link.has_given O.Link.has_got self.old.links log
+            → AreKept O.Link.has_given O.Link.has_got self.new.links (Heard (occurs moment (OriginFailed forward) reason) ∷ log) }
+        ensures ended { (log : List Move) (moment : ℕ) (reason : Reason) → AreKept O.Link.has_given O.Link.has_got self.old.links log
+            → AreKept O.Link.has_given O.Link.has_got self.new.links (Heard (occurs moment (OriginEnd forward) reason) ∷ log) }
         ensures closed { (log : List Move) → AreKept O.Link.has_given O.Link.has_got self.old.links log
             → AreKept O.Link.has_given O.Link.has_got self.new.links (Closed (Origin forward) ∷ log) }
         ensures was { result ≡ true → (log : List Move) → AreKept O.Link.has_given O.Link.has_got self.old.links log → is_open_in forward log ≡ true }

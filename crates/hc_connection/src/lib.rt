@@ -5,9 +5,11 @@ mod client_side;
 mod clients;
 mod connection;
 mod forwards;
+mod happened;
 mod link;
 mod links;
 mod peers;
+mod resting;
 mod sides;
 mod writing;
 
@@ -15,4 +17,5 @@ pub use clients::Clients;
 pub use connection::Connection;
 pub use link::{Clock, Link, LinkFailure, Origins};
 pub use links::Links;
+pub use resting::a_connection_at_rest_leaves_a_cache_at_rest;
 pub use sides::send_octets;

@@ -5,9 +5,8 @@ ghost use Rattle.hc_order.specs.Log.{Move};
 ghost use Rattle.hc_order.specs.Log.Move.{Closed};
 ghost use Rattle.hc_connection.specs.Telling.{MayBeNext, TellsNext, TellsSent};
 
-use hc_events::Event;
 use hc_framing::MessageText;
-use hc_order::Receiver;
+use hc_order::{Occurrence, Receiver};
 use std::alloc::AllocError;
 
 /// The links of a cache, all together.
@@ -26,9 +25,9 @@ pub trait Links {
 
     /// What happens next, or none where nothing more will. It waits until something does. It fails only where memory
     /// is refused.
-    fn next(&mut self) -> Result<Option<Event>, AllocError>
+    fn next(&mut self) -> Result<Option<Occurrence>, AllocError>
         ensures tells { (log : List Move) → tells self.old log → TellsNext (tells self.new) result log }
-        // It may happen by the log: no test of the event fails but that of its moment.
+        // It may happen by the log: where the cache mirrors the log, no test of the event fails but that of its moment.
         ensures orderly { (log : List Move) → tells self.old log → MayBeNext (most self.old) result log }
         ensures as_many { most self.new ≡ most self.old }
         ensures rests { result ≡ Ok None → rests self.new }

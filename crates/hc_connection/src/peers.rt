@@ -4,11 +4,12 @@ ghost use Rattle.std.specs.Prelude.{◌≡◌, ◌<◌, false, true, ℕ, List, 
 
 use crate::client_side::ClientSide;
 use crate::forwards::Forwards;
+use crate::happened::Happened;
 use crate::link::{Link, Origins};
 use crate::sides::Came;
 use hc_events::Happening;
 use hc_framing::MessageText;
-use hc_order::Receiver;
+use hc_order::{Reason, Receiver};
 use std::alloc::{AllocError, Global};
 use std::collections::VecDeque;
 
@@ -33,6 +34,7 @@ pub(crate) struct Peers<'a, C: Link, O: Origins> {
 
 impl<'a, C: Link, O: Origins> Peers<'a, C, O> {
     ghost use Rattle.hc_connection.specs.Forwards.{AreKept, IsLeastOpen, KeepsIfOk, KeepsPerhaps, NoneOpen};
+    ghost use Rattle.hc_connection.specs.Moves.{most_reads};
     ghost use Rattle.hc_order.specs.Log.{Move};
     ghost use Rattle.hc_order.specs.Log.Move.{Closed};
     ghost use Rattle.hc_connection.specs.Sides.{Tells, TellsIfOk, TellsPerhaps, TellsSparing, is_heard_out};
@@ -67,8 +69,8 @@ impl<'a, C: Link, O: Origins> Peers<'a, C, O> {
     }
 
     /// The first of what waits that is still to be told.
-    fn waited(&mut self) -> Option<Happening>
-        ensures tells { (log : List Move) → Tells C.has_given C.has_got C.was_read C.count self.old.client log
+    fn waited(&mut self) -> Option<Happened>
+        ensures tells { self.old.client.reads < most_reads → (log : List Move) → Tells C.has_given C.has_got C.was_read C.count self.old.client log
             → TellsPerhaps (Tells C.has_given C.has_got C.was_read C.count self.new.client) result log }
         ensures number { self.new.client.number ≡ self.old.client.number }
         ensures kept { (log : List Move) → AreKept O.Link.has_given O.Link.has_got self.old.forwards.links log
@@ -85,7 +87,7 @@ impl<'a, C: Link, O: Origins> Peers<'a, C, O> {
 
     /// The same, as long as links may be read. Behind that nothing that waits is told, since all that is open fails in the
     /// order of numbers.
-    fn waited_in_time(&mut self) -> Option<Happening>
+    fn waited_in_time(&mut self) -> Option<Happened>
         ensures tells { (log : List Move) → Tells C.has_given C.has_got C.was_read C.count self.old.client log
             → TellsPerhaps (Tells C.has_given C.has_got C.was_read C.count self.new.client) result log }
         ensures number { self.new.client.number ≡ self.old.client.number }
@@ -99,12 +101,13 @@ impl<'a, C: Link, O: Origins> Peers<'a, C, O> {
     }
 
     /// What is told of what waited, if it is still to be told.
-    fn told(&mut self, waiting: Waiting) -> Option<Happening>
-        ensures tells { (log : List Move) → Tells C.has_given C.has_got C.was_read C.count self.old.client log
+    fn told(&mut self, waiting: Waiting) -> Option<Happened>
+        ensures tells { self.old.client.reads < most_reads → (log : List Move) → Tells C.has_given C.has_got C.was_read C.count self.old.client log
             → TellsPerhaps (Tells C.has_given C.has_got C.was_read C.count self.new.client) result log }
         ensures number { self.new.client.number ≡ self.old.client.number }
         ensures kept { (log : List Move) → AreKept O.Link.has_given O.Link.has_got self.old.forwards.links log
             → KeepsPerhaps (AreKept O.Link.has_given O.Link.has_got self.new.forwards.links) result log }
+        ensures reads { self.new.client.reads ≡ self.old.client.reads }
         ensures waiting { self.new.waiting ≡ self.old.waiting }
     {
         match waiting {
@@ -114,22 +117,25 @@ impl<'a, C: Link, O: Origins> Peers<'a, C, O> {
     }
 
     /// That the forward failed, if it was open.
-    fn lost(&mut self, forward: u64) -> Option<Happening>
+    fn lost(&mut self, forward: u64) -> Option<Happened>
         ensures client { self.new.client ≡ self.old.client }
-        ensures tells { (log : List Move) → Tells C.has_given C.has_got C.was_read C.count self.old.client log
+        ensures tells { self.old.client.reads < most_reads → (log : List Move) → Tells C.has_given C.has_got C.was_read C.count self.old.client log
             → TellsPerhaps (Tells C.has_given C.has_got C.was_read C.count self.new.client) result log }
         ensures kept { (log : List Move) → AreKept O.Link.has_given O.Link.has_got self.old.forwards.links log
             → KeepsPerhaps (AreKept O.Link.has_given O.Link.has_got self.new.forwards.links) result log }
         ensures waiting { self.new.waiting ≡ self.old.waiting }
     {
         if self.forwards.forget(forward) {
-            return Some(Happening::OriginFailed(forward));
+            return Some(Happened {
+                of: Happening::OriginFailed(forward),
+                reason: Reason::Peer,
+            });
         }
         None
     }
 
     /// What comes of the forward of the least number, if one is open.
-    fn hear_origin(&mut self) -> Result<Option<Happening>, AllocError>
+    fn hear_origin(&mut self) -> Result<Option<Happened>, AllocError>
         ensures tells { (log : List Move) → Tells C.has_given C.has_got C.was_read C.count self.old.client log
             → TellsIfOk (Tells C.has_given C.has_got C.was_read C.count self.new.client) result log }
         ensures number { self.new.client.number ≡ self.old.client.number }
@@ -143,13 +149,16 @@ impl<'a, C: Link, O: Origins> Peers<'a, C, O> {
         };
         if !self.client.may_read() {
             self.forwards.forget(forward);
-            return Ok(Some(Happening::OriginFailed(forward)));
+            return Ok(Some(Happened {
+                of: Happening::OriginFailed(forward),
+                reason: Reason::Reads,
+            }));
         }
         self.hear_forward(forward)
     }
 
     /// What comes of that forward.
-    fn hear_forward(&mut self, forward: u64) -> Result<Option<Happening>, AllocError>
+    fn hear_forward(&mut self, forward: u64) -> Result<Option<Happened>, AllocError>
         ensures tells { (log : List Move) → TellsSparing C.has_given C.has_got C.was_read C.count 1 self.old.client log
             → TellsIfOk (Tells C.has_given C.has_got C.was_read C.count self.new.client) result log }
         ensures number { self.new.client.number ≡ self.old.client.number }
@@ -158,20 +167,29 @@ impl<'a, C: Link, O: Origins> Peers<'a, C, O> {
         ensures some { IfOk result IsSome }
     {
         match self.forwards.hear(forward)? {
-            Came::Octets(octets) => Ok(Some(Happening::OriginBytes(forward, octets))),
+            Came::Octets(octets) => Ok(Some(Happened {
+                of: Happening::OriginBytes(forward, octets),
+                reason: Reason::Peer,
+            })),
             Came::End => {
                 self.forwards.forget(forward);
-                Ok(Some(Happening::OriginEnd(forward)))
+                Ok(Some(Happened {
+                    of: Happening::OriginEnd(forward),
+                    reason: Reason::Peer,
+                }))
             }
             Came::Failure => {
                 self.forwards.forget(forward);
-                Ok(Some(Happening::OriginFailed(forward)))
+                Ok(Some(Happened {
+                    of: Happening::OriginFailed(forward),
+                    reason: Reason::Peer,
+                }))
             }
         }
     }
 
     /// What happens next.
-    pub(crate) fn happening(&mut self) -> Result<Option<Happening>, AllocError>
+    pub(crate) fn happening(&mut self) -> Result<Option<Happened>, AllocError>
         ensures tells { (log : List Move) → Tells C.has_given C.has_got C.was_read C.count self.old.client log
             → TellsIfOk (Tells C.has_given C.has_got C.was_read C.count self.new.client) result log }
         ensures number { self.new.client.number ≡ self.old.client.number }
@@ -180,14 +198,14 @@ impl<'a, C: Link, O: Origins> Peers<'a, C, O> {
         ensures rests { result ≡ Ok None
             → (length self.new.forwards.links.entries ≡ 0) × (is_heard_out self.new.client ≡ true) }
     {
-        if let Some(of) = self.client.leave_in_time() {
-            return Ok(Some(of));
+        if let Some(happened) = self.client.leave_in_time() {
+            return Ok(Some(happened));
         }
-        if let Some(of) = self.waited_in_time() {
-            return Ok(Some(of));
+        if let Some(happened) = self.waited_in_time() {
+            return Ok(Some(happened));
         }
-        if let Some(of) = self.hear_origin()? {
-            return Ok(Some(of));
+        if let Some(happened) = self.hear_origin()? {
+            return Ok(Some(happened));
         }
         self.client.hear(self.alloc)
     }

@@ -1,2 +1,5 @@
 pub mod MirrorLemmas
 pub mod TurnByTurnLemmas
+pub mod LeavingLemmas
+pub mod EndLemmas
+pub mod RestLemmas

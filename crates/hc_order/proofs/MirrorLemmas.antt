@@ -15,6 +15,7 @@ use Rattle.hc_service.specs.Numbers.{is_later}
 use Rattle.hc_service.specs.State.{State}
 use Rattle.hc_service.specs.Serves.{Serves, first_fault, is_full, is_known}
 use Rattle.hc_service.specs.Follows.{connection_after, forward_after, closes_in, opened_by, lost_by, last_by, Follows}
+use Rattle.hc_order.specs.declared.occurrence.Occurrence.{Occurrence}
 use Rattle.hc_order.specs.declared.receiver.Receiver.TheVariants.{Client, Origin}
 use Rattle.hc_order.specs.Log.{Move, carried}
 use Rattle.hc_order.specs.Log.Move.{Heard, Sent, Closed}
@@ -108,27 +109,27 @@ known_of event s is = by (nat_lt greatest_moment event.moment) (is_known event.o
     by false true e = refl
     by false false e = absurd (cc)
 
-pub event_mirrors : (room : ℕ) (settings : CoreSettings) (event : Event) (s : State) (actions : List Action) (s' : State) (log : List Move) → Mirrors room s log → Serves settings event s actions s'
-    → Mirrors room s' (carried actions (Heard event ∷ log))
-event_mirrors room settings event s actions s' log m v = record {
-  connections = λ c. f.connections c ∙ ap (λ (b : Bool). connection_after c actions (opened_by c event.of b)) (m.connections c) ∙ sym (connected_then c actions (Heard event ∷ log));
-  forwards = λ g. f.forwards g ∙ ap (λ (b : Bool). forward_after g actions (lost_by g event.of b)) (m.forwards g) ∙ sym (underway_then g actions (Heard event ∷ log));
+pub event_mirrors : (room : ℕ) (settings : CoreSettings) (occurrence : Occurrence) (s : State) (actions : List Action) (s' : State) (log : List Move) → Mirrors room s log → Serves settings occurrence.event s actions s'
+    → Mirrors room s' (carried actions (Heard occurrence ∷ log))
+event_mirrors room settings occurrence s actions s' log m v = record {
+  connections = λ c. f.connections c ∙ ap (λ (b : Bool). connection_after c actions (opened_by c occurrence.event.of b)) (m.connections c) ∙ sym (connected_then c actions (Heard occurrence ∷ log));
+  forwards = λ g. f.forwards g ∙ ap (λ (b : Bool). forward_after g actions (lost_by g occurrence.event.of b)) (m.forwards g) ∙ sym (underway_then g actions (Heard occurrence ∷ log));
   count =
-      let one = f.count in let before = m.count in let opens = opened_then actions (Heard event ∷ log) in let closes = closed_then actions (Heard event ∷ log) in
+      let one = f.count in let before = m.count in let opens = opened_then actions (Heard occurrence ∷ log) in let closes = closed_then actions (Heard occurrence ∷ log) in
       omega (arith, one, before, opens, closes);
-  last = f.last ∙ ap (last_by event.of) m.last ∙ sym (last_then actions (Heard event ∷ log));
+  last = f.last ∙ ap (last_by occurrence.event.of) m.last ∙ sym (last_then actions (Heard occurrence ∷ log));
   fresh = λ d later.
-      connected_then d actions (Heard event ∷ log)
-      ∙ ap (connection_after d actions) (fresh_by event.of (last_opened log) d (is_connected d log) opens_later (m.fresh d) (ap (is_later d) (sym (last_then actions (Heard event ∷ log))) ∙ later))
+      connected_then d actions (Heard occurrence ∷ log)
+      ∙ ap (connection_after d actions) (fresh_by occurrence.event.of (last_opened log) d (is_connected d log) opens_later (m.fresh d) (ap (is_later d) (sym (last_then actions (Heard occurrence ∷ log))) ∙ later))
       ∙ never_connected d actions;
   has_room = f.room ∙ m.has_room;
 }
   where
-    opens_later : (c : ℕ) → event.of ≡ ClientOpened c → is_later c (last_opened log) ≡ true
-    opens_later c is = ap (is_later c) (sym m.last) ∙ ap (λ (h : Happening). is_known h s) (sym is) ∙ known_of event s v.is_served
+    opens_later : (c : ℕ) → occurrence.event.of ≡ ClientOpened c → is_later c (last_opened log) ≡ true
+    opens_later c is = ap (is_later c) (sym m.last) ∙ ap (λ (h : Happening). is_known h s) (sym is) ∙ known_of occurrence.event s v.is_served
 
-    f : Follows event.of s actions s'
-    f = event_follows settings event s actions s' (λ c is. none_of _ (m.connections c ∙ m.fresh c (opens_later c is))) v
+    f : Follows occurrence.event.of s actions s'
+    f = event_follows settings occurrence.event s actions s' (λ c is. none_of _ (m.connections c ∙ m.fresh c (opens_later c is))) v
 
 -- ---- an event that may happen by the log is served
 

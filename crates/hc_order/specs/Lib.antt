@@ -1,3 +1,4 @@
 pub mod Log
 pub mod Mirrors
 pub mod Passed
+pub mod Resting

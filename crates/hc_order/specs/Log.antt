@@ -1,16 +1,16 @@
 -- What passes at the links of a cache. The newest move comes first.
 use Rattle.std.specs.Prelude.{ℕ, List, [], ◌∷◌, Option}
-use Rattle.hc_events.specs.declared.Event.{Event}
 use Rattle.hc_service.specs.declared.action.Action.{Action}
 use Rattle.hc_service.specs.declared.action.Action.TheVariants.{ToClient, CloseClient, Forward, CloseForward, Record}
+use Rattle.hc_order.specs.declared.occurrence.Occurrence.{Occurrence}
 use Rattle.hc_order.specs.declared.receiver.Receiver.{Receiver}
 use Rattle.hc_order.specs.declared.receiver.Receiver.TheVariants.{Client, Origin}
 
 pub data Move : Type 0 where
   -- before all others: the connection that was opened last was of that number, if one was, and none was open, nor a forward; number is that of the client's connection, these octets were read from its link and written to it already, and it had been read and had failed so often
   Before : (last : Option ℕ) (number : ℕ) (given got : List ℕ) (reads failures : ℕ) → Move
-  -- this happened
-  Heard : (event : Event) → Move
+  -- this happened, and is told for its reason
+  Heard : (occurrence : Occurrence) → Move
   -- these octets were sent to that link, which may have failed before, or at that
   Sent : (to : Receiver) (octets : List ℕ) → Move
   -- that link was closed

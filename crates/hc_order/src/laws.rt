@@ -1,23 +1,25 @@
 //! Laws of what is open: each holds of the definitions, and the functions that bear them do nothing.
 
-ghost use Rattle.std.specs.Prelude.{◌≡◌, ℕ, List, ◌∷◌, Option, Some};
+ghost use Rattle.std.specs.Prelude.{◌≡◌, ℕ, List, [], ◌∷◌, Option, Some, None};
 ghost use Rattle.hc_events.specs.declared.Event.{Event};
 ghost use Rattle.hc_service.specs.declared.action.Action.{Action};
 ghost use Rattle.hc_service.specs.declared.settings.CoreSettings.{CoreSettings};
 ghost use Rattle.hc_service.specs.Runs.{StepResult, Steps};
 ghost use Rattle.hc_service.specs.Serves.{Serves, first_fault};
-ghost use Rattle.hc_service.specs.State.{State};
+ghost use Rattle.hc_service.specs.State.{State, new_state_with};
+ghost use Rattle.hc_order.specs.declared.occurrence.Occurrence.{Occurrence};
 ghost use Rattle.hc_order.specs.Log.{Move, carried};
-ghost use Rattle.hc_order.specs.Log.Move.{Heard};
+ghost use Rattle.hc_order.specs.Log.Move.{Before, Heard};
 ghost use Rattle.hc_order.specs.Mirrors.{MayHappen, Mirrors, moment_fault};
-ghost use Rattle.hc_order.specs.Passed.{AreOrderly, AreServed, AreUsual, passed};
+ghost use Rattle.hc_order.specs.Passed.{AreOrderly, AreServed, AreUsual, events_of, passed};
+ghost use Rattle.hc_order.specs.Resting.{IsAtRest};
 
 /// What the log of who drives a cache leaves open is what is open in the cache, behind each event that was served, once
 /// what the cache did for it was carried out.
 pub fn actions_leave_what_is_open()
-    ensures { (room : ℕ) (settings : CoreSettings) (event : Event) (s : State) (actions : List Action) (other : State)
-        (log : List Move) → Mirrors room s log → Serves settings event s actions other
-        → Mirrors room other (carried actions (Heard event ∷ log)) }
+    ensures { (room : ℕ) (settings : CoreSettings) (occurrence : Occurrence) (s : State) (actions : List Action)
+        (other : State) (log : List Move) → Mirrors room s log → Serves settings occurrence.event s actions other
+        → Mirrors room other (carried actions (Heard occurrence ∷ log)) }
 {}
 
 /// An event that may happen by the log is served, unless its moment is too large: no other test of it fails.
@@ -29,10 +31,19 @@ pub fn what_may_happen_is_served()
 /// Events that may happen by the log, one after another, are served by a cache that mirrors it, up to one for which
 /// memory is refused or whose moment is too large. Where all were served, the cache that is left mirrors what has passed.
 pub fn what_may_happen_in_turn_is_served()
-    ensures usual { (room : ℕ) (settings : CoreSettings) (events : List Event) (results : List StepResult) (s : State)
-        (end : Option State) (log : List Move) → Steps settings s events results end → Mirrors room s log
-        → AreOrderly room events results log → AreUsual events results }
-    ensures mirrors { (room : ℕ) (settings : CoreSettings) (events : List Event) (results : List StepResult)
-        (s other : State) (log : List Move) → Steps settings s events results (Some other) → Mirrors room s log
-        → AreServed results → Mirrors room other (passed events results log) }
+    ensures usual { (room : ℕ) (settings : CoreSettings) (occurrences : List Occurrence) (results : List StepResult)
+        (s : State) (end : Option State) (log : List Move) → Steps settings s (events_of occurrences) results end
+        → Mirrors room s log → AreOrderly room occurrences results log → AreUsual occurrences results }
+    ensures mirrors { (room : ℕ) (settings : CoreSettings) (occurrences : List Occurrence) (results : List StepResult)
+        (s other : State) (log : List Move) → Steps settings s (events_of occurrences) results (Some other)
+        → Mirrors room s log → AreServed results → Mirrors room other (passed occurrences results log) }
+{}
+
+/// A new cache mirrors what is before all others, where no connection was opened before; and a cache that mirrors what is
+/// before all others is at rest.
+pub fn a_new_cache_mirrors_what_is_before()
+    ensures mirrors { (room : ℕ) (settings : CoreSettings) (number : ℕ) (given got : List ℕ) (reads failures : ℕ)
+        → Mirrors room (new_state_with settings room) (Before None number given got reads failures ∷ []) }
+    ensures rests { (room : ℕ) (s : State) (last : Option ℕ) (number : ℕ) (given got : List ℕ) (reads failures : ℕ)
+        → Mirrors room s (Before last number given got reads failures ∷ []) → IsAtRest s }
 {}

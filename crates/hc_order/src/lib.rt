@@ -3,9 +3,16 @@
 #![tactic(auto)]
 
 mod laws;
+mod occurrence;
 mod receiver;
+mod resting;
 
 pub use laws::{
-    actions_leave_what_is_open, what_may_happen_in_turn_is_served, what_may_happen_is_served,
+    a_new_cache_mirrors_what_is_before, actions_leave_what_is_open, what_may_happen_in_turn_is_served, what_may_happen_is_served,
 };
+pub use occurrence::{Occurrence, Reason};
 pub use receiver::Receiver;
+pub use resting::{
+    an_end_stays, an_origins_end_closes_the_forward, leaving_connections_await_a_reply,
+    what_has_ended_is_at_rest,
+};

@@ -3,6 +3,7 @@ use Rattle.std.proofs.Common.{◌≡◌, ◌⊎◌, ◌∙◌, ℕ, suc, ◌+◌
 use Rattle.std.specs.Prelude.{is_some}
 use Rattle.std.specs.BTreeMap.{BTreeMap}
 use Rattle.std.specs.FinMap.{empty_of_len, get, len}
+use Rattle.std.proofs.lemmas.Bool.Decides.{nat_tests}
 use Rattle.hc_transcript.specs.declared.record.Record.{Record}
 use Rattle.hc_transcript.specs.Limits.{greatest_number}
 use Rattle.hc_transcript.specs.Records.{opening}
@@ -11,40 +12,43 @@ use Rattle.hc_events.specs.declared.Happening.{Happening}
 use Rattle.hc_events.specs.declared.Happening.TheVariants.{ClientOpened, ClientBytes, ClientEnd, OriginBytes, OriginEnd, OriginFailed}
 use Rattle.hc_service.specs.declared.action.Action.{Action}
 use Rattle.hc_service.specs.declared.action.Action.TheVariants as action
+use Rattle.hc_service.specs.declared.fault.StepFault.{StepFault}
+use Rattle.hc_service.specs.declared.fault.StepFault.TheVariants.{Memory, MomentTooLarge, UnknownNumber, TooManyConnections, Failed}
 use Rattle.hc_service.specs.declared.settings.CoreSettings.{CoreSettings}
 use Rattle.hc_service.specs.Agreement.{Agrees, History}
-use Rattle.std.proofs.lemmas.Bool.Decides.{nat_tests}
 use Rattle.hc_service.specs.Numbers.{is_later}
 use Rattle.hc_service.specs.Runs.{IsJudgedRight, Runs, RunsOn, StepResult, nothing_yet, records_given}
 use Rattle.hc_service.specs.Sending.{recorded_format}
 use Rattle.hc_service.specs.Settings.{AreGood}
 use Rattle.hc_service.specs.State.{State, Table, new_state, new_state_with, usual_room}
+use Rattle.hc_service.specs.Follows.{last_by}
+use Rattle.hc_service.proofs.TableLemmas.{get_none}
 use Rattle.hc_machine.specs.Steps.{Cache, StandsFor}
-use Rattle.hc_connection.specs.declared.client_side.ClientSide.{ClientSide}
+use Rattle.hc_order.specs.declared.occurrence.Occurrence.{Occurrence}
 use Rattle.hc_order.specs.declared.receiver.Receiver.TheVariants.{Client, Origin}
+use Rattle.hc_order.specs.Mirrors.{Mirrors, last_opened}
+use Rattle.hc_order.specs.Log.{Move, carried}
+use Rattle.hc_order.specs.Log.Move.{Before, Closed, Heard, Sent}
+use Rattle.hc_order.specs.Passed.{AreServed, IsUsual, events_of, passed}
+use Rattle.hc_order.specs.Resting.{IsAtRest}
+use Rattle.hc_connection.specs.declared.client_side.ClientSide.{ClientSide}
 use Rattle.hc_connection.specs.Clients.{HandsBack, IsFresh, Passage}
 use Rattle.hc_connection.specs.Connections.{HasPassed}
 use Rattle.hc_connection.specs.Forwards.{AreKept, NoneOpen}
 use Rattle.hc_connection.specs.Links.{IsBeginning}
-use Rattle.hc_service.specs.Follows.{last_by}
-use Rattle.hc_service.proofs.TableLemmas.{get_none}
-use Rattle.hc_order.specs.Mirrors.{Mirrors, last_opened}
-use Rattle.hc_connection.specs.Moves.{AreMoments, AreOf, IsOf, earlier_or, failures_before, first_in, given_in, sent_in}
-use Rattle.hc_order.specs.Log.{Move, carried}
-use Rattle.hc_order.specs.Log.Move.{Before, Closed, Heard, Sent}
+use Rattle.hc_connection.specs.Moves.{AreMoments, AreOf, HaveReasons, IsOf, earlier_or, failures_before, first_in, given_in, sent_in}
 use Rattle.hc_connection.specs.Sides.{CountsFailed, Opens, Tells}
 use Rattle.hc_serve.specs.declared.fault.DriveFault.{DriveFault}
 use Rattle.hc_serve.specs.declared.fault.DriveFault.TheVariants as drive
 use Rattle.hc_serve.specs.declared.fault.ServingFault.{ServingFault}
 use Rattle.hc_serve.specs.declared.fault.ServingFault.TheVariants as fault
 use Rattle.hc_serve.specs.Carrying.{texts_in}
-use Rattle.hc_serve.specs.Clients.{LeadsToNext, BreaksBefore, BreaksNext, ComeSince, Connections, CountsServing, EndsBefore, GivesNext, GivesServing, GivesTranscript, HoldsBeginning, HoldsTranscript, IsConnection, IsOwn, KeepsIdle, LeftSince, Serving, ServesNext, log_of, number_before, unserved}
-use Rattle.hc_order.specs.Passed.{AreServed, passed}
-use Rattle.hc_serve.specs.Drives.{IsIdle, AreRounds, BreakOff, EndStands, GivesUp, IsLeftIdle, LeadsTo, Leads, answers_by, events_by, texts_given}
+use Rattle.hc_serve.specs.Clients.{BreaksBefore, BreaksNext, ComeSince, Connections, CountsServing, EndsBefore, GivesNext, GivesServing, GivesTranscript, GivesUpLateBehind, HoldsBeginning, HoldsTranscript, IsConnection, IsExpected, IsExpectedOfNew, IsOwn, IsUsualBehind, KeepsIdle, LeadsToNext, LeftSince, ServesNext, Serving, log_of, number_before, unserved}
+use Rattle.hc_serve.specs.Drives.{AreRounds, BreakOff, BreaksAsUsual, EndStands, GivesUp, GivesUpLate, IsLeftIdle, Leads, LeadsTo, answers_by, occurrences_by, texts_given}
 use Rattle.hc_serve.specs.Rounds.{Break, IsToldBy, StopsAt}
 use Rattle.hc_serve.specs.Rounds.Break.{AtAnswer, Before as BeforeAll, Carrying}
 use Rattle.hc_serve.proofs.CarryLemmas.{texts_append}
-use Rattle.hc_serve.proofs.DriveLemmas.{RunsAreCounted, fewer, given_append, served_append, texts_given_append, texts_of_one}
+use Rattle.hc_serve.proofs.DriveLemmas.{RunsAreCounted, events_append, fewer, given_append, never_none, served_append, texts_given_append, texts_of_one}
 
 -- ---- what laws say
 
@@ -59,6 +63,14 @@ RunsAreJudgedRight = (settings : CoreSettings) (room : ℕ) (events : List Event
 abbrev pub NewCacheAgrees : Type 0
 NewCacheAgrees = (settings : CoreSettings) (room : ℕ) → Agrees (new_state_with settings room) nothing_yet
 
+abbrev pub NewCacheMirrors : Type 0
+NewCacheMirrors = (room : ℕ) (settings : CoreSettings) (number : ℕ) (given got : List ℕ) (reads failures : ℕ)
+    → Mirrors room (new_state_with settings room) (Before None number given got reads failures ∷ [])
+
+abbrev pub MirrorsAtRest : Type 0
+MirrorsAtRest = (room : ℕ) (s : State) (last : Option ℕ) (number : ℕ) (given got : List ℕ) (reads failures : ℕ)
+    → Mirrors room s (Before last number given got reads failures ∷ []) → IsAtRest s
+
 -- ---- what more moves leave
 
 of_carried : (c : ℕ) (actions : List Action) (log : List Move) → AreOf c (carried actions log) → AreOf c log
@@ -69,12 +81,12 @@ of_carried c (action.CloseClient d ∷ actions) log own = of_carried c actions (
 of_carried c (action.Forward f octets ∷ actions) log own = of_carried c actions (Sent (Origin f) octets ∷ log) own
 of_carried c (action.CloseForward f ∷ actions) log own = of_carried c actions (Closed (Origin f) ∷ log) own
 
-of_passed : (c : ℕ) (events : List Event) (results : List StepResult) (log : List Move) → AreOf c (passed events results log) → AreOf c log
+of_passed : (c : ℕ) (occurrences : List Occurrence) (results : List StepResult) (log : List Move) → AreOf c (passed occurrences results log) → AreOf c log
 of_passed c [] results log own = own
-of_passed c (event ∷ events) [] log own = own
-of_passed c (event ∷ events) (Ok actions ∷ results) log own =
-    (of_carried c actions.items (Heard event ∷ log) (of_passed c events results (carried actions.items (Heard event ∷ log)) own)).1
-of_passed c (event ∷ events) (Err step ∷ results) log own = (of_passed c events results (Heard event ∷ log) own).1
+of_passed c (occurrence ∷ occurrences) [] log own = own
+of_passed c (occurrence ∷ occurrences) (Ok actions ∷ results) log own =
+    (of_carried c actions.items (Heard occurrence ∷ log) (of_passed c occurrences results (carried actions.items (Heard occurrence ∷ log)) own)).1
+of_passed c (occurrence ∷ occurrences) (Err step ∷ results) log own = (of_passed c occurrences results (Heard occurrence ∷ log) own).1
 
 failures_carried : (actions : List Action) (log : List Move) → failures_before (carried actions log) ≡ failures_before log
 failures_carried [] log = refl
@@ -84,18 +96,18 @@ failures_carried (action.CloseClient d ∷ actions) log = failures_carried actio
 failures_carried (action.Forward f octets ∷ actions) log = failures_carried actions (Sent (Origin f) octets ∷ log)
 failures_carried (action.CloseForward f ∷ actions) log = failures_carried actions (Closed (Origin f) ∷ log)
 
-failures_passed : (events : List Event) (results : List StepResult) (log : List Move) → failures_before (passed events results log) ≡ failures_before log
+failures_passed : (occurrences : List Occurrence) (results : List StepResult) (log : List Move) → failures_before (passed occurrences results log) ≡ failures_before log
 failures_passed [] results log = refl
-failures_passed (event ∷ events) [] log = refl
-failures_passed (event ∷ events) (Ok actions ∷ results) log =
-    failures_passed events results (carried actions.items (Heard event ∷ log)) ∙ failures_carried actions.items (Heard event ∷ log)
-failures_passed (event ∷ events) (Err step ∷ results) log = failures_passed events results (Heard event ∷ log)
+failures_passed (occurrence ∷ occurrences) [] log = refl
+failures_passed (occurrence ∷ occurrences) (Ok actions ∷ results) log =
+    failures_passed occurrences results (carried actions.items (Heard occurrence ∷ log)) ∙ failures_carried actions.items (Heard occurrence ∷ log)
+failures_passed (occurrence ∷ occurrences) (Err step ∷ results) log = failures_passed occurrences results (Heard occurrence ∷ log)
 
 -- what a clock may tell another may, too
 moments_still : (P Q : ℕ → Type 0) → ((moment : ℕ) → P moment → Q moment) → (log : List Move) → AreMoments P log → AreMoments Q log
 moments_still P Q may [] moments = tt
 moments_still P Q may (Before last number given got reads failures ∷ log) moments = moments_still P Q may log moments
-moments_still P Q may (Heard event ∷ log) moments = (may event.moment moments.0, moments_still P Q may log moments.1)
+moments_still P Q may (Heard occurrence ∷ log) moments = (may occurrence.event.moment moments.0, moments_still P Q may log moments.1)
 moments_still P Q may (Sent to octets ∷ log) moments = moments_still P Q may log moments
 moments_still P Q may (Closed link ∷ log) moments = moments_still P Q may log moments
 
@@ -133,41 +145,42 @@ module _ {C L : Type 0} (client_gave client_got : C → List ℕ → Type 0) (wa
   never_failed true before after (inr many) none still = absurd (omega (arith, many.0, none))
 
   -- it was served to its end
-  module _ (n : ℕ) (side : ClientSide C) (opened : Bool) (links : BTreeMap ℕ (Option L)) (events : List Event) (results : List StepResult) (told : HasPassedAt opened side links (log_of n events results)) where
+  module _ (n : ℕ) (side : ClientSide C) (opened : Bool) (links : BTreeMap ℕ (Option L)) (occurrences : List Occurrence) (results : List StepResult) (told : HasPassedAt opened side links (log_of n occurrences results)) where
     its_number : n ≡ side.number
-    its_number = of_passed side.number events results (unserved n) told.0.own
+    its_number = of_passed side.number occurrences results (unserved n) told.0.own
 
     abbrev pub passage : Passage
-    passage = record { given = given_in (log_of n events results); got = told.0.got; failures = count side.link }
+    passage = record { given = given_in (log_of n occurrences results); got = told.0.got; failures = count side.link }
 
     abbrev pub At : ℕ → Type 0
-    At c = (AreOf c (log_of n events results)) × IsBeginning told.0.got (sent_in c (log_of n events results))
-        × (side.failed ≡ false → told.0.got ≡ sent_in c (log_of n events results)) × Opens opened c (log_of n events results)
+    At c = HaveReasons c (log_of n occurrences results) × (AreOf c (log_of n occurrences results)) × IsBeginning told.0.got (sent_in c (log_of n occurrences results))
+        × (side.failed ≡ false → told.0.got ≡ sent_in c (log_of n occurrences results)) × Opens opened c (log_of n occurrences results)
 
     at_number : At n
-    at_number = subst At (sym its_number) (told.0.own, told.0.begins, told.0.whole, told.1)
+    at_number = subst At (sym its_number) (told.0.reasons, told.0.own, told.0.begins, told.0.whole, told.1)
 
-    pub is_connection : (may : ℕ → Type 0) → ((moment : ℕ) → may_tell moment → may moment) → opened ≡ true → IsConnection may n events results passage
+    pub is_connection : (may : ℕ → Type 0) → ((moment : ℕ) → may_tell moment → may moment) → opened ≡ true → IsConnection may n occurrences results passage
     is_connection may still was_opened = record {
-      opened = subst (λ (o : Bool). Opens o n (log_of n events results)) was_opened at_number.3;
-      own = at_number.0;
+      opened = subst (λ (o : Bool). Opens o n (log_of n occurrences results)) was_opened at_number.4;
+      own = at_number.1;
       given = refl;
-      got = at_number.1;
-      moments = moments_still may_tell may still (log_of n events results) told.2;
-      whole = λ none. at_number.2 (never_failed side.failed _ _ told.0.counted (failures_passed events results (unserved n)) none);
+      got = at_number.2;
+      moments = moments_still may_tell may still (log_of n occurrences results) told.2;
+      reasons = at_number.0;
+      whole = λ none. at_number.3 (never_failed side.failed _ _ told.0.counted (failures_passed occurrences results (unserved n)) none);
     }
 
   -- what passed at a connection that may have broken off
   pub its_own : (may : ℕ → Type 0) → ((moment : ℕ) → may_tell moment → may moment) → (opened : Bool) (side : ClientSide C) (links : BTreeMap ℕ (Option L)) (log : List Move)
       → HasPassedAt opened side links log → IsOwn may side.number log
-  its_own may still true side links log told = (told.0.own, moments_still may_tell may still log told.2, inr told.1)
-  its_own may still false side links log told = (told.0.own, moments_still may_tell may still log told.2, inl told.1.0)
+  its_own may still true side links log told = (told.0.own, moments_still may_tell may still log told.2, told.0.reasons, inr told.1)
+  its_own may still false side links log told = (told.0.own, moments_still may_tell may still log told.2, told.0.reasons, inl told.1.0)
 
 module _ (T T' : List Move → Type 0) (H : List ℕ → Type 0) (still : (log : List Move) → T log → T' log) where
   stops_still : (break : Break) (log : List Move) (text : List ℕ) → StopsAt break T H log text → StopsAt break T' H log text
   stops_still BeforeAll log text stops = (still log stops.0, stops.1)
-  stops_still (AtAnswer event step) log text stops = (still (Heard event ∷ log) stops.0, stops.1)
-  stops_still (Carrying event actions) log text stops = record {
+  stops_still (AtAnswer occurrence step) log text stops = (still (Heard occurrence ∷ log) stops.0, stops.1)
+  stops_still (Carrying occurrence actions) log text stops = record {
     done = stops.done;
     last = stops.last;
     left = stops.left;
@@ -186,30 +199,31 @@ module _ (T T' : List Move → Type 0) (H : List ℕ → Type 0) (still : (log :
 
   breaks_still : (why : DriveFault) (rests : Type 0) (old new : Cache) (log : List Move) (text : List ℕ) → BreakOff 1 why T H rests old new log text → BreakOff 1 why T' H (Unit {0}) old new log text
   breaks_still why rests old new log text b = record {
-    events = b.events;
+    occurrences = b.occurrences;
     results = b.results;
     break = b.break;
-    told_by = gives_up_still b.break why rests new (length b.events) b.told_by;
+    told_by = gives_up_still b.break why rests new (length b.occurrences) b.told_by;
     orderly = b.orderly;
     leads = b.leads;
     usual = b.usual;
+    late = b.late;
     served = b.served;
-    stops = stops_still b.break (passed b.events b.results log) (text ++ texts_given b.results) b.stops;
+    stops = stops_still b.break (passed b.occurrences b.results log) (text ++ texts_given b.results) b.stops;
   }
 
 -- its number is told by what passed
 module _ (may : ℕ → Type 0) (H : List ℕ → Type 0) (c n : ℕ) where
-  number_at : (break : Break) (events : List Event) (results : List StepResult) (text : List ℕ) → StopsAt break (IsOwn may c) H (log_of n events results) text → n ≡ c
-  number_at BeforeAll events results text stops = of_passed c events results (unserved n) stops.0.0
-  number_at (AtAnswer event step) events results text stops = of_passed c events results (unserved n) stops.0.0.1
-  number_at (Carrying event actions) events results text stops =
-      of_passed c events results (unserved n) (of_carried c stops.done (Heard event ∷ log_of n events results) stops.told.0).1
+  number_at : (break : Break) (occurrences : List Occurrence) (results : List StepResult) (text : List ℕ) → StopsAt break (IsOwn may c) H (log_of n occurrences results) text → n ≡ c
+  number_at BeforeAll occurrences results text stops = of_passed c occurrences results (unserved n) stops.0.0
+  number_at (AtAnswer occurrence step) occurrences results text stops = of_passed c occurrences results (unserved n) stops.0.0.1
+  number_at (Carrying occurrence actions) occurrences results text stops =
+      of_passed c occurrences results (unserved n) (of_carried c stops.done (Heard occurrence ∷ log_of n occurrences results) stops.told.0).1
 
 pub broken_off : (may : ℕ → Type 0) (T : List Move → Type 0) (H : List ℕ → Type 0) (c n : ℕ) → ((log : List Move) → T log → IsOwn may c log)
     → (why : DriveFault) (rests : Type 0) (old new : Cache) (text : List ℕ) → BreakOff 1 why T H rests old new (unserved n) text → BreakOff 1 why (IsOwn may n) H (Unit {0}) old new (unserved n) text
 broken_off may T H c n own why rests old new text b =
     let broken = breaks_still T (IsOwn may c) H own why rests old new (unserved n) text b in
-    let is = number_at may H c n broken.break broken.events broken.results (text ++ texts_given broken.results) broken.stops in
+    let is = number_at may H c n broken.break broken.occurrences broken.results (text ++ texts_given broken.results) broken.stops in
     subst (λ (m : ℕ). BreakOff 1 why (IsOwn may m) H (Unit {0}) old new (unserved n) text) (sym is) broken
 
 -- ---- what is open between connections
@@ -218,7 +232,7 @@ broken_off may T H c n own why rests old new text b =
 last_is : (n : ℕ) (log : List Move) → first_in log ≡ Some (ClientOpened n) → AreOf n log → last_opened log ≡ Some n
 last_is n [] first own = absurd (cc)
 last_is n (Before last number given got reads failures ∷ log) first own = absurd (cc)
-last_is n (Heard event ∷ log) first own = by event.of (first_in log) (λ earlier. last_is n log earlier own.1) first own.0
+last_is n (Heard occurrence ∷ log) first own = by occurrence.event.of (first_in log) (λ earlier. last_is n log earlier own.1) first own.0
   where
     by : (of : Happening) (o : Option Happening) → (o ≡ Some (ClientOpened n) → last_opened log ≡ Some n) → earlier_or o of ≡ Some (ClientOpened n) → IsOf n of
         → last_by of (last_opened log) ≡ Some n
@@ -244,7 +258,7 @@ none_there : {X : Type 0} (t : Table X) → len t ≡ 0 → (k : ℕ) → is_som
 none_there {X = X} t none k = ap is_some (ap (λ (t : Table X). get t k) (empty_of_len t none) ∙ get_none k)
 
 -- an idle cache mirrors the log before the next connection
-idle_mirrors : (room : ℕ) (s : State) (n : ℕ) (log : List Move) → 0 < n → Mirrors room s log → IsIdle s → last_opened log ≡ Some n → Mirrors room s (unserved (suc n))
+idle_mirrors : (room : ℕ) (s : State) (n : ℕ) (log : List Move) → 0 < n → Mirrors room s log → IsAtRest s → last_opened log ≡ Some n → Mirrors room s (unserved (suc n))
 idle_mirrors room s n log some m idle last = record {
   connections = none_there s.connections idle.0;
   forwards = none_there s.forwards idle.1;
@@ -324,11 +338,11 @@ module _ {C L : Type 0} (client_gave client_got : C → List ℕ → Type 0) (wa
   pub serves_next : AreRounds 1 PassesAt H old new (unserved n) text → IsLeftIdle new → opened ≡ true → (link : C) → link ≡ side.link → ((n misses : ℕ) → MC n misses → AC n misses)
       → HandsBack client_gave client_got count link ML AL → ServesNext may n (ComeSince BC AC) (LeftSince BL AL) H old new text
   serves_next rounds idle was_opened link same stay back =
-      let is = is_connection client_gave client_got was_read count origin_gave origin_got may_tell n side opened links rounds.events rounds.results rounds.told may still was_opened in
+      let is = is_connection client_gave client_got was_read count origin_gave origin_got may_tell n side opened links rounds.occurrences rounds.results rounds.told may still was_opened in
       let hands = subst (λ (link : C). HandsBack client_gave client_got count link ML AL) same back in record {
-        events = rounds.events;
+        occurrences = rounds.occurrences;
         results = rounds.results;
-        link = record { given = given_in (log_of n rounds.events rounds.results); got = rounds.told.0.got; failures = count side.link };
+        link = record { given = given_in (log_of n rounds.occurrences rounds.results); got = rounds.told.0.got; failures = count side.link };
         is_connection = is;
         served = rounds.served;
         leads = rounds.leads;
@@ -336,14 +350,14 @@ module _ {C L : Type 0} (client_gave client_got : C → List ℕ → Type 0) (wa
             let led = rounds.mirrors room settings s h good stands agrees few m in record {
               state = led.state;
               stands = led.stands;
-              mirrors = idle_mirrors room led.state n (log_of n rounds.events rounds.results) some led.mirrors (idle.1 settings led.state led.stands)
-                  (last_is n (log_of n rounds.events rounds.results) is.opened is.own);
+              mirrors = idle_mirrors room led.state n (log_of n rounds.occurrences rounds.results) some led.mirrors (idle.1 settings led.state led.stands)
+                  (last_is n (log_of n rounds.occurrences rounds.results) is.opened is.own);
               later = led.later;
               agrees = led.agrees;
               counted = led.counted;
             };
         come_one = one_came BC MC AC comes stay;
-        left_one = λ earlier had. hands earlier (given_in (log_of n rounds.events rounds.results)) rounds.told.0.got rounds.told.0.given rounds.told.0.has_it (stays earlier had);
+        left_one = λ earlier had. hands earlier (given_in (log_of n rounds.occurrences rounds.results)) rounds.told.0.got rounds.told.0.given rounds.told.0.has_it (stays earlier had);
         held = rounds.held;
       }
 
@@ -357,22 +371,10 @@ module _ {C L : Type 0} (client_gave client_got : C → List ℕ → Type 0) (wa
 
 -- ---- connections, one after another
 
--- where each event was served a cache is left
-never_none : (settings : CoreSettings) (events : List Event) (results : List StepResult) (s : State) (h : History) (records : List Record) → AreServed results
-    → Runs settings s h events results records None → ⊥
-never_none settings [] [] s h records served runs = none_some s runs.2
-  where
-    none_some : (s : State) → None ≡ Some s → ⊥
-    none_some s e = cc
-never_none settings [] (result ∷ results) s h records served runs = absurd runs
-never_none settings (event ∷ events) [] s h records served runs = absurd runs
-never_none settings (event ∷ events) (Ok actions ∷ results) s h records served runs = never_none settings events results runs.1 runs.2 runs.3 served runs.7
-never_none settings (event ∷ events) (Err step ∷ results) s h records served runs = absurd served
-
 -- none was served yet
 abbrev none_served : (may : ℕ → Type 0) (cache : Cache) → Connections may 0 cache cache
 none_served may cache = record {
-  events = [];
+  occurrences = [];
   results = [];
   links = [];
   numbered = (refl, refl, refl);
@@ -401,6 +403,71 @@ idle_behind T (fault.Core step) old mid new before keeps = tt
 pub counted_from : (T : Type 0) (why : ServingFault) (old mid new : ℕ) → mid ≡ old → CountsServing {T = T} (Err why) mid new → CountsServing {T = T} (Err why) old new
 counted_from T why old mid new same counts = subst (λ (n : ℕ). CountsServing {T = T} (Err why) n new) same counts
 
+-- ---- why the next connection broke off
+
+-- what is given further is in range where all is
+further_few : (before more : List StepResult) (a b : ℕ) → b ≡ a + length (records_given before) → a + length (records_given (before ++ more)) ≤ greatest_number
+    → b + length (records_given more) ≤ greatest_number
+further_few before more a b counts few =
+    let all = ap (λ (rs : List Record). length rs) (given_append before more) in
+    let sums = length-append (records_given before) (records_given more) in
+    omega (arith, counts, few, all, sums)
+
+-- what was told, as usual and late, is expected
+is_expected : (why : DriveFault) (break : Break) (new : Cache) (rounds : ℕ) → IsToldBy break why ⊎ GivesUp break why new (Unit {0}) rounds → BreaksAsUsual break → GivesUpLate break why rounds
+    → IsExpected why break rounds
+is_expected why break new rounds told usual late = by break told usual late
+  where
+    at_answer : (occurrence : Occurrence) (step : StepFault) → IsUsual occurrence.event step → IsExpected (drive.Core step) (AtAnswer occurrence step) rounds
+    at_answer occurrence Memory usual = tt
+    at_answer occurrence MomentTooLarge usual = (occurrence, refl, usual)
+    at_answer occurrence UnknownNumber usual = absurd usual
+    at_answer occurrence TooManyConnections usual = absurd usual
+    at_answer occurrence Failed usual = absurd usual
+
+    by : (break : Break) → IsToldBy break why ⊎ GivesUp break why new (Unit {0}) rounds → BreaksAsUsual break → GivesUpLate break why rounds → IsExpected why break rounds
+    by BeforeAll (inl is) usual late = subst (λ (why : DriveFault). IsExpected why BeforeAll rounds) (sym is) tt
+    by BeforeAll (inr gives) usual late = subst (λ (why : DriveFault). IsExpected why BeforeAll rounds) (sym gives.1) (late refl gives.1)
+    by (AtAnswer occurrence step) (inl is) usual late = subst (λ (why : DriveFault). IsExpected why (AtAnswer occurrence step) rounds) (sym is) (at_answer occurrence step usual)
+    by (AtAnswer occurrence step) (inr gives) usual late = absurd (apart gives.0)
+      where
+        apart : AtAnswer occurrence step ≡ BeforeAll → ⊥
+        apart e = cc
+    by (Carrying occurrence actions) (inl (inl is)) usual late = subst (λ (why : DriveFault). IsExpected why (Carrying occurrence actions) rounds) (sym is) tt
+    by (Carrying occurrence actions) (inl (inr is)) usual late = subst (λ (why : DriveFault). IsExpected why (Carrying occurrence actions) rounds) (sym is) tt
+    by (Carrying occurrence actions) (inr gives) usual late = absurd (apart gives.0)
+      where
+        apart : Carrying occurrence actions ≡ BeforeAll → ⊥
+        apart e = cc
+
+module _ (begins : NewCacheAgrees) (new_mirrors : NewCacheMirrors) (at_rest : MirrorsAtRest) (may : ℕ → Type 0) (old mid new : Cache) (n : ℕ) (why : DriveFault) (T : List Move → Type 0) (H : List ℕ → Type 0)
+    (text : List ℕ) (all : Connections may n old mid) (b : BreakOff 1 why T H (Unit {0}) mid new (unserved (1 + n)) text) where
+  abbrev given_behind : List StepResult
+  given_behind = b.results ++ answers_by b.break
+
+  usual_behind : IsUsualBehind old (all.results ++ given_behind) b.break
+  usual_behind room settings s h good stands agrees few less_room m =
+      let led = all.mirrors room settings s h good stands agrees (fewer all.results given_behind s.numbers.records few) m in
+      b.usual room settings led.state led.later good led.stands led.agrees (further_few all.results given_behind s.numbers.records led.state.numbers.records led.counted few) less_room
+      (subst (λ (m : ℕ). Mirrors room led.state (unserved m)) (one_is n) led.mirrors)
+
+  late_behind : GivesUpLateBehind old (all.results ++ given_behind) b.break why (length b.occurrences)
+  late_behind room settings s h good stands agrees few m =
+      let led = all.mirrors room settings s h good stands agrees (fewer all.results given_behind s.numbers.records few) m in
+      let there = subst (λ (m : ℕ). Mirrors room led.state (unserved m)) (one_is n) led.mirrors in
+      b.late room settings led.state led.later good led.stands led.agrees
+      (fewer b.results (answers_by b.break) led.state.numbers.records (further_few all.results given_behind s.numbers.records led.state.numbers.records led.counted few))
+      (at_rest room led.state (number_before (1 + n)) (1 + n) [] [] 0 0 there) there refl
+
+  expected_of_new : IsExpectedOfNew old (all.results ++ given_behind) b.break why (length b.occurrences)
+  expected_of_new settings good is_new few =
+      let m = new_mirrors usual_room settings 1 [] [] 0 0 in
+      let agrees = begins settings usual_room in
+      let in_range = still_few (length (records_given (all.results ++ given_behind))) few in
+      is_expected why b.break new (length b.occurrences) b.told_by
+      (usual_behind usual_room settings (new_state settings) nothing_yet good is_new agrees in_range (omega arith) m)
+      (late_behind usual_room settings (new_state settings) nothing_yet good is_new agrees in_range m)
+
 module _ (on : RunsGoOn) (counted : RunsAreCounted) where
   leads_on : (old mid new : Cache) (events others : List Event) (results answers : List StepResult) → AreServed results → Leads old mid events results → Leads mid new others answers
       → Leads old new (events ++ others) (results ++ answers)
@@ -423,27 +490,28 @@ module _ (on : RunsGoOn) (counted : RunsAreCounted) where
           }
 
   -- one more was served
-  abbrev one_more : (may : ℕ → Type 0) (n : ℕ) (old mid new : Cache) (events : List Event) (results : List StepResult) (link : Passage) → Connections may n old mid → IsConnection may (suc n) events results link → AreServed results
-      → Leads mid new events results → LeadsToNext (suc n) (suc (suc n)) mid new results → Connections may (suc n) old new
-  one_more may n old mid new events results link all is served leads mirrors = record {
-    events = all.events ++ events;
+  abbrev one_more : (may : ℕ → Type 0) (n : ℕ) (old mid new : Cache) (occurrences : List Occurrence) (results : List StepResult) (link : Passage) → Connections may n old mid → IsConnection may (suc n) occurrences results link → AreServed results
+      → Leads mid new (events_of occurrences) results → LeadsToNext (suc n) (suc (suc n)) mid new results → Connections may (suc n) old new
+  one_more may n old mid new occurrences results link all is served leads mirrors = record {
+    occurrences = all.occurrences ++ occurrences;
     results = all.results ++ results;
     links = link ∷ all.links;
     numbered = record {
-      before = all.events;
+      before = all.occurrences;
       answered = all.results;
       others = all.links;
-      own = events;
+      own = occurrences;
       answers = results;
       link = link;
-      events_are = refl;
+      occurrences_are = refl;
       results_are = refl;
       links_are = refl;
       are_earlier = all.numbered;
       is_connection = is;
     };
     served = served_append all.results results all.served served;
-    leads = leads_on old mid new all.events events all.results results all.served all.leads leads;
+    leads = subst (λ (events : List Event). Leads old new events (all.results ++ results)) (sym (events_append all.occurrences occurrences))
+        (leads_on old mid new (events_of all.occurrences) (events_of occurrences) all.results results all.served all.leads leads);
     mirrors = next_on old mid new (suc n) (suc (suc n)) all.results results all.mirrors mirrors;
   }
 
@@ -451,7 +519,7 @@ module _ (on : RunsGoOn) (counted : RunsAreCounted) where
     goes_on_to : (n : ℕ) → (serving : Serving may n 0 (ComeSince BC MC) (LeftSince BL ML) MH old mid text)
         → ServesNext may (suc n) (ComeSince MC AC) (LeftSince ML AL) AH mid new (text ++ texts_given serving.all.results) → Serving may (suc n) 0 (ComeSince BC AC) (LeftSince BL AL) AH old new text
     goes_on_to n serving next = record {
-      all = one_more may n old mid new next.events next.results next.link serving.all next.is_connection next.served next.leads (next.mirrors (omega arith));
+      all = one_more may n old mid new next.occurrences next.results next.link serving.all next.is_connection next.served next.leads (next.mirrors (omega arith));
       come_all = subst (λ (m : ℕ). ComeSince BC AC m 0) (sym (one_is n)) (more_came BC MC AC n 0 1 0 serving.come_all next.come_one);
       left_all = more_left BL ML AL serving.all.links (next.link ∷ []) serving.left_all next.left_one;
       held = subst AH (append_assoc text (texts_given serving.all.results) (texts_given next.results)
@@ -482,9 +550,9 @@ module _ (on : RunsGoOn) (counted : RunsAreCounted) where
         })
 
     -- the next one broke off
-    pub broke_before : (why : DriveFault) (n k count : ℕ) → n < count → k ≡ suc n → (serving : Serving may n 0 (ComeSince BC MC) (LeftSince BL ML) MH old mid text)
+    pub broke_before : NewCacheAgrees → NewCacheMirrors → MirrorsAtRest → (why : DriveFault) (n k count : ℕ) → n < count → k ≡ suc n → (serving : Serving may n 0 (ComeSince BC MC) (LeftSince BL ML) MH old mid text)
         → BreaksNext may why k (ComeSince MC AC) (LeftSince ML AL) AH mid new (text ++ texts_given serving.all.results) → BreaksBefore may why count (ComeSince BC AC) (LeftSince BL AL) AH old new text
-    broke_before why n k count less is_number serving next =
+    broke_before begins new_mirrors at_rest why n k count less is_number serving next =
         let b : BreakOff 1 why (IsOwn may (1 + n)) AH (Unit {0}) mid new (unserved (1 + n)) (text ++ texts_given serving.all.results) =
         subst (λ (k : ℕ). BreakOff 1 why (IsOwn may k) AH (Unit {0}) mid new (unserved k) (text ++ texts_given serving.all.results)) (is_number ∙ one_is n) next.broken in record {
           n = n;
@@ -494,22 +562,18 @@ module _ (on : RunsGoOn) (counted : RunsAreCounted) where
           come_all = more_came BC MC AC n 0 1 0 serving.come_all next.come_one;
           left_all = more_left BL ML AL serving.all.links [] serving.left_all next.left_none;
           broken = b;
-          usual = λ room settings s h good stands agrees few less_room m.
-              let led = serving.all.mirrors room settings s h good stands agrees (fewer serving.all.results (b.results ++ answers_by b.break) s.numbers.records few) m in
-              let counts = led.counted in
-              let all = ap (λ (rs : List Record). length rs) (given_append serving.all.results (b.results ++ answers_by b.break)) in
-              let sums = length-append (records_given serving.all.results) (records_given (b.results ++ answers_by b.break)) in
-              b.usual room settings led.state led.later good led.stands led.agrees (omega (arith, few, counts, all, sums)) less_room
-              (subst (λ (m : ℕ). Mirrors room led.state (unserved m)) (one_is n) led.mirrors);
+          usual = usual_behind begins new_mirrors at_rest may old mid new n why (IsOwn may (1 + n)) AH (text ++ texts_given serving.all.results) serving.all b;
+          late = late_behind begins new_mirrors at_rest may old mid new n why (IsOwn may (1 + n)) AH (text ++ texts_given serving.all.results) serving.all b;
+          expected = expected_of_new begins new_mirrors at_rest may old mid new n why (IsOwn may (1 + n)) AH (text ++ texts_given serving.all.results) serving.all b;
         }
 
     -- any fault of the next one
-    pub at_fault : (T : Type 0) (why : ServingFault) (n k count : ℕ) → n < count → k ≡ suc n → (serving : Serving may n 0 (ComeSince BC MC) (LeftSince BL ML) MH old mid text)
+    pub at_fault : NewCacheAgrees → NewCacheMirrors → MirrorsAtRest → (T : Type 0) (why : ServingFault) (n k count : ℕ) → n < count → k ≡ suc n → (serving : Serving may n 0 (ComeSince BC MC) (LeftSince BL ML) MH old mid text)
         → GivesNext {T = T} may (ComeSince MC AC) (LeftSince ML AL) AH (Err why) k mid new (text ++ texts_given serving.all.results)
         → GivesServing {T = T} may (ComeSince BC AC) (LeftSince BL AL) AH (Err why) count old new text
-    at_fault T fault.Clients n k count less is_number serving next = ended_before n count less serving next
-    at_fault T fault.Recorder n k count less is_number serving next = broke_before drive.Recorder n k count less is_number serving next
-    at_fault T (fault.Core step) n k count less is_number serving next = broke_before (drive.Core step) n k count less is_number serving next
+    at_fault begins new_mirrors at_rest T fault.Clients n k count less is_number serving next = ended_before n count less serving next
+    at_fault begins new_mirrors at_rest T fault.Recorder n k count less is_number serving next = broke_before begins new_mirrors at_rest drive.Recorder n k count less is_number serving next
+    at_fault begins new_mirrors at_rest T (fault.Core step) n k count less is_number serving next = broke_before begins new_mirrors at_rest (drive.Core step) n k count less is_number serving next
 
   -- ---- the recording
 
@@ -517,8 +581,8 @@ module _ (on : RunsGoOn) (counted : RunsAreCounted) where
   front_at : (T : List Move → Type 0) (H : List ℕ → Type 0) (break : Break) (log : List Move) (text : List ℕ) → StopsAt break T H log text
       → (front : List ℕ) × IsBeginning front (text ++ texts_given (answers_by break)) × H front
   front_at T H BeforeAll log text stops = (text, ([], refl), stops.1)
-  front_at T H (AtAnswer event step) log text stops = (text, ([], refl), stops.1)
-  front_at T H (Carrying event actions) log text stops =
+  front_at T H (AtAnswer occurrence step) log text stops = (text, ([], refl), stops.1)
+  front_at T H (Carrying occurrence actions) log text stops =
       let rest = stops.begins.0 in
       let done = texts_in stops.done in
       let left = texts_in stops.left in (
@@ -547,7 +611,7 @@ module _ (on : RunsGoOn) (counted : RunsAreCounted) where
     holds_all may n misses come left H new serving = record {
       records = records_given serving.all.results;
       held = serving.held;
-      right = right new serving.all.events serving.all.results serving.all.leads;
+      right = right new (events_of serving.all.occurrences) serving.all.results serving.all.leads;
     }
 
     pub holds_front : (may : ℕ → Type 0) (why : DriveFault) (count : ℕ) (come : ℕ → ℕ → Type 0) (left : List Passage → Type 0) (H : List ℕ → Type 0) (new : Cache) → BreaksBefore may why count come left H old new (opening recorded_format)
@@ -555,15 +619,15 @@ module _ (on : RunsGoOn) (counted : RunsAreCounted) where
     holds_front may why count come left H new breaks =
         let all = breaks.all in
         let b = breaks.broken in
-        let events = all.events ++ (b.events ++ events_by b.break) in
+        let events = events_of all.occurrences ++ events_of (b.occurrences ++ occurrences_by b.break) in
         let results = all.results ++ (b.results ++ answers_by b.break) in
-        let f = front_at (IsOwn may (1 + breaks.n)) H b.break (log_of (1 + breaks.n) b.events b.results) ((opening recorded_format ++ texts_given all.results) ++ texts_given b.results) b.stops in record {
+        let f = front_at (IsOwn may (1 + breaks.n)) H b.break (log_of (1 + breaks.n) b.occurrences b.results) ((opening recorded_format ++ texts_given all.results) ++ texts_given b.results) b.stops in record {
           records = records_given results;
           front = f.0;
           begins = subst (IsBeginning f.0) (sym (texts_of_three (opening recorded_format) all.results b.results (answers_by b.break))) f.1;
           held = f.2;
           right = right new events results
-              (leads_on old breaks.between new all.events (b.events ++ events_by b.break) all.results (b.results ++ answers_by b.break) all.served all.leads b.leads);
+              (leads_on old breaks.between new (events_of all.occurrences) (events_of (b.occurrences ++ occurrences_by b.break)) all.results (b.results ++ answers_by b.break) all.served all.leads b.leads);
         }
 
     pub holds_as : (T : Type 0) (may : ℕ → Type 0) (result : Result T ServingFault) (count : ℕ) (come : ℕ → ℕ → Type 0) (left : List Passage → Type 0) (H : List ℕ → Type 0) (new : Cache)

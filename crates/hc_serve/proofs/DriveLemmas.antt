@@ -20,17 +20,22 @@ use Rattle.hc_service.specs.Runs.{Runs, RunsTo, StepResult, Steps, records_given
 use Rattle.hc_service.specs.Sending.{recorded_format, records_of}
 use Rattle.hc_service.specs.Settings.{AreGood}
 use Rattle.hc_service.specs.State.{State}
-use Rattle.hc_service.proofs.RunLemmas.{steps_append}
+use Rattle.hc_service.proofs.RunLemmas.{runs_steps, steps_append}
 use Rattle.hc_machine.specs.Steps.{Cache, GivesStep, StandsFor}
+use Rattle.hc_order.specs.declared.occurrence.Occurrence.{Occurrence}
 use Rattle.hc_order.specs.Log.{Move, carried}
-use Rattle.hc_order.specs.Log.Move.{Heard}
-use Rattle.hc_order.specs.Mirrors.{MayHappen, Mirrors}
+use Rattle.hc_order.specs.Log.Move.{Before as BeforeAll, Closed, Heard, Sent}
+use Rattle.hc_order.specs.declared.receiver.Receiver.TheVariants.{Client, Origin}
+use Rattle.hc_order.specs.Mirrors.{MayHappen, Mirrors, closed_in, opened_in}
+use Rattle.hc_order.specs.Resting.{IsAtRest}
+use Rattle.hc_connection.specs.Moves.{earlier_or, first_in, is_closed_in, is_ended_in}
+use Rattle.hc_connection.specs.Sides.{IsUntouched}
 use Rattle.hc_serve.specs.declared.fault.DriveFault.{DriveFault}
 use Rattle.hc_serve.specs.declared.fault.DriveFault.TheVariants as fault
 use Rattle.hc_serve.specs.Carrying.{CountsRecorder, texts_in}
-use Rattle.hc_order.specs.Passed.{AreOrderly, AreServed, AreUsual, IsUsual, passed}
-use Rattle.hc_serve.specs.Drives.{AreRounds, BreakOff, EndStands, GivesDrive, GivesUp, IsBusy, IsUsualFrom, Leads, answers_by, events_by, most_rounds, texts_given}
-use Rattle.hc_serve.specs.Rounds.{Answers, AnswersBy, Break, IsToldBy, IsRound, MayBreak, StopsAt}
+use Rattle.hc_order.specs.Passed.{AreOrderly, AreServed, AreUsual, IsUsual, events_of, passed}
+use Rattle.hc_serve.specs.Drives.{AreRounds, BreakOff, EndStands, GivesDrive, GivesUp, GivesUpLate, IsBusy, IsUsualFrom, Leads, answers_by, most_rounds, occurrences_by, texts_given}
+use Rattle.hc_serve.specs.Rounds.{Answers, AnswersBy, Break, IsRound, IsToldBy, MayBreak, StopsAt}
 use Rattle.hc_serve.specs.Rounds.Break.{AtAnswer, Before, Carrying}
 
 -- ---- what laws say
@@ -52,12 +57,12 @@ RunsAreCounted = (settings : CoreSettings) (events : List Event) (results : List
     → Runs settings s h events results records (Some mid) → mid.numbers.records ≡ s.numbers.records + length records
 
 abbrev pub TurnsAreUsual : Type 0
-TurnsAreUsual = (room : ℕ) (settings : CoreSettings) (events : List Event) (results : List StepResult) (s : State) (end : Option State) (log : List Move)
-    → Steps settings s events results end → Mirrors room s log → AreOrderly room events results log → AreUsual events results
+TurnsAreUsual = (room : ℕ) (settings : CoreSettings) (occurrences : List Occurrence) (results : List StepResult) (s : State) (end : Option State) (log : List Move)
+    → Steps settings s (events_of occurrences) results end → Mirrors room s log → AreOrderly room occurrences results log → AreUsual occurrences results
 
 abbrev pub TurnsAreMirrored : Type 0
-TurnsAreMirrored = (room : ℕ) (settings : CoreSettings) (events : List Event) (results : List StepResult) (s other : State) (log : List Move)
-    → Steps settings s events results (Some other) → Mirrors room s log → AreServed results → Mirrors room other (passed events results log)
+TurnsAreMirrored = (room : ℕ) (settings : CoreSettings) (occurrences : List Occurrence) (results : List StepResult) (s other : State) (log : List Move)
+    → Steps settings s (events_of occurrences) results (Some other) → Mirrors room s log → AreServed results → Mirrors room other (passed occurrences results log)
 
 -- ---- what may happen in turn
 
@@ -70,31 +75,31 @@ may_in_more few many less (OriginBytes f octets) log may = may
 may_in_more few many less (OriginEnd f) log may = may
 may_in_more few many less (OriginFailed f) log may = may
 
-orderly_in_more : (few many : ℕ) → few ≤ many → (events : List Event) (results : List StepResult) (log : List Move) → AreOrderly few events results log → AreOrderly many events results log
+orderly_in_more : (few many : ℕ) → few ≤ many → (occurrences : List Occurrence) (results : List StepResult) (log : List Move) → AreOrderly few occurrences results log → AreOrderly many occurrences results log
 orderly_in_more few many less [] results log o = tt
-orderly_in_more few many less (event ∷ events) [] log o = tt
-orderly_in_more few many less (event ∷ events) (Ok actions ∷ results) log o =
-    (may_in_more few many less event.of log o.0, orderly_in_more few many less events results (carried actions.items (Heard event ∷ log)) o.1)
-orderly_in_more few many less (event ∷ events) (Err step ∷ results) log o = may_in_more few many less event.of log o
+orderly_in_more few many less (occurrence ∷ occurrences) [] log o = tt
+orderly_in_more few many less (occurrence ∷ occurrences) (Ok actions ∷ results) log o =
+    (may_in_more few many less occurrence.event.of log o.0, orderly_in_more few many less occurrences results (carried actions.items (Heard occurrence ∷ log)) o.1)
+orderly_in_more few many less (occurrence ∷ occurrences) (Err step ∷ results) log o = may_in_more few many less occurrence.event.of log o
 
 -- one event more
-orderly_then : (most : ℕ) (events others : List Event) (results answers : List StepResult) (log : List Move) → length events ≡ length results → AreServed results
-    → AreOrderly most events results log → AreOrderly most others answers (passed events results log) → AreOrderly most (events ++ others) (results ++ answers) log
+orderly_then : (most : ℕ) (occurrences others : List Occurrence) (results answers : List StepResult) (log : List Move) → length occurrences ≡ length results → AreServed results
+    → AreOrderly most occurrences results log → AreOrderly most others answers (passed occurrences results log) → AreOrderly most (occurrences ++ others) (results ++ answers) log
 orderly_then most [] others [] answers log same served o more = more
 orderly_then most [] others (result ∷ results) answers log same served o more = absurd (cc)
-orderly_then most (event ∷ events) others [] answers log same served o more = absurd (cc)
-orderly_then most (event ∷ events) others (Ok actions ∷ results) answers log same served o more =
-    (o.0, orderly_then most events others results answers (carried actions.items (Heard event ∷ log)) (omega (arith, same)) served o.1 more)
-orderly_then most (event ∷ events) others (Err step ∷ results) answers log same served o more = absurd served
+orderly_then most (occurrence ∷ occurrences) others [] answers log same served o more = absurd (cc)
+orderly_then most (occurrence ∷ occurrences) others (Ok actions ∷ results) answers log same served o more =
+    (o.0, orderly_then most occurrences others results answers (carried actions.items (Heard occurrence ∷ log)) (omega (arith, same)) served o.1 more)
+orderly_then most (occurrence ∷ occurrences) others (Err step ∷ results) answers log same served o more = absurd served
 
 -- the last of them wasn't served
-last_usual : (events : List Event) (results : List StepResult) (event : Event) (step : StepFault) → length events ≡ length results → AreServed results
-    → AreUsual (events ++ event ∷ []) (results ++ Err step ∷ []) → IsUsual event step
-last_usual [] [] event step same served usual = usual
-last_usual [] (result ∷ results) event step same served usual = absurd (cc)
-last_usual (first ∷ events) [] event step same served usual = absurd (cc)
-last_usual (first ∷ events) (Ok actions ∷ results) event step same served usual = last_usual events results event step (omega (arith, same)) served usual
-last_usual (first ∷ events) (Err fault ∷ results) event step same served usual = absurd served
+last_usual : (occurrences : List Occurrence) (results : List StepResult) (occurrence : Occurrence) (step : StepFault) → length occurrences ≡ length results → AreServed results
+    → AreUsual (occurrences ++ occurrence ∷ []) (results ++ Err step ∷ []) → IsUsual occurrence.event step
+last_usual [] [] occurrence step same served usual = usual
+last_usual [] (result ∷ results) occurrence step same served usual = absurd (cc)
+last_usual (first ∷ occurrences) [] occurrence step same served usual = absurd (cc)
+last_usual (first ∷ occurrences) (Ok actions ∷ results) occurrence step same served usual = last_usual occurrences results occurrence step (omega (arith, same)) served usual
+last_usual (first ∷ occurrences) (Err fault ∷ results) occurrence step same served usual = absurd served
 
 -- ---- records that are given
 
@@ -121,17 +126,21 @@ served_append [] b served more = more
 served_append (Ok actions ∷ a) b served more = served_append a b served more
 served_append (Err step ∷ a) b served more = absurd served
 
-passed_append : (events others : List Event) (results answers : List StepResult) (log : List Move) → length events ≡ length results
-    → passed (events ++ others) (results ++ answers) log ≡ passed others answers (passed events results log)
+passed_append : (occurrences others : List Occurrence) (results answers : List StepResult) (log : List Move) → length occurrences ≡ length results
+    → passed (occurrences ++ others) (results ++ answers) log ≡ passed others answers (passed occurrences results log)
 passed_append [] others [] answers log same = refl
 passed_append [] others (result ∷ results) answers log same = absurd (cc)
-passed_append (event ∷ events) others [] answers log same = absurd (cc)
-passed_append (event ∷ events) others (Ok actions ∷ results) answers log same = passed_append events others results answers _ (omega (arith, same))
-passed_append (event ∷ events) others (Err step ∷ results) answers log same = passed_append events others results answers _ (omega (arith, same))
+passed_append (occurrence ∷ occurrences) others [] answers log same = absurd (cc)
+passed_append (occurrence ∷ occurrences) others (Ok actions ∷ results) answers log same = passed_append occurrences others results answers _ (omega (arith, same))
+passed_append (occurrence ∷ occurrences) others (Err step ∷ results) answers log same = passed_append occurrences others results answers _ (omega (arith, same))
 
-paired_append : (events others : List Event) (results answers : List StepResult) → length events ≡ length results → length others ≡ length answers
-    → length (events ++ others) ≡ length (results ++ answers)
-paired_append events others results answers a b = omega (arith, a, b, length-append events others, length-append results answers)
+paired_append : (occurrences others : List Occurrence) (results answers : List StepResult) → length occurrences ≡ length results → length others ≡ length answers
+    → length (occurrences ++ others) ≡ length (results ++ answers)
+paired_append occurrences others results answers a b = omega (arith, a, b, length-append occurrences others, length-append results answers)
+
+pub events_append : (a b : List Occurrence) → events_of (a ++ b) ≡ events_of a ++ events_of b
+events_append [] b = refl
+events_append (occurrence ∷ a) b = ap (λ (events : List Event). occurrence.event ∷ events) (events_append a b)
 
 -- ---- what the cache was led to
 
@@ -146,19 +155,19 @@ Leading old new events results = (settings : CoreSettings) (s : State) (h : Hist
 
 -- the rounds so far
 pub record SoFar (most : ℕ) (T : List Move → Type 0) (H : List ℕ → Type 0) (old new : Cache) (log : List Move) (text : List ℕ) (rounds : ℕ) : Type 0 where
-  pub events : List Event
+  pub occurrences : List Occurrence
   pub results : List StepResult
-  pub orderly : AreOrderly most events results log
-  pub leading : Leading old new events results
-  pub many : length events ≡ rounds
-  pub paired : length events ≡ length results
+  pub orderly : AreOrderly most occurrences results log
+  pub leading : Leading old new (events_of occurrences) results
+  pub many : length occurrences ≡ rounds
+  pub paired : length occurrences ≡ length results
   pub served : AreServed results
-  pub told : T (passed events results log)
+  pub told : T (passed occurrences results log)
   pub held : H (text ++ texts_given results)
 
 pub begins : (most : ℕ) (T : List Move → Type 0) (H : List ℕ → Type 0) (cache : Cache) (log : List Move) (text : List ℕ) → T log → H text → SoFar most T H cache cache log text 0
 begins most T H cache log text told held = record {
-  events = [];
+  occurrences = [];
   results = [];
   orderly = tt;
   leading = λ settings s h good stands agrees few. record { state = s; stands = stands; steps = refl };
@@ -236,16 +245,17 @@ module _ (runs : StepsAreRuns) (keeps : RunsKeepAgreement) (is_ready : Agreement
 
   module _ (most : ℕ) (T T' : List Move → Type 0) (H H' : List ℕ → Type 0) (old mid new : Cache) (log : List Move) (text : List ℕ) (rounds : ℕ)
       (f : SoFar most T H old mid log text rounds) where
-    pub goes_on : IsRound most T' H' mid new (passed f.events f.results log) (text ++ texts_given f.results) → SoFar most T' H' old new log text (rounds + 1)
+    pub goes_on : IsRound most T' H' mid new (passed f.occurrences f.results log) (text ++ texts_given f.results) → SoFar most T' H' old new log text (rounds + 1)
     goes_on t = record {
-      events = f.events ++ t.event ∷ [];
+      occurrences = f.occurrences ++ t.occurrence ∷ [];
       results = f.results ++ Ok t.actions ∷ [];
-      orderly = orderly_then most f.events (t.event ∷ []) f.results (Ok t.actions ∷ []) log f.paired f.served f.orderly (t.may, tt);
-      leading = leads_on old mid new f.events f.results f.leading t.event t.actions t.answers;
-      many = omega (arith, f.many, length-append f.events (t.event ∷ []));
-      paired = paired_append f.events (t.event ∷ []) f.results (Ok t.actions ∷ []) f.paired refl;
+      orderly = orderly_then most f.occurrences (t.occurrence ∷ []) f.results (Ok t.actions ∷ []) log f.paired f.served f.orderly (t.may, tt);
+      leading = subst (λ (events : List Event). Leading old new events (f.results ++ Ok t.actions ∷ [])) (sym (events_append f.occurrences (t.occurrence ∷ [])))
+          (leads_on old mid new (events_of f.occurrences) f.results f.leading t.occurrence.event t.actions t.answers);
+      many = omega (arith, f.many, length-append f.occurrences (t.occurrence ∷ []));
+      paired = paired_append f.occurrences (t.occurrence ∷ []) f.results (Ok t.actions ∷ []) f.paired refl;
       served = served_append f.results (Ok t.actions ∷ []) f.served unit;
-      told = subst T' (sym (passed_append f.events (t.event ∷ []) f.results (Ok t.actions ∷ []) log f.paired)) t.done.0;
+      told = subst T' (sym (passed_append f.occurrences (t.occurrence ∷ []) f.results (Ok t.actions ∷ []) log f.paired)) t.done.0;
       held = subst H' (ap (λ (o : List ℕ). (text ++ texts_given f.results) ++ o) (sym (texts_of_one t.actions))
           ∙ append_assoc text (texts_given f.results) (texts_given (Ok t.actions ∷ []))
           ∙ ap (λ (o : List ℕ). text ++ o) (sym (texts_given_append f.results (Ok t.actions ∷ [])))) t.done.1;
@@ -254,90 +264,177 @@ module _ (runs : StepsAreRuns) (keeps : RunsKeepAgreement) (is_ready : Agreement
         unit : Unit {0}
         unit = search rules
 
-    pub ended : new ≡ mid → T' (passed f.events f.results log) → H' (text ++ texts_given f.results) → AreRounds most T' H' old new log text
+    pub ended : new ≡ mid → T' (passed f.occurrences f.results log) → H' (text ++ texts_given f.results) → AreRounds most T' H' old new log text
     ended same told held = record {
-      events = f.events;
+      occurrences = f.occurrences;
       results = f.results;
       orderly = f.orderly;
       mirrors = λ room settings s h good stands agrees few m.
           let led = f.leading settings s h good stands agrees few in
-          let run = runs settings good f.events f.results s h (Some led.state) agrees led.steps few in
-          let to = keeps settings f.events f.results s h (records_given f.results) (Some led.state) run in record {
+          let run = runs settings good (events_of f.occurrences) f.results s h (Some led.state) agrees led.steps few in
+          let to = keeps settings (events_of f.occurrences) f.results s h (records_given f.results) (Some led.state) run in record {
             state = led.state;
             stands = subst (λ (cache : Cache). StandsFor settings cache led.state) (sym same) led.stands;
-            mirrors = mirrored room settings f.events f.results s led.state log led.steps m f.served;
+            mirrors = mirrored room settings f.occurrences f.results s led.state log led.steps m f.served;
             later = to.later;
             agrees = to.agrees;
-            counted = counted settings f.events f.results s led.state h (records_given f.results) run;
+            counted = counted settings (events_of f.occurrences) f.results s led.state h (records_given f.results) run;
           };
-      leads = leads old new f.events f.results (subst (λ (cache : Cache). Leading old cache f.events f.results) (sym same) f.leading);
+      leads = leads old new (events_of f.occurrences) f.results (subst (λ (cache : Cache). Leading old cache (events_of f.occurrences) f.results) (sym same) f.leading);
       served = f.served;
       told = told;
       held = held;
     }
 
-    break_leads : (break : Break) → AnswersBy break mid new → Leads old new (f.events ++ events_by break) (f.results ++ answers_by break)
+    break_leads : (break : Break) → AnswersBy break mid new → Leads old new (events_of (f.occurrences ++ occurrences_by break)) (f.results ++ answers_by break)
     break_leads Before same =
-        subst (λ (events : List Event). Leads old new events (f.results ++ [])) (sym (append-nil f.events))
-        (subst (λ (results : List StepResult). Leads old new f.events results) (sym (append-nil f.results))
-        (leads old new f.events f.results (subst (λ (cache : Cache). Leading old cache f.events f.results) (sym same) f.leading)))
-    break_leads (AtAnswer event step) answers = leads_to_refusal old mid new f.events f.results f.leading event step answers
-    break_leads (Carrying event actions) answers =
-        leads old new (f.events ++ event ∷ []) (f.results ++ Ok actions ∷ []) (leads_on old mid new f.events f.results f.leading event actions answers)
+        subst (λ (occurrences : List Occurrence). Leads old new (events_of occurrences) (f.results ++ [])) (sym (append-nil f.occurrences))
+        (subst (λ (results : List StepResult). Leads old new (events_of f.occurrences) results) (sym (append-nil f.results))
+        (leads old new (events_of f.occurrences) f.results (subst (λ (cache : Cache). Leading old cache (events_of f.occurrences) f.results) (sym same) f.leading)))
+    break_leads (AtAnswer occurrence step) answers =
+        subst (λ (events : List Event). Leads old new events (f.results ++ Err step ∷ [])) (sym (events_append f.occurrences (occurrence ∷ [])))
+        (leads_to_refusal old mid new (events_of f.occurrences) f.results f.leading occurrence.event step answers)
+    break_leads (Carrying occurrence actions) answers =
+        subst (λ (events : List Event). Leads old new events (f.results ++ Ok actions ∷ [])) (sym (events_append f.occurrences (occurrence ∷ [])))
+        (leads old new (events_of f.occurrences ++ occurrence.event ∷ []) (f.results ++ Ok actions ∷ [])
+        (leads_on old mid new (events_of f.occurrences) f.results f.leading occurrence.event actions answers))
 
-    break_orderly : (break : Break) → MayBreak most break (passed f.events f.results log) → AreOrderly most (f.events ++ events_by break) (f.results ++ answers_by break) log
-    break_orderly Before may = orderly_then most f.events [] f.results [] log f.paired f.served f.orderly tt
-    break_orderly (AtAnswer event step) may = orderly_then most f.events (event ∷ []) f.results (Err step ∷ []) log f.paired f.served f.orderly may
-    break_orderly (Carrying event actions) may = orderly_then most f.events (event ∷ []) f.results (Ok actions ∷ []) log f.paired f.served f.orderly (may, tt)
+    break_orderly : (break : Break) → MayBreak most break (passed f.occurrences f.results log) → AreOrderly most (f.occurrences ++ occurrences_by break) (f.results ++ answers_by break) log
+    break_orderly Before may = orderly_then most f.occurrences [] f.results [] log f.paired f.served f.orderly tt
+    break_orderly (AtAnswer occurrence step) may = orderly_then most f.occurrences (occurrence ∷ []) f.results (Err step ∷ []) log f.paired f.served f.orderly may
+    break_orderly (Carrying occurrence actions) may = orderly_then most f.occurrences (occurrence ∷ []) f.results (Ok actions ∷ []) log f.paired f.served f.orderly (may, tt)
 
-    break_usual : (break : Break) → AnswersBy break mid new → MayBreak most break (passed f.events f.results log) → IsUsualFrom most old log f.results break
+    break_usual : (break : Break) → AnswersBy break mid new → MayBreak most break (passed f.occurrences f.results log) → IsUsualFrom most old log f.results break
     break_usual Before same may room settings s h good stands agrees few less m = tt
-    break_usual (AtAnswer event step) answers may room settings s h good stands agrees few less m =
+    break_usual (AtAnswer occurrence step) answers may room settings s h good stands agrees few less m =
         let parts = fewer f.results (Err step ∷ []) s.numbers.records few in
         let led = f.leading settings s h good stands agrees parts in
-        let r = refused old mid new f.events f.results f.leading event step settings s led
-        (answers.gives settings led.state led.stands (ready_there settings s h mid f.events f.results good agrees parts led)) (answers.same step refl) in
-        last_usual f.events f.results event step f.paired f.served
-        (usual room settings (f.events ++ event ∷ []) (f.results ++ Err step ∷ []) s r.0 log r.2 m
-        (orderly_in_more most room less (f.events ++ event ∷ []) (f.results ++ Err step ∷ []) log (break_orderly (AtAnswer event step) may)))
-    break_usual (Carrying event actions) answers may room settings s h good stands agrees few less m = tt
+        let r = refused old mid new (events_of f.occurrences) f.results f.leading occurrence.event step settings s led
+        (answers.gives settings led.state led.stands (ready_there settings s h mid (events_of f.occurrences) f.results good agrees parts led)) (answers.same step refl) in
+        let steps =
+        subst (λ (events : List Event). Steps settings s events (f.results ++ Err step ∷ []) r.0) (sym (events_append f.occurrences (occurrence ∷ []))) r.2 in
+        last_usual f.occurrences f.results occurrence step f.paired f.served
+        (usual room settings (f.occurrences ++ occurrence ∷ []) (f.results ++ Err step ∷ []) s r.0 log steps m
+        (orderly_in_more most room less (f.occurrences ++ occurrence ∷ []) (f.results ++ Err step ∷ []) log (break_orderly (AtAnswer occurrence step) may)))
+    break_usual (Carrying occurrence actions) answers may room settings s h good stands agrees few less m = tt
 
-    pub broke_off : (rests : Type 0) (why : DriveFault) (break : Break) → IsToldBy break why ⊎ GivesUp break why new rests (length f.events) → AnswersBy break mid new
-        → StopsAt break T' H' (passed f.events f.results log) (text ++ texts_given f.results) → MayBreak most break (passed f.events f.results log)
-        → BreakOff most why T' H' rests old new log text
-    broke_off rests why break told answers stops may = record {
-      events = f.events;
+    pub broke_off : (rests : Type 0) (why : DriveFault) (break : Break) → IsToldBy break why ⊎ GivesUp break why new rests (length f.occurrences) → AnswersBy break mid new
+        → GivesUpLate break why (length f.occurrences) → StopsAt break T' H' (passed f.occurrences f.results log) (text ++ texts_given f.results)
+        → MayBreak most break (passed f.occurrences f.results log) → BreakOff most why T' H' rests old new log text
+    broke_off rests why break told answers late stops may = record {
+      occurrences = f.occurrences;
       results = f.results;
       break = break;
       told_by = told;
       orderly = break_orderly break may;
       leads = break_leads break answers;
       usual = break_usual break answers may;
+      late = λ room settings s h good stands agrees few rest m none. late;
       served = f.served;
       stops = stops;
     }
 
 -- so many rounds were made, and no more are
 pub made_all : (most : ℕ) (T : List Move → Type 0) (H : List ℕ → Type 0) (rests : Type 0) (old new : Cache) (log : List Move) (text : List ℕ) (rounds : ℕ) (f : SoFar most T H old new log text rounds) → rounds ≡ most_rounds
-    → IsToldBy Before (fault.Core Failed) ⊎ GivesUp Before (fault.Core Failed) new rests (length f.events)
+    → IsToldBy Before (fault.Core Failed) ⊎ GivesUp Before (fault.Core Failed) new rests (length f.occurrences)
 made_all most T H rests old new log text rounds f all = inr (refl, refl, inl (f.many ∙ all))
 
--- rounds that went well, and then no more is done, though the cache isn't idle
-pub as_broken : (most : ℕ) (T : List Move → Type 0) (H : List ℕ → Type 0) (rests : Type 0) (old new : Cache) (log : List Move) (text : List ℕ) → IsBusy new → rests
-    → AreRounds most T H old new log text → BreakOff most (fault.Core Failed) T H rests old new log text
-as_broken most T H rests old new log text busy rest t = record {
-  events = t.events;
-  results = t.results;
-  break = Before;
-  told_by = inr (refl, refl, inr (busy, rest));
-  orderly = subst (λ (events : List Event). AreOrderly most events (t.results ++ []) log) (sym (append-nil t.events))
-      (subst (λ (results : List StepResult). AreOrderly most t.events results log) (sym (append-nil t.results)) t.orderly);
-  usual = λ room settings s h good stands agrees few less m. tt;
-  leads = subst (λ (events : List Event). Leads old new events (t.results ++ [])) (sym (append-nil t.events))
-      (subst (λ (results : List StepResult). Leads old new t.events results) (sym (append-nil t.results)) t.leads);
-  served = t.served;
-  stops = (t.told, t.held);
+pub late_all : (most : ℕ) (T : List Move → Type 0) (H : List ℕ → Type 0) (old new : Cache) (log : List Move) (text : List ℕ) (rounds : ℕ) (f : SoFar most T H old new log text rounds) → rounds ≡ most_rounds
+    → GivesUpLate Before (fault.Core Failed) (length f.occurrences)
+late_all most T H old new log text rounds f all before is = f.many ∙ all
+
+-- what a round tells is no giving up
+pub never_late : (break : Break) (why : DriveFault) (rounds : ℕ) → IsToldBy break why → GivesUpLate break why rounds
+never_late break why rounds told before is = absurd (apart (sym (subst (λ (break : Break). IsToldBy break why) before told) ∙ is))
+  where
+    apart : fault.Core Memory ≡ fault.Core Failed → ⊥
+    apart e = cc
+
+-- ---- a cache that was at rest
+
+-- where each event was served a cache is left
+pub never_none : (settings : CoreSettings) (events : List Event) (results : List StepResult) (s : State) (h : History) (records : List Record) → AreServed results
+    → Runs settings s h events results records None → ⊥
+never_none settings [] [] s h records served runs = none_some s runs.2
+  where
+    none_some : (s : State) → None ≡ Some s → ⊥
+    none_some s e = cc
+never_none settings [] (result ∷ results) s h records served runs = absurd runs
+never_none settings (event ∷ events) [] s h records served runs = absurd runs
+never_none settings (event ∷ events) (Ok actions ∷ results) s h records served runs = never_none settings events results runs.1 runs.2 runs.3 served runs.7
+never_none settings (event ∷ events) (Err step ∷ results) s h records served runs = absurd served
+
+never_first : (o : Option Happening) (of : Happening) → earlier_or o of ≡ None → ⊥
+never_first None of none = cc
+never_first (Some first) of none = cc
+
+-- where nothing has happened no connection was opened, and no client has ended
+none_opened : (log : List Move) → first_in log ≡ None → opened_in log ≡ 0
+none_opened [] none = refl
+none_opened (BeforeAll last number given got reads failures ∷ log) none = refl
+none_opened (Heard occurrence ∷ log) none = absurd (never_first (first_in log) occurrence.event.of none)
+none_opened (Sent to octets ∷ log) none = none_opened log none
+none_opened (Closed link ∷ log) none = none_opened log none
+
+none_ended : (c : ℕ) (log : List Move) → first_in log ≡ None → is_ended_in c log ≡ false
+none_ended c [] none = refl
+none_ended c (BeforeAll last number given got reads failures ∷ log) none = refl
+none_ended c (Heard occurrence ∷ log) none = absurd (never_first (first_in log) occurrence.event.of none)
+none_ended c (Sent to octets ∷ log) none = none_ended c log none
+none_ended c (Closed link ∷ log) none = none_ended c log none
+
+none_closed : (c : ℕ) (log : List Move) → closed_in log ≡ 0 → is_closed_in c log ≡ false
+none_closed c [] none = refl
+none_closed c (BeforeAll last number given got reads failures ∷ log) none = refl
+none_closed c (Heard occurrence ∷ log) none = none_closed c log none
+none_closed c (Sent to octets ∷ log) none = none_closed c log none
+none_closed c (Closed (Client d) ∷ log) none = absurd (omega (arith, none))
+none_closed c (Closed (Origin f) ∷ log) none = none_closed c log (omega (arith, none))
+
+-- nothing has happened of any connection where nothing has happened, and nothing was open
+untouched : (room : ℕ) (s : State) (c : ℕ) (log : List Move) → IsAtRest s → Mirrors room s log → first_in log ≡ None → IsUntouched c log
+untouched room s c log rest m none = record {
+  first = none;
+  ended = none_ended c log none;
+  closed = none_closed c log (let count = m.count in let open_none = rest.0 in let opened = none_opened log none in omega (arith, count, open_none, opened));
 }
+
+-- what a law says of links that rest: a cache that was at rest is at rest once what has passed is what was told
+abbrev pub RestsAgain : (List Move → Type 0) → ℕ → List Move → Type 0
+RestsAgain T c log = (room : ℕ) (settings : CoreSettings) (occurrences : List Occurrence) (results : List StepResult) (s other : State) (h : History) (records : List Record)
+    → IsAtRest s → IsUntouched c log → Runs settings s h (events_of occurrences) results records (Some other) → AreServed results → AreOrderly 1 occurrences results log
+    → Mirrors room other (passed occurrences results log) → T (passed occurrences results log) → IsAtRest other
+
+module _ (mirrored : TurnsAreMirrored) (T : List Move → Type 0) (H : List ℕ → Type 0) (rests : Type 0) (old new : Cache) (log : List Move) (text : List ℕ) (c : ℕ) (again : RestsAgain T c log)
+    (busy : IsBusy new) (rest : rests) (t : AreRounds 1 T H old new log text) where
+  -- rounds that went well don't leave a cache busy that was at rest before
+  never_busy : (room : ℕ) (settings : CoreSettings) (s : State) (h : History) → IsAtRest s → Mirrors room s log → first_in log ≡ None → (end : Option State) → EndStands settings end new
+      → Runs settings s h (events_of t.occurrences) t.results (records_given t.results) end → ⊥
+  never_busy room settings s h was m none None fails runs = never_none settings (events_of t.occurrences) t.results s h (records_given t.results) t.served runs
+  never_busy room settings s h was m none (Some other) works runs =
+      let steps = runs_steps settings (events_of t.occurrences) t.results s h (records_given t.results) (Some other) runs in
+      busy settings other works
+      (again room settings t.occurrences t.results s other h (records_given t.results) was (untouched room s c log was m none) runs t.served t.orderly
+      (mirrored room settings t.occurrences t.results s other log steps m t.served) t.told)
+
+  -- rounds that went well, and then no more is done, though the cache isn't idle
+  pub as_broken : BreakOff 1 (fault.Core Failed) T H rests old new log text
+  as_broken = record {
+    occurrences = t.occurrences;
+    results = t.results;
+    break = Before;
+    told_by = inr (refl, refl, inr (busy, rest));
+    orderly = subst (λ (occurrences : List Occurrence). AreOrderly 1 occurrences (t.results ++ []) log) (sym (append-nil t.occurrences))
+        (subst (λ (results : List StepResult). AreOrderly 1 t.occurrences results log) (sym (append-nil t.results)) t.orderly);
+    usual = λ room settings s h good stands agrees few less m. tt;
+    late = λ room settings s h good stands agrees few was m none before is.
+        let led = t.leads settings s h good stands agrees few in
+        absurd (never_busy room settings s h was m none led.end led.stands led.runs);
+    leads = subst (λ (occurrences : List Occurrence). Leads old new (events_of occurrences) (t.results ++ [])) (sym (append-nil t.occurrences))
+        (subst (λ (results : List StepResult). Leads old new (events_of t.occurrences) results) (sym (append-nil t.results)) t.leads);
+    served = t.served;
+    stops = (t.told, t.held);
+  }
 
 -- ---- a cache that is idle
 

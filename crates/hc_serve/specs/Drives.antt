@@ -1,6 +1,5 @@
 -- Rounds, one after another.
 use Rattle.std.specs.Prelude.{◌≡◌, ◌⊎◌, ℕ, ◌+◌, ◌-◌, ◌^◌, ◌≤◌, Bool, true, false, List, [], ◌∷◌, ◌++◌, length, Option, Some, None, Result, Ok, Err}
-use Rattle.std.specs.FinMap.{len}
 use Rattle.std.specs.List.{flat_map}
 use Rattle.hc_transcript.specs.Limits.{greatest_number}
 use Rattle.hc_transcript.specs.Records.{record_text}
@@ -14,9 +13,12 @@ use Rattle.hc_service.specs.Settings.{AreGood}
 use Rattle.hc_service.specs.State.{State}
 use Rattle.hc_machine.specs.Steps.{Cache, StandsFor}
 use Rattle.hc_connection.specs.Links.{HasFailed}
+use Rattle.hc_connection.specs.Moves.{first_in}
+use Rattle.hc_order.specs.declared.occurrence.Occurrence.{Occurrence}
 use Rattle.hc_order.specs.Log.{Move}
 use Rattle.hc_order.specs.Mirrors.{Mirrors}
-use Rattle.hc_order.specs.Passed.{AreOrderly, AreServed, IsUsual, passed}
+use Rattle.hc_order.specs.Passed.{AreOrderly, AreServed, IsUsual, events_of, passed}
+use Rattle.hc_order.specs.Resting.{IsAtRest}
 use Rattle.hc_serve.specs.declared.fault.DriveFault.{DriveFault}
 use Rattle.hc_serve.specs.declared.fault.DriveFault.TheVariants as fault
 use Rattle.hc_serve.specs.Rounds.{Break, IsToldBy, StopsAt}
@@ -58,44 +60,40 @@ pub record LedToMirror (room : ℕ) (settings : CoreSettings) (s : State) (new :
   pub counted : state.numbers.records ≡ s.numbers.records + records
 
 -- from whatever state that mirrored the log before, the cache was led to one that mirrors what has passed, as far as records can be numbered
-abbrev pub LeadsToMirror : Cache → Cache → List Event → List StepResult → List Move → Type 0
-LeadsToMirror old new events results log = (room : ℕ) (settings : CoreSettings) (s : State) (h : History) → AreGood settings → StandsFor settings old s → Agrees s h
+abbrev pub LeadsToMirror : Cache → Cache → List Occurrence → List StepResult → List Move → Type 0
+LeadsToMirror old new occurrences results log = (room : ℕ) (settings : CoreSettings) (s : State) (h : History) → AreGood settings → StandsFor settings old s → Agrees s h
     → s.numbers.records + length (records_given results) ≤ greatest_number → Mirrors room s log
-    → LedToMirror room settings s new (length (records_given results)) (passed events results log)
+    → LedToMirror room settings s new (length (records_given results)) (passed occurrences results log)
 
--- the events may happen in turn, where so many connections are open at once at most, and were served by these answers, and all that the cache did was carried out;
+-- what happened may happen in turn, where so many connections are open at once at most, and was served by these answers, and all that the cache did was carried out;
 -- the texts of its records stand behind the text
 pub record AreRounds (most : ℕ) (tells : List Move → Type 0) (holds : List ℕ → Type 0) (old new : Cache) (log : List Move) (text : List ℕ) : Type 0 where
-  pub events : List Event
+  pub occurrences : List Occurrence
   pub results : List StepResult
-  pub orderly : AreOrderly most events results log
-  pub leads : Leads old new events results
-  pub mirrors : LeadsToMirror old new events results log
+  pub orderly : AreOrderly most occurrences results log
+  pub leads : Leads old new (events_of occurrences) results
+  pub mirrors : LeadsToMirror old new occurrences results log
   pub served : AreServed results
-  pub told : tells (passed events results log)
+  pub told : tells (passed occurrences results log)
   pub held : holds (text ++ texts_given results)
 
 -- ---- rounds of which the last broke off
 
-abbrev pub events_by : Break → List Event
-events_by Before = []
-events_by (AtAnswer event step) = event ∷ []
-events_by (Carrying event actions) = event ∷ []
+abbrev pub occurrences_by : Break → List Occurrence
+occurrences_by Before = []
+occurrences_by (AtAnswer occurrence step) = occurrence ∷ []
+occurrences_by (Carrying occurrence actions) = occurrence ∷ []
 
 abbrev pub answers_by : Break → List StepResult
 answers_by Before = []
-answers_by (AtAnswer event step) = Err step ∷ []
-answers_by (Carrying event actions) = Ok actions ∷ []
+answers_by (AtAnswer occurrence step) = Err step ∷ []
+answers_by (Carrying occurrence actions) = Ok actions ∷ []
 
--- ---- a cache that is idle
+-- ---- a cache that isn't idle
 
--- no connection and no forward is open
-abbrev pub IsIdle : State → Type 0
-IsIdle s = (len s.connections ≡ 0) × (len s.forwards ≡ 0)
-
--- it stands for no state that is
+-- it stands for no state at rest
 abbrev pub IsBusy : Cache → Type 0
-IsBusy cache = (settings : CoreSettings) (s : State) → StandsFor settings cache s → IsIdle s → ⊥
+IsBusy cache = (settings : CoreSettings) (s : State) → StandsFor settings cache s → IsAtRest s → ⊥
 
 -- ---- why they broke off
 
@@ -110,24 +108,34 @@ GivesUp break why cache rests rounds = (break ≡ Before) × (why ≡ fault.Core
 -- where the cache didn't serve an event, memory was refused, or the event's moment was too large
 abbrev pub BreaksAsUsual : Break → Type 0
 BreaksAsUsual Before = Unit {0}
-BreaksAsUsual (AtAnswer event step) = IsUsual event step
-BreaksAsUsual (Carrying event actions) = Unit {0}
+BreaksAsUsual (AtAnswer occurrence step) = IsUsual occurrence.event step
+BreaksAsUsual (Carrying occurrence actions) = Unit {0}
 
 -- so it is, whatever the cache stood for, where that mirrored the log before and has room for as many connections as the links have open, as far as records can be numbered
 abbrev pub IsUsualFrom : ℕ → Cache → List Move → List StepResult → Break → Type 0
 IsUsualFrom most old log results break = (room : ℕ) (settings : CoreSettings) (s : State) (h : History) → AreGood settings → StandsFor settings old s → Agrees s h
     → s.numbers.records + length (records_given (results ++ answers_by break)) ≤ greatest_number → most ≤ room → Mirrors room s log → BreaksAsUsual break
 
+-- where the driver gave up, it had made as many rounds as it makes
+abbrev pub GivesUpLate : Break → DriveFault → ℕ → Type 0
+GivesUpLate break why rounds = break ≡ Before → why ≡ fault.Core Failed → rounds ≡ most_rounds
+
+-- so it is, whatever the cache stood for, where that was at rest before and mirrored the log, and nothing had happened by that, as far as records can be numbered
+abbrev pub GivesUpLateFrom : Cache → List Move → List StepResult → Break → DriveFault → ℕ → Type 0
+GivesUpLateFrom old log results break why rounds = (room : ℕ) (settings : CoreSettings) (s : State) (h : History) → AreGood settings → StandsFor settings old s → Agrees s h
+    → s.numbers.records + length (records_given results) ≤ greatest_number → IsAtRest s → Mirrors room s log → first_in log ≡ None → GivesUpLate break why rounds
+
 pub record BreakOff (most : ℕ) (why : DriveFault) (tells : List Move → Type 0) (holds : List ℕ → Type 0) (rests : Type 0) (old new : Cache) (log : List Move) (text : List ℕ) : Type 0 where
-  pub events : List Event
+  pub occurrences : List Occurrence
   pub results : List StepResult
   pub break : Break
-  pub told_by : IsToldBy break why ⊎ GivesUp break why new rests (length events)
-  pub orderly : AreOrderly most (events ++ events_by break) (results ++ answers_by break) log
-  pub leads : Leads old new (events ++ events_by break) (results ++ answers_by break)
+  pub told_by : IsToldBy break why ⊎ GivesUp break why new rests (length occurrences)
+  pub orderly : AreOrderly most (occurrences ++ occurrences_by break) (results ++ answers_by break) log
+  pub leads : Leads old new (events_of (occurrences ++ occurrences_by break)) (results ++ answers_by break)
   pub usual : IsUsualFrom most old log results break
+  pub late : GivesUpLateFrom old log results break why (length occurrences)
   pub served : AreServed results
-  pub stops : StopsAt break tells holds (passed events results log) (text ++ texts_given results)
+  pub stops : StopsAt break tells holds (passed occurrences results log) (text ++ texts_given results)
 
 abbrev pub GivesDrive : {T : Type 0} → ℕ → (List Move → Type 0) → (List ℕ → Type 0) → Type 0 → Result T DriveFault → Cache → Cache → List Move → List ℕ → Type 0
 GivesDrive most tells holds rests (Ok done) old new log text = AreRounds most tells holds old new log text
@@ -144,9 +152,9 @@ CountsServed (Err fault.Client) before after = after ≡ before
 CountsServed (Err fault.Recorder) before after = HasFailed before after
 CountsServed (Err (fault.Core step)) before after = after ≡ before
 
--- it works, and what it stands for is idle
+-- it works, and what it stands for is at rest
 abbrev pub IsLeftIdle : Cache → Type 0
-IsLeftIdle cache = (cache.failed ≡ false) × ((settings : CoreSettings) (s : State) → StandsFor settings cache s → IsIdle s)
+IsLeftIdle cache = (cache.failed ≡ false) × ((settings : CoreSettings) (s : State) → StandsFor settings cache s → IsAtRest s)
 
 -- the cache is idle where all was served
 abbrev pub LeavesIdle : {T : Type 0} → Result T DriveFault → Cache → Type 0

@@ -11,6 +11,7 @@ use Rattle.hc_service.specs.Agreement.{IsReady}
 use Rattle.hc_service.specs.Runs.{StepResult}
 use Rattle.hc_service.specs.State.{State}
 use Rattle.hc_machine.specs.Steps.{Cache, GivesStep, StandsFor}
+use Rattle.hc_order.specs.declared.occurrence.Occurrence.{Occurrence}
 use Rattle.hc_order.specs.Log.{Move}
 use Rattle.hc_order.specs.Mirrors.{MayHappen}
 use Rattle.hc_order.specs.Log.Move.{Heard}
@@ -25,41 +26,41 @@ pub record Answers (event : Event) (answer : StepResult) (old new : Cache) : Typ
 
 -- a whole round of links at which so many connections are open at once at most
 pub record IsRound (most : ℕ) (tells : List Move → Type 0) (holds : List ℕ → Type 0) (old new : Cache) (log : List Move) (text : List ℕ) : Type 0 where
-  pub event : Event
+  pub occurrence : Occurrence
   pub actions : Vec Action Global
-  pub may : MayHappen most event.of log
-  pub answers : Answers event (Ok actions) old new
-  pub done : AreDone tells holds actions.items (Heard event ∷ log) text
+  pub may : MayHappen most occurrence.event.of log
+  pub answers : Answers occurrence.event (Ok actions) old new
+  pub done : AreDone tells holds actions.items (Heard occurrence ∷ log) text
 
 -- where it broke off: before something happened, at the cache's answer, or while that was carried out
 pub data Break : Type 0 where
   Before : Break
-  AtAnswer : (event : Event) (step : StepFault) → Break
-  Carrying : (event : Event) (actions : Vec Action Global) → Break
+  AtAnswer : (occurrence : Occurrence) (step : StepFault) → Break
+  Carrying : (occurrence : Occurrence) (actions : Vec Action Global) → Break
 
 -- what the cache was handed and answered by then
 abbrev pub AnswersBy : Break → Cache → Cache → Type 0
 AnswersBy Before old new = new ≡ old
-AnswersBy (AtAnswer event step) old new = Answers event (Err step) old new
-AnswersBy (Carrying event actions) old new = Answers event (Ok actions) old new
+AnswersBy (AtAnswer occurrence step) old new = Answers occurrence.event (Err step) old new
+AnswersBy (Carrying occurrence actions) old new = Answers occurrence.event (Ok actions) old new
 
 -- what has passed and was written by then
 abbrev pub StopsAt : Break → (List Move → Type 0) → (List ℕ → Type 0) → List Move → List ℕ → Type 0
 StopsAt Before tells holds log text = tells log × holds text
-StopsAt (AtAnswer event step) tells holds log text = tells (Heard event ∷ log) × holds text
-StopsAt (Carrying event actions) tells holds log text = AreCut tells holds actions.items (Heard event ∷ log) text
+StopsAt (AtAnswer occurrence step) tells holds log text = tells (Heard occurrence ∷ log) × holds text
+StopsAt (Carrying occurrence actions) tells holds log text = AreCut tells holds actions.items (Heard occurrence ∷ log) text
 
 -- what was handed to the cache by then may happen by the log
 abbrev pub MayBreak : ℕ → Break → List Move → Type 0
 MayBreak most Before log = Unit {0}
-MayBreak most (AtAnswer event step) log = MayHappen most event.of log
-MayBreak most (Carrying event actions) log = MayHappen most event.of log
+MayBreak most (AtAnswer occurrence step) log = MayHappen most occurrence.event.of log
+MayBreak most (Carrying occurrence actions) log = MayHappen most occurrence.event.of log
 
 -- the fault that tells it: memory was refused to the driver, or what the cache answered, or what went wrong at its actions
 abbrev pub IsToldBy : Break → DriveFault → Type 0
 IsToldBy Before fault = fault ≡ Core Memory
-IsToldBy (AtAnswer event step) fault = fault ≡ Core step
-IsToldBy (Carrying event actions) fault = IsOfCarrying fault
+IsToldBy (AtAnswer occurrence step) fault = fault ≡ Core step
+IsToldBy (Carrying occurrence actions) fault = IsOfCarrying fault
 
 abbrev pub GivesRound : ℕ → (List Move → Type 0) → (List ℕ → Type 0) → Result Bool DriveFault → Cache → Cache → List Move → List ℕ → Type 0
 GivesRound most tells holds (Ok true) old new log text = IsRound most tells holds old new log text

@@ -13,6 +13,7 @@ use crate::fault::{DriveFault, ServingFault};
 use crate::serving::serve_connection;
 use hc_connection::{Clients, Clock, Connection, Link, Origins};
 use hc_machine::Core;
+use hc_order::a_new_cache_mirrors_what_is_before;
 use hc_service::{new_cache_agrees, runs_are_judged_right, runs_go_on};
 use std::alloc::Global;
 use std::hash::BuildHasher;
@@ -83,6 +84,7 @@ pub fn serve_clients<S: BuildHasher, A: Clients, O: Origins, K: Clock, R: Link>(
     runs_go_on();
     runs_are_judged_right();
     new_cache_agrees();
+    a_new_cache_mirrors_what_is_before();
     'connections: for served in 0..count {
         serve_next(alloc, core, clients, origins, clock, recorder, served + 1)?;
     }

@@ -27,10 +27,10 @@ pub(crate) fn round<S: BuildHasher, L: Links, R: Link>(
     ensures unread { (times : ℕ) → R.was_read recorder.old times → R.was_read recorder.new times }
     ensures count { CountsRecorder result (R.count recorder.old) (R.count recorder.new) }
 {
-    let Some(event) = links.next()? else {
+    let Some(occurrence) = links.next()? else {
         return Ok(false);
     };
-    let actions = core.step(event)?;
+    let actions = core.step(occurrence.event)?;
     carry_out(alloc, links, recorder, actions.as_slice())?;
     Ok(true)
 }

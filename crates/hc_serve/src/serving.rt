@@ -8,8 +8,9 @@ ghost use Rattle.hc_serve.specs.Drives.{CountsServed, GivesDrive, LeavesIdle, Le
 
 use crate::driving::drive;
 use crate::fault::DriveFault;
-use hc_connection::{Clock, Connection, Link, Origins};
+use hc_connection::{Clock, Connection, Link, Origins, a_connection_at_rest_leaves_a_cache_at_rest};
 use hc_machine::Core;
+use hc_order::what_may_happen_in_turn_is_served;
 use hc_service::StepFault;
 use std::alloc::Global;
 use std::hash::BuildHasher;
@@ -38,6 +39,9 @@ pub fn serve_connection<S: BuildHasher, C: Link, O: Origins, K: Clock, R: Link>(
     ensures failed { SaysFailed result connection.new.peers.client.failed }
     ensures opened { LeavesOpened result connection.new.opened }
 {
+    // Laws, which do nothing: what is proved below rests on them.
+    what_may_happen_in_turn_is_served();
+    a_connection_at_rest_leaves_a_cache_at_rest::<C, O, K>();
     drive(alloc, core, connection, recorder)?;
     if !core.idle() {
         return Err(DriveFault::Core(StepFault::Failed));

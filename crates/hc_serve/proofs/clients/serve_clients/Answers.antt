@@ -38,7 +38,8 @@ returns-in_err-serve_next-clause-transcript g c =
     (at_fault c.runs_go_on.ensures.on c.runs_go_on.ensures.counted (g.K.Clock.may_tell c.args.clock.now)
     (g.A.Clients.came c.args.clients.now) (g.A.Clients.came c.connections.clients) (g.A.Clients.came c.serve_next.new.clients)
     (g.A.Clients.left c.args.clients.now) (g.A.Clients.left c.connections.clients) (g.A.Clients.left c.serve_next.new.clients)
-    (g.R.Link.has_got c.connections.recorder) (g.R.Link.has_got c.serve_next.new.recorder) c.args.core.now c.connections.core c.serve_next.new.core (opening recorded_format) Bool c.in_err-serve_next.field-0.0
+    (g.R.Link.has_got c.connections.recorder) (g.R.Link.has_got c.serve_next.new.recorder) c.args.core.now c.connections.core c.serve_next.new.core (opening recorded_format)
+    c.new_cache_agrees.ensures c.a_new_cache_mirrors_what_is_before.ensures.mirrors c.a_new_cache_mirrors_what_is_before.ensures.rests Bool c.in_err-serve_next.field-0.0
     c.connections.served _ c.args.count (omega (arith, c.connections-test.true)) (omega arith) (c.connections.invariant.so_far (opening recorded_format) held)
     (c.in_err-serve_next.ensures.serves _ (c.connections.invariant.so_far (opening recorded_format) held).held)))
 
@@ -49,7 +50,8 @@ returns-in_err-serve_next-clause-serves g c =
     (at_fault c.runs_go_on.ensures.on c.runs_go_on.ensures.counted (g.K.Clock.may_tell c.args.clock.now)
     (g.A.Clients.came c.args.clients.now) (g.A.Clients.came c.connections.clients) (g.A.Clients.came c.serve_next.new.clients)
     (g.A.Clients.left c.args.clients.now) (g.A.Clients.left c.connections.clients) (g.A.Clients.left c.serve_next.new.clients)
-    (g.R.Link.has_got c.connections.recorder) (g.R.Link.has_got c.serve_next.new.recorder) c.args.core.now c.connections.core c.serve_next.new.core text Bool c.in_err-serve_next.field-0.0
+    (g.R.Link.has_got c.connections.recorder) (g.R.Link.has_got c.serve_next.new.recorder) c.args.core.now c.connections.core c.serve_next.new.core text
+    c.new_cache_agrees.ensures c.a_new_cache_mirrors_what_is_before.ensures.mirrors c.a_new_cache_mirrors_what_is_before.ensures.rests Bool c.in_err-serve_next.field-0.0
     c.connections.served _ c.args.count (omega (arith, c.connections-test.true)) (omega arith) (c.connections.invariant.so_far text held)
     (c.in_err-serve_next.ensures.serves _ (c.connections.invariant.so_far text held).held)))
 

@@ -1,12 +1,12 @@
-use Rattle.std.proofs.Common.{◌≡◌, ◌∙◌, ◌++◌, ℕ, Bool, Err, ap, arith, inl, refl, rules, subst, true, false}
+use Rattle.std.proofs.Common.{◌≡◌, ◌∙◌, ◌++◌, ℕ, Bool, Err, length, ap, arith, inl, refl, rules, subst, true, false}
 use Rattle.std.proofs.lemmas.Result.{err_from_is_err_and}
 use Rattle.hc_service.specs.declared.fault.StepFault.TheVariants.{Failed}
 use Rattle.hc_serve.specs.declared.fault.DriveFault.TheVariants.{Core}
 use Rattle.hc_order.specs.Passed.{passed}
-use Rattle.hc_serve.specs.Drives.{texts_given}
+use Rattle.hc_serve.specs.Drives.{most_rounds, texts_given}
 use Rattle.hc_serve.specs.Rounds.{IsRound, MayBreak}
 use Rattle.hc_serve.specs.Rounds.Break.{Before}
-use Rattle.hc_serve.proofs.DriveLemmas.{begins, breaks, broke_off, ended, goes_on, made_all}
+use Rattle.hc_serve.proofs.DriveLemmas.{begins, breaks, broke_off, ended, goes_on, late_all, made_all, never_late}
 use Rattle.hc_serve.proofs.driving.drive.Goals as goal
 
 pub rounds-init : goal.rounds-init
@@ -27,7 +27,7 @@ rounds-preserved g c = record {
       c.runs_go_on.ensures.counted c.what_may_happen_in_turn_is_served.ensures.usual c.what_may_happen_in_turn_is_served.ensures.mirrors (g.L.Links.most c.args.links.now)
       (g.L.Links.tells c.rounds.links) (g.L.Links.tells c.round.new.links) (g.R.Link.has_got c.rounds.recorder) (g.R.Link.has_got c.round.new.recorder)
       _ _ c.round.new.core log text _ f
-      (subst (λ (n : ℕ). IsRound n (g.L.Links.tells c.round.new.links) (g.R.Link.has_got c.round.new.recorder) c.rounds.core c.round.new.core (passed f.events f.results log) (text ++ texts_given f.results))
+      (subst (λ (n : ℕ). IsRound n (g.L.Links.tells c.round.new.links) (g.R.Link.has_got c.round.new.recorder) c.rounds.core c.round.new.core (passed f.occurrences f.results log) (text ++ texts_given f.results))
       c.rounds.invariant.as_many ((rw on at c.in_ok-round.ensures.round) _ _ f.told f.held));
   moments = λ moment may. c.rounds.invariant.moments moment (c.in_ok-round.ensures.moments moment may);
   unread = λ times was. c.in_ok-round.ensures.unread times (c.rounds.invariant.unread times was);
@@ -45,8 +45,9 @@ returns-in_err-round-clause-drive g c =
     (broke_off c.steps_are_runs.ensures c.runs_keep_agreement.ensures c.agreement_is_ready.ensures
     c.runs_go_on.ensures.counted c.what_may_happen_in_turn_is_served.ensures.usual c.what_may_happen_in_turn_is_served.ensures.mirrors (g.L.Links.most c.args.links.now)
     (g.L.Links.tells c.rounds.links) (g.L.Links.tells c.round.new.links) (g.R.Link.has_got c.rounds.recorder) (g.R.Link.has_got c.round.new.recorder)
-    c.args.core.now c.rounds.core c.round.new.core log text _ f (g.L.Links.rests c.round.new.links) c.in_err-round.field-0.0 b.0 (inl b.1) b.2 b.3
-    (subst (λ (n : ℕ). MayBreak n b.0 (passed f.events f.results log)) c.rounds.invariant.as_many b.4)))
+    c.args.core.now c.rounds.core c.round.new.core log text _ f (g.L.Links.rests c.round.new.links) c.in_err-round.field-0.0 b.0 (inl b.1) b.2
+    (never_late b.0 c.in_err-round.field-0.0 (length f.occurrences) b.1) b.3
+    (subst (λ (n : ℕ). MayBreak n b.0 (passed f.occurrences f.results log)) c.rounds.invariant.as_many b.4)))
 
 pub returns-then-not-branch-clause-drive : goal.returns-then-not-branch-clause-drive
 returns-then-not-branch-clause-drive g c = λ log text told held.
@@ -61,7 +62,8 @@ returns-then-not-branch-clause-drive g c = λ log text told held.
 pub returns-clause-drive : goal.returns-clause-drive
 returns-clause-drive g c = λ log text told held.
     let f = c.rounds.invariant.so_far log text told held in
+    let all : c.rounds.counter ≡ most_rounds = omega (arith, c.rounds-test.false) in
     broke_off c.steps_are_runs.ensures c.runs_keep_agreement.ensures c.agreement_is_ready.ensures
     c.runs_go_on.ensures.counted c.what_may_happen_in_turn_is_served.ensures.usual c.what_may_happen_in_turn_is_served.ensures.mirrors (g.L.Links.most c.args.links.now)
     (g.L.Links.tells c.rounds.links) (g.L.Links.tells c.rounds.links) (g.R.Link.has_got c.rounds.recorder) (g.R.Link.has_got c.rounds.recorder)
-    c.args.core.now c.rounds.core c.rounds.core log text _ f (g.L.Links.rests c.rounds.links) (Core Failed) Before (made_all _ _ _ _ _ _ log text _ f (omega (arith, c.rounds-test.false))) refl (f.told, f.held) tt
+    c.args.core.now c.rounds.core c.rounds.core log text _ f (g.L.Links.rests c.rounds.links) (Core Failed) Before (made_all _ _ _ _ _ _ log text _ f all) refl (late_all _ _ _ _ _ log text _ f all) (f.told, f.held) tt
