@@ -23,8 +23,8 @@ pub trait Links {
     /// The moments at which things may happen.
     ghost may_tell: { Self → ℕ → Type 0 };
 
-    /// What happens next, or none where nothing more will. It waits until something does. It fails only where memory
-    /// is refused.
+    /// What happens next, and why it is told, or none where nothing more will. It waits until something does. It fails
+    /// only where memory is refused.
     fn next(&mut self) -> Result<Option<Occurrence>, AllocError>
         ensures tells { (log : List Move) → tells self.old log → TellsNext (tells self.new) result log }
         // It may happen by the log: where the cache mirrors the log, no test of the event fails but that of its moment.

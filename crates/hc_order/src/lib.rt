@@ -8,7 +8,8 @@ mod receiver;
 mod resting;
 
 pub use laws::{
-    a_new_cache_mirrors_what_is_before, actions_leave_what_is_open, what_may_happen_in_turn_is_served, what_may_happen_is_served,
+    a_new_cache_mirrors_what_is_before, actions_leave_what_is_open,
+    what_may_happen_in_turn_is_served, what_may_happen_is_served,
 };
 pub use occurrence::{Occurrence, Reason};
 pub use receiver::Receiver;

@@ -18,7 +18,8 @@ pub enum DriveFault {
     #[error("the recorder failed")]
     Recorder,
     /// The cache didn't serve an event, or memory was refused to the driver itself. `Failed` is also that the driver gave
-    /// up: nothing more happens, and the cache isn't idle, or 2^64 - 1 events were served.
+    /// up: nothing more happens, and the cache isn't idle, or 2^64 - 1 events were served. The former can't be of a cache
+    /// that was at rest before and mirrored the log.
     #[error("{0}")]
     Core(StepFault),
 }

@@ -8,7 +8,9 @@ ghost use Rattle.hc_serve.specs.Drives.{CountsServed, GivesDrive, LeavesIdle, Le
 
 use crate::driving::drive;
 use crate::fault::DriveFault;
-use hc_connection::{Clock, Connection, Link, Origins, a_connection_at_rest_leaves_a_cache_at_rest};
+use hc_connection::{
+    Clock, Connection, Link, Origins, a_connection_at_rest_leaves_a_cache_at_rest,
+};
 use hc_machine::Core;
 use hc_order::what_may_happen_in_turn_is_served;
 use hc_service::StepFault;
@@ -43,6 +45,7 @@ pub fn serve_connection<S: BuildHasher, C: Link, O: Origins, K: Clock, R: Link>(
     what_may_happen_in_turn_is_served();
     a_connection_at_rest_leaves_a_cache_at_rest::<C, O, K>();
     drive(alloc, core, connection, recorder)?;
+    // This holds of any cache; one that was at rest before and mirrored the log is idle here.
     if !core.idle() {
         return Err(DriveFault::Core(StepFault::Failed));
     }
