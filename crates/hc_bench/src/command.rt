@@ -23,10 +23,13 @@ pub enum Task {
     Hits,
     /// To measure what reports cost beside audits.
     Report,
+    /// To measure how much memory idle connections take.
+    Idle,
 }
 
 /// How the program is called.
-pub const USAGE: &str = "usage: hc_bench [measure|audit|audit-long|transcript|store|hits|report]\n";
+pub const USAGE: &str =
+    "usage: hc_bench [measure|audit|audit-long|transcript|store|hits|report|idle]\n";
 
 /// What the word asks for, if it is a known one.
 fn task_of(word: &str) -> Option<Task>
@@ -46,6 +49,8 @@ fn task_of(word: &str) -> Option<Task>
         Some(Task::Hits)
     } else if word == "report" {
         Some(Task::Report)
+    } else if word == "idle" {
+        Some(Task::Idle)
     } else {
         None
     }

@@ -91,8 +91,8 @@ fn is_served(core: &mut Core, exchange: Exchange, reply: &Validated) -> Result<b
     }
 }
 
-// Whether the actions are the records of a request and its reply, and the reply.
-fn is_hit(actions: &[Action]) -> bool {
+/// Whether the actions are the records of a request and its reply, and the reply.
+pub fn is_hit(actions: &[Action]) -> bool {
     matches!(
         actions,
         [Action::Record(_), Action::Record(_), Action::ToClient(_, _)]

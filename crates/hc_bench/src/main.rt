@@ -1,4 +1,5 @@
-//! `hc_bench`: what it costs to read messages in pieces, to audit transcripts, to call a store, and to serve hits.
+//! `hc_bench`: what it costs to read messages in pieces, to audit transcripts, to call a store, to serve hits, and to
+//! keep connections open.
 //!
 //! Without an argument it reads two short messages in pieces and says how many calls that took,
 //! measures small samples by a clock that always goes alike, and counts the hits and the validations
@@ -8,7 +9,8 @@
 //! be timed over the same octets. With `store` it asks stores of few keys and of many for responses, and
 //! puts others in their place. With `hits` it lets caches serve hits, replies that are validated
 //! first, and requests that wait for the forward of another one. With `report` it says what a report on hits costs beside
-//! an audit.
+//! an audit. With `idle` it opens many connections, serves each a hit, and says how much memory they take; it needs
+//! Linux.
 #![tactic(auto)]
 
 mod auditing;
@@ -21,6 +23,7 @@ mod exchanged;
 mod exchanges;
 mod feeding;
 mod hits;
+mod idle;
 mod lines;
 mod measures;
 mod messages;

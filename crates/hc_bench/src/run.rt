@@ -6,6 +6,7 @@ ghost use Rattle.hc_bench.specs.Command.{asked};
 use crate::audits::{LONG_BODIES, audit, write_sample};
 use crate::command::{Task, USAGE, asked};
 use crate::hits::hits;
+use crate::idle::idle;
 use crate::measures::measure;
 use crate::print::printed;
 use crate::reports::report;
@@ -14,13 +15,13 @@ use crate::stores::store;
 use crate::trouble::Trouble;
 use std::convert::AsStr;
 use std::io::Write;
-use std::rt::{Clock, Env};
+use std::rt::{Clock, Env, Files};
 use std::{env, io};
 
 /// Does what the program's own arguments ask, and answers its exit status.
 pub fn status<R, W: Write, E: Write>(rt: &R, output: &mut W, faults: &mut E) -> u8
 where
-    R: Clock + Env + AllocGlobal,
+    R: Clock + Env + Files + AllocGlobal,
 {
     match arguments(rt) {
         Ok(words) => answered(rt, words.as_slice(), output, faults),
@@ -43,7 +44,7 @@ pub fn answered<R, S: AsStr, W: Write, E: Write>(
     faults: &mut E,
 ) -> u8
 where
-    R: Clock + AllocGlobal,
+    R: Clock + Files + AllocGlobal,
     ensures unknown { (result ≡ 64) ↔ (asked (map S.text words.now) ≡ None) }
     ensures quiet { result ≡ 64 → Keeps (W.contents output.old) (W.contents output.new) }
     ensures well { result ≡ 0 → Keeps (E.contents faults.old) (E.contents faults.new) }
@@ -57,6 +58,7 @@ where
         Some(Task::Store) => store(rt.alloc(), rt, output),
         Some(Task::Hits) => hits(rt.alloc(), rt, output),
         Some(Task::Report) => report(rt.alloc(), rt, output),
+        Some(Task::Idle) => idle(rt, output),
         None => return refused(faults),
     };
     match done {

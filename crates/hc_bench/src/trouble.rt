@@ -18,7 +18,7 @@ pub enum Trouble {
     /// Memory was refused.
     #[error("memory")]
     Memory,
-    /// The clock can't be read, or the answer can't be written.
+    /// The clock or a file can't be read, or the answer can't be written.
     #[error("device")]
     Device,
     /// What was fed is no message.
