@@ -62,6 +62,9 @@ fn serve_next<S: BuildHasher, A: Clients, O: Origins, K: Clock, R: Link>(
 /// audit says yes, as far as records can be numbered; or a beginning of one, where the recorder failed or the cache
 /// didn't serve an event. In any case it is that of what happened: the connections 1, 2, .., each with what its client
 /// sent and what the cache answered, and no other.
+///
+/// Of a new cache any fault of the core says that memory was refused, that an event's moment was too large to be told,
+/// or that 2^64 - 1 events of one connection were served, as far as records can be numbered.
 pub fn serve_clients<S: BuildHasher, A: Clients, O: Origins, K: Clock, R: Link>(
     alloc: Global,
     core: &mut Core<S>,

@@ -45,7 +45,7 @@ pub fn serve_connection<S: BuildHasher, C: Link, O: Origins, K: Clock, R: Link>(
     what_may_happen_in_turn_is_served();
     a_connection_at_rest_leaves_a_cache_at_rest::<C, O, K>();
     drive(alloc, core, connection, recorder)?;
-    // This holds of any cache; one that was at rest before and mirrored the log is idle here.
+    // By this test the promise holds of any cache. One that was at rest before, and mirrored the log, is idle here.
     if !core.idle() {
         return Err(DriveFault::Core(StepFault::Failed));
     }
