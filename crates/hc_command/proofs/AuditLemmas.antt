@@ -9,22 +9,35 @@ use Rattle.hc_history.specs.Verdicts.{IsVerdict}
 use Rattle.hc_audit.specs.declared.auditor.Auditor.{Auditor}
 use Rattle.hc_audit.specs.Agreement.{Agrees}
 use Rattle.hc_audit.specs.Standing.{Stands}
-use Rattle.hc_command.specs.Audit.{Feeds, FeedsPiece}
+use Rattle.hc_command.specs.declared.auditing.Fed.{Fed}
+use Rattle.hc_command.specs.Audit.{Feeds, FeedsPiece, verdict_of}
 
 -- ---- what was fed
 
--- the auditor was fed a piece more
-pub fed_on : {I : Type 0} (seen : I → Seen) (settings : Settings) (octets : List ℕ) (before after : Auditor I) (old mid new : Option (List ℕ)) (piece : List ℕ) (settled : Option Verdict)
-    (f : Feeds seen before settings octets old mid None) → Consumes mid new piece → FeedsPiece seen after settings ((octets ++ f.bytes) ++ piece) settled
-    → Feeds seen after settings octets old new settled
-fed_on seen settings octets before after old mid new piece settled f consumed fed =
-    let all : (octets ++ f.bytes) ++ piece ≡ octets ++ (f.bytes ++ piece) = append_assoc octets f.bytes piece in
+-- one piece
+pub fed_once : {I : Type 0} (seen : I → Seen) (settings : Settings) (octets : List ℕ) (after : Auditor I) (old new : Option (List ℕ)) (piece : List ℕ) (settled : Option Verdict)
+    → Consumes old new piece → FeedsPiece seen after settings (octets ++ piece) settled → Feeds seen after settings octets old new settled
+fed_once seen settings octets after old new piece settled consumed fed = record { bytes = piece; agrees = fed.agrees; consumed = consumed; stands = fed.stands }
+
+-- and behind what was fed before what was fed after
+fed_on_behind : {I : Type 0} (seen : I → Seen) (settings : Settings) (octets : List ℕ) (before after : Auditor I) (old mid new : Option (List ℕ)) (settled : Option Verdict)
+    (f : Feeds seen before settings octets old mid None) → Feeds seen after settings (octets ++ f.bytes) mid new settled → Feeds seen after settings octets old new settled
+fed_on_behind seen settings octets before after old mid new settled f then_fed =
+    let all : (octets ++ f.bytes) ++ then_fed.bytes ≡ octets ++ (f.bytes ++ then_fed.bytes) = append_assoc octets f.bytes then_fed.bytes in
     record {
-      bytes = f.bytes ++ piece;
-      agrees = subst (Agrees seen after settings) all fed.agrees;
-      consumed = Consumes-trans old mid new f.bytes piece f.consumed consumed;
-      stands = subst (λ (o : List ℕ). IfSome settled (λ verdict. Stands verdict settings o)) all fed.stands;
+      bytes = f.bytes ++ then_fed.bytes;
+      agrees = subst (Agrees seen after settings) all then_fed.agrees;
+      consumed = Consumes-trans old mid new f.bytes then_fed.bytes f.consumed then_fed.consumed;
+      stands = subst (λ (o : List ℕ). IfSome settled (λ verdict. Stands verdict settings o)) all then_fed.stands;
     }
+
+-- the same of what a piece came to
+pub fed_to : {I : Type 0} (seen : I → Seen) (settings : Settings) (octets : List ℕ) (before after : Auditor I) (old mid new : Option (List ℕ)) (met known : Fed)
+    (f : Feeds seen before settings octets old mid None) → ((o : List ℕ) → Agrees seen before settings o → Feeds seen after settings o mid new (verdict_of met)) → met ≡ known
+    → Feeds seen after settings octets old new (verdict_of known)
+fed_to seen settings octets before after old mid new met known f feeds is =
+    subst (λ (m : Fed). Feeds seen after settings octets old new (verdict_of m)) is
+    (fed_on_behind seen settings octets before after old mid new (verdict_of met) f (feeds (octets ++ f.bytes) f.agrees))
 
 -- ---- the verdict
 
@@ -49,8 +62,5 @@ module _ {I : Type 0} (seen : I → Seen) (settings : Settings) where
       before_end (λ o. IsVerdict o settings verdict) old new f.bytes f.consumed stands.holds
 
   pub ended_verdict : (a : Auditor I) (old new : Option (List ℕ)) (settled : Option Verdict) (verdict : Verdict)
-      → Feeds seen a settings [] old new settled → IsAtEnd new
-      → ((octets : List ℕ) → Agrees seen a settings octets → IsVerdict octets settings verdict)
-      → IfSome old (λ octets. IsVerdict octets settings verdict)
-  ended_verdict a old new settled verdict f end is =
-      at_end (λ o. IsVerdict o settings verdict) old new f.bytes f.consumed end (is f.bytes f.agrees)
+      (f : Feeds seen a settings [] old new settled) → IsAtEnd new → IsVerdict f.bytes settings verdict → IfSome old (λ octets. IsVerdict octets settings verdict)
+  ended_verdict a old new settled verdict f end is = at_end (λ o. IsVerdict o settings verdict) old new f.bytes f.consumed end is

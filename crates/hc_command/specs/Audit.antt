@@ -1,5 +1,5 @@
 -- What an audit leaves on its two writers.
-use Rattle.std.specs.Prelude.{◌≡◌, ◌⊎◌, ℕ, List, ◌++◌, Option, IfSome}
+use Rattle.std.specs.Prelude.{◌≡◌, ◌⊎◌, ℕ, List, ◌++◌, Option, None, Some, IfSome}
 use Rattle.std.specs.Io.KnownBytes.{Appends, Consumes, IsAtEnd, Keeps}
 use Rattle.hc_history.specs.declared.settings.Settings.{Settings}
 use Rattle.hc_history.specs.declared.verdicts.Verdict.{Verdict}
@@ -8,6 +8,8 @@ use Rattle.hc_history.specs.Seen.{Seen}
 use Rattle.hc_audit.specs.declared.auditor.Auditor.{Auditor}
 use Rattle.hc_audit.specs.Agreement.{Agrees}
 use Rattle.hc_audit.specs.Standing.{Stands}
+use Rattle.hc_command.specs.declared.auditing.Fed.{Fed}
+use Rattle.hc_command.specs.declared.auditing.Fed.TheVariants.{More, End, Settled}
 use Rattle.hc_command.specs.Line.{IsVerdictLine, status_of}
 
 -- ---- how far the input is read
@@ -60,6 +62,12 @@ Answers status old new faults_old faults_new =
     (status ≡ 3) ⊎ (SaysSome status old new × Keeps faults_old faults_new)
 
 -- ---- what private functions promise
+
+-- the verdict that a piece leads to, which stands
+abbrev pub verdict_of : Fed → Option Verdict
+verdict_of More = None
+verdict_of End = None
+verdict_of (Settled verdict) = Some verdict
 
 -- the auditor was fed what the reader gave, up to its end or to a verdict that stands
 pub record Feeds {I : Type 0} (seen : I → Seen) (a : Auditor I) (settings : Settings) (octets : List ℕ) (old new : Option (List ℕ)) (settled : Option Verdict) : Type 0 where

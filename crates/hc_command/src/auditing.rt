@@ -1,10 +1,10 @@
 //! The audit of one transcript: from a reader to a line on a writer and an exit status.
-ghost use Rattle.std.specs.Prelude.{◌≡◌, ◌⊎◌, ◌<◌, ◌++◌, ℕ, List, [], None, false, length, IfErr, IfOk, IfSome, vec_len};
+ghost use Rattle.std.specs.Prelude.{◌≡◌, ◌⊎◌, ◌<◌, ◌++◌, ℕ, List, [], None, Ok, false, length, IfErr, IfOk, IfSome, vec_len};
 ghost use Rattle.std.specs.Io.KnownBytes.{IsAtEnd, Keeps};
 ghost use Rattle.hc_history.specs.declared.settings.Settings.{Settings};
 ghost use Rattle.hc_history.specs.Verdicts.{IsVerdict};
 ghost use Rattle.hc_audit.specs.Agreement.{Agrees};
-ghost use Rattle.hc_command.specs.Audit.{AnswersFor, Feeds, FeedsPiece, IsConcluded, IsReadUp, SaysLine, SaysVerdict};
+ghost use Rattle.hc_command.specs.Audit.{AnswersFor, Feeds, FeedsPiece, IsConcluded, IsReadUp, SaysLine, SaysVerdict, verdict_of};
 ghost use Rattle.hc_command.specs.Line.{status_of};
 ghost use Rattle.hc_command.specs.Trouble.{is_of_output};
 
@@ -98,8 +98,17 @@ fn judged_by<I: Index + Drop, R: Read>(
 {
     match feed_all(&mut auditor, input, piece)? {
         Some(verdict) => Ok(verdict),
-        None => Ok(auditor.finish()?),
+        None => finished(auditor),
     }
+}
+
+// The verdict of the auditor, which was fed all octets.
+fn finished<I: Index + Drop>(auditor: Auditor<I>) -> Result<Verdict, Trouble>
+    ensures verdict { (settings : Settings) (octets : List ℕ) → Agrees I.seen auditor settings octets
+        → IfOk result (IsVerdict octets settings) }
+    ensures err { IfErr result (λ trouble. is_of_output trouble ≡ false) }
+{
+    Ok(auditor.finish()?)
 }
 
 /// Room for one read.
@@ -123,33 +132,57 @@ fn feed_all<I: Index + Drop, R: Read>(
     ensures err { IfErr result (λ trouble. is_of_output trouble ≡ false) }
 {
     'pieces: for _ in 0..READS {
-        match input.read(piece) {
-            Ok(0) => return Ok(None),
-            Ok(count) => {
-                let settled = feed(auditor, &piece[..count])?;
-                if settled.is_some() {
-                    return Ok(settled);
-                }
-            }
-            Err(error) if error.kind() == ErrorKind::Interrupted => {}
-            Err(error) => return Err(Trouble::Device(error)),
+        match feed_next(auditor, input, piece)? {
+            Fed::More => {}
+            Fed::End => return Ok(None),
+            Fed::Settled(verdict) => return Ok(Some(verdict)),
         }
     }
     Err(Trouble::Device(io::Error::other("too many reads")))
 }
 
-// Feeds the auditor a piece, and answers the verdict that stands then.
-fn feed<I: Index + Drop>(
+// What a piece of the input comes to.
+#[derive(Clone, Copy)]
+enum Fed {
+    // More may come.
+    More,
+    // The input is at its end.
+    End,
+    // This verdict stands.
+    Settled(Verdict),
+}
+
+// Feeds the auditor the next piece that `input` gives.
+fn feed_next<I: Index + Drop, R: Read>(
     auditor: &mut Auditor<I>,
-    piece: &[u8],
-) -> Result<Option<Verdict>, AuditFault>
-    ensures { (settings : Settings) (octets : List ℕ) → Agrees I.seen auditor.old settings octets
-        → IfOk result (FeedsPiece I.seen auditor.new settings (octets ++ piece.now)) }
+    input: &mut R,
+    piece: &mut [u8],
+) -> Result<Fed, Trouble>
+    requires { 0 < length piece.old }
+    ensures fed { (settings : Settings) (octets : List ℕ) → Agrees I.seen auditor.old settings octets
+        → IfOk result (λ fed. Feeds I.seen auditor.new settings octets (R.remaining input.old) (R.remaining input.new) (verdict_of fed)) }
+    ensures end { result ≡ Ok Fed.End → IsAtEnd (R.remaining input.new) }
+    ensures room { length piece.new ≡ length piece.old }
+    ensures err { IfErr result (λ trouble. is_of_output trouble ≡ false) }
+{
+    match input.read(piece) {
+        Ok(0) => Ok(Fed::End),
+        Ok(count) => Ok(feed(auditor, &piece[..count])?),
+        Err(error) if error.kind() == ErrorKind::Interrupted => Ok(Fed::More),
+        Err(error) => Err(Trouble::Device(error)),
+    }
+}
+
+// Feeds the auditor a piece.
+fn feed<I: Index + Drop>(auditor: &mut Auditor<I>, piece: &[u8]) -> Result<Fed, AuditFault>
+    ensures fed { (settings : Settings) (octets : List ℕ) → Agrees I.seen auditor.old settings octets
+        → IfOk result (λ fed. FeedsPiece I.seen auditor.new settings (octets ++ piece.now) (verdict_of fed)) }
+    ensures on { result ≡ Ok Fed.End → ⊥ }
 {
     auditor.feed(piece)?;
     match auditor.settled() {
-        Some(verdict) => Ok(Some(*verdict)),
-        None => Ok(None),
+        Some(verdict) => Ok(Fed::Settled(*verdict)),
+        None => Ok(Fed::More),
     }
 }
 

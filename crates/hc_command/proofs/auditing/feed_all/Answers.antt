@@ -1,9 +1,18 @@
-use Rattle.std.proofs.Common.{◌++◌, rules}
-use Rattle.hc_command.proofs.AuditLemmas.{fed_on}
+use Rattle.hc_command.specs.declared.auditing.Fed.TheVariants.{More, End, Settled}
+use Rattle.hc_command.proofs.AuditLemmas.{fed_to}
 use Rattle.hc_command.proofs.auditing.feed_all.Goals as goal
 
-pub returns-then-is_some-clause-fed : goal.returns-then-is_some-clause-fed
-returns-then-is_some-clause-fed g c = λ settings octets agrees.
-    let before = c.pieces.invariant settings octets agrees in
-    fed_on g.I.Index.seen settings octets c.pieces.auditor c.feed.new.auditor _ _ _ _ c.in_ok-settled-in-Ok.settled before (search rules)
-    (c.in_ok-settled-in-Ok.ensures settings (octets ++ before.bytes) before.agrees)
+pub returns-in-End-clause-fed : goal.returns-in-End-clause-fed
+returns-in-End-clause-fed g c = λ settings octets agrees.
+    fed_to g.I.Index.seen settings octets c.pieces.auditor c.feed_next.new.auditor _ _ _ c.in_ok-feed_next.field-0 End
+    (c.pieces.invariant settings octets agrees) (λ o so_far. c.in_ok-feed_next.ensures.fed settings o so_far) c.in-End.is
+
+pub returns-in-Settled-clause-fed : goal.returns-in-Settled-clause-fed
+returns-in-Settled-clause-fed g c = λ settings octets agrees.
+    fed_to g.I.Index.seen settings octets c.pieces.auditor c.feed_next.new.auditor _ _ _ c.in_ok-feed_next.field-0 (Settled c.in-Settled.verdict)
+    (c.pieces.invariant settings octets agrees) (λ o so_far. c.in_ok-feed_next.ensures.fed settings o so_far) c.in-Settled.is
+
+pub pieces-preserved : goal.pieces-preserved
+pieces-preserved g c = λ settings octets agrees.
+    fed_to g.I.Index.seen settings octets c.pieces.auditor c.feed_next.new.auditor _ _ _ c.in_ok-feed_next.field-0 More
+    (c.pieces.invariant settings octets agrees) (λ o so_far. c.in_ok-feed_next.ensures.fed settings o so_far) c.in-More.is
