@@ -63,9 +63,22 @@ where
     requires { AreGood settings }
 {
     let mut core = new_core(rt, settings)?;
+    serve_with(rt, service, &mut core)
+}
+
+/// Makes the file and the socket, and serves from the cache.
+fn serve_with<R>(
+    rt: &R,
+    service: Service<'_>,
+    core: &mut Core<RandomState>,
+) -> Result<(), ServeFault>
+where
+    R: Net + Files + Clock + AllocGlobal,
+    R::File: Claim,
+{
     let mut recorder = new_recorder(rt, service.file)?;
     let mut clients = new_listening(rt, service.listen)?;
-    serve_from(rt, service, &mut core, &mut clients, &mut recorder)
+    serve_from(rt, service, core, &mut clients, &mut recorder)
 }
 
 /// Serves the clients from the cache.
