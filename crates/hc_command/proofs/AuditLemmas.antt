@@ -19,6 +19,12 @@ pub fed_once : {I : Type 0} (seen : I → Seen) (settings : Settings) (octets : 
     → Consumes old new piece → FeedsPiece seen after settings (octets ++ piece) settled → Feeds seen after settings octets old new settled
 fed_once seen settings octets after old new piece settled consumed fed = record { bytes = piece; agrees = fed.agrees; consumed = consumed; stands = fed.stands }
 
+-- no octets more
+pub fed_no_more : {I : Type 0} (seen : I → Seen) (settings : Settings) (octets : List ℕ) (after : Auditor I) (old new : Option (List ℕ)) → Agrees seen after settings octets
+    → Consumes old new [] → Feeds seen after settings octets old new None
+fed_no_more seen settings octets after old new agrees consumed =
+    record { bytes = []; agrees = subst (Agrees seen after settings) (sym (append-nil octets)) agrees; consumed = consumed; stands = tt }
+
 -- and behind what was fed before what was fed after
 fed_on_behind : {I : Type 0} (seen : I → Seen) (settings : Settings) (octets : List ℕ) (before after : Auditor I) (old mid new : Option (List ℕ)) (settled : Option Verdict)
     (f : Feeds seen before settings octets old mid None) → Feeds seen after settings (octets ++ f.bytes) mid new settled → Feeds seen after settings octets old new settled
