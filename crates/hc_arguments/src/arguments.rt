@@ -273,7 +273,7 @@ pub fn not_text(alloc: Global) -> Result<Error, AllocError>
     ensures { IfOk result (λ error. kind_of error ≡ ErrorKind.ValueValidation) }
 {
     usage_error(
-        command(alloc)?,
+        command(alloc),
         ErrorKind::ValueValidation,
         "invalid UTF-8 was detected in one or more arguments",
     )

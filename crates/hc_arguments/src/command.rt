@@ -133,13 +133,16 @@ pub(crate) fn command_named<'a>(
     alloc: Global,
     name: Option<&str>,
 ) -> Result<Command<'a>, AllocError> {
+    let Some(name) = name else {
+        return command(alloc);
+    };
     match name {
-        Some("audit") => audit_command(alloc),
-        Some("report") => report_command(alloc),
-        Some("explain") => explain_command(alloc),
-        Some("replay") => replay_command(alloc),
-        Some("serve") => serve_command(alloc),
-        Some("convert") => convert_command(alloc),
+        "audit" => audit_command(alloc),
+        "report" => report_command(alloc),
+        "explain" => explain_command(alloc),
+        "replay" => replay_command(alloc),
+        "serve" => serve_command(alloc),
+        "convert" => convert_command(alloc),
         _ => command(alloc),
     }
 }

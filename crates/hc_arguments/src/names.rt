@@ -1,9 +1,10 @@
 //! The names of fields in a list of them.
 
-ghost use Rattle.std.specs.Prelude.{◌≡◌, ◌≤◌, ◌∷◌, [], ℕ, List, IfOk, length};
+ghost use Rattle.std.specs.Prelude.{◌≡◌, ◌≤◌, ◌∷◌, ◌++◌, [], ℕ, List, IfOk, OnOk, length};
 ghost use Rattle.std.specs.Iterator.{YieldsFirstRef, item_count};
 ghost use Rattle.std.specs.List.{list_all};
 ghost use Rattle.std.specs.Option.{option_map_or};
+ghost use Rattle.std.specs.Str.{str_to_ascii_lowercase};
 ghost use Rattle.hc_fields.specs.Tokens.{is_token};
 ghost use Rattle.hc_arguments.specs.Values.{between_commas, len_before_comma, names_of};
 
@@ -86,7 +87,14 @@ pub(crate) fn names_of(alloc: Global, list: &[u8]) -> Result<Option<FieldNames>,
     }
     let mut names = FieldNames::new(alloc);
     for name in between_commas(list) {
-        names.push(Octets::from_vec(name.to_ascii_lowercase(alloc)?))?;
+        push_name(alloc, name, &mut names)?;
     }
     Ok(Some(names))
+}
+
+/// Adds the name, in lower case.
+fn push_name(alloc: Global, name: &[u8], names: &mut FieldNames) -> Result<(), AllocError>
+    ensures { OnOk result (names.new ≡ names.old ++ str_to_ascii_lowercase name.now ∷ []) }
+{
+    names.push(Octets::from_vec(name.to_ascii_lowercase(alloc)?))
 }

@@ -41,12 +41,21 @@ impl Refusal {
     pub(crate) fn error(self, alloc: Global, name: Option<&str>) -> Result<Error, AllocError>
         ensures { IfOk result (λ error. refused_kind self ≡ Some (kind_of error)) }
     {
-        let kind = match self {
-            Refusal::Memory => return Err(AllocError),
-            Refusal::Missing => ErrorKind::MissingRequiredArgument,
-            _ => ErrorKind::ValueValidation,
+        let Some(kind) = self.kind() else {
+            return Err(AllocError);
         };
-        usage_error(command_named(alloc, name)?, kind, self.message())
+        usage_error(command_named(alloc, name), kind, self.message())
+    }
+
+    // Of which kind the error is, if it isn't that memory was refused.
+    fn kind(self) -> Option<ErrorKind>
+        ensures { result ≡ refused_kind self }
+    {
+        match self {
+            Refusal::Memory => None,
+            Refusal::Missing => Some(ErrorKind::MissingRequiredArgument),
+            _ => Some(ErrorKind::ValueValidation),
+        }
     }
 
     // What is wrong.
@@ -79,12 +88,13 @@ impl Refusal {
 
 /// The error of this kind, with the usage of the command.
 pub(crate) fn usage_error(
-    mut command: Command<'_>,
+    command: Result<Command<'_>, AllocError>,
     kind: ErrorKind,
     message: &str,
 ) -> Result<Error, AllocError>
     ensures { IfOk result (λ error. kind_of error ≡ kind) }
 {
+    let mut command = command?;
     command.error(kind, message)
 }
 
