@@ -3,6 +3,7 @@
 use crate::ended::EndedForward;
 use crate::found::Found;
 use crate::furthest::Furthest;
+use crate::layout::push_number;
 use crate::nearness::{Apart, apart_in, is_near, is_of_target};
 use crate::sources::source_text;
 use crate::traces::Traces;
@@ -13,7 +14,6 @@ use hc_head::{ResponseHead, StatusCode, is_error_status};
 use hc_shown::push_octets;
 use hc_update::invalidates;
 use std::alloc::{AllocError, Global};
-use std::fmt::Write;
 
 /// What is said of a response that invalidated another one.
 fn invalidating_text(
@@ -22,8 +22,7 @@ fn invalidating_text(
     status: StatusCode,
 ) -> Result<String, AllocError> {
     let mut text = String::new(alloc);
-    let status = status.as_u16();
-    write!(text, "{status} to ")?;
+    push_number("", u64::from(status.as_u16()), " to ", &mut text)?;
     push_octets(ended.forward.request.method.as_str().as_bytes(), &mut text)?;
     text.push_str(" of the same target")?;
     Ok(text)

@@ -2,12 +2,12 @@
 
 use crate::ended::EndedForward;
 use crate::found::Found;
+use crate::layout::push_number;
 use crate::traces::Traces;
 use hc_details::forbidden;
 use hc_head::{ResponseHead, is_get_or_head};
 use hc_shown::push_octets;
 use std::alloc::{AllocError, Global};
-use std::fmt::Write;
 
 /// What is said of a response that may not be stored: nothing where it may.
 pub(crate) fn unstored_text(
@@ -19,8 +19,7 @@ pub(crate) fn unstored_text(
         return Ok(None);
     };
     let mut text = String::new(alloc);
-    let status = response.status.as_u16();
-    write!(text, "{status}, ")?;
+    push_number("", u64::from(response.status.as_u16()), ", ", &mut text)?;
     forbidden.say(&mut text)?;
     Ok(Some(text))
 }
@@ -38,6 +37,6 @@ pub(crate) fn say_unstored(
     if traces.unstored.is_empty() {
         return out.push_str("no response of the target is recorded before the reply");
     }
-    out.push_str("what is recorded of the target may not be stored: ")?;
-    traces.unstored.push_all(": ", "; ", out)
+    let before = "what is recorded of the target may not be stored: ";
+    traces.unstored.push_all(before, ": ", "; ", out)
 }
