@@ -16,6 +16,7 @@ mod report;
 mod rows;
 mod saying;
 mod targets;
+mod texts;
 mod tries;
 
 pub use report::Report;
