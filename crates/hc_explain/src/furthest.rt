@@ -5,9 +5,10 @@ use crate::contents::say_contents;
 use crate::differing::Differing;
 use crate::ended::EndedForward;
 use crate::freshness::say_freshness;
+use crate::layout::push_method;
 use crate::selection::say_selection;
+use crate::unstored::NO_GET;
 use hc_history::{Candidate, Reason, ReplyClaim, reason_behind};
-use hc_shown::push_octets;
 use hc_update::Stored;
 use std::alloc::{AllocError, Global};
 
@@ -51,12 +52,6 @@ fn date_of(state: &Stored) -> Option<u64> {
     Some(times.date)
 }
 
-/// Writes that the request is by a method whose replies come from no store.
-fn say_method(claim: &ReplyClaim<'_>, out: &mut String) -> Result<(), AllocError> {
-    push_octets(claim.request.method.as_str().as_bytes(), out)?;
-    out.push_str(" is neither GET nor HEAD")
-}
-
 /// Writes why the response gets no further, where its state tells.
 fn say_shortfall(
     alloc: Global,
@@ -66,7 +61,7 @@ fn say_shortfall(
     out: &mut String,
 ) -> Result<(), AllocError> {
     match reason_behind(passed) {
-        Some(Reason::NoResponse) => say_method(claim, out),
+        Some(Reason::NoResponse) => push_method("", &claim.request.method, NO_GET, out),
         Some(Reason::Vary) => say_selection(alloc, claim, state, out),
         Some(Reason::NoExplicitFreshness | Reason::NotAllowed) => say_freshness(claim, state, out),
         Some(Reason::Body) => say_contents(alloc, claim, state, out),

@@ -59,9 +59,11 @@ impl Notes {
         separator: &str,
         out: &mut String,
     ) -> Result<(), AllocError> {
-        for (index, note) in self.newest.iter().enumerate() {
-            push_separator(index, before, separator, out)?;
+        let mut is_first = true;
+        for note in self.newest.iter() {
+            push_separator(is_first, before, separator, out)?;
             note.push(behind, out)?;
+            is_first = false;
         }
         push_more(self.older, out)
     }

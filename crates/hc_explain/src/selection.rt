@@ -92,7 +92,7 @@ fn say_members(
             continue;
         }
         if named < LISTED {
-            push_separator(named, "", "; ", out)?;
+            push_separator(named == 0, "", "; ", out)?;
             say_member(alloc, answered, asked, member, out)?;
             named += 1;
         } else {

@@ -128,8 +128,7 @@ fn say_more(more: u64, out: &mut String) -> Result<(), AllocError> {
         return Ok(());
     }
     begin_line(FROM, "", out)?;
-    push_number("and ", more, " more", out)?;
-    end_line(out)
+    push_number("and ", more, " more\n", out)
 }
 
 /// Writes a line for each response that the reply may carry, the furthest first.

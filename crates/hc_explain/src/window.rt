@@ -2,7 +2,7 @@
 
 use crate::ended::EndedForward;
 use crate::found::Found;
-use crate::layout::{begin_line, end_line, push_number};
+use crate::layout::{begin_line, end_line, push_method, push_number};
 use crate::nearness::{Apart, apart_in};
 use crate::rules::say_failing;
 use crate::traces::Traces;
@@ -33,10 +33,7 @@ fn push_apart(
             let status = response.head.status.as_u16();
             push_number(" is ", u64::from(status), "", out)
         }
-        Apart::Method => {
-            out.push_str(" answers ")?;
-            push_octets(ended.forward.request.method.as_str().as_bytes(), out)
-        }
+        Apart::Method => push_method(" answers ", &ended.forward.request.method, "", out),
         Apart::Body => out.push_str(" has another body"),
         Apart::Nothing => out.push_str(" is carried"),
     }
