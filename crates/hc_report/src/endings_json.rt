@@ -13,8 +13,8 @@ pub(crate) fn verdict_json(
     ending: Ending,
 ) -> Result<Value, AllocError> {
     let mut members = Map::new(alloc);
-    let put = put_verdict(alloc, first, ending, &mut members);
-    object(members, put)
+    let filled = put_verdict(alloc, first, ending, &mut members);
+    object(members, filled)
 }
 
 fn put_verdict(
@@ -39,8 +39,8 @@ fn put_verdict(
 /// How it ends.
 pub(crate) fn ends_json(alloc: Global, ending: Ending) -> Result<Value, AllocError> {
     let mut members = Map::new(alloc);
-    let put = put_end(alloc, ending, &mut members);
-    object(members, put)
+    let filled = put_end(alloc, ending, &mut members);
+    object(members, filled)
 }
 
 fn put_end(
@@ -71,8 +71,8 @@ fn put_break(
 /// A wrong reply.
 pub(crate) fn wrong_reply_json(alloc: Global, wrong: WrongReply) -> Result<Value, AllocError> {
     let mut members = Map::new(alloc);
-    let put = put_wrong(alloc, wrong, &mut members);
-    object(members, put)
+    let filled = put_wrong(alloc, wrong, &mut members);
+    object(members, filled)
 }
 
 fn put_wrong(

@@ -24,8 +24,8 @@ pub(crate) fn report_json(
     counts: Option<Counts>,
 ) -> Result<Value, AllocError> {
     let mut members = Map::new(alloc);
-    let put = put_all(alloc, report, ending, counts, &mut members);
-    object(members, put)
+    let filled = put_all(alloc, report, ending, counts, &mut members);
+    object(members, filled)
 }
 
 fn put_all(
@@ -108,8 +108,8 @@ fn warning_json(alloc: Global, replies: &ReplyCounts) -> Result<Value, AllocErro
 
 fn wrong_json(alloc: Global, wrongs: &ListedReplies) -> Result<Value, AllocError> {
     let mut members = Map::new(alloc);
-    let put = put_listed(alloc, wrongs, &mut members);
-    object(members, put)
+    let filled = put_listed(alloc, wrongs, &mut members);
+    object(members, filled)
 }
 
 fn put_listed(
@@ -125,8 +125,8 @@ fn put_listed(
 
 fn listed_json(alloc: Global, wrongs: &[WrongReply]) -> Result<Value, AllocError> {
     let mut listed = Vec::new(alloc);
-    let pushed = push_listed(alloc, wrongs, &mut listed);
-    array(listed, pushed)
+    let filled = push_listed(alloc, wrongs, &mut listed);
+    array(listed, filled)
 }
 
 fn push_listed(
@@ -142,8 +142,8 @@ fn push_listed(
 
 fn groups_json(alloc: Global, groups: &[Group]) -> Result<Value, AllocError> {
     let mut kept = Vec::new(alloc);
-    let pushed = push_groups(alloc, groups, &mut kept);
-    array(kept, pushed)
+    let filled = push_groups(alloc, groups, &mut kept);
+    array(kept, filled)
 }
 
 fn push_groups(alloc: Global, groups: &[Group], kept: &mut Vec<Value>) -> Result<(), AllocError> {
@@ -156,8 +156,8 @@ fn push_groups(alloc: Global, groups: &[Group], kept: &mut Vec<Value>) -> Result
 // The tries that help.
 fn tries_json(alloc: Global, tries: &Tries, wrong: u64) -> Result<Value, AllocError> {
     let mut helpful = Vec::new(alloc);
-    let pushed = push_tries(alloc, tries, wrong, &mut helpful);
-    array(helpful, pushed)
+    let filled = push_tries(alloc, tries, wrong, &mut helpful);
+    array(helpful, filled)
 }
 
 fn push_tries(
@@ -206,8 +206,8 @@ fn push_fixed(
 // A try by those options, with which so many replies are wrong, or at most so many.
 fn try_json(alloc: Global, options: &str, wrong: u64, is_exact: bool) -> Result<Value, AllocError> {
     let mut members = Map::new(alloc);
-    let put = put_try(alloc, options, wrong, is_exact, &mut members);
-    object(members, put)
+    let filled = put_try(alloc, options, wrong, is_exact, &mut members);
+    object(members, filled)
 }
 
 fn put_try(

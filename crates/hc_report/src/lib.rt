@@ -11,12 +11,12 @@ mod ignoring;
 mod json;
 mod listed;
 mod members;
+mod numbers;
 mod replies_json;
 mod report;
 mod rows;
 mod saying;
 mod targets;
-mod texts;
 mod tries;
 
 pub use report::Report;

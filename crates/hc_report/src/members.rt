@@ -53,20 +53,20 @@ pub(crate) fn push_made(
     push(values, made?)
 }
 
-/// The object of those members, if they could be put.
+/// The object of those members, if all could be put into it.
 pub(crate) fn object(
     members: Map<String, Value>,
-    put: Result<(), AllocError>,
+    filled: Result<(), AllocError>,
 ) -> Result<Value, AllocError> {
-    put?;
+    filled?;
     Ok(Value::Object(members))
 }
 
-/// The array of those values, if they could be pushed.
+/// The array of those values, if all could be put into it.
 pub(crate) fn array(
     values: Vec<Value>,
-    pushed: Result<(), AllocError>,
+    filled: Result<(), AllocError>,
 ) -> Result<Value, AllocError> {
-    pushed?;
+    filled?;
     Ok(Value::Array(values))
 }

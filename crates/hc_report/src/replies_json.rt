@@ -35,15 +35,15 @@ pub(crate) fn octets_json(alloc: Global, replies: &ReplyCounts) -> Result<Value,
 
 fn numbers_json(alloc: Global, numbers: &[(&str, u64)]) -> Result<Value, AllocError> {
     let mut members = Map::new(alloc);
-    let put = put_numbers(alloc, numbers, &mut members);
-    object(members, put)
+    let filled = put_numbers(alloc, numbers, &mut members);
+    object(members, filled)
 }
 
 /// A group of wrong replies.
 pub(crate) fn group_json(alloc: Global, group: &Group) -> Result<Value, AllocError> {
     let mut members = Map::new(alloc);
-    let put = put_group(alloc, group, &mut members);
-    object(members, put)
+    let filled = put_group(alloc, group, &mut members);
+    object(members, filled)
 }
 
 fn put_group(
@@ -117,8 +117,8 @@ fn put_targets(
 
 fn targets_json(alloc: Global, names: &[String]) -> Result<Value, AllocError> {
     let mut targets = Vec::new(alloc);
-    let pushed = push_targets(alloc, names, &mut targets);
-    array(targets, pushed)
+    let filled = push_targets(alloc, names, &mut targets);
+    array(targets, filled)
 }
 
 fn push_targets(
@@ -134,8 +134,8 @@ fn push_targets(
 
 fn names_json(alloc: Global, names: &[Octets]) -> Result<Value, AllocError> {
     let mut shown = Vec::new(alloc);
-    let pushed = push_names(alloc, names, &mut shown);
-    array(shown, pushed)
+    let filled = push_names(alloc, names, &mut shown);
+    array(shown, filled)
 }
 
 fn push_names(alloc: Global, names: &[Octets], shown: &mut Vec<Value>) -> Result<(), AllocError> {

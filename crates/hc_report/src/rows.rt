@@ -2,8 +2,8 @@
 
 use crate::group::{Group, Spread};
 use crate::groups::Groups;
+use crate::numbers::push_number;
 use crate::targets::NamedTargets;
-use crate::texts::{push_number, push_texts};
 use std::alloc::{AllocError, Global};
 use std::fmt::Write;
 
@@ -159,7 +159,8 @@ fn say_row(row: &Row, widths: Widths, out: &mut String) -> Result<(), AllocError
     write!(out, "{count:>8} {first:>8}  ")?;
     push_padded(row.reason.as_str(), widths.reason, out)?;
     push_padded(row.what.as_str(), widths.what, out)?;
-    push_texts(&[row.target.as_str(), "\n"], out)
+    out.push_str(row.target.as_str())?;
+    out.push_str("\n")
 }
 
 // Writes a text, and spaces up to that width and two more.

@@ -3,9 +3,9 @@
 use crate::counts::ReplyCounts;
 use crate::fixed::FixedTry;
 use crate::ignoring::IgnoringTry;
+use crate::numbers::push_number;
 use crate::report::Report;
 use crate::rows::say_groups;
-use crate::texts::{push_number, push_texts};
 use crate::tries::Tries;
 use hc_history::{Counts, Ending};
 use std::alloc::{AllocError, Global};
@@ -69,7 +69,7 @@ fn say_replies(replies: &ReplyCounts, out: &mut String) -> Result<(), AllocError
     say_octets(replies, out)?;
     say_unjudged(replies.unjudged, out)?;
     if replies.has_no_mark() {
-        return push_texts(&["warning: ", NO_MARK, "\n"], out);
+        return write!(out, "warning: {NO_MARK}\n");
     }
     Ok(())
 }

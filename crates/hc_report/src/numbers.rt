@@ -1,4 +1,4 @@
-//! What the text of a report is put together from.
+//! Numbers in the text of a report.
 
 use std::alloc::AllocError;
 use std::fmt::Write;
@@ -11,12 +11,4 @@ pub(crate) fn push_number(
     out: &mut String,
 ) -> Result<(), AllocError> {
     write!(out, "{before}{number}{behind}")
-}
-
-/// Writes texts, one behind the other.
-pub(crate) fn push_texts(texts: &[&str], out: &mut String) -> Result<(), AllocError> {
-    for text in texts {
-        out.push_str(text)?;
-    }
-    Ok(())
 }
