@@ -63,16 +63,15 @@ impl Differing {
         }
     }
 
-    /// The fields in which the reply differs from the response.
-    pub(crate) fn read(
+    /// Takes in the fields in which the reply differs from the response, where it has none yet.
+    pub(crate) fn compare(
+        &mut self,
         alloc: Global,
         claim: &ReplyClaim<'_>,
         state: &Stored,
-    ) -> Result<Self, AllocError> {
-        let mut differing = Differing::new(alloc);
+    ) -> Result<(), AllocError> {
         let found = differences(alloc, claim, state)?;
-        differing.take(alloc, &state.fields, &claim.reply.head.fields, &found)?;
-        Ok(differing)
+        self.take(alloc, &state.fields, &claim.reply.head.fields, &found)
     }
 
     /// Takes in the fields of those names, where it has none yet.
