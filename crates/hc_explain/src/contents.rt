@@ -1,8 +1,9 @@
 //! In what the status or the body of a reply differs from a response's.
 
+use crate::layout::push_number;
 use crate::values::push_joined;
 use hc_fields::Fields;
-use hc_head::{StatusCode, is_head};
+use hc_head::{Method, StatusCode, is_head};
 use hc_history::ReplyClaim;
 use hc_shown::push_octets;
 use hc_update::Stored;
@@ -11,10 +12,14 @@ use std::fmt::Write;
 
 /// How many octets both begin with.
 fn octets_in_common(one: &[u8], other: &[u8]) -> usize {
-    one.iter()
-        .zip(other.iter())
-        .take_while(|(one, other)| one == other)
-        .count()
+    let mut common: usize = 0;
+    for (one, other) in one.iter().zip(other.iter()) {
+        if one != other {
+            return common;
+        }
+        common = common.saturating_add(1);
+    }
+    common
 }
 
 /// Writes a name and the values that it has.
@@ -29,18 +34,17 @@ fn push_named(
     push_joined(alloc, name, fields, out)
 }
 
-/// Writes the condition of that name that the request presents, and what the response has for it.
+/// Writes the condition of that name that a request of those fields presents, and what the response has for
+/// it.
 fn push_condition(
     alloc: Global,
-    claim: &ReplyClaim<'_>,
-    state: &Stored,
-    condition: &[u8],
-    validator: &[u8],
+    (condition, asked): (&[u8], &Fields),
+    (validator, stored): (&[u8], &Fields),
     out: &mut String,
 ) -> Result<(), AllocError> {
-    push_named(alloc, condition, &claim.request.fields, out)?;
+    push_named(alloc, condition, asked, out)?;
     out.push_str(", its ")?;
-    push_named(alloc, validator, &state.fields, out)
+    push_named(alloc, validator, stored, out)
 }
 
 /// Writes that the request's condition doesn't earn a 304 (RFC 9111 section 4.3.2).
@@ -52,45 +56,51 @@ fn say_unearned(
 ) -> Result<(), AllocError> {
     out.push_str("no condition earns the 304: ")?;
     if state.status != StatusCode::OK {
-        let status = state.status.as_u16();
-        return write!(out, "its status is {status}");
+        return push_number("its status is ", u64::from(state.status.as_u16()), "", out);
     }
-    say_conditions(alloc, claim, state, out)
+    say_conditions(alloc, &claim.request.fields, &state.fields, out)
 }
 
-/// Writes the condition that the request presents, if it has one.
+/// Writes the condition that a request of those fields presents, if it has one.
 fn say_conditions(
     alloc: Global,
-    claim: &ReplyClaim<'_>,
-    state: &Stored,
+    asked: &Fields,
+    stored: &Fields,
     out: &mut String,
 ) -> Result<(), AllocError> {
-    if claim.request.fields.contains(b"if-none-match") {
-        return push_condition(alloc, claim, state, b"if-none-match", b"etag", out);
+    if asked.contains(b"if-none-match") {
+        return push_condition(alloc, (b"if-none-match", asked), (b"etag", stored), out);
     }
-    if !claim.request.fields.contains(b"if-modified-since") {
+    if !asked.contains(b"if-modified-since") {
         return out.push_str("the request has none");
     }
     push_condition(
         alloc,
-        claim,
-        state,
-        b"if-modified-since",
-        b"last-modified",
+        (b"if-modified-since", asked),
+        (b"last-modified", stored),
         out,
     )
 }
 
-/// Writes how the bodies differ.
-fn say_bodies(claim: &ReplyClaim<'_>, state: &Stored, out: &mut String) -> Result<(), AllocError> {
-    let here = claim.reply.body.len();
-    if is_head(&claim.request.method) {
-        return write!(out, "the reply to HEAD has a body of {here} octets");
+/// Writes how the body of the response differs from that of the reply to a request of that method.
+fn say_bodies(
+    method: &Method,
+    stored: &[u8],
+    told: &[u8],
+    out: &mut String,
+) -> Result<(), AllocError> {
+    let here = told.len();
+    if is_head(method) {
+        return push_number(
+            "the reply to HEAD has a body of ",
+            here as u64,
+            " octets",
+            out,
+        );
     }
-    let there = state.body.len();
-    let common = octets_in_common(state.body.as_slice(), claim.reply.body.as_slice());
+    let there = stored.len();
     write!(out, "its body has {there} octets, the reply's {here}")?;
-    push_common(common, out)
+    push_common(octets_in_common(stored, told), out)
 }
 
 /// Writes how many octets agree, if any do.
@@ -98,15 +108,15 @@ fn push_common(common: usize, out: &mut String) -> Result<(), AllocError> {
     if common == 0 {
         return Ok(());
     }
-    write!(out, "; the first {common} octets agree")
+    push_number("; the first ", common as u64, " octets agree", out)
 }
 
-/// Whether the reply has the body of the response, or none where the request is HEAD.
-fn has_body(claim: &ReplyClaim<'_>, state: &Stored) -> bool {
-    if is_head(&claim.request.method) {
-        claim.reply.body.is_empty()
+/// Whether the reply to a request of that method has the body that is due, or none where the request is HEAD.
+pub(crate) fn has_body(method: &Method, told: &[u8], due: &[u8]) -> bool {
+    if is_head(method) {
+        told.is_empty()
     } else {
-        claim.reply.body.as_slice() == state.body.as_slice()
+        told == due
     }
 }
 
@@ -132,11 +142,12 @@ pub(crate) fn say_contents(
         return say_unearned(alloc, claim, state, out);
     }
     say_statuses(here, state.status, out)?;
-    if has_body(claim, state) {
+    let (told, due) = (claim.reply.body.as_slice(), state.body.as_slice());
+    if has_body(&claim.request.method, told, due) {
         return Ok(());
     }
     if here != state.status {
         out.push_str("; ")?;
     }
-    say_bodies(claim, state, out)
+    say_bodies(&claim.request.method, due, told, out)
 }

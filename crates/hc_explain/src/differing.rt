@@ -1,6 +1,6 @@
 //! The fields in which a reply differs from a response.
 
-use crate::layout::{LISTED, push_more, push_separator};
+use crate::layout::{LISTED, push_more, push_number, push_texts};
 use crate::values::push_joined;
 use hc_details::{Differences, differences};
 use hc_fields::{Fields, Octets};
@@ -8,7 +8,6 @@ use hc_history::ReplyClaim;
 use hc_shown::push_octets;
 use hc_update::Stored;
 use std::alloc::{AllocError, Global};
-use std::fmt::Write;
 
 /// A field in which a reply differs from a response.
 pub(crate) struct Difference {
@@ -64,44 +63,42 @@ impl Differing {
         }
     }
 
-    /// The fields in which the reply differs from the response.
-    pub(crate) fn read(
+    /// Takes in the fields in which the reply differs from the response, where it has none yet.
+    pub(crate) fn compare(
+        &mut self,
         alloc: Global,
         claim: &ReplyClaim<'_>,
         state: &Stored,
-    ) -> Result<Self, AllocError> {
-        let mut differing = Differing::new(alloc);
+    ) -> Result<(), AllocError> {
         let found = differences(alloc, claim, state)?;
-        differing.take(alloc, claim, state, &found)?;
-        Ok(differing)
+        self.take(alloc, &state.fields, &claim.reply.head.fields, &found)
     }
 
     /// Takes in the fields of those names, where it has none yet.
     fn take(
         &mut self,
         alloc: Global,
-        claim: &ReplyClaim<'_>,
-        state: &Stored,
+        due: &Fields,
+        told: &Fields,
         found: &Differences,
     ) -> Result<(), AllocError> {
         self.more = found.more;
-        self.add_all(alloc, claim, state, found.dropped.as_slice())?;
-        self.add_all(alloc, claim, state, found.changed.as_slice())?;
-        self.add_all(alloc, claim, state, found.added.as_slice())
+        self.add_all(alloc, due, told, found.dropped.as_slice())?;
+        self.add_all(alloc, due, told, found.changed.as_slice())?;
+        self.add_all(alloc, due, told, found.added.as_slice())
     }
 
     /// Adds the fields of those names.
     fn add_all(
         &mut self,
         alloc: Global,
-        claim: &ReplyClaim<'_>,
-        state: &Stored,
+        due: &Fields,
+        told: &Fields,
         names: &[Octets],
     ) -> Result<(), AllocError> {
         for name in names {
             if self.listed.len() < LISTED {
-                self.listed
-                    .push(Difference::read(alloc, claim, state, name)?)?;
+                self.listed.push(Difference::read(alloc, due, told, name)?)?;
             } else {
                 self.more = self.more.saturating_add(1);
             }
@@ -122,9 +119,10 @@ impl Differing {
         validated_at: Option<u64>,
         out: &mut String,
     ) -> Result<(), AllocError> {
-        for (index, difference) in self.listed.iter().enumerate() {
-            push_separator(index, "; ", out)?;
-            difference.say(validated_at, out)?;
+        let mut before = "";
+        for difference in &self.listed {
+            difference.say(before, validated_at, out)?;
+            before = "; ";
         }
         push_more(self.more, out)
     }
@@ -132,35 +130,34 @@ impl Differing {
 
 impl Difference {
     /// In the field of that name.
-    fn read(
-        alloc: Global,
-        claim: &ReplyClaim<'_>,
-        state: &Stored,
-        name: &Octets,
-    ) -> Result<Self, AllocError> {
+    fn read(alloc: Global, due: &Fields, told: &Fields, name: &Octets) -> Result<Self, AllocError> {
         Ok(Difference {
             name: name.copy(alloc)?,
-            due: shown(alloc, &state.fields, name.as_slice())?,
-            told: shown(alloc, &claim.reply.head.fields, name.as_slice())?,
+            due: shown(alloc, due, name.as_slice())?,
+            told: shown(alloc, told, name.as_slice())?,
             is_renewed: false,
         })
     }
 
-    /// Writes which 304 it is of, if it is of one.
-    fn say_renewal(&self, validated_at: Option<u64>, out: &mut String) -> Result<(), AllocError> {
+    /// Writes what is due, and which 304 it is of, if it is of one.
+    fn say_due(&self, validated_at: Option<u64>, out: &mut String) -> Result<(), AllocError> {
+        push_texts(&[": due ", self.due.as_str()], out)?;
         match validated_at {
-            Some(position) if self.is_renewed => write!(out, " (of {position})"),
+            Some(position) if self.is_renewed => push_number(" (of ", position, ")", out),
             _ => Ok(()),
         }
     }
 
-    /// Writes what is due and what the reply has.
-    fn say(&self, validated_at: Option<u64>, out: &mut String) -> Result<(), AllocError> {
+    /// Writes behind a text what is due and what the reply has.
+    fn say(
+        &self,
+        before: &str,
+        validated_at: Option<u64>,
+        out: &mut String,
+    ) -> Result<(), AllocError> {
+        out.push_str(before)?;
         push_octets(self.name.as_slice(), out)?;
-        out.push_str(": due ")?;
-        out.push_str(self.due.as_str())?;
-        self.say_renewal(validated_at, out)?;
-        out.push_str(", the reply has ")?;
-        out.push_str(self.told.as_str())
+        self.say_due(validated_at, out)?;
+        push_texts(&[", the reply has ", self.told.as_str()], out)
     }
 }

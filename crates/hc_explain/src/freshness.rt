@@ -1,19 +1,18 @@
 //! Why a response may not be used for a reply (RFC 9111 section 4).
 
+use crate::layout::push_number;
 use hc_details::unusable;
 use hc_fresh::{explicit, fresh, staleness};
 use hc_history::{ReplyClaim, age_of, lifetime_of};
 use hc_update::Stored;
 use std::alloc::AllocError;
-use std::fmt::Write;
 
 /// Writes the slack, if there is any.
-pub(crate) fn push_slack(claim: &ReplyClaim<'_>, out: &mut String) -> Result<(), AllocError> {
-    let slack = claim.settings.slack;
+pub(crate) fn push_slack(slack: u32, out: &mut String) -> Result<(), AllocError> {
     if slack == 0 {
         return Ok(());
     }
-    write!(out, " (slack {slack})")
+    push_number(" (slack ", u64::from(slack), ")", out)
 }
 
 /// Writes the lifetime that a response states.
@@ -21,8 +20,7 @@ fn push_lifetime(state: &Stored, out: &mut String) -> Result<(), AllocError> {
     if !explicit(&state.fields) {
         return out.push_str("no lifetime is stated");
     }
-    let lifetime = lifetime_of(state);
-    write!(out, "lifetime {lifetime}")
+    push_number("lifetime ", u64::from(lifetime_of(state)), "", out)
 }
 
 /// Writes that a response of that age is fresh, or by how much it is stale.
@@ -30,8 +28,13 @@ fn push_staleness(lifetime: u32, age: u32, out: &mut String) -> Result<(), Alloc
     if fresh(lifetime, age) {
         return out.push_str("fresh");
     }
-    let by = staleness(lifetime, age);
-    write!(out, "stale by {by}")
+    push_number("stale by ", u64::from(staleness(lifetime, age)), "", out)
+}
+
+/// Writes an age, and what it comes to.
+fn push_age(lifetime: u32, age: u32, out: &mut String) -> Result<(), AllocError> {
+    push_number(", age ", u64::from(age), ": ", out)?;
+    push_staleness(lifetime, age, out)
 }
 
 /// Writes whether the response is fresh, and what forbids to use it.
@@ -40,12 +43,9 @@ pub(crate) fn say_freshness(
     state: &Stored,
     out: &mut String,
 ) -> Result<(), AllocError> {
-    let lifetime = lifetime_of(state);
-    let age = age_of(claim, state);
     push_lifetime(state, out)?;
-    write!(out, ", age {age}: ")?;
-    push_staleness(lifetime, age, out)?;
-    push_slack(claim, out)?;
+    push_age(lifetime_of(state), age_of(claim, state), out)?;
+    push_slack(claim.settings.slack, out)?;
     out.push_str("; ")?;
     unusable(state).say(out)
 }

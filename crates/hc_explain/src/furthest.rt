@@ -5,9 +5,10 @@ use crate::contents::say_contents;
 use crate::differing::Differing;
 use crate::ended::EndedForward;
 use crate::freshness::say_freshness;
+use crate::layout::push_method;
 use crate::selection::say_selection;
+use crate::unstored::NO_GET;
 use hc_history::{Candidate, Reason, ReplyClaim, reason_behind};
-use hc_shown::push_octets;
 use hc_update::Stored;
 use std::alloc::{AllocError, Global};
 
@@ -51,44 +52,6 @@ fn date_of(state: &Stored) -> Option<u64> {
     Some(times.date)
 }
 
-/// Writes that the request is by a method whose replies come from no store.
-fn say_method(claim: &ReplyClaim<'_>, out: &mut String) -> Result<(), AllocError> {
-    push_octets(claim.request.method.as_str().as_bytes(), out)?;
-    out.push_str(" is neither GET nor HEAD")
-}
-
-/// Writes why the response gets no further, where its state tells.
-fn say_shortfall(
-    alloc: Global,
-    claim: &ReplyClaim<'_>,
-    state: &Stored,
-    passed: u32,
-    out: &mut String,
-) -> Result<(), AllocError> {
-    match reason_behind(passed) {
-        Some(Reason::NoResponse) => say_method(claim, out),
-        Some(Reason::Vary) => say_selection(alloc, claim, state, out),
-        Some(Reason::NoExplicitFreshness | Reason::NotAllowed) => say_freshness(claim, state, out),
-        Some(Reason::Body) => say_contents(alloc, claim, state, out),
-        Some(Reason::Age) => say_age(claim, state, out),
-        Some(Reason::Ttl) => say_ttl(claim, state, out),
-        _ => Ok(()),
-    }
-}
-
-/// The fields in which the reply differs, where these are why the response gets no further.
-fn differing_at(
-    alloc: Global,
-    claim: &ReplyClaim<'_>,
-    state: &Stored,
-    passed: u32,
-) -> Result<Differing, AllocError> {
-    match reason_behind(passed) {
-        Some(Reason::Fields) => Differing::read(alloc, claim, state),
-        _ => Ok(Differing::new(alloc)),
-    }
-}
-
 impl Furthest {
     /// What its state tells of that candidate.
     pub(crate) fn read(
@@ -97,17 +60,38 @@ impl Furthest {
         state: &Stored,
         candidate: Candidate,
     ) -> Result<Self, AllocError> {
-        let Candidate { position, passed } = candidate;
-        let mut text = String::new(alloc);
-        say_shortfall(alloc, claim, state, passed, &mut text)?;
-        Ok(Furthest {
-            position,
-            passed,
+        let mut furthest = Furthest {
+            position: candidate.position,
+            passed: candidate.passed,
             validated_at: state.validated_at,
             date: date_of(state),
-            text,
-            differing: differing_at(alloc, claim, state, passed)?,
-        })
+            text: String::new(alloc),
+            differing: Differing::new(alloc),
+        };
+        furthest.explain(alloc, claim, state)?;
+        Ok(furthest)
+    }
+
+    /// Takes in why it gets no further, where its state tells.
+    fn explain(
+        &mut self,
+        alloc: Global,
+        claim: &ReplyClaim<'_>,
+        state: &Stored,
+    ) -> Result<(), AllocError> {
+        let out = &mut self.text;
+        match reason_behind(self.passed) {
+            Some(Reason::NoResponse) => push_method("", &claim.request.method, NO_GET, out),
+            Some(Reason::Vary) => say_selection(alloc, claim, state, out),
+            Some(Reason::NoExplicitFreshness | Reason::NotAllowed) => {
+                say_freshness(claim, state, out)
+            }
+            Some(Reason::Body) => say_contents(alloc, claim, state, out),
+            Some(Reason::Fields) => self.differing.compare(alloc, claim, state),
+            Some(Reason::Age) => say_age(claim, state, out),
+            Some(Reason::Ttl) => say_ttl(claim, state, out),
+            _ => Ok(()),
+        }
     }
 
     /// The position of the record from which on it is as it is: its own, or that of the 304 that freshened it

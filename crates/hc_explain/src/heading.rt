@@ -6,19 +6,17 @@ ghost use Rattle.hc_explain.specs.Seeking.{finding_of, position_of};
 
 use crate::asked::AskedReply;
 use crate::found::Found;
-use crate::layout::{begin_line, end_line};
+use crate::layout::{begin_line, end_line, push_method};
 use crate::marking::{push_cache_status, way};
 use hc_history::Finding;
-use hc_shown::{push_moment, push_octets, push_target};
+use hc_shown::{push_moment, push_target};
 use std::alloc::{AllocError, Global};
 use std::fmt::Write;
 
 /// Writes when the reply came, and what was asked.
 fn push_asked(reply: &AskedReply, out: &mut String) -> Result<(), AllocError> {
     push_moment(reply.moment, out)?;
-    out.push_str("  ")?;
-    push_octets(reply.method.as_str().as_bytes(), out)?;
-    out.push_str(" ")?;
+    push_method("  ", &reply.method, " ", out)?;
     push_target(&reply.target, out)
 }
 
@@ -49,12 +47,17 @@ impl Found {
         }
     }
 
-    /// Writes the line of the reply.
-    pub(crate) fn say_reply(&self, alloc: Global, out: &mut String) -> Result<(), AllocError> {
+    /// Begins the line of the reply.
+    fn begin_reply(&self, alloc: Global, out: &mut String) -> Result<(), AllocError> {
         let since = self.since;
         let position = self.position;
         let place = format!(in alloc; "{since}-{position}")?;
-        begin_line("reply", place.as_str(), out)?;
+        begin_line("reply", place.as_str(), out)
+    }
+
+    /// Writes the line of the reply.
+    pub(crate) fn say_reply(&self, alloc: Global, out: &mut String) -> Result<(), AllocError> {
+        self.begin_reply(alloc, out)?;
         push_asked(&self.reply, out)?;
         push_answer(&self.reply, out)?;
         push_cache_status(self, out)?;

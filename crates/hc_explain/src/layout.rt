@@ -1,5 +1,7 @@
 //! How the lines of an explanation are laid out.
 
+use hc_head::Method;
+use hc_shown::push_octets;
 use std::alloc::AllocError;
 use std::fmt::Write;
 
@@ -21,22 +23,53 @@ pub(crate) fn end_line(out: &mut String) -> Result<(), AllocError> {
     out.push_str("\n")
 }
 
+/// Writes a number between two texts.
+pub(crate) fn push_number(
+    before: &str,
+    number: u64,
+    behind: &str,
+    out: &mut String,
+) -> Result<(), AllocError> {
+    write!(out, "{before}{number}{behind}")
+}
+
+/// Writes texts, one behind the other.
+pub(crate) fn push_texts(texts: &[&str], out: &mut String) -> Result<(), AllocError> {
+    for text in texts {
+        out.push_str(text)?;
+    }
+    Ok(())
+}
+
+/// Writes a method between two texts.
+pub(crate) fn push_method(
+    before: &str,
+    method: &Method,
+    behind: &str,
+    out: &mut String,
+) -> Result<(), AllocError> {
+    out.push_str(before)?;
+    push_octets(method.as_str().as_bytes(), out)?;
+    out.push_str(behind)
+}
+
 /// Says how many things there are besides those that are named, if there are any.
 pub(crate) fn push_more(more: u64, out: &mut String) -> Result<(), AllocError> {
     if more == 0 {
         return Ok(());
     }
-    write!(out, ", and {more} more")
+    push_number(", and ", more, " more", out)
 }
 
-/// Puts what separates a thing of a list from those before it.
+/// Puts what stands before a list, or what separates a thing of it from those before it.
 pub(crate) fn push_separator(
-    index: usize,
+    is_first: bool,
+    before: &str,
     separator: &str,
     out: &mut String,
 ) -> Result<(), AllocError> {
-    if index == 0 {
-        return Ok(());
+    if is_first {
+        return out.push_str(before);
     }
     out.push_str(separator)
 }

@@ -31,42 +31,14 @@ impl Drop for Nearest {
     }
 }
 
-/// The candidates behind a position, and those before it.
-fn parted(
-    alloc: Global,
-    candidates: &[Candidate],
-    since: u64,
-) -> Result<(Shortlist, Shortlist), AllocError> {
-    let mut behind = Shortlist::new(alloc);
-    let mut before = Shortlist::new(alloc);
-    for candidate in candidates {
-        if since < candidate.position {
-            behind.push(*candidate)?;
-        } else {
-            before.push(*candidate)?;
-        }
-    }
-    Ok((behind, before))
-}
-
-/// The candidates of the reply behind a position, and those before it.
-fn shortlists<I: Index>(
-    alloc: Global,
-    judged: &JudgedReply<'_, I>,
-    since: u64,
-) -> Result<(Shortlist, Shortlist), AllocError> {
-    let all = judged.candidates()?;
-    parted(alloc, all.as_slice(), since)
-}
-
-/// What the index knows of the response that gets furthest.
+/// What the index knows of the response that gets furthest: the first candidate, if there is one.
 fn furthest<I: Index>(
     alloc: Global,
     judged: &JudgedReply<'_, I>,
     claim: &ReplyClaim<'_>,
-    candidates: &Shortlist,
+    first: Option<Candidate>,
 ) -> Result<Option<Furthest>, AllocError> {
-    let Some(candidate) = candidates.first() else {
+    let Some(candidate) = first else {
         return Ok(None);
     };
     match judged.index.response(claim.target, candidate.position) {
@@ -83,13 +55,26 @@ impl Nearest {
         claim: &ReplyClaim<'_>,
         since: u64,
     ) -> Result<Self, AllocError> {
-        let (candidates, before) = shortlists(alloc, judged, since)?;
-        let furthest = furthest(alloc, judged, claim, &candidates)?;
-        Ok(Nearest {
-            candidates,
-            before,
-            furthest,
-        })
+        let mut nearest = Nearest {
+            candidates: Shortlist::new(alloc),
+            before: Shortlist::new(alloc),
+            furthest: None,
+        };
+        nearest.list(judged.candidates()?.as_slice(), since)?;
+        nearest.furthest = furthest(alloc, judged, claim, nearest.candidates.first())?;
+        Ok(nearest)
+    }
+
+    /// Lists those candidates: each with those behind the position, or with those before it.
+    fn list(&mut self, candidates: &[Candidate], since: u64) -> Result<(), AllocError> {
+        for candidate in candidates {
+            if since < candidate.position {
+                self.candidates.push(*candidate)?;
+            } else {
+                self.before.push(*candidate)?;
+            }
+        }
+        Ok(())
     }
 
     /// Takes in what the end of that forward renewed of the response that gets furthest.

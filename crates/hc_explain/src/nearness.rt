@@ -1,5 +1,6 @@
 //! How near an answer of the origin comes to what a reply carries.
 
+use crate::contents::has_body;
 use crate::ended::EndedForward;
 use crate::found::Found;
 use hc_framing::Message;
@@ -26,15 +27,6 @@ fn asks_the_same(found: &Found, method: &Method) -> bool {
     *method == found.reply.method || (is_head(&found.reply.method) && is_get(method))
 }
 
-/// Whether the reply has that body, or none where the request is HEAD.
-fn has_body(found: &Found, body: &[u8]) -> bool {
-    if is_head(&found.reply.method) {
-        found.reply.body.is_empty()
-    } else {
-        found.reply.body.as_slice() == body
-    }
-}
-
 /// In what the response, with which that forward ended, differs first from what the reply carries.
 pub(crate) fn apart_in(
     found: &Found,
@@ -50,7 +42,8 @@ pub(crate) fn apart_in(
     if response.head.status != found.reply.status {
         return Apart::Status;
     }
-    if !has_body(found, response.body.as_slice()) {
+    let told = found.reply.body.as_slice();
+    if !has_body(&found.reply.method, told, response.body.as_slice()) {
         return Apart::Body;
     }
     Apart::Nothing

@@ -1,6 +1,6 @@
 //! What an explanation says of a record that it names.
 
-use crate::layout::{begin_line, end_line};
+use crate::layout::{begin_line, end_line, push_texts};
 use hc_transcript::Kind;
 use std::alloc::AllocError;
 use std::fmt::Write;
@@ -55,8 +55,7 @@ impl Note {
     /// Writes the name of the record and, behind a mark, what is said of it.
     pub(crate) fn push(&self, behind: &str, out: &mut String) -> Result<(), AllocError> {
         self.push_name(out)?;
-        out.push_str(behind)?;
-        out.push_str(self.text.as_str())
+        push_texts(&[behind, self.text.as_str()], out)
     }
 
     /// Writes a line for it.

@@ -50,16 +50,20 @@ impl Notes {
         self.newest.len() == 1
     }
 
-    /// Writes the name of each and, behind a mark, what is said of it, and how many older ones there are.
+    /// Writes the name of each and, behind a mark, what is said of it, and how many older ones there are: a
+    /// text before the first, and what separates them before the others.
     pub(crate) fn push_all(
         &self,
+        before: &str,
         behind: &str,
         separator: &str,
         out: &mut String,
     ) -> Result<(), AllocError> {
-        for (index, note) in self.newest.iter().enumerate() {
-            push_separator(index, separator, out)?;
+        let mut is_first = true;
+        for note in self.newest.iter() {
+            push_separator(is_first, before, separator, out)?;
             note.push(behind, out)?;
+            is_first = false;
         }
         push_more(self.older, out)
     }

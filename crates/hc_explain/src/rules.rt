@@ -2,8 +2,8 @@
 
 use crate::found::Found;
 use crate::furthest::Furthest;
-use crate::layout::{begin_rule, end_line};
-use crate::sources::push_reach;
+use crate::layout::{begin_rule, end_line, push_number};
+use crate::sources::push_candidate;
 use crate::traces::Traces;
 use crate::unstored::say_unstored;
 use hc_history::{Candidate, Reason, reason_behind};
@@ -12,43 +12,52 @@ use std::fmt::Write;
 
 /// Writes what invalidated the response, and that no 304 has validated it since.
 fn push_invalidation(traces: &Traces, out: &mut String) -> Result<(), AllocError> {
-    traces.invalidating.push_all(": ", "; ", out)?;
+    traces.invalidating.push_all("", ": ", "; ", out)?;
     if traces.validating.is_empty() {
         return out.push_str("; no 304 since");
     }
-    out.push_str("; no 304 since is about it: ")?;
-    traces.validating.push_all("", ", ", out)
+    traces
+        .validating
+        .push_all("; no 304 since is about it: ", "", ", ", out)
 }
 
-/// Writes that an error or a failure in the window doesn't help.
-fn push_trouble(traces: &Traces, out: &mut String) -> Result<(), AllocError> {
-    match (traces.error, traces.failure) {
+/// Writes that an error or a failure in the window, at those positions, doesn't help.
+fn push_trouble(
+    error: Option<u64>,
+    failure: Option<u64>,
+    out: &mut String,
+) -> Result<(), AllocError> {
+    match (error, failure) {
         (None, None) => Ok(()),
-        (Some(error), None) => write!(out, " (despite the error at {error})"),
-        (None, Some(failure)) => write!(out, " (despite the failure at {failure})"),
+        (Some(error), None) => push_number(" (despite the error at ", error, ")", out),
+        (None, Some(failure)) => push_number(" (despite the failure at ", failure, ")", out),
         (Some(error), Some(failure)) => {
-            write!(
-                out,
-                " (despite the error at {error} and the failure at {failure})"
-            )
+            push_number(" (despite the error at ", error, "", out)?;
+            push_number(" and the failure at ", failure, ")", out)
         }
     }
 }
 
-/// Writes that no 304 of the window has validated the response.
-fn push_unvalidated(found: &Found, traces: &Traces, out: &mut String) -> Result<(), AllocError> {
-    push_trouble(traces, out)?;
-    if !traces.validating.is_empty() {
-        out.push_str("; no 304 behind the request is about it: ")?;
-        return traces.validating.push_all("", ", ", out);
-    }
-    let first = found.since.saturating_add(1);
-    let last = found.position.saturating_sub(1);
+/// Writes that there is no 304 in the window between those positions.
+fn push_no_validation(since: u64, position: u64, out: &mut String) -> Result<(), AllocError> {
+    let first = since.saturating_add(1);
+    let last = position.saturating_sub(1);
     if first < last {
         write!(out, "; no 304 in {first}..{last}")
     } else {
         out.push_str("; no 304 behind the request")
     }
+}
+
+/// Writes that no 304 of the window has validated the response.
+fn push_unvalidated(found: &Found, traces: &Traces, out: &mut String) -> Result<(), AllocError> {
+    push_trouble(traces.error, traces.failure, out)?;
+    if traces.validating.is_empty() {
+        return push_no_validation(found.since, found.position, out);
+    }
+    traces
+        .validating
+        .push_all("; no 304 behind the request is about it: ", "", ", ", out)
 }
 
 /// Writes why the response that gets furthest gets no further.
@@ -81,8 +90,7 @@ pub(crate) fn say_failing(
         passed,
         ..
     } = *furthest;
-    write!(out, "{position} ")?;
-    push_reach(Candidate { position, passed }, out)?;
+    push_candidate("", Candidate { position, passed }, out)?;
     if reason_behind(passed).is_none() {
         return Ok(());
     }

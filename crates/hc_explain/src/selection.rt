@@ -12,15 +12,15 @@ use std::alloc::{AllocError, Global};
 /// The name of the field that selects.
 const VARY: &[u8] = b"vary";
 
-/// Whether a member of the Vary selects the request by itself.
+/// Whether a member of the Vary selects a request of those fields by itself.
 fn is_met(
     alloc: Global,
-    claim: &ReplyClaim<'_>,
-    state: &Stored,
+    answered: &Fields,
+    asked: &Fields,
     member: &[u8],
 ) -> Result<bool, AllocError> {
     let alone = vary_of(alloc, member)?;
-    selects(alloc, &alone, &state.request.fields, &claim.request.fields)
+    selects(alloc, &alone, answered, asked)
 }
 
 /// A Vary of that member alone.
@@ -33,22 +33,22 @@ fn vary_of(alloc: Global, member: &[u8]) -> Result<Fields, AllocError> {
 /// Writes what both requests have of a name.
 fn push_both(
     alloc: Global,
-    claim: &ReplyClaim<'_>,
-    state: &Stored,
+    answered: &Fields,
+    asked: &Fields,
     name: &[u8],
     out: &mut String,
 ) -> Result<(), AllocError> {
     out.push_str(": it answers ")?;
-    push_joined(alloc, name, &state.request.fields, out)?;
+    push_joined(alloc, name, answered, out)?;
     out.push_str(", asked is ")?;
-    push_joined(alloc, name, &claim.request.fields, out)
+    push_joined(alloc, name, asked, out)
 }
 
 /// Writes what a member of the Vary finds in both requests.
 fn say_member(
     alloc: Global,
-    claim: &ReplyClaim<'_>,
-    state: &Stored,
+    answered: &Fields,
+    asked: &Fields,
     member: &[u8],
     out: &mut String,
 ) -> Result<(), AllocError> {
@@ -57,7 +57,7 @@ fn say_member(
         return out.push_str(" selects no request");
     }
     let name = member.to_ascii_lowercase(alloc)?;
-    push_both(alloc, claim, state, name.as_slice(), out)
+    push_both(alloc, answered, asked, name.as_slice(), out)
 }
 
 /// Writes by which members of its Vary the response doesn't answer the request.
@@ -68,15 +68,32 @@ pub(crate) fn say_selection(
     out: &mut String,
 ) -> Result<(), AllocError> {
     out.push_str("Vary ")?;
+    say_members(
+        alloc,
+        &state.fields,
+        &state.request.fields,
+        &claim.request.fields,
+        out,
+    )
+}
+
+/// Writes the members of the Vary among those fields that don't select a request.
+fn say_members(
+    alloc: Global,
+    fields: &Fields,
+    answered: &Fields,
+    asked: &Fields,
+    out: &mut String,
+) -> Result<(), AllocError> {
     let mut named: usize = 0;
     let mut more: u64 = 0;
-    for member in state.fields.members(VARY) {
-        if is_met(alloc, claim, state, member)? {
+    for member in fields.members(VARY) {
+        if is_met(alloc, answered, asked, member)? {
             continue;
         }
         if named < LISTED {
-            push_separator(named, "; ", out)?;
-            say_member(alloc, claim, state, member, out)?;
+            push_separator(named == 0, "", "; ", out)?;
+            say_member(alloc, answered, asked, member, out)?;
             named += 1;
         } else {
             more = more.saturating_add(1);

@@ -2,12 +2,14 @@
 
 use crate::found::Found;
 use crate::furthest::Furthest;
-use crate::layout::{begin_line, end_line};
+use crate::layout::{begin_line, end_line, push_number, push_texts};
 use crate::note::Note;
 use crate::traces::Traces;
+use crate::values::push_joined;
+use hc_fields::Fields;
 use hc_head::ResponseHead;
 use hc_history::{Candidate, reason_behind};
-use hc_shown::{push_moment, push_value};
+use hc_shown::push_moment;
 use std::alloc::{AllocError, Global};
 use std::fmt::Write;
 
@@ -23,22 +25,26 @@ const EXPIRES: &[u8] = b"expires";
 /// What is said of a response: its status, and what it says of its lifetime.
 pub(crate) fn source_text(alloc: Global, response: &ResponseHead) -> Result<String, AllocError> {
     let mut text = String::new(alloc);
-    let status = response.status.as_u16();
-    write!(text, "{status}")?;
-    if let Some(value) = response.fields.joined(alloc, CACHE_CONTROL)? {
-        text.push_str(" ")?;
-        push_value(CACHE_CONTROL, value.as_slice(), &mut text)?;
-    } else if let Some(value) = response.fields.joined(alloc, EXPIRES)? {
-        text.push_str(" Expires ")?;
-        push_value(EXPIRES, value.as_slice(), &mut text)?;
-    } else {
-        text.push_str(", no Cache-Control")?;
-    }
+    push_number("", u64::from(response.status.as_u16()), "", &mut text)?;
+    push_lifetime(alloc, &response.fields, &mut text)?;
     Ok(text)
 }
 
+/// Writes what those fields say of the lifetime of a response.
+fn push_lifetime(alloc: Global, fields: &Fields, out: &mut String) -> Result<(), AllocError> {
+    if fields.contains(CACHE_CONTROL) {
+        out.push_str(" ")?;
+        return push_joined(alloc, CACHE_CONTROL, fields, out);
+    }
+    if !fields.contains(EXPIRES) {
+        return out.push_str(", no Cache-Control");
+    }
+    out.push_str(" Expires ")?;
+    push_joined(alloc, EXPIRES, fields, out)
+}
+
 /// Writes how far a response gets.
-pub(crate) fn push_reach(candidate: Candidate, out: &mut String) -> Result<(), AllocError> {
+fn push_reach(candidate: Candidate, out: &mut String) -> Result<(), AllocError> {
     let Some(reason) = reason_behind(candidate.passed) else {
         return out.push_str("passes all");
     };
@@ -47,10 +53,20 @@ pub(crate) fn push_reach(candidate: Candidate, out: &mut String) -> Result<(), A
     write!(out, "fails {number} {name}")
 }
 
+/// Writes the position of a response behind a text, and how far it gets.
+pub(crate) fn push_candidate(
+    before: &str,
+    candidate: Candidate,
+    out: &mut String,
+) -> Result<(), AllocError> {
+    push_number(before, candidate.position, " ", out)?;
+    push_reach(candidate, out)
+}
+
 /// Writes what the records behind it made of the response that gets furthest.
 fn push_changes(furthest: &Furthest, out: &mut String) -> Result<(), AllocError> {
     if let Some(position) = furthest.validated_at {
-        write!(out, ", freshened by the 304 at {position}")?;
+        push_number(", freshened by the 304 at ", position, "", out)?;
     }
     if let Some(date) = furthest.date {
         out.push_str(", Date ")?;
@@ -62,8 +78,7 @@ fn push_changes(furthest: &Furthest, out: &mut String) -> Result<(), AllocError>
 /// Writes the moment of a record, and what is said of it.
 fn push_note(note: &Note, out: &mut String) -> Result<(), AllocError> {
     push_moment(note.moment, out)?;
-    out.push_str("  ")?;
-    out.push_str(note.text.as_str())
+    push_texts(&["  ", note.text.as_str()], out)
 }
 
 /// Begins the line of the response at that position, whose record is this one.
@@ -76,7 +91,7 @@ fn begin_from(
     let mut place = String::new(alloc);
     match note {
         Some(note) => note.push_name(&mut place)?,
-        None => write!(place, "{position}")?,
+        None => push_number("", position, "", &mut place)?,
     }
     begin_line(FROM, place.as_str(), out)
 }
@@ -113,8 +128,7 @@ fn say_more(more: u64, out: &mut String) -> Result<(), AllocError> {
         return Ok(());
     }
     begin_line(FROM, "", out)?;
-    write!(out, "and {more} more")?;
-    end_line(out)
+    push_number("and ", more, " more\n", out)
 }
 
 /// Writes a line for each response that the reply may carry, the furthest first.

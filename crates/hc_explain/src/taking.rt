@@ -3,6 +3,7 @@
 use crate::ended::EndedForward;
 use crate::found::Found;
 use crate::furthest::Furthest;
+use crate::layout::{push_method, push_number};
 use crate::nearness::{Apart, apart_in, is_near, is_of_target};
 use crate::sources::source_text;
 use crate::traces::Traces;
@@ -10,10 +11,8 @@ use crate::unstored::unstored_text;
 use crate::window::{near_text, window_text};
 use hc_framing::Message;
 use hc_head::{ResponseHead, StatusCode, is_error_status};
-use hc_shown::push_octets;
 use hc_update::invalidates;
 use std::alloc::{AllocError, Global};
-use std::fmt::Write;
 
 /// What is said of a response that invalidated another one.
 fn invalidating_text(
@@ -22,10 +21,9 @@ fn invalidating_text(
     status: StatusCode,
 ) -> Result<String, AllocError> {
     let mut text = String::new(alloc);
-    let status = status.as_u16();
-    write!(text, "{status} to ")?;
-    push_octets(ended.forward.request.method.as_str().as_bytes(), &mut text)?;
-    text.push_str(" of the same target")?;
+    push_number("", u64::from(status.as_u16()), "", &mut text)?;
+    let method = &ended.forward.request.method;
+    push_method(" to ", method, " of the same target", &mut text)?;
     Ok(text)
 }
 

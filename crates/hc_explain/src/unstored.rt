@@ -2,12 +2,14 @@
 
 use crate::ended::EndedForward;
 use crate::found::Found;
+use crate::layout::{push_method, push_number};
 use crate::traces::Traces;
 use hc_details::forbidden;
 use hc_head::{ResponseHead, is_get_or_head};
-use hc_shown::push_octets;
 use std::alloc::{AllocError, Global};
-use std::fmt::Write;
+
+/// What is said of a method whose replies come from no store.
+pub(crate) const NO_GET: &str = " is neither GET nor HEAD";
 
 /// What is said of a response that may not be stored: nothing where it may.
 pub(crate) fn unstored_text(
@@ -19,8 +21,7 @@ pub(crate) fn unstored_text(
         return Ok(None);
     };
     let mut text = String::new(alloc);
-    let status = response.status.as_u16();
-    write!(text, "{status}, ")?;
+    push_number("", u64::from(response.status.as_u16()), ", ", &mut text)?;
     forbidden.say(&mut text)?;
     Ok(Some(text))
 }
@@ -32,12 +33,11 @@ pub(crate) fn say_unstored(
     out: &mut String,
 ) -> Result<(), AllocError> {
     if !is_get_or_head(&found.reply.method) {
-        push_octets(found.reply.method.as_str().as_bytes(), out)?;
-        return out.push_str(" is neither GET nor HEAD");
+        return push_method("", &found.reply.method, NO_GET, out);
     }
     if traces.unstored.is_empty() {
         return out.push_str("no response of the target is recorded before the reply");
     }
-    out.push_str("what is recorded of the target may not be stored: ")?;
-    traces.unstored.push_all(": ", "; ", out)
+    let before = "what is recorded of the target may not be stored: ";
+    traces.unstored.push_all(before, ": ", "; ", out)
 }

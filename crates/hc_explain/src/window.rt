@@ -2,23 +2,22 @@
 
 use crate::ended::EndedForward;
 use crate::found::Found;
-use crate::layout::{begin_line, end_line};
+use crate::layout::{begin_line, end_line, push_method, push_number};
 use crate::nearness::{Apart, apart_in};
 use crate::rules::say_failing;
 use crate::traces::Traces;
 use hc_framing::Message;
-use hc_head::ResponseHead;
+use hc_head::{ResponseHead, Target};
 use hc_shown::push_octets;
 use hc_transcript::ToldCause;
 use std::alloc::{AllocError, Global};
-use std::fmt::Write;
 
 /// Writes for which exchange a forward was made, where that is told.
 fn push_cause(cause: ToldCause, out: &mut String) -> Result<(), AllocError> {
     match cause {
         ToldCause::Untold => Ok(()),
         ToldCause::NoExchange => out.push_str(" for no exchange"),
-        ToldCause::Exchange(number) => write!(out, " for exchange {number}"),
+        ToldCause::Exchange(number) => push_number(" for exchange ", number, "", out),
     }
 }
 
@@ -32,12 +31,9 @@ fn push_apart(
     match apart_in(found, ended, response) {
         Apart::Cause | Apart::Status => {
             let status = response.head.status.as_u16();
-            write!(out, " is {status}")
+            push_number(" is ", u64::from(status), "", out)
         }
-        Apart::Method => {
-            out.push_str(" answers ")?;
-            push_octets(ended.forward.request.method.as_str().as_bytes(), out)
-        }
+        Apart::Method => push_method(" answers ", &ended.forward.request.method, "", out),
         Apart::Body => out.push_str(" has another body"),
         Apart::Nothing => out.push_str(" is carried"),
     }
@@ -57,6 +53,12 @@ pub(crate) fn window_text(
     Ok(text)
 }
 
+/// Writes the host of a target behind a text.
+fn push_host(before: &str, target: &Target, out: &mut String) -> Result<(), AllocError> {
+    out.push_str(before)?;
+    push_octets(target.host.as_slice(), out)
+}
+
 /// What is said of a response of the same path under another host.
 pub(crate) fn near_text(
     alloc: Global,
@@ -64,10 +66,9 @@ pub(crate) fn near_text(
     ended: &EndedForward<'_>,
 ) -> Result<String, AllocError> {
     let mut text = String::new(alloc);
-    text.push_str("agrees in path, status and body: its host is ")?;
-    push_octets(ended.forward.target.host.as_slice(), &mut text)?;
-    text.push_str(", asked is ")?;
-    push_octets(found.reply.target.host.as_slice(), &mut text)?;
+    let before = "agrees in path, status and body: its host is ";
+    push_host(before, &ended.forward.target, &mut text)?;
+    push_host(", asked is ", &found.reply.target, &mut text)?;
     Ok(text)
 }
 
@@ -76,7 +77,7 @@ fn push_window(traces: &Traces, out: &mut String) -> Result<(), AllocError> {
     if traces.window.is_empty() {
         return out.push_str("no forward of the target ended between request and reply");
     }
-    traces.window.push_all("", ", ", out)?;
+    traces.window.push_all("", "", ", ", out)?;
     if traces.has_response {
         return Ok(());
     }

@@ -1,6 +1,6 @@
 //! The verdict on a recording, and how it ends, as JSON.
 
-use crate::members::{put_number, put_text};
+use crate::members::{object, put_numbers, put_text};
 use hc_audit::RecordFault;
 use hc_history::{Ending, WrongReply};
 use serde_json::{Map, Value, put};
@@ -13,8 +13,8 @@ pub(crate) fn verdict_json(
     ending: Ending,
 ) -> Result<Value, AllocError> {
     let mut members = Map::new(alloc);
-    put_verdict(alloc, first, ending, &mut members)?;
-    Ok(Value::Object(members))
+    let filled = put_verdict(alloc, first, ending, &mut members);
+    object(members, filled)
 }
 
 fn put_verdict(
@@ -39,8 +39,8 @@ fn put_verdict(
 /// How it ends.
 pub(crate) fn ends_json(alloc: Global, ending: Ending) -> Result<Value, AllocError> {
     let mut members = Map::new(alloc);
-    put_end(alloc, ending, &mut members)?;
-    Ok(Value::Object(members))
+    let filled = put_end(alloc, ending, &mut members);
+    object(members, filled)
 }
 
 fn put_end(
@@ -63,16 +63,16 @@ fn put_break(
     fault: RecordFault,
     members: &mut Map<String, Value>,
 ) -> Result<(), AllocError> {
-    put_number(alloc, "position", position, members)?;
-    put_number(alloc, "fault", u64::from(fault.number()), members)?;
+    let numbers = [("position", position), ("fault", u64::from(fault.number()))];
+    put_numbers(alloc, &numbers, members)?;
     put_text(alloc, "name", fault.name(), members)
 }
 
 /// A wrong reply.
 pub(crate) fn wrong_reply_json(alloc: Global, wrong: WrongReply) -> Result<Value, AllocError> {
     let mut members = Map::new(alloc);
-    put_wrong(alloc, wrong, &mut members)?;
-    Ok(Value::Object(members))
+    let filled = put_wrong(alloc, wrong, &mut members);
+    object(members, filled)
 }
 
 fn put_wrong(
@@ -80,7 +80,8 @@ fn put_wrong(
     wrong: WrongReply,
     members: &mut Map<String, Value>,
 ) -> Result<(), AllocError> {
-    put_number(alloc, "position", wrong.position, members)?;
-    put_number(alloc, "reason", u64::from(wrong.reason.number()), members)?;
+    let number = u64::from(wrong.reason.number());
+    let numbers = [("position", wrong.position), ("reason", number)];
+    put_numbers(alloc, &numbers, members)?;
     put_text(alloc, "name", wrong.reason.name(), members)
 }

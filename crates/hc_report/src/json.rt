@@ -1,10 +1,13 @@
 //! A report as JSON.
 
+use crate::counts::ReplyCounts;
 use crate::endings_json::{ends_json, verdict_json, wrong_reply_json};
 use crate::fixed::FixedTry;
+use crate::group::Group;
+use crate::groups::Groups;
 use crate::ignoring::IgnoringTry;
 use crate::listed::ListedReplies;
-use crate::members::{put_number, put_text};
+use crate::members::{array, object, push_made, put_made, put_number, put_text};
 use crate::replies_json::{group_json, octets_json, replies_json};
 use crate::report::Report;
 use crate::saying::NO_MARK;
@@ -21,46 +24,49 @@ pub(crate) fn report_json(
     counts: Option<Counts>,
 ) -> Result<Value, AllocError> {
     let mut members = Map::new(alloc);
-    put_endings(alloc, report, ending, &mut members)?;
-    put_replies(alloc, report, counts, &mut members)?;
-    put_wrongs(alloc, report, &mut members)?;
-    Ok(Value::Object(members))
+    let filled = put_all(alloc, report, ending, counts, &mut members);
+    object(members, filled)
+}
+
+fn put_all(
+    alloc: Global,
+    report: &Report,
+    ending: Ending,
+    counts: Option<Counts>,
+    members: &mut Map<String, Value>,
+) -> Result<(), AllocError> {
+    put_endings(alloc, report.wrongs.first, ending, members)?;
+    put(members, alloc, "records", records_json(counts))?;
+    put_replies(alloc, &report.replies, members)?;
+    put_wrongs(alloc, report, members)
 }
 
 // Adds the verdict, and how the recording ends.
 fn put_endings(
     alloc: Global,
-    report: &Report,
+    first: Option<WrongReply>,
     ending: Ending,
     members: &mut Map<String, Value>,
 ) -> Result<(), AllocError> {
-    let verdict = verdict_json(alloc, report.wrongs.first, ending)?;
-    put(members, alloc, "verdict", verdict)?;
-    put(members, alloc, "ends", ends_json(alloc, ending)?)
+    put_made(
+        alloc,
+        "verdict",
+        verdict_json(alloc, first, ending),
+        members,
+    )?;
+    put_made(alloc, "ends", ends_json(alloc, ending), members)
 }
 
-// Adds what is counted of the records and the replies.
+// Adds what is counted of the replies.
 fn put_replies(
     alloc: Global,
-    report: &Report,
-    counts: Option<Counts>,
+    replies: &ReplyCounts,
     members: &mut Map<String, Value>,
 ) -> Result<(), AllocError> {
-    put(members, alloc, "records", records_json(counts))?;
-    put(
-        members,
-        alloc,
-        "replies",
-        replies_json(alloc, &report.replies)?,
-    )?;
-    put(
-        members,
-        alloc,
-        "octets",
-        octets_json(alloc, &report.replies)?,
-    )?;
-    put_number(alloc, "judged", report.replies.judged(), members)?;
-    put(members, alloc, "warning", warning_json(alloc, report)?)
+    put_made(alloc, "replies", replies_json(alloc, replies), members)?;
+    put_made(alloc, "octets", octets_json(alloc, replies), members)?;
+    put_number(alloc, "judged", replies.judged(), members)?;
+    put_made(alloc, "warning", warning_json(alloc, replies), members)
 }
 
 // Adds the wrong replies, their groups, and what to try.
@@ -69,11 +75,20 @@ fn put_wrongs(
     report: &Report,
     members: &mut Map<String, Value>,
 ) -> Result<(), AllocError> {
-    put(members, alloc, "wrong", wrong_json(alloc, &report.wrongs)?)?;
-    put(members, alloc, "groups", groups_json(alloc, report)?)?;
-    put_number(alloc, "ungrouped", report.groups.elsewhere, members)?;
-    let tries = tries_json(alloc, &report.tries, report.wrongs.count)?;
-    put(members, alloc, "tries", tries)
+    put_made(alloc, "wrong", wrong_json(alloc, &report.wrongs), members)?;
+    put_groups(alloc, &report.groups, members)?;
+    let tries = tries_json(alloc, &report.tries, report.wrongs.count);
+    put_made(alloc, "tries", tries, members)
+}
+
+fn put_groups(
+    alloc: Global,
+    groups: &Groups,
+    members: &mut Map<String, Value>,
+) -> Result<(), AllocError> {
+    let kept = groups_json(alloc, groups.groups.as_slice());
+    put_made(alloc, "groups", kept, members)?;
+    put_number(alloc, "ungrouped", groups.elsewhere, members)
 }
 
 fn records_json(counts: Option<Counts>) -> Value {
@@ -83,8 +98,8 @@ fn records_json(counts: Option<Counts>) -> Value {
     }
 }
 
-fn warning_json(alloc: Global, report: &Report) -> Result<Value, AllocError> {
-    if report.replies.has_no_mark() {
+fn warning_json(alloc: Global, replies: &ReplyCounts) -> Result<Value, AllocError> {
+    if replies.has_no_mark() {
         Value::try_from_str(alloc, NO_MARK)
     } else {
         Ok(Value::Null)
@@ -93,8 +108,8 @@ fn warning_json(alloc: Global, report: &Report) -> Result<Value, AllocError> {
 
 fn wrong_json(alloc: Global, wrongs: &ListedReplies) -> Result<Value, AllocError> {
     let mut members = Map::new(alloc);
-    put_listed(alloc, wrongs, &mut members)?;
-    Ok(Value::Object(members))
+    let filled = put_listed(alloc, wrongs, &mut members);
+    object(members, filled)
 }
 
 fn put_listed(
@@ -103,35 +118,59 @@ fn put_listed(
     members: &mut Map<String, Value>,
 ) -> Result<(), AllocError> {
     put_number(alloc, "count", wrongs.count, members)?;
-    let listed = listed_json(alloc, wrongs.listed.as_slice())?;
-    put(members, alloc, "listed", listed)?;
+    let listed = listed_json(alloc, wrongs.listed.as_slice());
+    put_made(alloc, "listed", listed, members)?;
     put_number(alloc, "unlisted", wrongs.unlisted(), members)
 }
 
 fn listed_json(alloc: Global, wrongs: &[WrongReply]) -> Result<Value, AllocError> {
     let mut listed = Vec::new(alloc);
-    for wrong in wrongs {
-        listed.push(wrong_reply_json(alloc, *wrong)?)?;
-    }
-    Ok(Value::Array(listed))
+    let filled = push_listed(alloc, wrongs, &mut listed);
+    array(listed, filled)
 }
 
-fn groups_json(alloc: Global, report: &Report) -> Result<Value, AllocError> {
-    let mut groups = Vec::new(alloc);
-    for group in &report.groups.groups {
-        groups.push(group_json(alloc, group)?)?;
+fn push_listed(
+    alloc: Global,
+    wrongs: &[WrongReply],
+    listed: &mut Vec<Value>,
+) -> Result<(), AllocError> {
+    for wrong in wrongs {
+        push_made(wrong_reply_json(alloc, *wrong), listed)?;
     }
-    Ok(Value::Array(groups))
+    Ok(())
+}
+
+fn groups_json(alloc: Global, groups: &[Group]) -> Result<Value, AllocError> {
+    let mut kept = Vec::new(alloc);
+    let filled = push_groups(alloc, groups, &mut kept);
+    array(kept, filled)
+}
+
+fn push_groups(alloc: Global, groups: &[Group], kept: &mut Vec<Value>) -> Result<(), AllocError> {
+    for group in groups {
+        push_made(group_json(alloc, group), kept)?;
+    }
+    Ok(())
 }
 
 // The tries that help.
 fn tries_json(alloc: Global, tries: &Tries, wrong: u64) -> Result<Value, AllocError> {
     let mut helpful = Vec::new(alloc);
-    push_ignoring(alloc, &tries.ignoring, wrong, &mut helpful)?;
+    let filled = push_tries(alloc, tries, wrong, &mut helpful);
+    array(helpful, filled)
+}
+
+fn push_tries(
+    alloc: Global,
+    tries: &Tries,
+    wrong: u64,
+    helpful: &mut Vec<Value>,
+) -> Result<(), AllocError> {
+    push_ignoring(alloc, &tries.ignoring, wrong, helpful)?;
     for fixed in &tries.fixed {
-        push_fixed(alloc, fixed, wrong, &mut helpful)?;
+        push_fixed(alloc, fixed, wrong, helpful)?;
     }
-    Ok(Value::Array(helpful))
+    Ok(())
 }
 
 fn push_ignoring(
@@ -145,8 +184,8 @@ fn push_ignoring(
     }
     let mut options = String::new(alloc);
     ignoring.say(&mut options)?;
-    helpful.push(try_json(alloc, options, ignoring.wrong, false)?)?;
-    Ok(())
+    let made = try_json(alloc, options.as_str(), ignoring.wrong, false);
+    push_made(made, helpful)
 }
 
 fn push_fixed(
@@ -160,20 +199,15 @@ fn push_fixed(
     }
     let mut options = String::new(alloc);
     fixed.say(&mut options)?;
-    helpful.push(try_json(alloc, options, fixed.wrong, true)?)?;
-    Ok(())
+    let made = try_json(alloc, options.as_str(), fixed.wrong, true);
+    push_made(made, helpful)
 }
 
 // A try by those options, with which so many replies are wrong, or at most so many.
-fn try_json(
-    alloc: Global,
-    options: String,
-    wrong: u64,
-    is_exact: bool,
-) -> Result<Value, AllocError> {
+fn try_json(alloc: Global, options: &str, wrong: u64, is_exact: bool) -> Result<Value, AllocError> {
     let mut members = Map::new(alloc);
-    put_try(alloc, options.as_str(), wrong, is_exact, &mut members)?;
-    Ok(Value::Object(members))
+    let filled = put_try(alloc, options, wrong, is_exact, &mut members);
+    object(members, filled)
 }
 
 fn put_try(

@@ -11,6 +11,7 @@ mod ignoring;
 mod json;
 mod listed;
 mod members;
+mod numbers;
 mod replies_json;
 mod report;
 mod rows;

@@ -1,6 +1,6 @@
-//! The members of a JSON object.
+//! The members of a JSON object, and the values of an array.
 
-use serde_json::{Map, Value, put};
+use serde_json::{Map, Value, push, put};
 use std::alloc::{AllocError, Global};
 
 /// Adds a member that is a number.
@@ -13,6 +13,18 @@ pub(crate) fn put_number(
     put(members, alloc, name, Value::from(number))
 }
 
+/// Adds members that are numbers.
+pub(crate) fn put_numbers(
+    alloc: Global,
+    numbers: &[(&str, u64)],
+    members: &mut Map<String, Value>,
+) -> Result<(), AllocError> {
+    for (name, number) in numbers {
+        put_number(alloc, name, *number, members)?;
+    }
+    Ok(())
+}
+
 /// Adds a member that is a text.
 pub(crate) fn put_text(
     alloc: Global,
@@ -20,5 +32,41 @@ pub(crate) fn put_text(
     text: &str,
     members: &mut Map<String, Value>,
 ) -> Result<(), AllocError> {
-    put(members, alloc, name, Value::try_from_str(alloc, text)?)
+    put_made(alloc, name, Value::try_from_str(alloc, text), members)
+}
+
+/// Adds a member, if its value could be made.
+pub(crate) fn put_made(
+    alloc: Global,
+    name: &str,
+    made: Result<Value, AllocError>,
+    members: &mut Map<String, Value>,
+) -> Result<(), AllocError> {
+    put(members, alloc, name, made?)
+}
+
+/// Adds a value to an array, if it could be made.
+pub(crate) fn push_made(
+    made: Result<Value, AllocError>,
+    values: &mut Vec<Value>,
+) -> Result<(), AllocError> {
+    push(values, made?)
+}
+
+/// The object of those members, if all could be put into it.
+pub(crate) fn object(
+    members: Map<String, Value>,
+    filled: Result<(), AllocError>,
+) -> Result<Value, AllocError> {
+    filled?;
+    Ok(Value::Object(members))
+}
+
+/// The array of those values, if all could be put into it.
+pub(crate) fn array(
+    values: Vec<Value>,
+    filled: Result<(), AllocError>,
+) -> Result<Value, AllocError> {
+    filled?;
+    Ok(Value::Array(values))
 }

@@ -2,47 +2,48 @@
 
 use crate::counts::ReplyCounts;
 use crate::group::{Group, Spread};
-use crate::members::{put_number, put_text};
+use crate::members::{array, object, push_made, put_made, put_number, put_numbers, put_text};
 use crate::rows::what_of;
+use crate::targets::NamedTargets;
 use hc_details::{Detail, Differences};
 use hc_fields::Octets;
 use hc_shown::push_octets;
-use serde_json::{Map, Value, put};
+use serde_json::{Map, Value};
 use std::alloc::{AllocError, Global};
 
 /// What the replies say of themselves.
 pub(crate) fn replies_json(alloc: Global, replies: &ReplyCounts) -> Result<Value, AllocError> {
-    let mut members = Map::new(alloc);
-    put_counts(alloc, replies, &mut members)?;
-    Ok(Value::Object(members))
-}
-
-fn put_counts(
-    alloc: Global,
-    replies: &ReplyCounts,
-    members: &mut Map<String, Value>,
-) -> Result<(), AllocError> {
-    put_number(alloc, "all", replies.all(), members)?;
-    put_number(alloc, "hits", replies.hits, members)?;
-    put_number(alloc, "forwarded", replies.forwarded, members)?;
-    put_number(alloc, "collapsed", replies.collapsed, members)?;
-    put_number(alloc, "unmarked", replies.unmarked, members)?;
-    put_number(alloc, "both", replies.both, members)
+    let counts = [
+        ("all", replies.all()),
+        ("hits", replies.hits),
+        ("forwarded", replies.forwarded),
+        ("collapsed", replies.collapsed),
+        ("unmarked", replies.unmarked),
+        ("both", replies.both),
+    ];
+    numbers_json(alloc, &counts)
 }
 
 /// The octets of their bodies.
 pub(crate) fn octets_json(alloc: Global, replies: &ReplyCounts) -> Result<Value, AllocError> {
+    let octets = [
+        ("hits", replies.hit_octets),
+        ("forwarded", replies.forwarded_octets),
+    ];
+    numbers_json(alloc, &octets)
+}
+
+fn numbers_json(alloc: Global, numbers: &[(&str, u64)]) -> Result<Value, AllocError> {
     let mut members = Map::new(alloc);
-    put_number(alloc, "hits", replies.hit_octets, &mut members)?;
-    put_number(alloc, "forwarded", replies.forwarded_octets, &mut members)?;
-    Ok(Value::Object(members))
+    let filled = put_numbers(alloc, numbers, &mut members);
+    object(members, filled)
 }
 
 /// A group of wrong replies.
 pub(crate) fn group_json(alloc: Global, group: &Group) -> Result<Value, AllocError> {
     let mut members = Map::new(alloc);
-    put_group(alloc, group, &mut members)?;
-    Ok(Value::Object(members))
+    let filled = put_group(alloc, group, &mut members);
+    object(members, filled)
 }
 
 fn put_group(
@@ -53,9 +54,9 @@ fn put_group(
     put_kind(alloc, group, members)?;
     put_differences(alloc, &group.detail, members)?;
     put_spread(alloc, group.spread, members)?;
-    put_number(alloc, "count", group.count, members)?;
-    put_number(alloc, "first", group.first, members)?;
-    put_targets(alloc, group, members)
+    let numbers = [("count", group.count), ("first", group.first)];
+    put_numbers(alloc, &numbers, members)?;
+    put_targets(alloc, &group.targets, members)
 }
 
 fn put_kind(
@@ -66,8 +67,8 @@ fn put_kind(
     put_number(alloc, "reason", u64::from(group.reason.number()), members)?;
     put_text(alloc, "name", group.reason.name(), members)?;
     put_text(alloc, "detail", group.detail.kind(), members)?;
-    let what = Value::String(what_of(alloc, group)?);
-    put(members, alloc, "what", what)
+    let what = what_of(alloc, group)?;
+    put_text(alloc, "what", what.as_str(), members)
 }
 
 fn put_differences(
@@ -82,9 +83,9 @@ fn put_differences(
             changed,
             more,
         } = differences;
-        put(members, alloc, "added", names_json(alloc, added)?)?;
-        put(members, alloc, "dropped", names_json(alloc, dropped)?)?;
-        put(members, alloc, "changed", names_json(alloc, changed)?)?;
+        put_made(alloc, "added", names_json(alloc, added), members)?;
+        put_made(alloc, "dropped", names_json(alloc, dropped), members)?;
+        put_made(alloc, "changed", names_json(alloc, changed), members)?;
         put_number(alloc, "more_names", *more, members)?;
     }
     Ok(())
@@ -95,41 +96,57 @@ fn put_spread(
     spread: Option<Spread>,
     members: &mut Map<String, Value>,
 ) -> Result<(), AllocError> {
-    if let Some(Spread { least, greatest }) = spread {
-        put_number(alloc, "least", least, members)?;
-        put_number(alloc, "greatest", greatest, members)?;
+    match spread {
+        Some(Spread { least, greatest }) => {
+            let numbers = [("least", least), ("greatest", greatest)];
+            put_numbers(alloc, &numbers, members)
+        }
+        None => Ok(()),
     }
-    Ok(())
 }
 
 fn put_targets(
     alloc: Global,
-    group: &Group,
+    targets: &NamedTargets,
     members: &mut Map<String, Value>,
 ) -> Result<(), AllocError> {
-    let targets = targets_json(alloc, group.targets.names.as_slice())?;
-    put(members, alloc, "targets", targets)?;
-    put_number(alloc, "unnamed_targets", group.targets.others, members)
+    let named = targets_json(alloc, targets.names.as_slice());
+    put_made(alloc, "targets", named, members)?;
+    put_number(alloc, "unnamed_targets", targets.others, members)
 }
 
 fn targets_json(alloc: Global, names: &[String]) -> Result<Value, AllocError> {
     let mut targets = Vec::new(alloc);
+    let filled = push_targets(alloc, names, &mut targets);
+    array(targets, filled)
+}
+
+fn push_targets(
+    alloc: Global,
+    names: &[String],
+    targets: &mut Vec<Value>,
+) -> Result<(), AllocError> {
     for target in names {
-        targets.push(Value::try_from_str(alloc, target.as_str())?)?;
+        push_made(Value::try_from_str(alloc, target.as_str()), targets)?;
     }
-    Ok(Value::Array(targets))
+    Ok(())
 }
 
 fn names_json(alloc: Global, names: &[Octets]) -> Result<Value, AllocError> {
     let mut shown = Vec::new(alloc);
-    for name in names {
-        shown.push(Value::String(shown_name(alloc, name)?))?;
-    }
-    Ok(Value::Array(shown))
+    let filled = push_names(alloc, names, &mut shown);
+    array(shown, filled)
 }
 
-fn shown_name(alloc: Global, name: &Octets) -> Result<String, AllocError> {
+fn push_names(alloc: Global, names: &[Octets], shown: &mut Vec<Value>) -> Result<(), AllocError> {
+    for name in names {
+        push_made(shown_name(alloc, name), shown)?;
+    }
+    Ok(())
+}
+
+fn shown_name(alloc: Global, name: &Octets) -> Result<Value, AllocError> {
     let mut text = String::new(alloc);
     push_octets(name.as_slice(), &mut text)?;
-    Ok(text)
+    Ok(Value::String(text))
 }

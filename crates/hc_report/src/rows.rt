@@ -2,6 +2,7 @@
 
 use crate::group::{Group, Spread};
 use crate::groups::Groups;
+use crate::numbers::push_number;
 use crate::targets::NamedTargets;
 use std::alloc::{AllocError, Global};
 use std::fmt::Write;
@@ -106,29 +107,41 @@ fn reason_of(alloc: Global, group: &Group) -> Result<String, AllocError> {
 pub(crate) fn what_of(alloc: Global, group: &Group) -> Result<String, AllocError> {
     let mut text = String::new(alloc);
     group.detail.say(&mut text)?;
-    if let Some(Spread { least, greatest }) = group.spread {
-        if least == greatest {
-            write!(text, " by {least} s")?;
-        } else {
-            write!(text, " by {least} to {greatest} s")?;
-        }
-    }
+    push_spread(group.spread, &mut text)?;
     Ok(text)
+}
+
+// Writes by how many seconds replies are off, if that is what is wrong.
+fn push_spread(spread: Option<Spread>, out: &mut String) -> Result<(), AllocError> {
+    match spread {
+        Some(Spread { least, greatest }) if least == greatest => {
+            push_number(" by ", least, " s", out)
+        }
+        Some(Spread { least, greatest }) => write!(out, " by {least} to {greatest} s"),
+        None => Ok(()),
+    }
 }
 
 // The first target, and how many more there are.
 fn target_of(alloc: Global, targets: &NamedTargets) -> Result<String, AllocError> {
     let mut text = String::new(alloc);
-    if let Some((first, others)) = targets.names.as_slice().split_first() {
-        text.push_str(first.as_str())?;
-        let more = others.len();
-        if targets.others != 0 {
-            write!(text, " and over {more} more")?;
-        } else if more != 0 {
-            write!(text, " and {more} more")?;
-        }
-    }
+    push_targets(targets, &mut text)?;
     Ok(text)
+}
+
+fn push_targets(targets: &NamedTargets, out: &mut String) -> Result<(), AllocError> {
+    let Some((first, others)) = targets.names.as_slice().split_first() else {
+        return Ok(());
+    };
+    out.push_str(first.as_str())?;
+    let more = others.len() as u64;
+    if targets.others != 0 {
+        return push_number(" and over ", more, " more", out);
+    }
+    if more == 0 {
+        return Ok(());
+    }
+    push_number(" and ", more, " more", out)
 }
 
 fn widths_of(rows: &[Row]) -> Widths {

@@ -3,6 +3,7 @@
 use crate::counts::ReplyCounts;
 use crate::fixed::FixedTry;
 use crate::ignoring::IgnoringTry;
+use crate::numbers::push_number;
 use crate::report::Report;
 use crate::rows::say_groups;
 use crate::tries::Tries;
@@ -23,8 +24,14 @@ pub(crate) fn say_report(
     counts: Option<Counts>,
     out: &mut String,
 ) -> Result<(), AllocError> {
-    say_records(ending, counts, out)?;
+    say_records(counts, out)?;
+    say_ending(ending, out)?;
     say_replies(&report.replies, out)?;
+    say_wrongs(alloc, report, out)
+}
+
+// Writes how many replies are wrong, and what is wrong in them.
+fn say_wrongs(alloc: Global, report: &Report, out: &mut String) -> Result<(), AllocError> {
     let wrong = report.wrongs.count;
     let judged = report.replies.judged();
     write!(out, "wrong      {wrong} of {judged}\n")?;
@@ -35,57 +42,61 @@ pub(crate) fn say_report(
     say_tries(&report.tries, wrong, out)
 }
 
-// Writes how many records there are, or where they break.
-fn say_records(ending: Ending, counts: Option<Counts>, out: &mut String) -> Result<(), AllocError> {
-    if let Some(counts) = counts {
-        let records = counts.records;
-        write!(out, "records    {records}\n")?;
+// Writes how many records there are, where that was counted.
+fn say_records(counts: Option<Counts>, out: &mut String) -> Result<(), AllocError> {
+    match counts {
+        Some(counts) => push_number("records    ", counts.records, "\n", out),
+        None => Ok(()),
     }
-    if let Ending::Broken(position, fault) = ending {
-        let number = fault.number();
-        let name = fault.name();
-        write!(
-            out,
-            "ends       at {position}, which is malformed: {number} {name}\n"
-        )?;
-    }
-    Ok(())
+}
+
+// Writes where the records break, if they do.
+fn say_ending(ending: Ending, out: &mut String) -> Result<(), AllocError> {
+    let Ending::Broken(position, fault) = ending else {
+        return Ok(());
+    };
+    let number = fault.number();
+    let name = fault.name();
+    write!(
+        out,
+        "ends       at {position}, which is malformed: {number} {name}\n"
+    )
 }
 
 // Writes what the replies say of themselves.
 fn say_replies(replies: &ReplyCounts, out: &mut String) -> Result<(), AllocError> {
     say_marks(replies, out)?;
     say_octets(replies, out)?;
-    let unjudged = replies.unjudged;
-    if unjudged != 0 {
-        write!(
-            out,
-            "unjudged   {unjudged}: nothing is said of replies without a mark\n"
-        )?;
-    }
+    say_unjudged(replies.unjudged, out)?;
     if replies.has_no_mark() {
-        write!(out, "warning: {NO_MARK}\n")?;
+        return write!(out, "warning: {NO_MARK}\n");
     }
     Ok(())
+}
+
+fn say_unjudged(unjudged: u64, out: &mut String) -> Result<(), AllocError> {
+    if unjudged == 0 {
+        return Ok(());
+    }
+    let behind = ": nothing is said of replies without a mark\n";
+    push_number("unjudged   ", unjudged, behind, out)
 }
 
 fn say_marks(replies: &ReplyCounts, out: &mut String) -> Result<(), AllocError> {
     let all = replies.all();
-    write!(out, "replies    {all}: ")?;
+    push_number("replies    ", all, ": ", out)?;
     say_part(replies.hits, all, "hits", out)?;
     say_part(replies.forwarded, all, "forwarded", out)?;
     say_part(replies.unmarked, all, "unmarked", out)?;
-    say_both(replies, out)
+    say_both(replies.both, replies.collapsed, out)
 }
 
-fn say_both(replies: &ReplyCounts, out: &mut String) -> Result<(), AllocError> {
-    let both = replies.both;
-    write!(out, "{both} with both marks\n")?;
-    let collapsed = replies.collapsed;
-    if collapsed != 0 {
-        write!(out, "collapsed  {collapsed} of the forwarded replies\n")?;
+fn say_both(both: u64, collapsed: u64, out: &mut String) -> Result<(), AllocError> {
+    push_number("", both, " with both marks\n", out)?;
+    if collapsed == 0 {
+        return Ok(());
     }
-    Ok(())
+    push_number("collapsed  ", collapsed, " of the forwarded replies\n", out)
 }
 
 fn say_octets(replies: &ReplyCounts, out: &mut String) -> Result<(), AllocError> {
@@ -100,12 +111,18 @@ fn say_octets(replies: &ReplyCounts, out: &mut String) -> Result<(), AllocError>
 // Writes a count, what it counts, and its share of all, with a comma behind them.
 fn say_part(part: u64, all: u64, what: &str, out: &mut String) -> Result<(), AllocError> {
     write!(out, "{part} {what}")?;
-    if let Some(thousandths) = share_of(part, all) {
-        let percent = thousandths / 10;
-        let tenth = thousandths % 10;
-        write!(out, " ({percent}.{tenth}%)")?;
-    }
+    say_share(part, all, out)?;
     out.push_str(", ")
+}
+
+// Writes the share that a part is of all, if there are any.
+fn say_share(part: u64, all: u64, out: &mut String) -> Result<(), AllocError> {
+    let Some(thousandths) = share_of(part, all) else {
+        return Ok(());
+    };
+    let percent = thousandths / 10;
+    let tenth = thousandths % 10;
+    write!(out, " ({percent}.{tenth}%)")
 }
 
 // How many thousandths of all a part is, rounded down. None where all is nothing.

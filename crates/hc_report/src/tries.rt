@@ -30,15 +30,25 @@ impl Drop for Tries {
     }
 }
 
+// Adds what is tried beside so much slack and what is asked of replies without a mark.
+fn push_fixed(
+    slack: u32,
+    unmarked: UnmarkedReplies,
+    fixed: &mut Vec<FixedTry>,
+) -> Result<(), AllocError> {
+    fixed.push(FixedTry::with_slack(slack.saturating_add(1)))?;
+    fixed.push(FixedTry::with_slack(slack.saturating_add(5)))?;
+    if unmarked == UnmarkedReplies::ErrorsOnly {
+        fixed.push(FixedTry::with_unmarked())?;
+    }
+    Ok(())
+}
+
 impl Tries {
     /// What is tried beside those settings.
     pub(crate) fn new(alloc: Global, settings: Settings) -> Result<Self, AllocError> {
         let mut fixed = Vec::new(alloc);
-        fixed.push(FixedTry::with_slack(settings.slack.saturating_add(1)))?;
-        fixed.push(FixedTry::with_slack(settings.slack.saturating_add(5)))?;
-        if settings.unmarked == UnmarkedReplies::ErrorsOnly {
-            fixed.push(FixedTry::with_unmarked())?;
-        }
+        push_fixed(settings.slack, settings.unmarked, &mut fixed)?;
         Ok(Tries {
             ignoring: IgnoringTry::new(alloc, settings.copy(alloc)?),
             settings,
