@@ -1,8 +1,8 @@
 -- The link of a forward is taken out: what is left, and what came on it.
-use Rattle.std.proofs.Common.{◌≡◌, ◌⊎◌, ℕ, Bool, List, ◌++◌, Option, Some, None, Result, Ok, Err, IfOk, ap, refl, sym, subst, inl, inr, ◌∙◌}
+use Rattle.std.proofs.Common.{◌≡◌, ◌⊎◌, ℕ, Bool, true, false, List, ◌++◌, Option, Some, None, Result, Ok, Err, IfOk, ap, refl, sym, subst, inl, inr, ◌∙◌}
 use Rattle.std.specs.BTreeMap.{get as kept_at}
 use Rattle.std.specs.FinMap.{get, remove}
-use Rattle.std.specs.Option.{is_none}
+use Rattle.std.specs.Prelude.{is_some, not}
 use Rattle.std.specs.Ordering.{nat_cmp}
 use Rattle.hc_head.specs.declared.head.ResponseHead.{ResponseHead}
 use Rattle.hc_head.specs.Methods.{is_head}
@@ -84,9 +84,12 @@ module _ (link : Link) (awaited : Awaited) (is : IsLink link awaited) where
   failure_of_link how heard fails = subst (λ (x : OpenForward). HasFailure how (is_head x.request.method) heard) same_forward fails
 
 -- it is for the store alone where it is for no exchange
-for_no_exchange : (aim : Purpose) → is_none (exchange_for aim) ≡ is_for_store aim
-for_no_exchange purpose.Background = refl
-for_no_exchange (purpose.Reply e why kind) = refl
+for_no_exchange : (aim : Purpose) (answer : Bool) → is_some (exchange_for aim) ≡ not answer → answer ≡ is_for_store aim
+for_no_exchange purpose.Background true is = refl
+for_no_exchange purpose.Background false is = absurd cc
+for_no_exchange (purpose.Reply e why kind) true is = absurd cc
+for_no_exchange (purpose.Reply e why kind) false is = refl
 
-pub is_alone : (link : Link) (awaited : Awaited) → IsLink link awaited → is_none (exchange_for link.forward.purpose) ≡ is_for_store awaited.forward.purpose
-is_alone link awaited is = for_no_exchange link.forward.purpose ∙ ap (λ (x : OpenForward). is_for_store x.purpose) is.forward
+pub is_alone : (link : Link) (awaited : Awaited) (answer : Bool) → IsLink link awaited → is_some (exchange_for link.forward.purpose) ≡ not answer
+    → answer ≡ is_for_store awaited.forward.purpose
+is_alone link awaited answer is none = for_no_exchange link.forward.purpose answer none ∙ ap (λ (x : OpenForward). is_for_store x.purpose) is.forward
