@@ -1,7 +1,8 @@
 -- The link of a forward is taken out: what is left, and what came on it.
-use Rattle.std.proofs.Common.{◌≡◌, ◌⊎◌, ℕ, Bool, List, ◌++◌, Option, Some, None, Result, Ok, Err, IfOk, sym, subst, inl, inr, ◌∙◌}
+use Rattle.std.proofs.Common.{◌≡◌, ◌⊎◌, ℕ, Bool, true, false, List, ◌++◌, Option, Some, None, Result, Ok, Err, IfOk, ap, refl, sym, subst, inl, inr, ◌∙◌}
 use Rattle.std.specs.BTreeMap.{get as kept_at}
 use Rattle.std.specs.FinMap.{get, remove}
+use Rattle.std.specs.Prelude.{is_some, not}
 use Rattle.std.specs.Ordering.{nat_cmp}
 use Rattle.hc_head.specs.declared.head.ResponseHead.{ResponseHead}
 use Rattle.hc_head.specs.Methods.{is_head}
@@ -9,8 +10,11 @@ use Rattle.hc_framing.specs.declared.message.Message.{Message}
 use Rattle.hc_links.specs.declared.responses.ResponseReader.{ResponseReader}
 use Rattle.hc_links.specs.ResponseReading.{WasGiven}
 use Rattle.hc_service.specs.declared.open.OpenForward.{OpenForward}
+use Rattle.hc_service.specs.declared.open.Purpose.{Purpose}
+use Rattle.hc_service.specs.declared.open.Purpose.TheVariants as purpose
 use Rattle.hc_service.specs.declared.settings.CoreSettings.{CoreSettings}
-use Rattle.hc_service.specs.State.{State, Awaited}
+use Rattle.hc_service.specs.Reactions.{is_for_store}
+use Rattle.hc_service.specs.State.{State, Awaited, exchange_for}
 use Rattle.hc_service.specs.Turns.{Failure, HasFailure, IsAnswer, after_origin_octets}
 use Rattle.hc_machine.specs.declared.desk.Desk.{Desk}
 use Rattle.hc_open.specs.declared.links.Link.{Link}
@@ -78,3 +82,14 @@ module _ (link : Link) (awaited : Awaited) (is : IsLink link awaited) where
   pub failure_of_link : (how : Failure) (heard : List ℕ) → HasFailure how (is_head awaited.forward.request.method) heard
       → HasFailure how (is_head link.forward.request.method) heard
   failure_of_link how heard fails = subst (λ (x : OpenForward). HasFailure how (is_head x.request.method) heard) same_forward fails
+
+-- it is for the store alone where it is for no exchange
+for_no_exchange : (aim : Purpose) (answer : Bool) → is_some (exchange_for aim) ≡ not answer → answer ≡ is_for_store aim
+for_no_exchange purpose.Background true is = refl
+for_no_exchange purpose.Background false is = absurd cc
+for_no_exchange (purpose.Reply e why kind) true is = absurd cc
+for_no_exchange (purpose.Reply e why kind) false is = refl
+
+pub is_alone : (link : Link) (awaited : Awaited) (answer : Bool) → IsLink link awaited → is_some (exchange_for link.forward.purpose) ≡ not answer
+    → answer ≡ is_for_store awaited.forward.purpose
+is_alone link awaited answer is none = for_no_exchange link.forward.purpose answer none ∙ ap (λ (x : OpenForward). is_for_store x.purpose) is.forward

@@ -28,7 +28,7 @@ impl<S: BuildHasher> Desk<S> {
     ghost use Rattle.std.specs.FinMap.{len};
     ghost use Rattle.hc_service.specs.declared.settings.CoreSettings.{CoreSettings};
     ghost use Rattle.hc_service.specs.State.{State, awaits_reply, new_state_with};
-    ghost use Rattle.hc_machine.specs.Held.{held_of_client, held_of_forward};
+    ghost use Rattle.hc_machine.specs.Held.{held_of_client, held_of_forward, is_background};
     ghost use Rattle.hc_machine.specs.Standing.{DeskStandsFor};
 
     /// That of a cache to which nothing has happened, with an empty store, and with room for so many connections.
@@ -61,6 +61,17 @@ impl<S: BuildHasher> Desk<S> {
     {
         match self.clients.get(&connection) {
             Some(client) => client.exchange.is_some(),
+            None => false,
+        }
+    }
+
+    /// Whether that forward is open for the store alone.
+    pub(crate) fn is_background(&self, forward: u64) -> bool
+        ensures { (settings : CoreSettings) (s : State) → DeskStandsFor settings self.now s
+            → result ≡ is_background forward s }
+    {
+        match self.links.by_number.get(&forward) {
+            Some(link) => link.forward.purpose.exchange().is_none(),
             None => false,
         }
     }

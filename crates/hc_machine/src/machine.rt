@@ -93,7 +93,7 @@ impl<S: BuildHasher> Core<S> {
     ghost use Rattle.hc_service.specs.Agreement.{Agrees, History, IsReady};
     ghost use Rattle.hc_service.specs.Settings.{AreGood};
     ghost use Rattle.hc_service.specs.State.{State, awaits_reply};
-    ghost use Rattle.hc_machine.specs.Held.{held_of_client, held_of_forward};
+    ghost use Rattle.hc_machine.specs.Held.{held_of_client, held_of_forward, is_background};
     ghost use Rattle.hc_machine.specs.Steps.{GivesAgreement, GivesStep, StandsFor, TellsFirst, records_given};
 
     /// Something happens. Where memory is refused, no event is served any more; any other fault changes
@@ -173,8 +173,21 @@ impl<S: BuildHasher> Core<S> {
         !self.failed && self.desk.awaits(connection)
     }
 
+    /// Whether it hasn't failed, and that forward is open for the store alone: it revalidates a stored response behind a
+    /// reply that was given out stale (RFC 5861 section 3), and no exchange awaits what comes on it.
+    ///
+    /// A forward that was made for an exchange never becomes such a one: at the latest it ends in the step that gives the
+    /// exchange its reply. Where the client sends no more before that, the exchange awaits its reply all the same.
+    pub fn is_background(&self, forward: u64) -> bool
+        ensures state { (settings : CoreSettings) (s : State) → StandsFor settings self.now s
+            → result ≡ is_background forward s }
+        ensures failed { self.now.failed ≡ true → result ≡ false }
+    {
+        !self.failed && self.desk.is_background(forward)
+    }
+
     /// How many octets have come from the client of that connection behind the last request that was read, and weren't
-    /// dropped. None where it isn't open, or the cache has failed.
+    /// dropped: 0 where it isn't open, or the cache has failed.
     pub fn held_of_client(&self, connection: u64) -> usize
         ensures state { (settings : CoreSettings) (s : State) → StandsFor settings self.now s
             → result ≡ held_of_client connection s }
@@ -186,7 +199,7 @@ impl<S: BuildHasher> Core<S> {
         self.desk.held_of_client(connection)
     }
 
-    /// How many octets have come on that forward, whose response isn't whole. None where it isn't open, or the cache has
+    /// How many octets have come on that forward, whose response isn't whole: 0 where it isn't open, or the cache has
     /// failed.
     pub fn held_of_forward(&self, forward: u64) -> usize
         ensures state { (settings : CoreSettings) (s : State) → StandsFor settings self.now s
