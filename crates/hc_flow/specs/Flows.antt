@@ -1,5 +1,5 @@
 -- What has passed at a flow.
-use Rattle.std.specs.Prelude.{◌≡◌, ℕ, true, false, List, ◌++◌, Result, Ok, Err}
+use Rattle.std.specs.Prelude.{◌≡◌, ℕ, Bool, true, false, List, ◌++◌, Result, Ok, Err}
 use Rattle.std.specs.declared.alloc.AllocError.{AllocError}
 use Rattle.hc_flow.specs.Passing.{Gave, Owes}
 use Rattle.hc_flow.specs.declared.flow.Flow.{Flow}
@@ -20,6 +20,10 @@ OwesSent owes (Err refused) octets sent = owes sent
 -- its stream has failed where it fails, and what has failed stays so
 abbrev pub FailsWithStream : {S : Type 0} → (S → Type 0) → Flow S → Flow S → Type 0
 FailsWithStream has_failed before after = (has_failed before.stream → has_failed after.stream) × (before.failed ≡ false → after.failed ≡ true → has_failed after.stream)
+
+-- where it says whether our half was ended, it says so still
+abbrev pub KeepsEnd : {S : Type 0} → (S → Bool → Type 0) → Flow S → Flow S → Type 0
+KeepsEnd was_ended before after = was_ended before.stream before.ended → was_ended after.stream after.ended
 
 -- its stream, and what is known of the link, are as they were
 abbrev pub KeepsLink : {S : Type 0} → Flow S → Flow S → Type 0

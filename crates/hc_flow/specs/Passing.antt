@@ -22,7 +22,7 @@ pub record Owes {S : Type 0} (has_got : S → List ℕ → Type 0) (stream : S) 
 -- what was heard is a beginning of what was read, and all of it unless the link has failed
 pub record Gave {S : Type 0} (has_given : S → List ℕ → Type 0) (stream : S) (failed : Bool) (heard : List ℕ) : Type 0 where
   pub given : List ℕ
-  pub has_it : has_given stream given
+  pub has : has_given stream given
   pub rest : List ℕ
   pub given_is : given ≡ heard ++ rest
   pub all : failed ≡ false → rest ≡ []

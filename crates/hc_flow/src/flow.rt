@@ -20,9 +20,9 @@ pub struct Flow<S: Stream> {
     readable: bool,
     /// Whether octets may be taken now.
     writable: bool,
-    /// Whether the other side has closed its half.
+    /// Whether the other side has closed its writing half.
     hung_up: bool,
-    /// Whether our half is to be ended once nothing waits.
+    /// Whether our writing half is to be ended once nothing waits.
     ends: bool,
     /// Whether it was.
     ended: bool,
@@ -30,8 +30,7 @@ pub struct Flow<S: Stream> {
 
 impl<S: Stream> Flow<S> {
     ghost use Rattle.hc_flow.specs.Emptyings.{LeavesWaiting, is_ended_behind, is_failed_emptying, is_writable_behind};
-    ghost use Rattle.hc_flow.specs.Flows.{FailsWithStream, FlowGave, FlowOwes, KeepsLink, OwesSent};
-    ghost use Rattle.hc_flow.specs.Passing.{Stays};
+    ghost use Rattle.hc_flow.specs.Flows.{FailsWithStream, FlowGave, FlowOwes, KeepsEnd, KeepsLink, OwesSent};
     ghost use Rattle.hc_flow.specs.Reads.{FitsBuffer, HearsArrival, KeepsWaiting, is_failed_read, is_readable_behind};
 
     /// That of a stream that is open: at first both reading and writing may be tried.
@@ -42,7 +41,7 @@ impl<S: Stream> Flow<S> {
         ensures failed { result.failed ≡ false }
         ensures outbox { result.outbox ≡ [] }
         ensures ready { (result.readable ≡ true) × (result.writable ≡ true) }
-        ensures open_still { (result.hung_up ≡ false) × (result.ends ≡ false) × (result.ended ≡ false) }
+        ensures halves { (result.hung_up ≡ false) × (result.ends ≡ false) × (result.ended ≡ false) }
     {
         Flow {
             stream,
@@ -64,7 +63,7 @@ impl<S: Stream> Flow<S> {
         ensures failed { result.failed ≡ false }
         ensures outbox { result.outbox ≡ [] }
         ensures ready { (result.readable ≡ false) × (result.writable ≡ false) }
-        ensures open_still { (result.hung_up ≡ false) × (result.ends ≡ false) × (result.ended ≡ false) }
+        ensures halves { (result.hung_up ≡ false) × (result.ends ≡ false) × (result.ended ≡ false) }
     {
         let mut flow = Flow::new(alloc, stream);
         flow.readable = false;
@@ -87,7 +86,7 @@ impl<S: Stream> Flow<S> {
         self.readable
     }
 
-    /// Whether our half was ended.
+    /// Whether our writing half was ended.
     pub fn has_ended(&self) -> bool
         ensures { result ≡ self.now.ended }
     {
@@ -172,10 +171,11 @@ impl<S: Stream> Flow<S> {
         self.outbox.push(text)
     }
 
-    /// Ends our half, if that is asked for, and it wasn't ended.
+    /// Ends our writing half, if that is asked for, and it wasn't ended.
     fn end_once(&mut self)
-        ensures given { Stays (S.has_given self.old.stream) (S.has_given self.new.stream) }
-        ensures got { Stays (S.has_got self.old.stream) (S.has_got self.new.stream) }
+        ensures owes { (sent : List ℕ) → FlowOwes S.has_got self.old sent → FlowOwes S.has_got self.new sent }
+        ensures gave { (heard : List ℕ) → FlowGave S.has_given self.old heard → FlowGave S.has_given self.new heard }
+        ensures half { KeepsEnd S.was_ended self.old self.new }
         ensures fails { S.has_failed self.old.stream → S.has_failed self.new.stream }
         ensures ended { self.new.ended ≡ (self.old.ended || self.old.ends) }
         ensures same { (self.new.failed ≡ self.old.failed) × (self.new.outbox ≡ self.old.outbox) × (self.new.readable ≡ self.old.readable)
@@ -190,10 +190,11 @@ impl<S: Stream> Flow<S> {
         }
     }
 
-    /// Our half is ended behind what waits: at once, where nothing does.
+    /// Our writing half is ended behind what waits: at once, where nothing does.
     pub fn end_behind(&mut self)
         ensures owes { (sent : List ℕ) → FlowOwes S.has_got self.old sent → FlowOwes S.has_got self.new sent }
         ensures gave { (heard : List ℕ) → FlowGave S.has_given self.old heard → FlowGave S.has_given self.new heard }
+        ensures half { KeepsEnd S.was_ended self.old self.new }
         ensures fails { S.has_failed self.old.stream → S.has_failed self.new.stream }
         ensures ends { self.new.ends ≡ true }
         ensures ended { self.new.ended ≡ (self.old.ended || (not self.old.failed && (length self.old.outbox == 0))) }
@@ -209,13 +210,14 @@ impl<S: Stream> Flow<S> {
         }
     }
 
-    /// Writes what waits, as far as it is taken now. Where nothing waits any more, and that is asked for, our half is
-    /// ended. Once the link has failed nothing is written.
+    /// Writes what waits, as far as it is taken now. Where nothing waits any more, and that is asked for, our writing half
+    /// is ended. Once the link has failed nothing is written.
     pub fn write(&mut self) -> Emptying
         ensures owes { (sent : List ℕ) → FlowOwes S.has_got self.old sent → FlowOwes S.has_got self.new sent }
         ensures gave { (heard : List ℕ) → FlowGave S.has_given self.old heard → FlowGave S.has_given self.new heard }
         ensures waits { LeavesWaiting result self.new.outbox }
         ensures failed { self.new.failed ≡ is_failed_emptying result }
+        ensures half { KeepsEnd S.was_ended self.old self.new }
         ensures fails { FailsWithStream S.has_failed self.old self.new }
         ensures writable { self.new.writable ≡ is_writable_behind result self.old.writable }
         ensures ended { self.new.ended ≡ is_ended_behind result self.old.ended self.old.ends }
@@ -253,6 +255,7 @@ impl<S: Stream> Flow<S> {
         ensures gave { (heard : List ℕ) → FlowGave S.has_given self.old heard → HearsArrival (FlowGave S.has_given self.new) result buffer.new heard }
         ensures octets { FitsBuffer result buffer.new }
         ensures failed { self.new.failed ≡ is_failed_read result }
+        ensures half { KeepsEnd S.was_ended self.old self.new }
         ensures fails { FailsWithStream S.has_failed self.old self.new }
         ensures waits { KeepsWaiting result self.old.outbox self.new.outbox }
         ensures readable { self.new.readable ≡ is_readable_behind result self.old.readable self.old.hung_up (length buffer.new) }

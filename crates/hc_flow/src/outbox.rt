@@ -1,6 +1,6 @@
 //! What waits to be written to a link.
 
-ghost use Rattle.std.specs.Prelude.{◌≡◌, ◌==◌, ◌++◌, ℕ, List, [], length, OnOk, OnErr};
+ghost use Rattle.std.specs.Prelude.{◌≡◌, ◌==◌, ◌++◌, ℕ, Bool, List, [], length, OnOk, OnErr};
 ghost use Rattle.hc_flow.specs.Emptyings.{FailsEmptying, LeavesWaiting};
 ghost use Rattle.hc_flow.specs.Passing.{Moves, Stays};
 ghost use Rattle.hc_flow.specs.Writes.{FailsWrite, TakesOff};
@@ -122,6 +122,7 @@ impl Outbox {
     fn write_some<S: Stream>(&mut self, stream: &mut S) -> Uptake
         ensures given { Stays (S.has_given stream.old) (S.has_given stream.new) }
         ensures got { TakesOff (S.has_got stream.old) (S.has_got stream.new) result self.old self.new }
+        ensures ended { (ended : Bool) → S.was_ended stream.old ended → S.was_ended stream.new ended }
         ensures fails { FailsWrite (S.has_failed stream.old) (S.has_failed stream.new) result }
     {
         let (front, rest) = first_parts(&self.pieces, self.tail.as_slice(), self.written);
@@ -141,6 +142,7 @@ impl Outbox {
         ensures given { Stays (S.has_given stream.old) (S.has_given stream.new) }
         ensures got { Moves (S.has_got stream.old) (S.has_got stream.new) self.old self.new }
         ensures waits { LeavesWaiting result self.new }
+        ensures ended { (ended : Bool) → S.was_ended stream.old ended → S.was_ended stream.new ended }
         ensures fails { FailsEmptying (S.has_failed stream.old) (S.has_failed stream.new) result }
     {
         'writes: while !self.is_empty() {

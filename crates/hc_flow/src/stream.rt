@@ -1,6 +1,6 @@
 //! One side of a connection that is never waited for.
 
-ghost use Rattle.std.specs.Prelude.{ℕ, List, ◌++◌};
+ghost use Rattle.std.specs.Prelude.{ℕ, Bool, true, List, ◌++◌};
 ghost use Rattle.hc_flow.specs.Passing.{Stays};
 ghost use Rattle.hc_flow.specs.Reads.{FailsRead, Reads};
 ghost use Rattle.hc_flow.specs.Writes.{FailsWrite, Takes};
@@ -38,19 +38,24 @@ pub trait Stream {
     /// These octets were written to it so far, likewise.
     ghost has_got: { Self → List ℕ → Type 0 };
 
-    /// It has failed. A stream that doesn't tell lets that stand always.
-    ghost has_failed: { Self → Type 0 };
+    /// Whether what is written to it was ended, likewise.
+    ghost was_ended: { Self → Bool → Type 0 } = { λ _ _. Unit {0} };
+
+    /// It has failed, likewise.
+    ghost has_failed: { Self → Type 0 } = { λ _. Unit {0} };
 
     /// Reads as many octets as there are now and as the buffer takes.
     fn read(&mut self, buffer: &mut [u8]) -> Arrival
         ensures given { Reads (has_given self.old) (has_given self.new) result buffer.new }
         ensures got { Stays (has_got self.old) (has_got self.new) }
+        ensures ended { (ended : Bool) → was_ended self.old ended → was_ended self.new ended }
         ensures fails { FailsRead (has_failed self.old) (has_failed self.new) result };
 
     /// Writes a beginning of the two, one behind the other, as far as it is taken now.
     fn write(&mut self, front: &[u8], rest: &[u8]) -> Uptake
         ensures given { Stays (has_given self.old) (has_given self.new) }
         ensures got { Takes (has_got self.old) (has_got self.new) result (front.now ++ rest.now) }
+        ensures ended { (ended : Bool) → was_ended self.old ended → was_ended self.new ended }
         ensures fails { FailsWrite (has_failed self.old) (has_failed self.new) result };
 
     /// Ends what is written: behind that the other side finds an end, and may send on. What has no such end, or fails at
@@ -58,5 +63,6 @@ pub trait Stream {
     fn end(&mut self)
         ensures given { Stays (has_given self.old) (has_given self.new) }
         ensures got { Stays (has_got self.old) (has_got self.new) }
+        ensures ended { (ended : Bool) → was_ended self.old ended → was_ended self.new true }
         ensures fails { has_failed self.old → has_failed self.new };
 }

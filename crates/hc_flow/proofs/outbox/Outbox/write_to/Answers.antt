@@ -9,5 +9,6 @@ writes-preserved g c =
       got =
           moves_more (g.S.Stream.has_got c.args.stream.now) (g.S.Stream.has_got c.writes.stream) (g.S.Stream.has_got c.write_some.new.stream) c.args.self.now c.writes.self c.write_some.new.self
           c.in-Octets.field-0 was.got now.got.1 now.got.0.2;
+      ended = λ ended was_ended. now.ended ended (was.ended ended was_ended);
       fails = λ had. now.fails (was.fails had);
     }
