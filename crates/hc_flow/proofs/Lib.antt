@@ -1,0 +1,2 @@
+pub mod MoveLemmas
+pub mod PieceLemmas

@@ -1,0 +1,32 @@
+-- What has passed at a flow.
+use Rattle.std.specs.Prelude.{◌≡◌, ℕ, Bool, true, false, List, ◌++◌, Result, Ok, Err}
+use Rattle.std.specs.declared.alloc.AllocError.{AllocError}
+use Rattle.hc_flow.specs.Passing.{Gave, Owes}
+use Rattle.hc_flow.specs.declared.flow.Flow.{Flow}
+
+-- it owes what was sent there
+abbrev pub FlowOwes : {S : Type 0} → (S → List ℕ → Type 0) → Flow S → List ℕ → Type 0
+FlowOwes has_got flow sent = Owes has_got flow.stream flow.failed flow.outbox sent
+
+-- it gave what was heard of it
+abbrev pub FlowGave : {S : Type 0} → (S → List ℕ → Type 0) → Flow S → List ℕ → Type 0
+FlowGave has_given flow heard = Gave has_given flow.stream flow.failed heard
+
+-- these octets more are owed; where memory was refused, none are
+abbrev pub OwesSent : {T : Type 0} → (List ℕ → Type 0) → Result T AllocError → List ℕ → List ℕ → Type 0
+OwesSent owes (Ok done) octets sent = owes (sent ++ octets)
+OwesSent owes (Err refused) octets sent = owes sent
+
+-- its stream has failed where it fails, and what has failed stays so
+abbrev pub FailsWithStream : {S : Type 0} → (S → Type 0) → Flow S → Flow S → Type 0
+FailsWithStream has_failed before after = (has_failed before.stream → has_failed after.stream) × (before.failed ≡ false → after.failed ≡ true → has_failed after.stream)
+
+-- where it says whether our half was ended, it says so still
+abbrev pub KeepsEnd : {S : Type 0} → (S → Bool → Type 0) → Flow S → Flow S → Type 0
+KeepsEnd was_ended before after = was_ended before.stream before.ended → was_ended after.stream after.ended
+
+-- its stream, and what is known of the link, are as they were
+abbrev pub KeepsLink : {S : Type 0} → Flow S → Flow S → Type 0
+KeepsLink before after =
+    (after.stream ≡ before.stream) × (after.failed ≡ before.failed) × (after.readable ≡ before.readable) × (after.writable ≡ before.writable)
+    × (after.hung_up ≡ before.hung_up) × (after.ends ≡ before.ends) × (after.ended ≡ before.ended)

@@ -1,0 +1,6 @@
+pub mod Emptyings
+pub mod Flows
+pub mod Passing
+pub mod Pieces
+pub mod Reads
+pub mod Writes
