@@ -1,6 +1,6 @@
 //! A link that is written to through a buffer.
 
-ghost use Rattle.std.specs.Prelude.{◌≡◌, ◌<◌, ◌≤◌, ℕ, List, [], length, OnOk};
+ghost use Rattle.std.specs.Prelude.{◌≡◌, ◌<◌, ◌≤◌, ◌+◌, ℕ, true, List, [], length, OnOk};
 ghost use Rattle.hc_connection.specs.Buffers.{HasGot, most_waiting};
 ghost use Rattle.hc_connection.specs.Links.{Counts, CountsSent, Writes, greatest_count};
 
@@ -84,7 +84,25 @@ impl<R: Link> Buffered<R> {
     fn has_room(&self, count: usize) -> bool
         ensures { result ≡ true → length self.now.waiting + count ≤ most_waiting }
     {
-        count <= MOST_WAITING.saturating_sub(self.waiting.as_slice().len())
+        let waiting = self.waiting.as_slice().len();
+        waiting <= MOST_WAITING && count <= MOST_WAITING - waiting
+    }
+
+    /// Writes what waits, unless so many octets more may wait.
+    fn make_room(&mut self, count: usize) -> Result<(), LinkFailure>
+        requires few { R.count self.old.link < greatest_count }
+        requires fits { count ≤ most_waiting }
+        ensures given { (given : List ℕ) → R.has_given self.old.link given → R.has_given self.new.link given }
+        ensures got { (octets : List ℕ) → HasGot R.has_got self.old.link self.old.waiting octets → HasGot R.has_got self.new.link self.new.waiting octets }
+        ensures room { OnOk result (length self.new.waiting + count ≤ most_waiting) }
+        ensures few { length self.new.waiting ≤ length self.old.waiting }
+        ensures reads { (times : ℕ) → R.was_read self.old.link times → R.was_read self.new.link times }
+        ensures count { Counts result (R.count self.old.link) (R.count self.new.link) }
+    {
+        if self.has_room(count) {
+            return Ok(());
+        }
+        self.write_waiting()
     }
 
     /// Writes what waits, and behind that a beginning of the octets.
@@ -112,9 +130,7 @@ impl<R: Link> Buffered<R> {
         if octets.len() > MOST_WAITING {
             return self.write_through(octets);
         }
-        if !self.has_room(octets.len()) {
-            self.write_waiting()?;
-        }
+        self.make_room(octets.len())?;
         match self.waiting.push(octets) {
             Ok(()) => Ok(octets.len()),
             Err(AllocError) => self.write_through(octets),

@@ -8,7 +8,7 @@ use Rattle.hc_order.specs.declared.receiver.Receiver.TheVariants.{Client, Origin
 use Rattle.hc_order.specs.Log.{Move}
 use Rattle.hc_order.specs.Log.Move.{Before, Closed, Heard, Sent}
 use Rattle.hc_order.specs.Mirrors.{is_connected, is_its, is_on, is_underway}
-use Rattle.hc_order.specs.Passages.{Passage, client_behind, closing, ending, happens_on, happens_to, hearing, is_at, is_of, opened_with, origin_behind, passage_of, sending, sent_behind}
+use Rattle.hc_order.specs.Passages.{Passage, client_behind, closing, ending, happens_on, happens_to, hearing, is_of, opened_with, origin_behind, passage_of, sending, sent_behind}
 
 -- ---- whether it is open
 
