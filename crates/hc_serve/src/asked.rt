@@ -7,6 +7,7 @@ use hc_machine::Core;
 use std::hash::BuildHasher;
 
 /// A cache, as whoever hears what happens next may ask it.
+#[derive(Drop)]
 pub(crate) struct Asked<'a, S: BuildHasher> {
     pub(crate) core: &'a Core<S>,
 }
