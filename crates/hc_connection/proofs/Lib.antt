@@ -1,3 +1,4 @@
+pub mod BufferLemmas
 pub mod ConnectionLemmas
 pub mod ForwardLemmas
 pub mod OrderLemmas

@@ -4,7 +4,7 @@ use Rattle.hc_events.specs.declared.Happening.{Happening}
 use Rattle.hc_events.specs.declared.Happening.TheVariants.{ClientOpened, ClientBytes, ClientEnd, OriginBytes, OriginEnd, OriginFailed}
 use Rattle.hc_order.specs.declared.occurrence.Occurrence.{Occurrence}
 use Rattle.hc_order.specs.declared.occurrence.Reason.{Reason}
-use Rattle.hc_order.specs.declared.occurrence.Reason.TheVariants.{Peer, Replies, Reads}
+use Rattle.hc_order.specs.declared.occurrence.Reason.TheVariants.{Peer, Replies, Reads, Stop, Late, Reset}
 use Rattle.hc_order.specs.declared.receiver.Receiver.{Receiver}
 use Rattle.hc_order.specs.declared.receiver.Receiver.TheVariants.{Client, Origin}
 use Rattle.hc_order.specs.Log.{Move}
@@ -177,6 +177,9 @@ abbrev pub is_of_reads : Reason → Bool
 is_of_reads Peer = false
 is_of_reads Replies = false
 is_of_reads Reads = true
+is_of_reads Stop = false
+is_of_reads Late = false
+is_of_reads Reset = false
 
 -- something was told for that
 abbrev pub is_spent_in : List Move → Bool
@@ -190,17 +193,23 @@ is_spent_in (Closed link ∷ log) = is_spent_in log
 abbrev pub AreRead : List Move → Type 0
 AreRead log = (is_spent_in log ≡ false) × (client_reads_in log + origin_reads_in log < most_reads)
 
--- the client's end is told for the replies where so many were sent to it; else for the reads, or because the client sends no more, while links are read still
+-- the client's end is told for the replies where so many were sent to it; else for the reads, or because the client sends no more, while links are read still; nothing else ends a connection that is served alone
 abbrev pub EndsFor : ℕ → Reason → List Move → Type 0
 EndsFor c Peer log = (replies_in c log < most_replies) × AreRead log
 EndsFor c Replies log = most_replies ≤ replies_in c log
 EndsFor c Reads log = replies_in c log < most_replies
+EndsFor c Stop log = ⊥
+EndsFor c Late log = ⊥
+EndsFor c Reset log = ⊥
 
 -- a forward's failure is told for the reads, or because it failed, while links are read still
 abbrev pub FailsFor : Reason → List Move → Type 0
 FailsFor Peer log = AreRead log
 FailsFor Replies log = ⊥
 FailsFor Reads log = Unit {0}
+FailsFor Stop log = ⊥
+FailsFor Late log = ⊥
+FailsFor Reset log = ⊥
 
 -- all else is told because the other side did it: it opens a connection, or is read
 abbrev pub HappensFor : ℕ → Happening → Reason → List Move → Type 0

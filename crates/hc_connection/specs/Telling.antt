@@ -1,7 +1,11 @@
 -- What the links of a driver tell.
-use Rattle.std.specs.Prelude.{ℕ, List, ◌∷◌, Option, Some, None, Result, Ok, Err}
+use Rattle.std.specs.Prelude.{ℕ, Bool, false, List, ◌∷◌, Option, Some, None, Result, Ok, Err}
 use Rattle.std.specs.declared.alloc.AllocError.{AllocError}
+use Rattle.hc_events.specs.declared.Happening.{Happening}
+use Rattle.hc_events.specs.declared.Happening.TheVariants.{ClientBytes, ClientEnd}
 use Rattle.hc_order.specs.declared.occurrence.Occurrence.{Occurrence}
+use Rattle.hc_order.specs.declared.occurrence.Reason.{Reason}
+use Rattle.hc_order.specs.declared.occurrence.Reason.TheVariants.{Peer}
 use Rattle.hc_order.specs.Log.{Move}
 use Rattle.hc_order.specs.Mirrors.{MayHappen}
 use Rattle.hc_order.specs.declared.receiver.Receiver.{Receiver}
@@ -23,3 +27,15 @@ MayBeNext most (Err refused) log = Unit {0}
 abbrev pub TellsSent : {T : Type 0} → (List Move → Type 0) → Result T AllocError → Receiver → List ℕ → List Move → Type 0
 TellsSent tells (Ok done) to octets log = tells (Sent to octets ∷ log)
 TellsSent tells (Err refused) to octets log = tells log
+
+-- octets of a client are told, and that it sends no more, where none of its requests awaits its reply; all else is told at once, also that its link failed
+abbrev pub HasWaited : (ℕ → Bool → Type 0) → Happening → Reason → Type 0
+HasWaited awaited (ClientBytes c octets) reason = awaited c false
+HasWaited awaited (ClientEnd c) Peer = awaited c false
+HasWaited awaited other reason = Unit {0}
+
+-- so it is with what happens next, where awaited has what a cache may answer of each client
+abbrev pub IsInTurn : (ℕ → Bool → Type 0) → Result (Option Occurrence) AllocError → Type 0
+IsInTurn awaited (Ok (Some occurrence)) = HasWaited awaited occurrence.event.of occurrence.reason
+IsInTurn awaited (Ok None) = Unit {0}
+IsInTurn awaited (Err refused) = Unit {0}

@@ -5,7 +5,7 @@ ghost use Rattle.std.specs.Prelude.{◌≡◌, ℕ, List, [], ◌∷◌, Option,
 use crate::client_side::ClientSide;
 use crate::happened::Happened;
 use crate::link::{Clock, Link, Origins};
-use crate::links::Links;
+use crate::links::{Awaiting, Links};
 use crate::peers::Peers;
 use hc_events::{Event, Happening};
 use hc_framing::MessageText;
@@ -94,7 +94,10 @@ impl<'a, C: Link, O: Origins, K: Clock> Links for Connection<'a, C, O, K> {
 
     ghost rests = { λ connection. Rests connection.opened (length connection.peers.forwards.links.entries) connection.peers.client };
 
-    fn next(&mut self) -> Result<Option<Occurrence>, AllocError> {
+    // The client is read where no forward is open, whatever is awaited.
+    ghost heeds = { λ _ _. Unit {0} };
+
+    fn next<A: Awaiting>(&mut self, _cache: &A) -> Result<Option<Occurrence>, AllocError> {
         if !self.opened {
             self.opened = true;
             let number = self.peers.client().number();

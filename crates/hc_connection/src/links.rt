@@ -1,6 +1,8 @@
 //! The links of a cache as its driver sees them: it hears what happens there, and sends what the cache gives out.
 
-ghost use Rattle.std.specs.Prelude.{◌≡◌, ℕ, List, ◌∷◌, Ok, None};
+ghost use Rattle.std.specs.Prelude.{◌≡◌, ℕ, Bool, List, ◌∷◌, Option, Result, Ok, None};
+ghost use Rattle.std.specs.declared.alloc.AllocError.{AllocError};
+ghost use Rattle.hc_order.specs.declared.occurrence.Occurrence.{Occurrence};
 ghost use Rattle.hc_order.specs.Log.{Move};
 ghost use Rattle.hc_order.specs.Log.Move.{Closed};
 ghost use Rattle.hc_connection.specs.Telling.{MayBeNext, TellsNext, TellsSent};
@@ -8,6 +10,24 @@ ghost use Rattle.hc_connection.specs.Telling.{MayBeNext, TellsNext, TellsSent};
 use hc_framing::MessageText;
 use hc_order::{Occurrence, Receiver};
 use std::alloc::AllocError;
+
+/// What a cache awaits, for whoever hears what happens next.
+pub trait Awaiting {
+    /// That may be its answer about a connection.
+    ghost awaited: { Self → ℕ → Bool → Type 0 };
+
+    /// That may be its answer about a forward.
+    ghost background: { Self → ℕ → Bool → Type 0 };
+
+    /// Whether a request of that connection awaits its reply.
+    fn awaits(&self, connection: u64) -> bool
+        ensures { awaited self.now connection result };
+
+    /// Whether nobody awaits what comes on that forward: it revalidates a stored response behind a reply that was given
+    /// out stale.
+    fn is_background(&self, forward: u64) -> bool
+        ensures { background self.now forward result };
+}
 
 /// The links of a cache, all together.
 pub trait Links {
@@ -23,15 +43,19 @@ pub trait Links {
     /// The moments at which things may happen.
     ghost may_tell: { Self → ℕ → Type 0 };
 
-    /// What happens next, and why it is told, or none where nothing more will. It waits until something does. It fails
-    /// only where memory is refused.
-    fn next(&mut self) -> Result<Option<Occurrence>, AllocError>
+    /// What happens next heeds whose requests await a reply, by what the cache may answer of that.
+    ghost heeds: { (ℕ → Bool → Type 0) → Result (Option Occurrence) AllocError → Type 0 };
+
+    /// What happens next, and why it is told, or none where nothing more will. It waits until something does, and may
+    /// ask the cache what it awaits. It fails only where memory is refused.
+    fn next<A: Awaiting>(&mut self, cache: &A) -> Result<Option<Occurrence>, AllocError>
         ensures tells { (log : List Move) → tells self.old log → TellsNext (tells self.new) result log }
         // It may happen by the log: where the cache mirrors the log, no test of the event fails but that of its moment.
         ensures orderly { (log : List Move) → tells self.old log → MayBeNext (most self.old) result log }
         ensures as_many { most self.new ≡ most self.old }
         ensures rests { result ≡ Ok None → rests self.new }
-        ensures moments { (moment : ℕ) → may_tell self.new moment → may_tell self.old moment };
+        ensures moments { (moment : ℕ) → may_tell self.new moment → may_tell self.old moment }
+        ensures in_turn { heeds (A.awaited cache.now) result };
 
     /// Sends the octets to the client, or makes a link for the forward and sends them to the origin. Where a link fails,
     /// or isn't made, they are lost, and that is told in its turn. It fails only where memory is refused, and sends

@@ -3,3 +3,4 @@ pub mod TurnByTurnLemmas
 pub mod LeavingLemmas
 pub mod EndLemmas
 pub mod RestLemmas
+pub mod PassageLemmas

@@ -126,6 +126,16 @@ new_mirrors room settings number given got reads failures = record {
   has_room = refl;
 }
 
+pub empty_mirrors : (room : ℕ) (settings : CoreSettings) → Mirrors room (new_state_with settings room) []
+empty_mirrors room settings = record {
+  connections = λ c. ap is_some (get_none c);
+  forwards = λ f. ap is_some (get_none f);
+  count = let none = len-empty nat_cmp Connection in omega (arith, none);
+  last = refl;
+  fresh = λ c later. refl;
+  has_room = refl;
+}
+
 pub before_rests : (room : ℕ) (s : State) (last : Option ℕ) (number : ℕ) (given got : List ℕ) (reads failures : ℕ)
     → Mirrors room s (Before last number given got reads failures ∷ []) → IsAtRest s
 before_rests room s last number given got reads failures m =

@@ -39,11 +39,12 @@ pub fn what_may_happen_in_turn_is_served()
         → Mirrors room s log → AreServed results → Mirrors room other (passed occurrences results log) }
 {}
 
-/// A new cache mirrors what is before all others, where no connection was opened before; and a cache that mirrors what is
-/// before all others is at rest.
+/// A new cache mirrors the empty log, and what is before all others, where no connection was opened before; and a cache
+/// that mirrors what is before all others is at rest.
 pub fn a_new_cache_mirrors_what_is_before()
     ensures mirrors { (room : ℕ) (settings : CoreSettings) (number : ℕ) (given got : List ℕ) (reads failures : ℕ)
         → Mirrors room (new_state_with settings room) (Before None number given got reads failures ∷ []) }
     ensures rests { (room : ℕ) (s : State) (last : Option ℕ) (number : ℕ) (given got : List ℕ) (reads failures : ℕ)
         → Mirrors room s (Before last number given got reads failures ∷ []) → IsAtRest s }
+    ensures empty { (room : ℕ) (settings : CoreSettings) → Mirrors room (new_state_with settings room) [] }
 {}

@@ -4,6 +4,7 @@
 
 mod laws;
 mod occurrence;
+mod passages;
 mod receiver;
 mod resting;
 
@@ -12,6 +13,7 @@ pub use laws::{
     what_may_happen_in_turn_is_served, what_may_happen_is_served,
 };
 pub use occurrence::{Occurrence, Reason};
+pub use passages::{a_move_elsewhere_leaves_a_passage, passages_tell_what_is_open};
 pub use receiver::Receiver;
 pub use resting::{
     an_end_stays, an_origins_end_closes_the_forward, leaving_connections_await_a_reply,

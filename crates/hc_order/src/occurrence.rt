@@ -11,6 +11,12 @@ pub enum Reason {
     Replies,
     /// So many reads were made that no link is read any more.
     Reads,
+    /// Whoever drives the cache was asked to stop.
+    Stop,
+    /// A deadline has passed.
+    Late,
+    /// The link failed, and the end of a client, or the failure of a forward, is told for that.
+    Reset,
 }
 
 /// What happened, and why whoever drives a cache tells it.

@@ -1,6 +1,7 @@
 -- Rounds: something happens, the cache is handed it, and what the cache does is carried out.
-use Rattle.std.specs.Prelude.{◌≡◌, ◌≢◌, ℕ, true, false, Bool, List, ◌∷◌, Result, Ok, Err}
+use Rattle.std.specs.Prelude.{◌≡◌, ◌≢◌, ℕ, true, false, Bool, List, ◌∷◌, Option, Some, Result, Ok, Err}
 use Rattle.std.specs.Global.{Global}
+use Rattle.std.specs.declared.alloc.AllocError.{AllocError}
 use Rattle.std.specs.declared.vec.Vec.{Vec}
 use Rattle.hc_events.specs.declared.Event.{Event}
 use Rattle.hc_service.specs.declared.action.Action.{Action}
@@ -9,7 +10,7 @@ use Rattle.hc_service.specs.declared.fault.StepFault.TheVariants.{Memory}
 use Rattle.hc_service.specs.declared.settings.CoreSettings.{CoreSettings}
 use Rattle.hc_service.specs.Agreement.{IsReady}
 use Rattle.hc_service.specs.Runs.{StepResult}
-use Rattle.hc_service.specs.State.{State}
+use Rattle.hc_service.specs.State.{State, awaits_reply}
 use Rattle.hc_machine.specs.Steps.{Cache, GivesStep, StandsFor}
 use Rattle.hc_order.specs.declared.occurrence.Occurrence.{Occurrence}
 use Rattle.hc_order.specs.Log.{Move}
@@ -18,6 +19,10 @@ use Rattle.hc_order.specs.Log.Move.{Heard}
 use Rattle.hc_serve.specs.declared.fault.DriveFault.{DriveFault}
 use Rattle.hc_serve.specs.declared.fault.DriveFault.TheVariants.{Core}
 use Rattle.hc_serve.specs.Carrying.{AreCut, AreDone, IsOfCarrying}
+
+-- whatever state the cache stands for, that is whether a request of that connection awaits its reply there
+abbrev pub awaited_by : Cache → ℕ → Bool → Type 0
+awaited_by cache c awaits = (settings : CoreSettings) (s : State) → StandsFor settings cache s → awaits ≡ awaits_reply c s
 
 -- the cache was handed the event, and answered so
 pub record Answers (event : Event) (answer : StepResult) (old new : Cache) : Type 0 where
@@ -62,8 +67,14 @@ IsToldBy Before fault = fault ≡ Core Memory
 IsToldBy (AtAnswer occurrence step) fault = fault ≡ Core step
 IsToldBy (Carrying occurrence actions) fault = IsOfCarrying fault
 
-abbrev pub GivesRound : ℕ → (List Move → Type 0) → (List ℕ → Type 0) → Result Bool DriveFault → Cache → Cache → List Move → List ℕ → Type 0
-GivesRound most tells holds (Ok true) old new log text = IsRound most tells holds old new log text
-GivesRound most tells holds (Ok false) old new log text = (new ≡ old) × tells log × holds text
-GivesRound most tells holds (Err fault) old new log text =
-    (break : Break) × IsToldBy break fault × AnswersBy break old new × StopsAt break tells holds log text × MayBreak most break log
+-- for what was handed to the cache by then, what the cache awaited before was heeded
+abbrev pub IsHeeded : (Result (Option Occurrence) AllocError → Type 0) → Break → Type 0
+IsHeeded heeds Before = Unit {0}
+IsHeeded heeds (AtAnswer occurrence step) = heeds (Ok (Some occurrence))
+IsHeeded heeds (Carrying occurrence actions) = heeds (Ok (Some occurrence))
+
+abbrev pub GivesRound : ℕ → (Result (Option Occurrence) AllocError → Type 0) → (List Move → Type 0) → (List ℕ → Type 0) → Result Bool DriveFault → Cache → Cache → List Move → List ℕ → Type 0
+GivesRound most heeds tells holds (Ok true) old new log text = (round : IsRound most tells holds old new log text) × heeds (Ok (Some round.occurrence))
+GivesRound most heeds tells holds (Ok false) old new log text = (new ≡ old) × tells log × holds text
+GivesRound most heeds tells holds (Err fault) old new log text =
+    (break : Break) × IsToldBy break fault × AnswersBy break old new × StopsAt break tells holds log text × MayBreak most break log × IsHeeded heeds break

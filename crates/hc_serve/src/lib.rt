@@ -2,6 +2,7 @@
 //! written.
 #![tactic(auto)]
 
+mod asked;
 mod carrying;
 mod clients;
 mod driving;

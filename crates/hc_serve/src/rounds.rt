@@ -3,8 +3,9 @@
 ghost use Rattle.std.specs.Prelude.{◌≡◌, ℕ, List, Ok, false};
 ghost use Rattle.hc_order.specs.Log.{Move};
 ghost use Rattle.hc_serve.specs.Carrying.{CountsRecorder};
-ghost use Rattle.hc_serve.specs.Rounds.{GivesRound};
+ghost use Rattle.hc_serve.specs.Rounds.{GivesRound, awaited_by};
 
+use crate::asked::Asked;
 use crate::carrying::carry_out;
 use crate::fault::DriveFault;
 use hc_connection::{Link, Links};
@@ -20,14 +21,14 @@ pub(crate) fn round<S: BuildHasher, L: Links, R: Link>(
     recorder: &mut R,
 ) -> Result<bool, DriveFault>
     ensures round { (log : List Move) (text : List ℕ) → L.tells links.old log → R.has_got recorder.old text
-        → GivesRound (L.most links.old) (L.tells links.new) (R.has_got recorder.new) result core.old core.new log text }
+        → GivesRound (L.most links.old) (L.heeds (awaited_by core.old)) (L.tells links.new) (R.has_got recorder.new) result core.old core.new log text }
     ensures rest { result ≡ Ok false → L.rests links.new }
     ensures as_many { L.most links.new ≡ L.most links.old }
     ensures moments { (moment : ℕ) → L.may_tell links.new moment → L.may_tell links.old moment }
     ensures unread { (times : ℕ) → R.was_read recorder.old times → R.was_read recorder.new times }
     ensures count { CountsRecorder result (R.count recorder.old) (R.count recorder.new) }
 {
-    let Some(occurrence) = links.next()? else {
+    let Some(occurrence) = links.next(&Asked { core: &*core })? else {
         return Ok(false);
     };
     let actions = core.step(occurrence.event)?;

@@ -28,7 +28,7 @@ rounds-preserved g c = record {
       (g.L.Links.tells c.rounds.links) (g.L.Links.tells c.round.new.links) (g.R.Link.has_got c.rounds.recorder) (g.R.Link.has_got c.round.new.recorder)
       _ _ c.round.new.core log text _ f
       (subst (λ (n : ℕ). IsRound n (g.L.Links.tells c.round.new.links) (g.R.Link.has_got c.round.new.recorder) c.rounds.core c.round.new.core (passed f.occurrences f.results log) (text ++ texts_given f.results))
-      c.rounds.invariant.as_many ((rw on at c.in_ok-round.ensures.round) _ _ f.told f.held));
+      c.rounds.invariant.as_many ((rw on at c.in_ok-round.ensures.round) _ _ f.told f.held).0);
   moments = λ moment may. c.rounds.invariant.moments moment (c.in_ok-round.ensures.moments moment may);
   unread = λ times was. c.in_ok-round.ensures.unread times (c.rounds.invariant.unread times was);
   as_many = c.in_ok-round.ensures.as_many ∙ c.rounds.invariant.as_many;

@@ -14,6 +14,7 @@ returns-in_err-actions-clause-round g c =
       record { gives = c.in_err-actions.ensures.gives; same = c.in_err-actions.ensures.same },
       ((rw c.in-Some.is at c.in_ok-occurrence.ensures.tells) log told, held),
       (rw c.in-Some.is at c.in_ok-occurrence.ensures.orderly) log told,
+      rw c.in-Some.is at c.in_ok-occurrence.ensures.in_turn,
     ))
 
 pub returns-in_err-carry_out-clause-round : goal.returns-in_err-carry_out-clause-round
@@ -26,14 +27,18 @@ returns-in_err-carry_out-clause-round g c =
       (rw c.as_slice.ensures.value at c.in_err-carry_out.ensures.done) (Heard c.in-Some.occurrence ∷ log) text
           ((rw c.in-Some.is at c.in_ok-occurrence.ensures.tells) log told) held,
       (rw c.in-Some.is at c.in_ok-occurrence.ensures.orderly) log told,
+      rw c.in-Some.is at c.in_ok-occurrence.ensures.in_turn,
     ))
 
 pub returns-clause-round : goal.returns-clause-round
-returns-clause-round g c = λ log text told held. record {
-  occurrence = c.in-Some.occurrence;
-  actions = c.in_ok-actions.actions;
-  may = (rw c.in-Some.is at c.in_ok-occurrence.ensures.orderly) log told;
-  answers = record { gives = c.in_ok-actions.ensures.gives; same = c.in_ok-actions.ensures.same };
-  done = (rw c.as_slice.ensures.value at c.in_ok-carry_out.ensures.done) (Heard c.in-Some.occurrence ∷ log) text
-      ((rw c.in-Some.is at c.in_ok-occurrence.ensures.tells) log told) held;
-}
+returns-clause-round g c = λ log text told held. (
+  record {
+    occurrence = c.in-Some.occurrence;
+    actions = c.in_ok-actions.actions;
+    may = (rw c.in-Some.is at c.in_ok-occurrence.ensures.orderly) log told;
+    answers = record { gives = c.in_ok-actions.ensures.gives; same = c.in_ok-actions.ensures.same };
+    done = (rw c.as_slice.ensures.value at c.in_ok-carry_out.ensures.done) (Heard c.in-Some.occurrence ∷ log) text
+        ((rw c.in-Some.is at c.in_ok-occurrence.ensures.tells) log told) held;
+  },
+  rw c.in-Some.is at c.in_ok-occurrence.ensures.in_turn,
+)

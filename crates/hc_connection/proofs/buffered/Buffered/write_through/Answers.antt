@@ -1,0 +1,7 @@
+use Rattle.hc_connection.proofs.BufferLemmas.{through_got}
+use Rattle.hc_connection.proofs.buffered.Buffered.write_through.Goals as goal
+
+pub returns-clause-got : goal.returns-clause-got
+returns-clause-got g c =
+    through_got g.R.Link.has_got c.args.self.now.link c.write_waiting.new.self.link c.write.new.self c.args.self.now.waiting c.write_waiting.new.self.waiting c.write.result c.args.octets.now
+    c.in_ok-write_waiting.ensures.none c.in_ok-write_waiting.ensures.got c.write.ensures.got
