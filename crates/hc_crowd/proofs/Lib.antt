@@ -1,0 +1,2 @@
+pub mod MomentsLemmas
+pub mod MomentsLaws

@@ -1,0 +1,3 @@
+pub mod Moments
+pub mod MomentsKept
+pub mod Turns
