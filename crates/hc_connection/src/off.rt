@@ -1,5 +1,7 @@
 //! A link that is off.
 
+ghost use Rattle.std.specs.Prelude.{◌≡◌, []};
+
 use crate::link::{Link, LinkFailure};
 
 /// A link that takes all that is written to it, and keeps nothing. Nothing can be read from it, and it never fails.
@@ -7,9 +9,9 @@ use crate::link::{Link, LinkFailure};
 pub struct Off;
 
 impl Link for Off {
-    // What was written to it is kept nowhere.
-    ghost has_given = { λ _ _. Unit {0} };
+    ghost has_given = { λ _ given. given ≡ [] };
 
+    // What was written to it is kept nowhere.
     ghost has_got = { λ _ _. Unit {0} };
 
     ghost was_read = { λ _ _. Unit {0} };
