@@ -3,7 +3,7 @@ use Rattle.std.proofs.Common.{◌≡◌, ℕ, List, [], ◌++◌, length, take, 
 use Rattle.std.proofs.Math.Seq.{take-length}
 use Rattle.std.proofs.lemmas.List.{take-append-drop}
 use Rattle.hc_connection.specs.declared.link.LinkFailure.{LinkFailure}
-use Rattle.hc_connection.specs.Buffers.{HasGot}
+use Rattle.hc_connection.specs.Buffers.{HasGot, HasKept}
 use Rattle.hc_connection.specs.Links.{Writes}
 
 module _ {R : Type 0} (has_got : R → List ℕ → Type 0) where
@@ -49,6 +49,19 @@ module _ {R : Type 0} (has_got : R → List ℕ → Type 0) where
         ap (λ (o : List ℕ). written ++ o) (take-length octets) ∙ ap (λ (o : List ℕ). o ++ octets) h.2 ∙ append_assoc h.0 left octets
             ∙ ap (λ (o : List ℕ). h.0 ++ o) (sym is),
       )
+
+  -- what the link got stands there
+  pub all_kept : (link : R) (octets : List ℕ) → has_got link octets → HasKept has_got link octets
+  all_kept link octets had = ([], subst (has_got link) (sym (append-nil octets)) had)
+
+  -- what stands at the front stays there, whatever comes behind it
+  pub kept_behind : (before after : R) (more kept : List ℕ) → ((got : List ℕ) → has_got before got → has_got after (got ++ more)) → HasKept has_got before kept → HasKept has_got after kept
+  kept_behind before after more kept writes had = (had.0 ++ more, subst (has_got after) (append_assoc kept had.0 more) (writes (kept ++ had.0) had.1))
+
+  pub kept_through : (before after : R) (result : Result ℕ LinkFailure) (octets kept : List ℕ) → Writes (has_got before) (has_got after) result octets → HasKept has_got before kept
+      → HasKept has_got after kept
+  kept_through before after (Ok n) octets kept w had = kept_behind before after (take n octets) kept w.2 had
+  kept_through before after (Err failure) octets kept w had = (had.0, w (kept ++ had.0) had.1)
 
 -- what was written before is what was written then
 pub written_behind : (before then_got after : List ℕ → Type 0) (result : Result ℕ LinkFailure) (octets : List ℕ) → ((written : List ℕ) → before written → then_got written)

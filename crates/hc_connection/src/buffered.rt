@@ -1,7 +1,7 @@
 //! A link that is written to through a buffer.
 
 ghost use Rattle.std.specs.Prelude.{◌≡◌, ◌<◌, ◌≤◌, ◌+◌, ℕ, true, List, [], length, OnOk};
-ghost use Rattle.hc_connection.specs.Buffers.{HasGot, most_waiting};
+ghost use Rattle.hc_connection.specs.Buffers.{HasGot, HasKept, most_waiting};
 ghost use Rattle.hc_connection.specs.Links.{Counts, CountsSent, Writes, greatest_count};
 
 use crate::link::{Link, LinkFailure};
@@ -54,6 +54,7 @@ impl<R: Link> Buffered<R> {
         ensures got { (octets : List ℕ) → HasGot R.has_got self.old.link self.old.waiting octets → HasGot R.has_got self.new.link self.new.waiting octets }
         ensures all { OnOk result ((octets : List ℕ) → HasGot R.has_got self.old.link self.old.waiting octets → R.has_got self.new.link octets) }
         ensures none { OnOk result (self.new.waiting ≡ []) }
+        ensures kept { (kept : List ℕ) → HasKept R.has_got self.old.link kept → HasKept R.has_got self.new.link kept }
         ensures reads { (times : ℕ) → R.was_read self.old.link times → R.was_read self.new.link times }
         ensures count { CountsSent result (R.count self.old.link) (R.count self.new.link) }
     {
@@ -70,6 +71,7 @@ impl<R: Link> Buffered<R> {
         ensures got { (octets : List ℕ) → HasGot R.has_got self.old.link self.old.waiting octets → HasGot R.has_got self.new.link self.new.waiting octets }
         ensures none { OnOk result (self.new.waiting ≡ []) }
         ensures few { length self.new.waiting ≤ length self.old.waiting }
+        ensures kept { (kept : List ℕ) → HasKept R.has_got self.old.link kept → HasKept R.has_got self.new.link kept }
         ensures reads { (times : ℕ) → R.was_read self.old.link times → R.was_read self.new.link times }
         ensures count { Counts result (R.count self.old.link) (R.count self.new.link) }
     {
@@ -96,6 +98,7 @@ impl<R: Link> Buffered<R> {
         ensures got { (octets : List ℕ) → HasGot R.has_got self.old.link self.old.waiting octets → HasGot R.has_got self.new.link self.new.waiting octets }
         ensures room { OnOk result (length self.new.waiting + count ≤ most_waiting) }
         ensures few { length self.new.waiting ≤ length self.old.waiting }
+        ensures kept { (kept : List ℕ) → HasKept R.has_got self.old.link kept → HasKept R.has_got self.new.link kept }
         ensures reads { (times : ℕ) → R.was_read self.old.link times → R.was_read self.new.link times }
         ensures count { Counts result (R.count self.old.link) (R.count self.new.link) }
     {
@@ -111,6 +114,7 @@ impl<R: Link> Buffered<R> {
         ensures given { (given : List ℕ) → R.has_given self.old.link given → R.has_given self.new.link given }
         ensures got { Writes (HasGot R.has_got self.old.link self.old.waiting) (HasGot R.has_got self.new.link self.new.waiting) result octets.now }
         ensures few { length self.new.waiting ≤ length self.old.waiting }
+        ensures kept { (kept : List ℕ) → HasKept R.has_got self.old.link kept → HasKept R.has_got self.new.link kept }
         ensures reads { (times : ℕ) → R.was_read self.old.link times → R.was_read self.new.link times }
         ensures count { Counts result (R.count self.old.link) (R.count self.new.link) }
     {
@@ -124,6 +128,7 @@ impl<R: Link> Buffered<R> {
         ensures given { (given : List ℕ) → R.has_given self.old.link given → R.has_given self.new.link given }
         ensures got { Writes (HasGot R.has_got self.old.link self.old.waiting) (HasGot R.has_got self.new.link self.new.waiting) result octets.now }
         ensures few { length self.old.waiting ≤ most_waiting → length self.new.waiting ≤ most_waiting }
+        ensures kept { (kept : List ℕ) → HasKept R.has_got self.old.link kept → HasKept R.has_got self.new.link kept }
         ensures reads { (times : ℕ) → R.was_read self.old.link times → R.was_read self.new.link times }
         ensures count { Counts result (R.count self.old.link) (R.count self.new.link) }
     {
@@ -144,6 +149,9 @@ impl<R: Link> Link for Buffered<R> {
     ghost has_got = { λ buffered. HasGot R.has_got buffered.link buffered.waiting };
 
     ghost was_read = { λ buffered. R.was_read buffered.link };
+
+    // What waits doesn't stand for good yet.
+    ghost has_kept = { λ buffered. HasKept R.has_got buffered.link };
 
     ghost count = { λ buffered. R.count buffered.link };
 

@@ -88,6 +88,9 @@ impl<'a, C: Link, O: Origins, K: Clock> Links for Connection<'a, C, O, K> {
     ghost tells = { λ connection log. HasPassed C.has_given C.has_got C.was_read C.count O.Link.has_given O.Link.has_got
         (K.may_tell connection.clock.now) connection.opened connection.peers.client connection.peers.forwards.links log };
 
+    // Octets are written as they are sent.
+    ghost shows = { λ _ _. Unit {0} };
+
     ghost most = { λ _. 1 };
 
     ghost may_tell = { λ connection. K.may_tell connection.clock.now };

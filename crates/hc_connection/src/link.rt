@@ -18,6 +18,9 @@ pub trait Link {
     /// It was read so often so far, likewise.
     ghost was_read: { Self → ℕ → Type 0 };
 
+    /// These octets at least stand for good at the front of what was written to it, likewise.
+    ghost has_kept: { Self → List ℕ → Type 0 };
+
     /// How often it failed.
     ghost count: { Self → ℕ };
 
@@ -27,6 +30,7 @@ pub trait Link {
         requires { count self.old < greatest_count }
         ensures given { Reads (has_given self.old) (has_given self.new) result buffer.new }
         ensures got { (octets : List ℕ) → has_got self.old octets → has_got self.new octets }
+        ensures kept { (octets : List ℕ) → has_kept self.old octets → has_kept self.new octets }
         ensures reads { (times : ℕ) → was_read self.old times → was_read self.new (1 + times) }
         ensures count { Counts result (count self.old) (count self.new) };
 
@@ -35,6 +39,7 @@ pub trait Link {
         requires { count self.old < greatest_count }
         ensures given { (given : List ℕ) → has_given self.old given → has_given self.new given }
         ensures got { Writes (has_got self.old) (has_got self.new) result octets.now }
+        ensures kept { (kept : List ℕ) → has_kept self.old kept → has_kept self.new kept }
         ensures reads { (times : ℕ) → was_read self.old times → was_read self.new times }
         ensures count { Counts result (count self.old) (count self.new) };
 
@@ -43,6 +48,7 @@ pub trait Link {
     fn end(&mut self)
         ensures given { (given : List ℕ) → has_given self.old given → has_given self.new given }
         ensures got { (got : List ℕ) → has_got self.old got → has_got self.new got }
+        ensures kept { (octets : List ℕ) → has_kept self.old octets → has_kept self.new octets }
         ensures reads { (times : ℕ) → was_read self.old times → was_read self.new times }
         ensures count { count self.new ≡ count self.old };
 

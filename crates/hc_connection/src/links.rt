@@ -34,6 +34,9 @@ pub trait Links {
     /// This is what passed at them so far, as far as they tell it.
     ghost tells: { Self → List Move → Type 0 };
 
+    /// What was written to clients is no more than what was sent to them by then, as far as that is told.
+    ghost shows: { Self → List Move → Type 0 };
+
     /// Nothing more will happen.
     ghost rests: { Self → Type 0 };
 
@@ -52,6 +55,7 @@ pub trait Links {
         ensures tells { (log : List Move) → tells self.old log → TellsNext (tells self.new) result log }
         // It may happen by the log: where the cache mirrors the log, no test of the event fails but that of its moment.
         ensures orderly { (log : List Move) → tells self.old log → MayBeNext (most self.old) result log }
+        ensures shown { (log : List Move) → shows self.old log → shows self.new log }
         ensures as_many { most self.new ≡ most self.old }
         ensures rests { result ≡ Ok None → rests self.new }
         ensures moments { (moment : ℕ) → may_tell self.new moment → may_tell self.old moment }
@@ -62,12 +66,14 @@ pub trait Links {
     /// nothing then.
     fn send(&mut self, to: Receiver, octets: &MessageText) -> Result<(), AllocError>
         ensures sent { (log : List Move) → tells self.old log → TellsSent (tells self.new) result to octets.now log }
+        ensures shown { (log : List Move) → shows self.old log → shows self.new log }
         ensures as_many { most self.new ≡ most self.old }
         ensures moments { (moment : ℕ) → may_tell self.new moment → may_tell self.old moment };
 
     /// Closes a client's connection, or a forward.
     fn close(&mut self, link: Receiver)
         ensures closed { (log : List Move) → tells self.old log → tells self.new (Closed link ∷ log) }
+        ensures shown { (log : List Move) → shows self.old log → shows self.new log }
         ensures as_many { most self.new ≡ most self.old }
         ensures moments { (moment : ℕ) → may_tell self.new moment → may_tell self.old moment };
 }

@@ -16,6 +16,8 @@ impl Link for Off {
 
     ghost was_read = { λ _ _. Unit {0} };
 
+    ghost has_kept = { λ _ _. Unit {0} };
+
     ghost count = { λ _. 0 };
 
     fn read(&mut self, _buffer: &mut [u8]) -> Result<usize, LinkFailure> {

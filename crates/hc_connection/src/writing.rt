@@ -11,6 +11,7 @@ pub(crate) fn write_all<L: Link>(link: &mut L, octets: &[u8]) -> Result<(), Link
     requires { L.count link.old < greatest_count }
     ensures given { (given : List ℕ) → L.has_given link.old given → L.has_given link.new given }
     ensures got { WritesAll (L.has_got link.old) (L.has_got link.new) result octets.now }
+    ensures kept { (kept : List ℕ) → L.has_kept link.old kept → L.has_kept link.new kept }
     ensures reads { (times : ℕ) → L.was_read link.old times → L.was_read link.new times }
     ensures count { Counts result (L.count link.old) (L.count link.new) }
 {

@@ -42,13 +42,11 @@ use Rattle.hc_serve.specs.declared.fault.DriveFault.{DriveFault}
 use Rattle.hc_serve.specs.declared.fault.DriveFault.TheVariants as drive
 use Rattle.hc_serve.specs.declared.fault.ServingFault.{ServingFault}
 use Rattle.hc_serve.specs.declared.fault.ServingFault.TheVariants as fault
-use Rattle.hc_serve.specs.Carrying.{texts_in}
 use Rattle.hc_serve.specs.Clients.{BreaksBefore, BreaksNext, ComeSince, Connections, CountsServing, EndsBefore, GivesNext, GivesServing, GivesTranscript, GivesUpLateBehind, HoldsBeginning, HoldsTranscript, IsConnection, IsExpected, IsExpectedOfNew, IsOwn, IsUsualBehind, KeepsIdle, LeadsToNext, LeftSince, ServesNext, Serving, log_of, number_before, unserved}
 use Rattle.hc_serve.specs.Drives.{AreRounds, BreakOff, BreaksAsUsual, EndStands, GivesUp, GivesUpLate, IsLeftIdle, Leads, LeadsTo, answers_by, occurrences_by, texts_given}
 use Rattle.hc_serve.specs.Rounds.{Break, IsToldBy, StopsAt}
 use Rattle.hc_serve.specs.Rounds.Break.{AtAnswer, Before as BeforeAll, Carrying}
-use Rattle.hc_serve.proofs.CarryLemmas.{texts_append}
-use Rattle.hc_serve.proofs.DriveLemmas.{RunsAreCounted, events_append, fewer, given_append, never_none, served_append, texts_given_append, texts_of_one}
+use Rattle.hc_serve.proofs.DriveLemmas.{RunsAreCounted, events_append, fewer, front_at, given_append, never_none, served_append, texts_given_append}
 
 -- ---- what laws say
 
@@ -288,7 +286,7 @@ next_on old mid new n next results answers first second room settings s h good s
 
 -- ---- what clients tell
 
-still_few : (n : ℕ) → n ≤ greatest_number → 0 + n ≤ greatest_number
+pub still_few : (n : ℕ) → n ≤ greatest_number → 0 + n ≤ greatest_number
 still_few n few = omega (arith, few)
 
 none_is : (n : ℕ) → n ≡ 0 + n
@@ -576,26 +574,6 @@ module _ (on : RunsGoOn) (counted : RunsAreCounted) where
     at_fault begins new_mirrors at_rest T (fault.Core step) n k count less is_number serving next = broke_before begins new_mirrors at_rest (drive.Core step) n k count less is_number serving next
 
   -- ---- the recording
-
-  -- behind a break a beginning of what was to be written stands there
-  front_at : (T : List Move → Type 0) (H : List ℕ → Type 0) (break : Break) (log : List Move) (text : List ℕ) → StopsAt break T H log text
-      → (front : List ℕ) × IsBeginning front (text ++ texts_given (answers_by break)) × H front
-  front_at T H BeforeAll log text stops = (text, ([], refl), stops.1)
-  front_at T H (AtAnswer occurrence step) log text stops = (text, ([], refl), stops.1)
-  front_at T H (Carrying occurrence actions) log text stops =
-      let rest = stops.begins.0 in
-      let done = texts_in stops.done in
-      let left = texts_in stops.left in (
-        text ++ (done ++ stops.front),
-        (
-          rest ++ left,
-          ap (λ (o : List ℕ). text ++ o) (texts_of_one actions ∙ ap texts_in stops.actions_are ∙ texts_append stops.done (stops.last ∷ stops.left)
-              ∙ ap (λ (o : List ℕ). done ++ o) (texts_append (stops.last ∷ []) stops.left ∙ ap (λ (o : List ℕ). o ++ left) stops.begins.1 ∙ append_assoc stops.front rest left)
-              ∙ sym (append_assoc done stops.front (rest ++ left)))
-              ∙ sym (append_assoc text (done ++ stops.front) (rest ++ left)),
-        ),
-        stops.held,
-      )
 
   texts_of_three : (text : List ℕ) (a b c : List StepResult) → text ++ texts_given (a ++ (b ++ c)) ≡ ((text ++ texts_given a) ++ texts_given b) ++ texts_given c
   texts_of_three text a b c =

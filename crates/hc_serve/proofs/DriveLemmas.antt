@@ -1,5 +1,5 @@
 -- Rounds, one after another, and what they come to.
-use Rattle.std.proofs.Common.{◌≡◌, ◌≢◌, ◌⊎◌, ◌∙◌, ℕ, ◌+◌, ◌≤◌, List, [], ◌∷◌, ◌++◌, ◌==◌, ◌&&◌, Bool, true, false, length, Option, Some, None, Ok, Err, ap, append_assoc, append-nil, arith, length-append, inl, inr, refl, rules, subst, sym}
+use Rattle.std.proofs.Common.{◌≡◌, ◌≢◌, ◌⊎◌, ◌∙◌, ℕ, ◌+◌, ◌≤◌, List, [], ◌∷◌, ◌++◌, ◌==◌, ◌&&◌, Bool, true, false, length, Option, Some, None, Ok, Err, ap, append_assoc, append-nil, arith, length-append, inl, inr, refl, subst, sym}
 use Rattle.std.proofs.lemmas.Grind.{flat_map-append}
 use Rattle.std.specs.FinMap.{len}
 use Rattle.std.specs.Global.{Global}
@@ -28,6 +28,7 @@ use Rattle.hc_order.specs.Log.Move.{Before as BeforeAll, Closed, Heard, Sent}
 use Rattle.hc_order.specs.declared.receiver.Receiver.TheVariants.{Client, Origin}
 use Rattle.hc_order.specs.Mirrors.{MayHappen, Mirrors, closed_in, opened_in}
 use Rattle.hc_order.specs.Resting.{IsAtRest}
+use Rattle.hc_connection.specs.Links.{IsBeginning}
 use Rattle.hc_connection.specs.Moves.{earlier_or, first_in, is_closed_in, is_ended_in}
 use Rattle.hc_connection.specs.Sides.{IsUntouched}
 use Rattle.hc_serve.specs.declared.fault.DriveFault.{DriveFault}
@@ -37,6 +38,7 @@ use Rattle.hc_order.specs.Passed.{AreOrderly, AreServed, AreUsual, IsUsual, even
 use Rattle.hc_serve.specs.Drives.{AreRounds, BreakOff, EndStands, GivesDrive, GivesUp, GivesUpLate, IsBusy, IsUsualFrom, Leads, answers_by, most_rounds, occurrences_by, texts_given}
 use Rattle.hc_serve.specs.Rounds.{Answers, AnswersBy, Break, IsRound, IsToldBy, MayBreak, StopsAt}
 use Rattle.hc_serve.specs.Rounds.Break.{AtAnswer, Before, Carrying}
+use Rattle.hc_serve.proofs.CarryLemmas.{texts_append}
 
 -- ---- what laws say
 
@@ -83,7 +85,7 @@ orderly_in_more few many less (occurrence ∷ occurrences) (Ok actions ∷ resul
 orderly_in_more few many less (occurrence ∷ occurrences) (Err step ∷ results) log o = may_in_more few many less occurrence.event.of log o
 
 -- one event more
-orderly_then : (most : ℕ) (occurrences others : List Occurrence) (results answers : List StepResult) (log : List Move) → length occurrences ≡ length results → AreServed results
+pub orderly_then : (most : ℕ) (occurrences others : List Occurrence) (results answers : List StepResult) (log : List Move) → length occurrences ≡ length results → AreServed results
     → AreOrderly most occurrences results log → AreOrderly most others answers (passed occurrences results log) → AreOrderly most (occurrences ++ others) (results ++ answers) log
 orderly_then most [] others [] answers log same served o more = more
 orderly_then most [] others (result ∷ results) answers log same served o more = absurd (cc)
@@ -126,7 +128,7 @@ served_append [] b served more = more
 served_append (Ok actions ∷ a) b served more = served_append a b served more
 served_append (Err step ∷ a) b served more = absurd served
 
-passed_append : (occurrences others : List Occurrence) (results answers : List StepResult) (log : List Move) → length occurrences ≡ length results
+pub passed_append : (occurrences others : List Occurrence) (results answers : List StepResult) (log : List Move) → length occurrences ≡ length results
     → passed (occurrences ++ others) (results ++ answers) log ≡ passed others answers (passed occurrences results log)
 passed_append [] others [] answers log same = refl
 passed_append [] others (result ∷ results) answers log same = absurd (cc)
@@ -134,7 +136,7 @@ passed_append (occurrence ∷ occurrences) others [] answers log same = absurd (
 passed_append (occurrence ∷ occurrences) others (Ok actions ∷ results) answers log same = passed_append occurrences others results answers _ (omega (arith, same))
 passed_append (occurrence ∷ occurrences) others (Err step ∷ results) answers log same = passed_append occurrences others results answers _ (omega (arith, same))
 
-paired_append : (occurrences others : List Occurrence) (results answers : List StepResult) → length occurrences ≡ length results → length others ≡ length answers
+pub paired_append : (occurrences others : List Occurrence) (results answers : List StepResult) → length occurrences ≡ length results → length others ≡ length answers
     → length (occurrences ++ others) ≡ length (results ++ answers)
 paired_append occurrences others results answers a b = omega (arith, a, b, length-append occurrences others, length-append results answers)
 
@@ -165,7 +167,7 @@ pub record SoFar (most : ℕ) (T : List Move → Type 0) (H : List ℕ → Type 
   pub told : T (passed occurrences results log)
   pub held : H (text ++ texts_given results)
 
-pub begins : (most : ℕ) (T : List Move → Type 0) (H : List ℕ → Type 0) (cache : Cache) (log : List Move) (text : List ℕ) → T log → H text → SoFar most T H cache cache log text 0
+abbrev pub begins : (most : ℕ) (T : List Move → Type 0) (H : List ℕ → Type 0) (cache : Cache) (log : List Move) (text : List ℕ) → T log → H text → SoFar most T H cache cache log text 0
 begins most T H cache log text told held = record {
   occurrences = [];
   results = [];
@@ -173,13 +175,10 @@ begins most T H cache log text told held = record {
   leading = λ settings s h good stands agrees few. record { state = s; stands = stands; steps = refl };
   many = refl;
   paired = refl;
-  served = unit;
+  served = tt;
   told = told;
   held = subst H (sym (append-nil text)) held;
 }
-  where
-    unit : Unit {0}
-    unit = search rules
 
 module _ (runs : StepsAreRuns) (keeps : RunsKeepAgreement) (is_ready : AgreementIsReady) (counted : RunsAreCounted) (usual : TurnsAreUsual) (mirrored : TurnsAreMirrored) where
   -- each forward can end there
@@ -191,7 +190,7 @@ module _ (runs : StepsAreRuns) (keeps : RunsKeepAgreement) (is_ready : Agreement
 
   module _ (old mid new : Cache) (before : List Event) (answered : List StepResult) (leading : Leading old mid before answered) where
     -- one event more is served
-    leads_on : (event : Event) (actions : Vec Action Global) → Answers event (Ok actions) mid new → Leading old new (before ++ event ∷ []) (answered ++ Ok actions ∷ [])
+    pub leads_on : (event : Event) (actions : Vec Action Global) → Answers event (Ok actions) mid new → Leading old new (before ++ event ∷ []) (answered ++ Ok actions ∷ [])
     leads_on event actions answers settings s h good stands agrees few =
         let less = fewer answered (Ok actions ∷ []) s.numbers.records few in
         let led = leading settings s h good stands agrees less in
@@ -235,7 +234,7 @@ module _ (runs : StepsAreRuns) (keeps : RunsKeepAgreement) (is_ready : Agreement
           runs = runs settings good (before ++ event ∷ []) (answered ++ Err step ∷ []) s h r.0 agrees r.2 few;
         }
 
-  leads : (old new : Cache) (events : List Event) (results : List StepResult) → Leading old new events results → Leads old new events results
+  pub leads : (old new : Cache) (events : List Event) (results : List StepResult) → Leading old new events results → Leads old new events results
   leads old new events results leading settings s h good stands agrees few =
       let led = leading settings s h good stands agrees few in record {
         end = Some led.state;
@@ -245,7 +244,7 @@ module _ (runs : StepsAreRuns) (keeps : RunsKeepAgreement) (is_ready : Agreement
 
   module _ (most : ℕ) (T T' : List Move → Type 0) (H H' : List ℕ → Type 0) (old mid new : Cache) (log : List Move) (text : List ℕ) (rounds : ℕ)
       (f : SoFar most T H old mid log text rounds) where
-    pub goes_on : IsRound most T' H' mid new (passed f.occurrences f.results log) (text ++ texts_given f.results) → SoFar most T' H' old new log text (rounds + 1)
+    abbrev pub goes_on : IsRound most T' H' mid new (passed f.occurrences f.results log) (text ++ texts_given f.results) → SoFar most T' H' old new log text (rounds + 1)
     goes_on t = record {
       occurrences = f.occurrences ++ t.occurrence ∷ [];
       results = f.results ++ Ok t.actions ∷ [];
@@ -254,17 +253,14 @@ module _ (runs : StepsAreRuns) (keeps : RunsKeepAgreement) (is_ready : Agreement
           (leads_on old mid new (events_of f.occurrences) f.results f.leading t.occurrence.event t.actions t.answers);
       many = omega (arith, f.many, length-append f.occurrences (t.occurrence ∷ []));
       paired = paired_append f.occurrences (t.occurrence ∷ []) f.results (Ok t.actions ∷ []) f.paired refl;
-      served = served_append f.results (Ok t.actions ∷ []) f.served unit;
+      served = served_append f.results (Ok t.actions ∷ []) f.served tt;
       told = subst T' (sym (passed_append f.occurrences (t.occurrence ∷ []) f.results (Ok t.actions ∷ []) log f.paired)) t.done.0;
       held = subst H' (ap (λ (o : List ℕ). (text ++ texts_given f.results) ++ o) (sym (texts_of_one t.actions))
           ∙ append_assoc text (texts_given f.results) (texts_given (Ok t.actions ∷ []))
           ∙ ap (λ (o : List ℕ). text ++ o) (sym (texts_given_append f.results (Ok t.actions ∷ [])))) t.done.1;
     }
-      where
-        unit : Unit {0}
-        unit = search rules
 
-    pub ended : new ≡ mid → T' (passed f.occurrences f.results log) → H' (text ++ texts_given f.results) → AreRounds most T' H' old new log text
+    abbrev pub ended : new ≡ mid → T' (passed f.occurrences f.results log) → H' (text ++ texts_given f.results) → AreRounds most T' H' old new log text
     ended same told held = record {
       occurrences = f.occurrences;
       results = f.results;
@@ -286,7 +282,7 @@ module _ (runs : StepsAreRuns) (keeps : RunsKeepAgreement) (is_ready : Agreement
       held = held;
     }
 
-    break_leads : (break : Break) → AnswersBy break mid new → Leads old new (events_of (f.occurrences ++ occurrences_by break)) (f.results ++ answers_by break)
+    pub break_leads : (break : Break) → AnswersBy break mid new → Leads old new (events_of (f.occurrences ++ occurrences_by break)) (f.results ++ answers_by break)
     break_leads Before same =
         subst (λ (occurrences : List Occurrence). Leads old new (events_of occurrences) (f.results ++ [])) (sym (append-nil f.occurrences))
         (subst (λ (results : List StepResult). Leads old new (events_of f.occurrences) results) (sym (append-nil f.results))
@@ -299,12 +295,12 @@ module _ (runs : StepsAreRuns) (keeps : RunsKeepAgreement) (is_ready : Agreement
         (leads old new (events_of f.occurrences ++ occurrence.event ∷ []) (f.results ++ Ok actions ∷ [])
         (leads_on old mid new (events_of f.occurrences) f.results f.leading occurrence.event actions answers))
 
-    break_orderly : (break : Break) → MayBreak most break (passed f.occurrences f.results log) → AreOrderly most (f.occurrences ++ occurrences_by break) (f.results ++ answers_by break) log
+    pub break_orderly : (break : Break) → MayBreak most break (passed f.occurrences f.results log) → AreOrderly most (f.occurrences ++ occurrences_by break) (f.results ++ answers_by break) log
     break_orderly Before may = orderly_then most f.occurrences [] f.results [] log f.paired f.served f.orderly tt
     break_orderly (AtAnswer occurrence step) may = orderly_then most f.occurrences (occurrence ∷ []) f.results (Err step ∷ []) log f.paired f.served f.orderly may
     break_orderly (Carrying occurrence actions) may = orderly_then most f.occurrences (occurrence ∷ []) f.results (Ok actions ∷ []) log f.paired f.served f.orderly (may, tt)
 
-    break_usual : (break : Break) → AnswersBy break mid new → MayBreak most break (passed f.occurrences f.results log) → IsUsualFrom most old log f.results break
+    pub break_usual : (break : Break) → AnswersBy break mid new → MayBreak most break (passed f.occurrences f.results log) → IsUsualFrom most old log f.results break
     break_usual Before same may room settings s h good stands agrees few less m = tt
     break_usual (AtAnswer occurrence step) answers may room settings s h good stands agrees few less m =
         let parts = fewer f.results (Err step ∷ []) s.numbers.records few in
@@ -455,3 +451,25 @@ pub breaks : (T U : Type 0) (most : ℕ) (why : DriveFault) (tells : List Move �
 breaks T U most fault.Client tells holds rests old new log text before after counted b = absurd counted
 breaks T U most fault.Recorder tells holds rests old new log text before after counted b = b
 breaks T U most (fault.Core step) tells holds rests old new log text before after counted b = b
+
+-- ---- what was written by a break
+
+-- behind a break a beginning of what was to be written stands there
+pub front_at : (T : List Move → Type 0) (H : List ℕ → Type 0) (break : Break) (log : List Move) (text : List ℕ) → StopsAt break T H log text
+    → (front : List ℕ) × IsBeginning front (text ++ texts_given (answers_by break)) × H front
+front_at T H Before log text stops = (text, ([], refl), stops.1)
+front_at T H (AtAnswer occurrence step) log text stops = (text, ([], refl), stops.1)
+front_at T H (Carrying occurrence actions) log text stops =
+    let rest = stops.begins.0 in
+    let done = texts_in stops.done in
+    let left = texts_in stops.left in (
+      text ++ (done ++ stops.front),
+      (
+        rest ++ left,
+        ap (λ (o : List ℕ). text ++ o) (texts_of_one actions ∙ ap texts_in stops.actions_are ∙ texts_append stops.done (stops.last ∷ stops.left)
+            ∙ ap (λ (o : List ℕ). done ++ o) (texts_append (stops.last ∷ []) stops.left ∙ ap (λ (o : List ℕ). o ++ left) stops.begins.1 ∙ append_assoc stops.front rest left)
+            ∙ sym (append_assoc done stops.front (rest ++ left)))
+            ∙ sym (append_assoc text (done ++ stops.front) (rest ++ left)),
+      ),
+      stops.held,
+    )

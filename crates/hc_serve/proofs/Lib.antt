@@ -1,3 +1,4 @@
 pub mod CarryLemmas
 pub mod ClientLemmas
+pub mod CrowdLemmas
 pub mod DriveLemmas

@@ -20,6 +20,8 @@ fn carry_out_one<L: Links, R: Link>(
 ) -> Result<(), DriveFault>
     ensures done { (log : List Move) (text : List ℕ) → L.tells links.old log → R.has_got recorder.old text
         → GivesDone (L.tells links.new) (R.has_got recorder.new) result («action».now ∷ []) log text }
+    ensures shown { (log : List Move) → L.shows links.old log → L.shows links.new log }
+    ensures kept { (kept : List ℕ) → R.has_kept recorder.old kept → R.has_kept recorder.new kept }
     ensures as_many { L.most links.new ≡ L.most links.old }
     ensures moments { (moment : ℕ) → L.may_tell links.new moment → L.may_tell links.old moment }
     ensures unread { (times : ℕ) → R.was_read recorder.old times → R.was_read recorder.new times }
@@ -45,6 +47,8 @@ pub(crate) fn carry_out<L: Links, R: Link>(
 ) -> Result<(), DriveFault>
     ensures done { (log : List Move) (text : List ℕ) → L.tells links.old log → R.has_got recorder.old text
         → GivesDone (L.tells links.new) (R.has_got recorder.new) result actions.now log text }
+    ensures shown { (log : List Move) → L.shows links.old log → L.shows links.new log }
+    ensures kept { (kept : List ℕ) → R.has_kept recorder.old kept → R.has_kept recorder.new kept }
     ensures as_many { L.most links.new ≡ L.most links.old }
     ensures moments { (moment : ℕ) → L.may_tell links.new moment → L.may_tell links.old moment }
     ensures unread { (times : ℕ) → R.was_read recorder.old times → R.was_read recorder.new times }

@@ -5,6 +5,7 @@
 mod asked;
 mod carrying;
 mod clients;
+mod crowds;
 mod driving;
 mod fault;
 mod recorder;
@@ -12,6 +13,7 @@ mod rounds;
 mod serving;
 
 pub use clients::serve_clients;
+pub use crowds::serve_crowd;
 pub use driving::drive;
 pub use fault::{DriveFault, ServingFault};
 pub use serving::serve_connection;

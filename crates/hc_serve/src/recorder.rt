@@ -1,18 +1,19 @@
 //! Records are written to the recorder.
 
-ghost use Rattle.std.specs.Prelude.{◌≡◌, ◌++◌, ◌∷◌, [], ℕ, List, IfErr};
+ghost use Rattle.std.specs.Prelude.{◌≡◌, ◌++◌, ◌∷◌, [], ℕ, List, IfErr, OnOk};
 ghost use Rattle.hc_transcript.specs.Records.{record_text};
 ghost use Rattle.hc_service.specs.Sending.{recorded_format};
 ghost use Rattle.hc_serve.specs.Carrying.{CountsRecorder, IsOfCarrying, WritesRecord};
 
 use crate::fault::DriveFault;
-use hc_connection::{Link, LinkFailure, send_octets};
+use hc_connection::{Link, LinkFailure, Recorder, send_octets};
 use hc_transcript::{Format, Record, record_parts};
 use std::alloc::Global;
 
 /// Writes octets. Where the recorder fails, a beginning of them is written.
 fn write<R: Link>(recorder: &mut R, octets: &[u8]) -> Result<(), DriveFault>
     ensures got { WritesRecord (R.has_got recorder.old) (R.has_got recorder.new) result octets.now }
+    ensures kept { (kept : List ℕ) → R.has_kept recorder.old kept → R.has_kept recorder.new kept }
     ensures unread { (times : ℕ) → R.was_read recorder.old times → R.was_read recorder.new times }
     ensures count { CountsRecorder result (R.count recorder.old) (R.count recorder.new) }
     ensures why { IfErr result IsOfCarrying }
@@ -26,6 +27,7 @@ fn write<R: Link>(recorder: &mut R, octets: &[u8]) -> Result<(), DriveFault>
 /// Writes what stands at the front of a text and what stands behind that, each as it lies, and a line feed.
 fn write_parts<R: Link>(recorder: &mut R, front: &[u8], rest: &[u8]) -> Result<(), DriveFault>
     ensures got { WritesRecord (R.has_got recorder.old) (R.has_got recorder.new) result ((front.now ++ rest.now) ++ 10 ∷ []) }
+    ensures kept { (kept : List ℕ) → R.has_kept recorder.old kept → R.has_kept recorder.new kept }
     ensures unread { (times : ℕ) → R.was_read recorder.old times → R.was_read recorder.new times }
     ensures count { CountsRecorder result (R.count recorder.old) (R.count recorder.new) }
     ensures why { IfErr result IsOfCarrying }
@@ -38,6 +40,7 @@ fn write_parts<R: Link>(recorder: &mut R, front: &[u8], rest: &[u8]) -> Result<(
 /// Writes what stands at the front of a text, and a line feed, at once. Where memory is refused, nothing is written.
 fn write_line<R: Link>(recorder: &mut R, front: &mut Vec<u8>) -> Result<(), DriveFault>
     ensures got { WritesRecord (R.has_got recorder.old) (R.has_got recorder.new) result (front.old.items ++ 10 ∷ []) }
+    ensures kept { (kept : List ℕ) → R.has_kept recorder.old kept → R.has_kept recorder.new kept }
     ensures unread { (times : ℕ) → R.was_read recorder.old times → R.was_read recorder.new times }
     ensures count { CountsRecorder result (R.count recorder.old) (R.count recorder.new) }
     ensures why { IfErr result IsOfCarrying }
@@ -54,6 +57,7 @@ pub(crate) fn record<R: Link>(
     record: &Record,
 ) -> Result<(), DriveFault>
     ensures got { WritesRecord (R.has_got recorder.old) (R.has_got recorder.new) result (record_text recorded_format «record».now) }
+    ensures kept { (kept : List ℕ) → R.has_kept recorder.old kept → R.has_kept recorder.new kept }
     ensures unread { (times : ℕ) → R.was_read recorder.old times → R.was_read recorder.new times }
     ensures count { CountsRecorder result (R.count recorder.old) (R.count recorder.new) }
     ensures why { IfErr result IsOfCarrying }
@@ -63,5 +67,20 @@ pub(crate) fn record<R: Link>(
         write_line(recorder, &mut front)
     } else {
         write_parts(recorder, front.as_slice(), rest)
+    }
+}
+
+/// Lets all that was written stand for good.
+pub(crate) fn flush<R: Recorder>(recorder: &mut R) -> Result<(), DriveFault>
+    ensures got { (octets : List ℕ) → R.has_got recorder.old octets → R.has_got recorder.new octets }
+    ensures all { OnOk result ((octets : List ℕ) → R.has_got recorder.old octets → R.has_kept recorder.new octets) }
+    ensures kept { (kept : List ℕ) → R.has_kept recorder.old kept → R.has_kept recorder.new kept }
+    ensures unread { (times : ℕ) → R.was_read recorder.old times → R.was_read recorder.new times }
+    ensures count { CountsRecorder result (R.count recorder.old) (R.count recorder.new) }
+    ensures why { IfErr result IsOfCarrying }
+{
+    match recorder.flush() {
+        Ok(()) => Ok(()),
+        Err(LinkFailure) => Err(DriveFault::Recorder),
     }
 }

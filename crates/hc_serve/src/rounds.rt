@@ -24,6 +24,8 @@ pub(crate) fn round<S: BuildHasher, L: Links, R: Link>(
         → GivesRound (L.most links.old) (L.heeds (awaited_by core.old)) (L.tells links.new) (R.has_got recorder.new)
         result core.old core.new log text }
     ensures rest { result ≡ Ok false → L.rests links.new }
+    ensures shown { (log : List Move) → L.shows links.old log → L.shows links.new log }
+    ensures kept { (kept : List ℕ) → R.has_kept recorder.old kept → R.has_kept recorder.new kept }
     ensures as_many { L.most links.new ≡ L.most links.old }
     ensures moments { (moment : ℕ) → L.may_tell links.new moment → L.may_tell links.old moment }
     ensures unread { (times : ℕ) → R.was_read recorder.old times → R.was_read recorder.new times }

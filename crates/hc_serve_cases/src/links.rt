@@ -1,6 +1,7 @@
 //! Links in memory, which tell what was read from them and written to them.
 
 ghost use Rattle.std.specs.Prelude.{◌≡◌, ◌≤◌, ◌++◌, [], length, take};
+ghost use Rattle.hc_connection.specs.Links.{IsBeginning};
 
 use crate::notebook::{Device, Notebook};
 use hc_connection::{Link, LinkFailure};
@@ -93,6 +94,8 @@ impl<'a> Link for Memory<'a> {
 
     ghost was_read = { λ link times. link.reads ≤ times };
 
+    ghost has_kept = { λ link octets. IsBeginning octets link.got.items };
+
     ghost count = { λ link. link.failures };
 
     fn read(&mut self, buffer: &mut [u8]) -> Result<usize, LinkFailure> {
@@ -172,6 +175,9 @@ impl<'a> Link for Tally<'a> {
     ghost has_got = { λ link octets. length octets ≡ link.got };
 
     ghost was_read = { λ link times. link.reads ≤ times };
+
+    // It keeps none.
+    ghost has_kept = { λ _ _. Unit {0} };
 
     ghost count = { λ link. link.failures };
 

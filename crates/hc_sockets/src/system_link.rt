@@ -117,6 +117,8 @@ impl<T: Device> Link for SystemLink<T> {
 
     ghost was_read = { λ _ _. Unit {0} };
 
+    ghost has_kept = { λ _ _. Unit {0} };
+
     ghost count = { λ link. link.failures };
 
     fn read(&mut self, buffer: &mut [u8]) -> Result<usize, LinkFailure> {

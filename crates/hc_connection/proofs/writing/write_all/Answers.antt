@@ -25,6 +25,7 @@ pieces-preserved g c =
       count = c.in_ok-at.ensures.count ∙ c.pieces.invariant.count;
       given = λ given had. c.in_ok-at.ensures.given given (c.pieces.invariant.given given had);
       reads = λ times had. c.in_ok-at.ensures.reads times (c.pieces.invariant.reads times had);
+      kept = λ kept had. c.in_ok-at.ensures.kept kept (c.pieces.invariant.kept kept had);
       got = λ got had.
           rw (take-add c.pieces.at n xs, sym c.split_at.ensures.back, sym (append_assoc got (take c.pieces.at xs) (take n c.split_at.result.1.now)))
           (c.in_ok-at.ensures.got.2 (got ++ take c.pieces.at xs) (c.pieces.invariant.got got had));

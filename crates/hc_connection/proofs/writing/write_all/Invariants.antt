@@ -10,6 +10,7 @@ invariant-pieces g l = record {
   count : g.L.Link.count l.link ≡ g.L.Link.count l.initial.link;
   given : (given : List ℕ) → g.L.Link.has_given l.initial.link given → g.L.Link.has_given l.link given;
   reads : (times : ℕ) → g.L.Link.was_read l.initial.link times → g.L.Link.was_read l.link times;
+  kept : (kept : List ℕ) → g.L.Link.has_kept l.initial.link kept → g.L.Link.has_kept l.link kept;
   got : (got : List ℕ) → g.L.Link.has_got l.initial.link got → g.L.Link.has_got l.link (got ++ take l.at l.octets);
 }
 

@@ -20,6 +20,8 @@ actions-preserved g c = record {
       let d = c.actions.invariant.done log text told held in
       done_next (g.L.Links.tells c.carry_out_one.new.links) (g.R.Link.has_got c.carry_out_one.new.recorder) c.args.actions.now c.actions.action-index c.action-item.result c.action-item.is c.actions-test.true log text
       (c.in_ok-carry_out_one.ensures.done _ _ d.0 d.1);
+  shown = λ log was. c.in_ok-carry_out_one.ensures.shown log (c.actions.invariant.shown log was);
+  kept = λ kept was. c.in_ok-carry_out_one.ensures.kept kept (c.actions.invariant.kept kept was);
   as_many = c.in_ok-carry_out_one.ensures.as_many ∙ c.actions.invariant.as_many;
   moments = λ moment may. c.actions.invariant.moments moment (c.in_ok-carry_out_one.ensures.moments moment may);
   unread = λ times was. c.in_ok-carry_out_one.ensures.unread times (c.actions.invariant.unread times was);

@@ -1,5 +1,5 @@
 use Rattle.std.proofs.Common.{length, ◌≡◌, ◌<◌, ◌≤◌, ℕ, List}
-use Rattle.hc_connection.specs.Buffers.{HasGot}
+use Rattle.hc_connection.specs.Buffers.{HasGot, HasKept}
 use Rattle.hc_connection.specs.Links.{greatest_count}
 use Rattle.hc_connection.proofs.buffered.Buffered.write_waiting.Given as goal
 
@@ -11,6 +11,7 @@ invariant-pieces g l = record {
   given : (given : List ℕ) → g.R.Link.has_given l.initial.self.link given → g.R.Link.has_given l.self.link given;
   reads : (times : ℕ) → g.R.Link.was_read l.initial.self.link times → g.R.Link.was_read l.self.link times;
   got : (octets : List ℕ) → HasGot g.R.Link.has_got l.initial.self.link l.initial.self.waiting octets → HasGot g.R.Link.has_got l.self.link l.self.waiting octets;
+  kept : (kept : List ℕ) → HasKept g.R.Link.has_got l.initial.self.link kept → HasKept g.R.Link.has_got l.self.link kept;
   fewer : length l.self.waiting ≤ length l.initial.self.waiting;
 }
 

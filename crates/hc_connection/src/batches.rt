@@ -1,0 +1,40 @@
+//! Links that are served in batches.
+
+ghost use Rattle.std.specs.Prelude.{◌≡◌, ◌≤◌, ℕ, true, List, ◌∷◌};
+ghost use Rattle.hc_transcript.specs.Limits.{greatest_moment};
+ghost use Rattle.hc_order.specs.declared.occurrence.Occurrence.{Occurrence};
+ghost use Rattle.hc_order.specs.Log.{Move};
+ghost use Rattle.hc_order.specs.Log.Move.{Heard};
+
+use crate::links::{Awaiting, Links};
+use std::alloc::AllocError;
+
+/// Links that are served in batches. What happens next is of this batch, and none once the batch is over: a further one
+/// may bring more. What is sent to clients waits until it is delivered.
+pub trait Batches: Links {
+    /// No further client is served, and no link is left.
+    ghost over: { Self → Type 0 };
+
+    /// Writes what was sent, as far as links take it now, and may ask the cache what it awaits. It fails only where
+    /// memory is refused.
+    fn deliver<A: Awaiting>(&mut self, cache: &A) -> Result<(), AllocError>
+        ensures tells { (log : List Move) → Self.tells self.old log → Self.tells self.new log }
+        ensures shown { (log : List Move) → Self.tells self.old log → Self.shows self.new log }
+        ensures as_many { Self.most self.new ≡ Self.most self.old }
+        ensures moments { (moment : ℕ) → Self.may_tell self.new moment → Self.may_tell self.old moment };
+
+    /// Waits until something is ready or due, and begins a new batch with that. It fails only where memory is refused.
+    fn wait(&mut self) -> Result<(), AllocError>
+        ensures tells { (log : List Move) → Self.tells self.old log → Self.tells self.new log }
+        ensures shown { (log : List Move) → Self.shows self.old log → Self.shows self.new log }
+        ensures as_many { Self.most self.new ≡ Self.most self.old }
+        ensures moments { (moment : ℕ) → Self.may_tell self.new moment → Self.may_tell self.old moment };
+
+    /// Whether no further client is served, and no link is left.
+    fn is_over(&self) -> bool
+        ensures { result ≡ true → over self.now };
+
+    // Whatever is told can be told by a transcript.
+    ghost in_time: { (links : Self) (occurrence : Occurrence) (log : List Move) → Self.tells links (Heard occurrence ∷ log)
+        → occurrence.event.moment ≤ greatest_moment };
+}

@@ -1,0 +1,11 @@
+use Rattle.hc_transcript.specs.Records.{opening}
+use Rattle.hc_service.specs.Sending.{recorded_format}
+use Rattle.hc_serve.specs.Crowds.{telling}
+use Rattle.hc_serve.proofs.CrowdLemmas.{recorded}
+use Rattle.hc_serve.proofs.crowds.serve_crowd.Goals as goal
+
+pub returns-clause-transcript : goal.returns-clause-transcript
+returns-clause-transcript g c = λ settings room good is_new told held.
+    recorded c.runs_are_judged_right.ensures c.new_cache_agrees.ensures settings room good c.args.core.now is_new _ c.serve_batches.result _ _
+    (telling (g.L.Links.tells c.serve_batches.new.links) (g.L.Links.shows c.serve_batches.new.links) (g.R.Link.has_got c.serve_batches.new.recorder) (g.R.Link.has_kept c.serve_batches.new.recorder))
+    c.serve_batches.new.core (c.serve_batches.ensures.serves _ (opening recorded_format) told held)
