@@ -1,3 +1,4 @@
+pub mod Batches
 pub mod Buffers
 pub mod Clients
 pub mod Connections

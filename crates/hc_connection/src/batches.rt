@@ -5,6 +5,7 @@ ghost use Rattle.hc_transcript.specs.Limits.{greatest_moment};
 ghost use Rattle.hc_order.specs.declared.occurrence.Occurrence.{Occurrence};
 ghost use Rattle.hc_order.specs.Log.{Move};
 ghost use Rattle.hc_order.specs.Log.Move.{Heard};
+ghost use Rattle.hc_connection.specs.Batches.{NothingIsOpen};
 
 use crate::links::{Awaiting, Links};
 use std::alloc::AllocError;
@@ -37,4 +38,7 @@ pub trait Batches: Links {
     // Whatever is told can be told by a transcript.
     ghost in_time: { (links : Self) (occurrence : Occurrence) (log : List Move) → Self.tells links (Heard occurrence ∷ log)
         → occurrence.event.moment ≤ greatest_moment };
+
+    // Where no link is left, nothing is open.
+    ghost all_closed: { (links : Self) (log : List Move) → over links → Self.tells links log → NothingIsOpen log };
 }

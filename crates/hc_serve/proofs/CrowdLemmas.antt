@@ -1,6 +1,10 @@
 -- Batches, one after another, and what they come to.
-use Rattle.std.proofs.Common.{◌≡◌, ◌⊎◌, ◌∙◌, ℕ, ◌+◌, ◌≤◌, List, [], ◌∷◌, ◌++◌, nat_lt, true, length, Result, Ok, Err, ap, append_assoc, append-nil, arith, inl, inr, refl, subst, sym}
+use Rattle.std.proofs.Common.{◌≡◌, ◌⊎◌, ◌∙◌, ℕ, ◌+◌, ◌≤◌, List, [], ◌∷◌, ◌++◌, false, nat_lt, true, length, Option, Some, None, Result, Ok, Err, ap, append_assoc, append-nil, arith, inl, inr, refl, subst, sym}
 use Rattle.std.proofs.lemmas.Bool.Decides.{nat_tests}
+use Rattle.std.specs.Cmp.{nat_cmp_total}
+use Rattle.std.specs.FinMap.{empty, get, len, len-empty, nat_cmp-IsAntisymmetric, same_map}
+use Rattle.std.specs.Ordering.{nat_cmp}
+use Rattle.std.specs.Prelude.{is_some}
 use Rattle.hc_transcript.specs.Limits.{greatest_moment, greatest_number}
 use Rattle.hc_transcript.specs.Records.{opening}
 use Rattle.hc_events.specs.declared.Event.{Event}
@@ -10,13 +14,16 @@ use Rattle.hc_service.specs.declared.settings.CoreSettings.{CoreSettings}
 use Rattle.hc_service.specs.Runs.{IsJudgedRight, StepResult, nothing_yet, records_given}
 use Rattle.hc_service.specs.Sending.{recorded_format}
 use Rattle.hc_service.specs.Settings.{AreGood}
-use Rattle.hc_service.specs.State.{new_state_with}
+use Rattle.hc_service.specs.State.{State, Table, new_state_with}
+use Rattle.hc_service.proofs.TableLemmas.{get_none}
 use Rattle.hc_machine.specs.Steps.{Cache, StandsFor}
 use Rattle.hc_order.specs.declared.occurrence.Occurrence.{Occurrence}
 use Rattle.hc_order.specs.Log.{Move}
 use Rattle.hc_order.specs.Log.Move.{Heard}
 use Rattle.hc_order.specs.Mirrors.{Mirrors}
 use Rattle.hc_order.specs.Passed.{IsUsual, events_of, passed}
+use Rattle.hc_order.specs.Resting.{IsAtRest}
+use Rattle.hc_connection.specs.Batches.{NothingIsOpen}
 use Rattle.hc_connection.specs.Links.{IsBeginning}
 use Rattle.hc_serve.specs.declared.fault.DriveFault.{DriveFault}
 use Rattle.hc_serve.specs.declared.fault.DriveFault.TheVariants as fault
@@ -85,6 +92,19 @@ expected_from laws most why new from results break log text in_time told usual s
     (usual room settings (new_state_with settings room) nothing_yet good is_new (laws.agrees settings room) (still_few (length (records_given (results ++ answers_by break))) few) less
     (subst (λ (log : List Move). Mirrors room (new_state_with settings room) log) (sym none) (laws.empty room settings)))
     stops
+
+-- ---- where nothing is open
+
+none_of : {X : Type 0} (o : Option X) → is_some o ≡ false → o ≡ None
+none_of None none = refl
+none_of (Some x) none = absurd (cc)
+
+none_in : {X : Type 0} (t : Table X) → ((n : ℕ) → is_some (get t n) ≡ false) → len t ≡ 0
+none_in {X = X} t none =
+    ap (λ (t : Table X). len t) (same_map nat_cmp_total nat_cmp-IsAntisymmetric t (empty {X = X} {R = nat_cmp}) (λ n. none_of (get t n) (none n) ∙ sym (get_none n))) ∙ len-empty nat_cmp X
+
+at_rest : (room : ℕ) (s : State) (log : List Move) → Mirrors room s log → NothingIsOpen log → IsAtRest s
+at_rest room s log m closed = (none_in s.connections (λ c. m.connections c ∙ closed.0 c), none_in s.forwards (λ f. m.forwards f ∙ closed.1 f))
 
 -- ---- the turns so far
 
@@ -209,13 +229,19 @@ module _ {most : ℕ} {was_safe : Type 0} {mid : Telling} {from : Stage} {betwee
       }
 
       -- a pause behind which all is served
-      pub all_served : ((log : List Move) → mid.tells log → new.tells log) → ((text : List ℕ) → mid.holds text → new.holds text) → Releases mid new → Ends most new from between
-      all_served tells holds releases = record {
-        rounds = ended laws.runs laws.keeps laws.is_ready laws.counted laws.usual laws.mirrored most mid.tells new.tells mid.holds new.holds from.cache between between from.log from.text f.rounds f.so_far
-            refl (tells log_so_far f.so_far.told) (holds text_so_far f.so_far.held);
-        shown = releases.shown log_so_far f.so_far.told;
-        kept = releases.kept text_so_far f.so_far.held;
-      }
+      pub all_served : ((log : List Move) → mid.tells log → new.tells log) → ((text : List ℕ) → mid.holds text → new.holds text) → Releases mid new → (new.tells log_so_far → NothingIsOpen log_so_far)
+          → Ends most new from between
+      all_served tells holds releases closed =
+          let told = tells log_so_far f.so_far.told in
+          let rounds = ended laws.runs laws.keeps laws.is_ready laws.counted laws.usual laws.mirrored most mid.tells new.tells mid.holds new.holds from.cache between between from.log from.text
+          f.rounds f.so_far refl told (holds text_so_far f.so_far.held) in record {
+            rounds = rounds;
+            shown = releases.shown log_so_far f.so_far.told;
+            kept = releases.kept text_so_far f.so_far.held;
+            rests = λ room settings s h good stands agrees few m.
+                let led = rounds.mirrors room settings s h good stands agrees few m in
+                (led.state, led.stands, at_rest room led.state log_so_far led.mirrors (closed told));
+          }
 
       -- a fault
       pub broke_off : (cache : Cache) → IsInTime new.tells → turns ≤ most_rounds → (why : DriveFault) (break : Break) → IsToldBy break why ⊎ EndsBetween break why → AnswersBy break between cache

@@ -1,15 +1,18 @@
 -- Many clients at once, served in batches.
-use Rattle.std.specs.Prelude.{◌≡◌, ◌⊎◌, ℕ, ◌≤◌, List, [], ◌++◌, length, Result, Ok, Err}
+use Rattle.std.specs.Prelude.{◌≡◌, ◌⊎◌, ℕ, ◌+◌, ◌≤◌, List, [], ◌++◌, length, Result, Ok, Err}
 use Rattle.hc_transcript.specs.Limits.{greatest_number}
 use Rattle.hc_service.specs.declared.fault.StepFault.TheVariants.{Memory, MomentTooLarge, UnknownNumber, TooManyConnections, Failed}
 use Rattle.hc_service.specs.declared.settings.CoreSettings.{CoreSettings}
+use Rattle.hc_service.specs.Agreement.{Agrees, History}
 use Rattle.hc_service.specs.Runs.{StepResult, records_given}
 use Rattle.hc_service.specs.Settings.{AreGood}
-use Rattle.hc_service.specs.State.{new_state_with}
+use Rattle.hc_service.specs.State.{State, new_state_with}
 use Rattle.hc_machine.specs.Steps.{Cache, StandsFor}
 use Rattle.hc_order.specs.declared.occurrence.Occurrence.{Occurrence}
 use Rattle.hc_order.specs.Log.{Move}
+use Rattle.hc_order.specs.Mirrors.{Mirrors}
 use Rattle.hc_order.specs.Passed.{AreOrderly, AreServed, events_of, passed}
+use Rattle.hc_order.specs.Resting.{IsAtRest}
 use Rattle.hc_serve.specs.declared.fault.DriveFault.{DriveFault}
 use Rattle.hc_serve.specs.declared.fault.DriveFault.TheVariants as fault
 use Rattle.hc_serve.specs.Clients.{HoldsBeginning, HoldsTranscript}
@@ -103,11 +106,17 @@ pub record IsSafe (new : Telling) (from : Stage) (occurrences : List Occurrence)
   pub shown : new.shows (passed front answered from.log)
   pub kept : new.keeps (from.text ++ texts_given answered)
 
--- all is served: clients may have seen all that has passed, and all records stand for good
+-- from whatever state mirrored the log before, the cache was led to one at rest, as far as records can be numbered
+abbrev pub IsLeftAtRest : Stage → List StepResult → Cache → Type 0
+IsLeftAtRest from results cache = (room : ℕ) (settings : CoreSettings) (s : State) (h : History) → AreGood settings → StandsFor settings from.cache s → Agrees s h
+    → s.numbers.records + length (records_given results) ≤ greatest_number → Mirrors room s from.log → (state : State) × StandsFor settings cache state × IsAtRest state
+
+-- all is served: clients may have seen all that has passed, all records stand for good, and nothing is open
 pub record Ends (most : ℕ) (new : Telling) (from : Stage) (cache : Cache) : Type 0 where
   pub rounds : AreRounds most new.tells new.holds from.cache cache from.log from.text
   pub shown : new.shows (passed rounds.occurrences rounds.results from.log)
   pub kept : new.keeps (from.text ++ texts_given rounds.results)
+  pub rests : IsLeftAtRest from rounds.results cache
 
 -- not all is: what clients have seen is safe, if what they had seen before was
 pub record Breaks (most : ℕ) (was_safe : Type 0) (why : DriveFault) (new : Telling) (from : Stage) (cache : Cache) : Type 0 where

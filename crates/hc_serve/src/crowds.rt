@@ -1,6 +1,6 @@
 //! Serving many clients at once, in batches.
 
-ghost use Rattle.std.specs.Prelude.{◌≡◌, ℕ, ◌≤◌, true, List, [], IfErr, IfOk, Ok};
+ghost use Rattle.std.specs.Prelude.{◌≡◌, ℕ, true, List, [], IfErr, IfOk, Ok};
 ghost use Rattle.hc_transcript.specs.Records.{opening};
 ghost use Rattle.hc_service.specs.declared.settings.CoreSettings.{CoreSettings};
 ghost use Rattle.hc_service.specs.Sending.{recorded_format};
@@ -89,7 +89,8 @@ fn serve_batches<S: BuildHasher, L: Batches, R: Recorder>(
 
 /// Serves clients at once, until the links are over: what happens is handed to the cache, and what the cache does is
 /// carried out, batch by batch. Behind each batch its records are flushed, before anything of it is written to a client:
-/// so no client has seen a reply that the recording lacks, whatever goes wrong.
+/// so no client has seen a reply that the recording lacks, whatever goes wrong. Where all is served, nothing is left open
+/// in the cache.
 ///
 /// Of a new cache the recording, if it was the opening of a transcript before, is a transcript to which the strictest
 /// audit says yes, as far as records can be numbered; or a beginning of one, where it ends by a fault. Of a new cache with

@@ -1,4 +1,4 @@
-use Rattle.std.proofs.Common.{◌≡◌, ◌∙◌, ◌++◌, ℕ, Err, ap, arith, false, inl, inr, refl, rules, subst, true}
+use Rattle.std.proofs.Common.{◌≡◌, ◌∙◌, ◌++◌, ℕ, Err, Ok, ap, arith, false, inl, inr, refl, rules, subst, true}
 use Rattle.std.proofs.lemmas.Result.{err_from_is_err_and}
 use Rattle.hc_service.specs.declared.fault.StepFault.TheVariants.{Failed}
 use Rattle.hc_order.specs.Passed.{passed}
@@ -62,11 +62,13 @@ turns-preserved g c = record {
 
 pub returns-then-branch-2-clause-serves : goal.returns-then-branch-2-clause-serves
 returns-then-branch-2-clause-serves g c = λ log text told held.
+    let over : c.in_ok-pause.field-0 ≡ true = search rules in
     let off : c.in_ok-round.field-0 ≡ false = search rules in
     let f = c.turns.invariant.so_far log text told held in
     let i = idle_on f {new = telling (g.L.Links.tells c.round.new.links) (g.L.Links.shows c.round.new.links) (g.R.Link.has_got c.round.new.recorder) (g.R.Link.has_kept c.round.new.recorder)} c.round.new.core (record { shown = c.in_ok-round.ensures.shown; kept = c.in_ok-round.ensures.kept })
     ((rw off at c.in_ok-round.ensures.round) _ _ f.so_far.told f.so_far.held) in
     all_served i c.turns.invariant.laws c.in_ok-pause.ensures.tells c.in_ok-pause.ensures.got c.in_ok-pause.ensures.safe
+    (g.met.L.Batches.all_closed c.pause.new.links (passed i.so_far.occurrences i.so_far.results log) (c.in_ok-pause.ensures.over (ap Ok over)))
 
 pub returns-in_err-round-clause-serves : goal.returns-in_err-round-clause-serves
 returns-in_err-round-clause-serves g c =
