@@ -11,6 +11,7 @@ use Rattle.hc_service.specs.declared.settings.CoreSettings.{CoreSettings}
 use Rattle.hc_service.specs.Agreement.{IsReady}
 use Rattle.hc_service.specs.Runs.{StepResult}
 use Rattle.hc_service.specs.State.{State, awaits_reply}
+use Rattle.hc_machine.specs.Held.{is_background}
 use Rattle.hc_machine.specs.Steps.{Cache, GivesStep, StandsFor}
 use Rattle.hc_order.specs.declared.occurrence.Occurrence.{Occurrence}
 use Rattle.hc_order.specs.Log.{Move}
@@ -23,6 +24,10 @@ use Rattle.hc_serve.specs.Carrying.{AreCut, AreDone, IsOfCarrying}
 -- whatever state the cache stands for, that is whether a request of that connection awaits its reply there
 abbrev pub awaited_by : Cache → ℕ → Bool → Type 0
 awaited_by cache c awaits = (settings : CoreSettings) (s : State) → StandsFor settings cache s → awaits ≡ awaits_reply c s
+
+-- and that is whether that forward is open for the store alone
+abbrev pub background_by : Cache → ℕ → Bool → Type 0
+background_by cache f background = (settings : CoreSettings) (s : State) → StandsFor settings cache s → background ≡ is_background f s
 
 -- the cache was handed the event, and answered so
 pub record Answers (event : Event) (answer : StepResult) (old new : Cache) : Type 0 where

@@ -1,6 +1,6 @@
 //! A cache that is asked what it awaits.
 
-ghost use Rattle.hc_serve.specs.Rounds.{awaited_by};
+ghost use Rattle.hc_serve.specs.Rounds.{awaited_by, background_by};
 
 use hc_connection::Awaiting;
 use hc_machine::Core;
@@ -15,14 +15,13 @@ pub(crate) struct Asked<'a, S: BuildHasher> {
 impl<'a, S: BuildHasher> Awaiting for Asked<'a, S> {
     ghost awaited = { λ asked. awaited_by asked.core.now };
 
-    // To be what `Core::is_background` promises, once there is that.
-    ghost background = { λ _ _ _. Unit {0} };
+    ghost background = { λ asked. background_by asked.core.now };
 
     fn awaits(&self, connection: u64) -> bool {
         self.core.awaits(connection)
     }
 
-    fn is_background(&self, _forward: u64) -> bool {
-        false
+    fn is_background(&self, forward: u64) -> bool {
+        self.core.is_background(forward)
     }
 }
