@@ -21,7 +21,8 @@ pub(crate) fn round<S: BuildHasher, L: Links, R: Link>(
     recorder: &mut R,
 ) -> Result<bool, DriveFault>
     ensures round { (log : List Move) (text : List ℕ) → L.tells links.old log → R.has_got recorder.old text
-        → GivesRound (L.most links.old) (L.heeds (awaited_by core.old)) (L.tells links.new) (R.has_got recorder.new) result core.old core.new log text }
+        → GivesRound (L.most links.old) (L.heeds (awaited_by core.old)) (L.tells links.new) (R.has_got recorder.new)
+        result core.old core.new log text }
     ensures rest { result ≡ Ok false → L.rests links.new }
     ensures shown { (log : List Move) → L.shows links.old log → L.shows links.new log }
     ensures kept { (kept : List ℕ) → R.has_kept recorder.old kept → R.has_kept recorder.new kept }
