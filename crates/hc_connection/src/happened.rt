@@ -5,9 +5,9 @@ use hc_order::Reason;
 
 /// What happens, and why it is told.
 #[derive(Drop)]
-pub(crate) struct Happened {
+pub struct Happened {
     /// What happens.
-    pub(crate) of: Happening,
+    pub of: Happening,
     /// Why it is told.
-    pub(crate) reason: Reason,
+    pub reason: Reason,
 }

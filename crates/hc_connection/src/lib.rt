@@ -21,6 +21,7 @@ pub use batches::Batches;
 pub use buffered::Buffered;
 pub use clients::Clients;
 pub use connection::Connection;
+pub use happened::Happened;
 pub use link::{Clock, Link, LinkFailure, Origins};
 pub use links::{Awaiting, Links};
 pub use off::Off;
