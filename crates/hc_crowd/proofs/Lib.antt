@@ -1,2 +1,7 @@
-pub mod MomentsLemmas
+pub mod ClientLemmas
+pub mod CrowdLemmas
+pub mod FlowLemmas
 pub mod MomentsLaws
+pub mod MomentsLemmas
+pub mod PeerLemmas
+pub mod TableLemmas

@@ -1,3 +1,10 @@
+pub mod CrowdLaws
+pub mod Crowds
+pub mod Hearings
+pub mod Links
 pub mod Moments
 pub mod MomentsKept
+pub mod Peers
+pub mod Telling
 pub mod Turns
+pub mod Worlds

@@ -1,0 +1,150 @@
+//! Many clients at once, and the origin, in one thread.
+
+ghost use Rattle.std.specs.Prelude.{◌≡◌, ℕ, List, [], ◌∷◌, IfOk};
+
+use crate::limits::Limits;
+use crate::moments::Moments;
+use crate::traffic::Traffic;
+use crate::world::World;
+use hc_connection::{Awaiting, Batches, Happened, Links};
+use hc_events::Event;
+use hc_framing::MessageText;
+use hc_order::{Occurrence, Receiver};
+use std::alloc::{AllocError, Global};
+
+/// The links of many clients and of the origin, in one thread. None is waited for: what is ready comes in batches.
+///
+/// As long as it isn't over (`is_over`), a driver hands what happens next to its cache, and carries out what the cache
+/// does, until nothing more happens in this batch (`next`); writes what the cache owes (`deliver`), once its records can't
+/// be lost any more; and waits for the next batch (`wait`). Nothing is written to a link but by `deliver`.
+///
+/// Each link has one turn in a batch, in which it is read once, so that no client holds up the others. A client is read
+/// only where none of its requests awaits its reply, and all that was owed to it was written.
+#[derive(Drop)]
+pub struct Crowd<W: World> {
+    limits: Limits,
+    clock: Moments,
+    traffic: Traffic<W>,
+}
+
+impl<W: World + Drop> Crowd<W> {
+    ghost use Rattle.hc_crowd.specs.Crowds.{CrowdTells};
+
+    /// Nobody has connected yet.
+    pub fn new(alloc: Global, world: W, limits: Limits) -> Result<Self, AllocError>
+        ensures tells { IfOk result (λ crowd. CrowdTells W.Stream.has_given W.Stream.has_got crowd.traffic.peers crowd.clock []) }
+        ensures limits { IfOk result (λ crowd. crowd.limits ≡ limits) }
+    {
+        let clock = Moments::new(world.wall(), world.tick());
+        let traffic = Traffic::new(alloc, world, limits.origin_connections)?;
+        Ok(Crowd {
+            limits,
+            clock,
+            traffic,
+        })
+    }
+}
+
+impl<W: World> Crowd<W> {
+    ghost use Rattle.std.specs.Prelude.{◌≤◌};
+    ghost use Rattle.hc_order.specs.Log.{Move};
+    ghost use Rattle.hc_crowd.specs.Crowds.{CrowdTells, MayTell};
+    ghost use Rattle.hc_crowd.specs.MomentsKept.{told_by};
+
+    /// That happens now.
+    fn now(&self, happened: Happened) -> Occurrence
+        ensures of { result.event.of ≡ happened.of }
+        ensures reason { result.reason ≡ happened.reason }
+        ensures moment { result.event.moment ≡ told_by self.now.clock }
+    {
+        let Happened { of, reason } = happened;
+        let event = Event {
+            moment: self.clock.now(),
+            of,
+        };
+        Occurrence { event, reason }
+    }
+
+    /// Whether the wall clock was behind the moment that is told by more than ten seconds when it was last read.
+    pub fn is_behind(&self) -> bool {
+        self.clock.is_behind()
+    }
+
+    /// How many forwards no link could be made for in time.
+    pub fn unreached(&self) -> u64 {
+        self.traffic.unreached
+    }
+
+    /// How many clients have connected.
+    pub fn accepted(&self) -> u64 {
+        self.traffic.peers.last()
+    }
+}
+
+impl<W: World> Links for Crowd<W> {
+    ghost use Rattle.hc_connection.specs.Telling.{IsInTurn};
+    ghost use Rattle.hc_crowd.specs.Crowds.{CrowdTells, MayTell};
+
+    ghost tells = { λ crowd. CrowdTells W.Stream.has_given W.Stream.has_got crowd.traffic.peers crowd.clock };
+
+    // A further batch may bring more.
+    ghost rests = { λ _. Unit {0} };
+
+    ghost most = { λ crowd. crowd.limits.connections };
+
+    ghost may_tell = { λ crowd. MayTell crowd.clock };
+
+    ghost heeds = { IsInTurn };
+
+    // What was written to which client isn't told.
+    ghost shows = { λ _ _. Unit {0} };
+
+    fn next<A: Awaiting>(&mut self, cache: &A) -> Result<Option<Occurrence>, AllocError> {
+        match self.traffic.happening(cache, self.limits)? {
+            Some(happened) => Ok(Some(self.now(happened))),
+            None => Ok(None),
+        }
+    }
+
+    fn send(&mut self, to: Receiver, octets: &MessageText) -> Result<(), AllocError> {
+        self.traffic.send(to, octets)
+    }
+
+    fn close(&mut self, link: Receiver) {
+        self.traffic.close(link);
+    }
+}
+
+impl<W: World> Batches for Crowd<W> {
+    ghost use Rattle.hc_crowd.specs.CrowdLaws.{none_is_open, told_in_time};
+    ghost use Rattle.hc_crowd.specs.Crowds.{NoLinkIsLeft};
+
+    ghost over = { λ crowd. NoLinkIsLeft crowd.traffic.peers };
+
+    /// It begins to connect for forwards that wait, as far as there are places. Where memory is refused for a note of what
+    /// is to be done, links may wait for ever, so whoever drives the crowd should end then.
+    fn deliver<A: Awaiting>(&mut self, cache: &A) -> Result<(), AllocError> {
+        self.traffic.sort_opened(cache);
+        self.traffic.give_places(self.limits);
+        self.traffic.write_owed();
+        self.traffic.refusal()
+    }
+
+    /// It waits a second at most, and fails as `deliver` does.
+    fn wait(&mut self) -> Result<(), AllocError> {
+        self.traffic.wait(self.limits);
+        let wall = self.traffic.world.wall();
+        let tick = self.traffic.world.tick();
+        self.clock.look(wall, tick);
+        self.traffic.refusal()
+    }
+
+    /// A stop was asked then, or all clients have come that are served.
+    fn is_over(&self) -> bool {
+        self.traffic.is_over(self.limits)
+    }
+
+    ghost in_time = { λ crowd. told_in_time W.Stream.has_given W.Stream.has_got crowd.traffic.peers crowd.clock };
+
+    ghost all_closed = { λ crowd. none_is_open W.Stream.has_given W.Stream.has_got crowd.traffic.peers crowd.clock };
+}

@@ -1,0 +1,128 @@
+//! One link to the origin.
+
+ghost use Rattle.std.specs.Prelude.{◌≡◌, ◌&&◌, not, ℕ, List, [], Some, None, is_some, IfOk, IfSome};
+
+use crate::heard::{Heard, hear_flow};
+use hc_flow::{Emptying, Flow, Readiness, Stream};
+use hc_framing::MessageText;
+use hc_order::Reason;
+use std::alloc::{AllocError, Global};
+
+/// A link to the origin, and the request, as long as the link isn't known to work.
+#[derive(Drop)]
+pub(crate) struct OriginLink<S: Stream> {
+    flow: Flow<S>,
+    /// The request once more: behind a link that fails before it is known to work, another one is tried.
+    spare: Option<MessageText>,
+}
+
+impl<S: Stream + Drop> OriginLink<S> {
+    ghost use Rattle.hc_crowd.specs.Hearings.{GivesHeard};
+    ghost use Rattle.hc_crowd.specs.Links.{IsLinked, IsUnused, TellsOwed, is_owed};
+
+    /// One that begins to be made, and owes the request.
+    pub(crate) fn opening(
+        alloc: Global,
+        stream: S,
+        request: &MessageText,
+    ) -> Result<Self, AllocError>
+        ensures { S.has_given stream [] → S.has_got stream [] → IfOk result (λ link. IsLinked S.has_given S.has_got link request.now []) }
+    {
+        let spare = request.share()?;
+        let mut flow = Flow::opening(alloc, stream);
+        flow.send(request)?;
+        Ok(OriginLink {
+            flow,
+            spare: Some(spare),
+        })
+    }
+
+    /// Whether it isn't known to work yet.
+    pub(crate) fn is_opening(&self) -> bool
+        ensures { result ≡ is_some self.now.spare }
+    {
+        self.spare.is_some()
+    }
+
+    /// What is heard there now: nothing, until it is known to work, but that it has failed.
+    pub(crate) fn hear(&mut self, alloc: Global, buffer: &mut [u8]) -> Result<Heard, AllocError>
+        ensures { (sent heard : List ℕ) → IsLinked S.has_given S.has_got self.old sent heard
+            → GivesHeard (IsLinked S.has_given S.has_got self.new sent) result heard }
+    {
+        if !self.is_opening() {
+            return hear_flow(alloc, &mut self.flow, buffer);
+        }
+        if self.flow.has_failed() {
+            return Ok(Heard::Lost(Reason::Reset));
+        }
+        Ok(Heard::Nothing)
+    }
+
+    /// Writes what is owed, as far as it is taken now: nothing, until the link is known to work.
+    pub(crate) fn write(&mut self) -> Emptying
+        ensures kept { (sent heard : List ℕ) → IsLinked S.has_given S.has_got self.old sent heard → IsLinked S.has_given S.has_got self.new sent heard }
+        ensures owed { TellsOwed (Some result) (is_owed self.new.flow) }
+    {
+        if !self.is_opening() {
+            return self.flow.write();
+        }
+        if self.flow.has_failed() {
+            return Emptying::Failed;
+        }
+        Emptying::Later
+    }
+
+    /// What the system tells of it. It is known to work once something is told without a failure.
+    pub(crate) fn learn(&mut self, readiness: Readiness)
+        ensures { (sent heard : List ℕ) → IsLinked S.has_given S.has_got self.old sent heard → IsLinked S.has_given S.has_got self.new sent heard }
+    {
+        self.flow.learn(readiness);
+        if readiness.failed {
+            return;
+        }
+        if readiness.writable | readiness.readable | readiness.ended {
+            self.spare = None;
+        }
+    }
+
+    /// Takes the request back, where the link has failed before it was known to work.
+    pub(crate) fn take_back(&mut self) -> Option<MessageText>
+        ensures kept { (sent heard : List ℕ) → IsLinked S.has_given S.has_got self.old sent heard → IsLinked S.has_given S.has_got self.new sent heard }
+        ensures back { (sent heard : List ℕ) → IsLinked S.has_given S.has_got self.old sent heard
+            → IfSome result (λ request. IsUnused S.has_given S.has_got self.old × (heard ≡ []) × (sent ≡ request)) }
+    {
+        if !self.flow.has_failed() {
+            return None;
+        }
+        self.spare.take()
+    }
+
+    /// The stream, where the link works: our half is ended, and what waits is dropped.
+    pub(crate) fn into_lingering(self) -> Option<S>
+        ensures { is_some result ≡ (not (is_some self.spare) && not self.flow.failed) }
+    {
+        if self.is_opening() {
+            return None;
+        }
+        if self.flow.has_failed() {
+            return None;
+        }
+        let mut stream = self.flow.into_stream();
+        stream.end();
+        Some(stream)
+    }
+
+    /// Whether octets wait to be written.
+    pub(crate) fn is_owed(&self) -> bool
+        ensures { result ≡ is_owed self.now.flow }
+    {
+        self.flow.is_owed()
+    }
+
+    /// Whether a read may bring something now.
+    pub(crate) fn is_readable(&self) -> bool
+        ensures { result ≡ self.now.flow.readable }
+    {
+        self.flow.is_readable()
+    }
+}

@@ -1,0 +1,205 @@
+//! Links have their turns.
+
+ghost use Rattle.std.specs.Prelude.{◌≡◌, ℕ, List, ◌∷◌};
+
+use crate::client::Hearing;
+use crate::limits::Limits;
+use crate::lingering::Remainder;
+use crate::traffic::Traffic;
+use crate::world::World;
+use hc_connection::{Awaiting, Happened};
+use hc_order::Receiver;
+use std::alloc::AllocError;
+
+impl<W: World> Traffic<W> {
+    ghost use Rattle.hc_connection.specs.Sides.{TellsIfOk};
+    ghost use Rattle.hc_order.specs.Log.{Move};
+    ghost use Rattle.hc_crowd.specs.Peers.{ArePeers, HeardInTurn, IsAnswerOf, MayBeHeard, NoAnswer};
+
+    /// What happens next: a client connects, or something is heard of a link that has its turn in this batch.
+    pub(crate) fn happening<A: Awaiting>(
+        &mut self,
+        cache: &A,
+        limits: Limits,
+    ) -> Result<Option<Happened>, AllocError>
+        ensures tells { (log : List Move) → ArePeers W.Stream.has_given W.Stream.has_got self.old.peers log
+            → TellsIfOk (ArePeers W.Stream.has_given W.Stream.has_got self.new.peers) result log }
+        ensures may { (log : List Move) → ArePeers W.Stream.has_given W.Stream.has_got self.old.peers log
+            → MayBeHeard limits.connections result log }
+        ensures in_turn { HeardInTurn (A.awaited cache.now) result }
+    {
+        if let Some(happened) = self.accept(limits)? {
+            return Ok(Some(happened));
+        }
+        'turns: for _ in 0..u64::MAX {
+            let Some(link) = self.agenda.turns.next() else {
+                return Ok(None);
+            };
+            if let Some(happened) = self.turn(link, cache, limits)? {
+                return Ok(Some(happened));
+            }
+        }
+        Ok(None)
+    }
+
+    /// What is heard in a link's turn.
+    fn turn<A: Awaiting>(
+        &mut self,
+        link: Receiver,
+        cache: &A,
+        limits: Limits,
+    ) -> Result<Option<Happened>, AllocError>
+        ensures tells { (log : List Move) → ArePeers W.Stream.has_given W.Stream.has_got self.old.peers log
+            → TellsIfOk (ArePeers W.Stream.has_given W.Stream.has_got self.new.peers) result log }
+        ensures may { (most : ℕ) (log : List Move) → ArePeers W.Stream.has_given W.Stream.has_got self.old.peers log → MayBeHeard most result log }
+        ensures in_turn { HeardInTurn (A.awaited cache.now) result }
+    {
+        match link {
+            Receiver::Client(number) => self.client_turn(number, cache.awaits(number)),
+            Receiver::Origin(forward) => self.origin_turn(forward, limits),
+        }
+    }
+
+    /// What is heard in the turn of a client, of whose requests one awaits its reply or none does.
+    fn client_turn(&mut self, number: u64, awaited: bool) -> Result<Option<Happened>, AllocError>
+        ensures tells { (log : List Move) → ArePeers W.Stream.has_given W.Stream.has_got self.old.peers log
+            → TellsIfOk (ArePeers W.Stream.has_given W.Stream.has_got self.new.peers) result log }
+        ensures may { (most : ℕ) (log : List Move) → ArePeers W.Stream.has_given W.Stream.has_got self.old.peers log → MayBeHeard most result log }
+        ensures in_turn { HeardInTurn (IsAnswerOf number awaited) result }
+    {
+        self.peers.unqueue(Receiver::Client(number));
+        if self.course.is_late() {
+            self.peers.lose_client(number);
+        }
+        if self.peers.clients.is_closed(number) {
+            self.drop_rest_of_client(number);
+            return Ok(None);
+        }
+        self.hear_client(number, awaited)
+    }
+
+    /// What is heard of a client.
+    fn hear_client(&mut self, number: u64, awaited: bool) -> Result<Option<Happened>, AllocError>
+        ensures tells { (log : List Move) → ArePeers W.Stream.has_given W.Stream.has_got self.old.peers log
+            → TellsIfOk (ArePeers W.Stream.has_given W.Stream.has_got self.new.peers) result log }
+        ensures may { (most : ℕ) (log : List Move) → ArePeers W.Stream.has_given W.Stream.has_got self.old.peers log → MayBeHeard most result log }
+        ensures in_turn { HeardInTurn (IsAnswerOf number awaited) result }
+    {
+        let hearing = Hearing {
+            awaited,
+            stops: self.course.stops(),
+        };
+        let heard = self
+            .peers
+            .hear_client(number, self.buffer.as_mut_slice(), hearing);
+        self.go_on(Receiver::Client(number), &heard);
+        heard
+    }
+
+    /// A link is to be heard again, where more may come behind what was heard. Where memory was refused for what came,
+    /// the link has failed, which is to be heard.
+    fn go_on(&mut self, link: Receiver, heard: &Result<Option<Happened>, AllocError>)
+        ensures tells { (log : List Move) → ArePeers W.Stream.has_given W.Stream.has_got self.old.peers log
+            → ArePeers W.Stream.has_given W.Stream.has_got self.new.peers log }
+    {
+        let goes_on = match heard {
+            Ok(Some(_)) => self.peers.is_readable(link),
+            Ok(None) => false,
+            Err(AllocError) => true,
+        };
+        if goes_on {
+            self.give_turn(link);
+        }
+    }
+
+    /// Drops what a client whose connection is closed still sends, and then its link, once nothing more comes and all that
+    /// was owed to it was written or is lost.
+    fn drop_rest_of_client(&mut self, number: u64)
+        ensures tells { (log : List Move) → ArePeers W.Stream.has_given W.Stream.has_got self.old.peers log
+            → ArePeers W.Stream.has_given W.Stream.has_got self.new.peers log }
+    {
+        if self.peers.discard(number, self.buffer.as_mut_slice()) {
+            self.let_go(number);
+        } else if self.peers.clients.is_readable(number) {
+            self.give_turn(Receiver::Client(number));
+        }
+    }
+
+    /// Drops a client's link, where the cache has closed the connection, and all that was owed was written, or is lost.
+    pub(crate) fn let_go(&mut self, number: u64)
+        ensures tells { (log : List Move) → ArePeers W.Stream.has_given W.Stream.has_got self.old.peers log
+            → ArePeers W.Stream.has_given W.Stream.has_got self.new.peers log }
+    {
+        if self.peers.let_go(number) {
+            // The system may have a place for a client again.
+            self.listening.retry();
+        }
+    }
+
+    /// What is heard in the turn of a forward. Behind a link that has failed before it was known to work, another one is
+    /// tried.
+    fn origin_turn(&mut self, forward: u64, limits: Limits) -> Result<Option<Happened>, AllocError>
+        ensures tells { (log : List Move) → ArePeers W.Stream.has_given W.Stream.has_got self.old.peers log
+            → TellsIfOk (ArePeers W.Stream.has_given W.Stream.has_got self.new.peers) result log }
+        ensures may { (most : ℕ) (log : List Move) → ArePeers W.Stream.has_given W.Stream.has_got self.old.peers log → MayBeHeard most result log }
+        ensures in_turn { HeardInTurn NoAnswer result }
+    {
+        if self.lingering.has(forward) {
+            self.drop_rest_of_origin(forward);
+            return Ok(None);
+        }
+        self.peers.unqueue(Receiver::Origin(forward));
+        if self.peers.retry(forward) {
+            self.reach_again(forward, limits);
+            return Ok(None);
+        }
+        self.hear_origin(forward)
+    }
+
+    /// What is heard of a forward. One that has failed needs its place no more.
+    fn hear_origin(&mut self, forward: u64) -> Result<Option<Happened>, AllocError>
+        ensures tells { (log : List Move) → ArePeers W.Stream.has_given W.Stream.has_got self.old.peers log
+            → TellsIfOk (ArePeers W.Stream.has_given W.Stream.has_got self.new.peers) result log }
+        ensures may { (most : ℕ) (log : List Move) → ArePeers W.Stream.has_given W.Stream.has_got self.old.peers log → MayBeHeard most result log }
+        ensures in_turn { HeardInTurn NoAnswer result }
+    {
+        let heard = self.peers.hear_origin(forward, self.buffer.as_mut_slice());
+        self.go_on(Receiver::Origin(forward), &heard);
+        if !self.peers.forwards.is_there(forward) {
+            self.free_place(forward);
+        }
+        heard
+    }
+
+    /// Drops what comes on a link to the origin that lingers, and then the link, once nothing more does.
+    fn drop_rest_of_origin(&mut self, forward: u64)
+        ensures tells { (log : List Move) → ArePeers W.Stream.has_given W.Stream.has_got self.old.peers log
+            → ArePeers W.Stream.has_given W.Stream.has_got self.new.peers log }
+    {
+        match self.lingering.discard(forward, self.buffer.as_mut_slice()) {
+            Remainder::More => self.give_lingering_turn(forward),
+            Remainder::Later => {}
+            Remainder::Over => self.drop_lingering(forward),
+        }
+    }
+
+    /// A link to the origin that lingers is to be heard.
+    pub(crate) fn give_lingering_turn(&mut self, forward: u64)
+        ensures tells { (log : List Move) → ArePeers W.Stream.has_given W.Stream.has_got self.old.peers log
+            → ArePeers W.Stream.has_given W.Stream.has_got self.new.peers log }
+    {
+        if self.lingering.queue(forward) {
+            self.agenda.give_turn(Receiver::Origin(forward));
+        }
+    }
+
+    /// Drops a link to the origin, if it lingers.
+    pub(crate) fn drop_lingering(&mut self, forward: u64)
+        ensures tells { (log : List Move) → ArePeers W.Stream.has_given W.Stream.has_got self.old.peers log
+            → ArePeers W.Stream.has_given W.Stream.has_got self.new.peers log }
+    {
+        if self.lingering.drop_one(forward) {
+            self.free_place(forward);
+        }
+    }
+}

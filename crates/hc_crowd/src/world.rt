@@ -1,0 +1,60 @@
+//! What a crowd needs of the world: clients who connect, an origin to connect to, what is ready, and clocks.
+
+ghost use Rattle.std.specs.Prelude.{ℕ, List, [], IfSome};
+ghost use Rattle.hc_crowd.specs.Worlds.{IsFreshlyAccepted};
+
+use hc_flow::{Readiness, Stream};
+use hc_order::Receiver;
+
+/// What became ready.
+#[derive(Clone, Copy)]
+pub enum Ready {
+    /// Clients may have connected.
+    Clients,
+    /// The link of that client, or of that forward, so far.
+    Link(Receiver, Readiness),
+}
+
+/// What came of accepting a client.
+pub enum Accepted<S> {
+    /// A client has connected.
+    Client(S),
+    /// No client connects now. Once one does, that is told as what is ready.
+    Later,
+    /// The system has no place for a further link now.
+    Full,
+}
+
+/// What a crowd needs of the world. What is ready is told once for each change.
+pub trait World {
+    /// A link to a client or to the origin.
+    type Stream: Stream + Drop;
+
+    /// Waits until something is ready, so many milliseconds at most.
+    fn wait(&mut self, most: u64);
+
+    /// What became ready and wasn't told yet.
+    fn ready(&mut self) -> Option<Ready>;
+
+    /// A client who has connected. What becomes ready at its link is told with that number.
+    fn accept(&mut self, number: u64) -> Accepted<Self::Stream>
+        ensures { IsFreshlyAccepted Self.Stream.has_given Self.Stream.has_got result };
+
+    /// Begins to connect to the origin for the forward of that number, without waiting: for the first time where `attempt`
+    /// is 0. That the link is made, or fails, is told as what is ready, with that number. There is none where it can't
+    /// begin, or all addresses were tried.
+    fn connect(&mut self, forward: u64, attempt: u32) -> Option<Self::Stream>
+        ensures { IfSome result (λ stream. Self.Stream.has_given stream [] × Self.Stream.has_got stream []) };
+
+    /// The wall clock's second, since 1970; none where it can't be read.
+    fn wall(&self) -> Option<u64>;
+
+    /// The milliseconds that a clock has counted which is never set.
+    fn tick(&self) -> u64;
+
+    /// Whether the program was asked to stop.
+    fn stops(&mut self) -> bool;
+
+    /// No further client can connect.
+    fn stop_listening(&mut self);
+}
