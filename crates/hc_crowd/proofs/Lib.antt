@@ -4,4 +4,5 @@ pub mod FlowLemmas
 pub mod MomentsLaws
 pub mod MomentsLemmas
 pub mod PeerLemmas
+pub mod ShownLemmas
 pub mod TableLemmas

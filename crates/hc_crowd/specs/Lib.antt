@@ -5,6 +5,7 @@ pub mod Links
 pub mod Moments
 pub mod MomentsKept
 pub mod Peers
+pub mod Shown
 pub mod Telling
 pub mod Turns
 pub mod Worlds

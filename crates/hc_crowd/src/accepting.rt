@@ -14,6 +14,7 @@ impl<W: World> Traffic<W> {
     ghost use Rattle.hc_connection.specs.Sides.{TellsIfOk};
     ghost use Rattle.hc_order.specs.Log.{Move};
     ghost use Rattle.hc_crowd.specs.Peers.{ArePeers, HeardInTurn, MayBeHeard, NoAnswer};
+    ghost use Rattle.hc_crowd.specs.Shown.{AreShown};
 
     /// Whether further clients may connect: no stop was asked, and not all of those have come that are served.
     pub(crate) fn serves_more(&self, limits: Limits) -> bool {
@@ -40,6 +41,8 @@ impl<W: World> Traffic<W> {
         ensures may { (log : List Move) → ArePeers W.Stream.has_given W.Stream.has_got self.old.peers log
             → MayBeHeard limits.connections result log }
         ensures in_turn { HeardInTurn NoAnswer result }
+        ensures shown { (log : List Move) → AreShown W.Stream.has_got self.old.peers.clients.table log
+            → AreShown W.Stream.has_got self.new.peers.clients.table log }
     {
         if !self.listening.may_accept() {
             return Ok(None);
@@ -64,6 +67,8 @@ impl<W: World> Traffic<W> {
             → TellsIfOk (ArePeers W.Stream.has_given W.Stream.has_got self.new.peers) result log }
         ensures may { (log : List Move) → ArePeers W.Stream.has_given W.Stream.has_got self.old.peers log → MayBeHeard most result log }
         ensures in_turn { HeardInTurn NoAnswer result }
+        ensures shown { (log : List Move) → AreShown W.Stream.has_got self.old.peers.clients.table log
+            → AreShown W.Stream.has_got self.new.peers.clients.table log }
     {
         match self.world.accept(number) {
             Accepted::Client(stream) => {

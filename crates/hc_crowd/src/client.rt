@@ -35,11 +35,13 @@ impl<S: Stream> Client<S> {
     ghost use Rattle.hc_order.specs.Passages.{Passage, closing, ending, opened_with};
     ghost use Rattle.hc_crowd.specs.Hearings.{IsHeardFor, IsHeardInTurn, IsHeardOpen, KeepsHeard, KeepsSent, lost_for, wants_turn};
     ghost use Rattle.hc_crowd.specs.Links.{IsClient, TellsOwed, is_owed, may_go};
+    ghost use Rattle.hc_flow.specs.Passing.{Stays};
 
     /// One who has just connected, and has a turn.
     pub(crate) fn new(alloc: Global, stream: S) -> Self
         ensures kept { S.has_given stream [] → S.has_got stream [] → IsClient S.has_given S.has_got result (opened_with []) }
         ensures queued { result.queued ≡ true }
+        ensures stream { result.flow.stream ≡ stream }
     {
         Client {
             flow: Flow::new(alloc, stream),
@@ -65,6 +67,7 @@ impl<S: Stream> Client<S> {
         ensures in_turn { IsHeardInTurn hearing.awaited result }
         ensures owed { IsHeardInTurn (is_owed self.old.flow) result }
         ensures reason { IsHeardFor hearing.stops self.old.late result }
+        ensures got { Stays (S.has_got self.old.flow.stream) (S.has_got self.new.flow.stream) }
     {
         if self.ended {
             return Ok(Heard::Nothing);
@@ -107,6 +110,7 @@ impl<S: Stream> Client<S> {
         ensures heard { result ≡ Heard.End reason }
         ensures kept { (passage : Passage) → IsClient S.has_given S.has_got self.old passage
             → IsClient S.has_given S.has_got self.new (ending passage) }
+        ensures got { Stays (S.has_got self.old.flow.stream) (S.has_got self.new.flow.stream) }
     {
         self.ended = true;
         Heard::End(reason)
@@ -117,6 +121,7 @@ impl<S: Stream> Client<S> {
         ensures kept { self.old.closed ≡ false → (passage : Passage) → IsClient S.has_given S.has_got self.old passage
             → KeepsHeard (IsClient S.has_given S.has_got self.new) result passage }
         ensures reason { (late : Bool) → IsHeardFor false late result }
+        ensures got { Stays (S.has_got self.old.flow.stream) (S.has_got self.new.flow.stream) }
     {
         match hear_flow(alloc, &mut self.flow, buffer)? {
             Heard::Octets(octets) => Ok(Heard::Octets(octets)),
@@ -128,8 +133,9 @@ impl<S: Stream> Client<S> {
 
     /// Octets are owed to the client. Where memory is refused, they aren't.
     pub(crate) fn send(&mut self, text: &MessageText) -> Result<(), AllocError>
-        ensures { (passage : Passage) → IsClient S.has_given S.has_got self.old passage
+        ensures kept { (passage : Passage) → IsClient S.has_given S.has_got self.old passage
             → KeepsSent (IsClient S.has_given S.has_got self.new) result text.now passage }
+        ensures got { Stays (S.has_got self.old.flow.stream) (S.has_got self.new.flow.stream) }
     {
         self.flow.send(text)
     }
@@ -140,6 +146,7 @@ impl<S: Stream> Client<S> {
             → IsClient S.has_given S.has_got self.new (closing passage) }
         ensures was { result ≡ not self.old.closed }
         ensures ends { (self.new.closed ≡ true) × (self.new.flow.ends ≡ true) }
+        ensures got { Stays (S.has_got self.old.flow.stream) (S.has_got self.new.flow.stream) }
     {
         let was_open = !self.closed;
         self.closed = true;
@@ -160,6 +167,7 @@ impl<S: Stream> Client<S> {
         ensures kept { (passage : Passage) → IsClient S.has_given S.has_got self.old passage → IsClient S.has_given S.has_got self.new passage }
         ensures first { result ≡ (wants_turn readiness && not self.old.queued) }
         ensures queued { self.new.queued ≡ (wants_turn readiness || self.old.queued) }
+        ensures got { Stays (S.has_got self.old.flow.stream) (S.has_got self.new.flow.stream) }
     {
         self.flow.learn(readiness);
         if !wants_turn(readiness) {
@@ -172,6 +180,7 @@ impl<S: Stream> Client<S> {
     pub(crate) fn lose(&mut self)
         ensures kept { (passage : Passage) → IsClient S.has_given S.has_got self.old passage → IsClient S.has_given S.has_got self.new passage }
         ensures lost { (self.new.late ≡ true) × (self.new.flow.failed ≡ true) }
+        ensures got { Stays (S.has_got self.old.flow.stream) (S.has_got self.new.flow.stream) }
     {
         self.late = true;
         self.flow.lose();
@@ -179,7 +188,8 @@ impl<S: Stream> Client<S> {
 
     /// Reads what a client whose connection is closed still sends, and drops it. Answers whether nothing more comes.
     pub(crate) fn discard(&mut self, buffer: &mut [u8]) -> bool
-        ensures { (passage : Passage) → IsClient S.has_given S.has_got self.old passage → IsClient S.has_given S.has_got self.new passage }
+        ensures kept { (passage : Passage) → IsClient S.has_given S.has_got self.old passage → IsClient S.has_given S.has_got self.new passage }
+        ensures got { Stays (S.has_got self.old.flow.stream) (S.has_got self.new.flow.stream) }
     {
         if !self.closed {
             return false;
@@ -225,6 +235,7 @@ impl<S: Stream> Client<S> {
         ensures kept { (passage : Passage) → IsClient S.has_given S.has_got self.old passage → IsClient S.has_given S.has_got self.new passage }
         ensures first { result ≡ not self.old.queued }
         ensures queued { self.new.queued ≡ true }
+        ensures got { Stays (S.has_got self.old.flow.stream) (S.has_got self.new.flow.stream) }
     {
         let is_first = !self.queued;
         self.queued = true;
@@ -235,6 +246,7 @@ impl<S: Stream> Client<S> {
     pub(crate) fn unqueue(&mut self)
         ensures kept { (passage : Passage) → IsClient S.has_given S.has_got self.old passage → IsClient S.has_given S.has_got self.new passage }
         ensures queued { self.new.queued ≡ false }
+        ensures got { Stays (S.has_got self.old.flow.stream) (S.has_got self.new.flow.stream) }
     {
         self.queued = false;
     }

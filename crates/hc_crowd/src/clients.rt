@@ -28,6 +28,7 @@ impl<S: Stream + Drop> Clients<S> {
     ghost use Rattle.hc_crowd.specs.Hearings.{IsHeardFor, IsHeardInTurn, IsHeardOpen, wants_turn};
     ghost use Rattle.hc_crowd.specs.Links.{AreClients, KeepsOthers, TellsOwed, is_owed, is_there_and, may_go};
     ghost use Rattle.hc_crowd.specs.Telling.{KeepsOfClient, KeepsOpened};
+    ghost use Rattle.hc_crowd.specs.Shown.{AreShown};
 
     /// No client has connected.
     pub(crate) fn new(alloc: Global) -> Self
@@ -52,6 +53,7 @@ impl<S: Stream + Drop> Clients<S> {
         ensures kept { S.has_given stream [] → S.has_got stream [] → (log : List Move) → AreClients S.has_given S.has_got self.old.table log
             → KeepsOpened (AreClients S.has_given S.has_got self.new.table) number result log }
         ensures others { KeepsOthers number self.old.table self.new.table }
+        ensures shown { S.has_got stream [] → (log : List Move) → AreShown S.has_got self.old.table log → AreShown S.has_got self.new.table log }
     {
         let client = Client::new(self.alloc, stream);
         self.table.insert(number, client)?;
@@ -74,6 +76,7 @@ impl<S: Stream + Drop> Clients<S> {
         ensures in_turn { IsHeardInTurn hearing.awaited result }
         ensures owed { IsHeardInTurn (is_there_and (get nat_cmp self.old.table number) (λ client. is_owed client.flow)) result }
         ensures reason { IsHeardFor hearing.stops (is_there_and (get nat_cmp self.old.table number) (λ client. client.late)) result }
+        ensures shown { (log : List Move) → AreShown S.has_got self.old.table log → AreShown S.has_got self.new.table log }
     {
         match self.table.get_mut(&number) {
             Some(client) => client.hear(self.alloc, buffer, hearing),
@@ -86,6 +89,7 @@ impl<S: Stream + Drop> Clients<S> {
         ensures sent { (log : List Move) → AreClients S.has_given S.has_got self.old.table log
             → TellsSent (AreClients S.has_given S.has_got self.new.table) result (to.Client number) text.now log }
         ensures others { KeepsOthers number self.old.table self.new.table }
+        ensures shown { (log : List Move) → AreShown S.has_got self.old.table log → AreShown S.has_got self.new.table log }
     {
         let Some(client) = self.table.get_mut(&number) else {
             return Ok(());
@@ -101,6 +105,7 @@ impl<S: Stream + Drop> Clients<S> {
         ensures was { result ≡ is_there_and (get nat_cmp self.old.table number) (λ client. not client.closed) }
         // Behind what is owed our half is ended.
         ensures ends { is_there_and (get nat_cmp self.new.table number) (λ client. client.closed && client.flow.ends) ≡ is_some (get nat_cmp self.old.table number) }
+        ensures shown { (log : List Move) → AreShown S.has_got self.old.table log → AreShown S.has_got self.new.table log }
     {
         match self.table.get_mut(&number) {
             Some(client) => client.close(),
@@ -125,6 +130,7 @@ impl<S: Stream + Drop> Clients<S> {
         ensures kept { (log : List Move) → AreClients S.has_given S.has_got self.old.table log → AreClients S.has_given S.has_got self.new.table log }
         ensures others { KeepsOthers number self.old.table self.new.table }
         ensures first { result ≡ is_there_and (get nat_cmp self.old.table number) (λ client. wants_turn readiness && not client.queued) }
+        ensures shown { (log : List Move) → AreShown S.has_got self.old.table log → AreShown S.has_got self.new.table log }
     {
         match self.table.get_mut(&number) {
             Some(client) => client.learn(readiness),
@@ -137,6 +143,7 @@ impl<S: Stream + Drop> Clients<S> {
         ensures kept { (log : List Move) → AreClients S.has_given S.has_got self.old.table log → AreClients S.has_given S.has_got self.new.table log }
         ensures others { KeepsOthers number self.old.table self.new.table }
         ensures lost { is_there_and (get nat_cmp self.new.table number) (λ client. client.late && client.flow.failed) ≡ is_some (get nat_cmp self.old.table number) }
+        ensures shown { (log : List Move) → AreShown S.has_got self.old.table log → AreShown S.has_got self.new.table log }
     {
         match self.table.get_mut(&number) {
             Some(client) => client.lose(),
@@ -148,6 +155,7 @@ impl<S: Stream + Drop> Clients<S> {
     pub(crate) fn discard(&mut self, number: u64, buffer: &mut [u8]) -> bool
         ensures kept { (log : List Move) → AreClients S.has_given S.has_got self.old.table log → AreClients S.has_given S.has_got self.new.table log }
         ensures others { KeepsOthers number self.old.table self.new.table }
+        ensures shown { (log : List Move) → AreShown S.has_got self.old.table log → AreShown S.has_got self.new.table log }
     {
         match self.table.get_mut(&number) {
             Some(client) => client.discard(buffer),
@@ -172,6 +180,7 @@ impl<S: Stream + Drop> Clients<S> {
         ensures others { KeepsOthers number self.old.table self.new.table }
         ensures gone { result ≡ is_there_and (get nat_cmp self.old.table number) may_go }
         ensures rest { get nat_cmp self.new.table number ≡ (if result then None else get nat_cmp self.old.table number) }
+        ensures shown { (log : List Move) → AreShown S.has_got self.old.table log → AreShown S.has_got self.new.table log }
     {
         if !self.may_go(number) {
             return false;
@@ -186,6 +195,7 @@ impl<S: Stream + Drop> Clients<S> {
         ensures others { KeepsOthers number self.old.table self.new.table }
         ensures first { result ≡ is_there_and (get nat_cmp self.old.table number) (λ client. not client.queued) }
         ensures queued { is_there_and (get nat_cmp self.new.table number) (λ client. client.queued) ≡ is_some (get nat_cmp self.old.table number) }
+        ensures shown { (log : List Move) → AreShown S.has_got self.old.table log → AreShown S.has_got self.new.table log }
     {
         match self.table.get_mut(&number) {
             Some(client) => client.queue(),
@@ -198,6 +208,7 @@ impl<S: Stream + Drop> Clients<S> {
         ensures kept { (log : List Move) → AreClients S.has_given S.has_got self.old.table log → AreClients S.has_given S.has_got self.new.table log }
         ensures others { KeepsOthers number self.old.table self.new.table }
         ensures queued { is_there_and (get nat_cmp self.new.table number) (λ client. client.queued) ≡ false }
+        ensures shown { (log : List Move) → AreShown S.has_got self.old.table log → AreShown S.has_got self.new.table log }
     {
         match self.table.get_mut(&number) {
             Some(client) => client.unqueue(),

@@ -50,6 +50,7 @@ impl<W: World> Crowd<W> {
     ghost use Rattle.hc_order.specs.Log.{Move};
     ghost use Rattle.hc_crowd.specs.Crowds.{CrowdTells, MayTell};
     ghost use Rattle.hc_crowd.specs.MomentsKept.{told_by};
+    ghost use Rattle.hc_crowd.specs.Shown.{AreShown};
 
     /// That happens now.
     fn now(&self, happened: Happened) -> Occurrence
@@ -84,8 +85,11 @@ impl<W: World> Crowd<W> {
 impl<W: World> Links for Crowd<W> {
     ghost use Rattle.hc_connection.specs.Telling.{IsInTurn};
     ghost use Rattle.hc_crowd.specs.Crowds.{CrowdTells, MayTell};
+    ghost use Rattle.hc_crowd.specs.Shown.{AreShown};
 
     ghost tells = { λ crowd. CrowdTells W.Stream.has_given W.Stream.has_got crowd.traffic.peers crowd.clock };
+
+    ghost shows = { λ crowd. AreShown W.Stream.has_got crowd.traffic.peers.clients.table };
 
     // A further batch may bring more.
     ghost rests = { λ _. Unit {0} };
@@ -95,9 +99,6 @@ impl<W: World> Links for Crowd<W> {
     ghost may_tell = { λ crowd. MayTell crowd.clock };
 
     ghost heeds = { IsInTurn };
-
-    // What was written to which client isn't told.
-    ghost shows = { λ _ _. Unit {0} };
 
     fn next<A: Awaiting>(&mut self, cache: &A) -> Result<Option<Occurrence>, AllocError> {
         match self.traffic.happening(cache, self.limits)? {

@@ -22,12 +22,15 @@ impl<W: World> Traffic<W> {
     ghost use Rattle.hc_order.specs.Log.Move.{Closed};
     ghost use Rattle.hc_order.specs.declared.receiver.Receiver.TheVariants.{Client, Origin};
     ghost use Rattle.hc_crowd.specs.Peers.{ArePeers};
+    ghost use Rattle.hc_crowd.specs.Shown.{AreShown};
 
     /// Octets are owed to a client, or a forward is opened, and its request waits for a link. Where memory is refused,
     /// nothing is sent.
     pub(crate) fn send(&mut self, to: Receiver, octets: &MessageText) -> Result<(), AllocError>
         ensures tells { (log : List Move) → ArePeers W.Stream.has_given W.Stream.has_got self.old.peers log
             → TellsSent (ArePeers W.Stream.has_given W.Stream.has_got self.new.peers) result to octets.now log }
+        ensures shown { (log : List Move) → AreShown W.Stream.has_got self.old.peers.clients.table log
+            → AreShown W.Stream.has_got self.new.peers.clients.table log }
     {
         // What is to be done has its place before anything is sent.
         match to {
@@ -41,6 +44,8 @@ impl<W: World> Traffic<W> {
     pub(crate) fn close(&mut self, link: Receiver)
         ensures tells { (log : List Move) → ArePeers W.Stream.has_given W.Stream.has_got self.old.peers log
             → ArePeers W.Stream.has_given W.Stream.has_got self.new.peers (Closed link ∷ log) }
+        ensures shown { (log : List Move) → AreShown W.Stream.has_got self.old.peers.clients.table log
+            → AreShown W.Stream.has_got self.new.peers.clients.table log }
     {
         match link {
             Receiver::Client(number) => {
@@ -55,6 +60,8 @@ impl<W: World> Traffic<W> {
     fn close_origin(&mut self, forward: u64)
         ensures tells { (log : List Move) → ArePeers W.Stream.has_given W.Stream.has_got self.old.peers log
             → ArePeers W.Stream.has_given W.Stream.has_got self.new.peers (Closed (Origin forward) ∷ log) }
+        ensures shown { (log : List Move) → AreShown W.Stream.has_got self.old.peers.clients.table log
+            → AreShown W.Stream.has_got self.new.peers.clients.table log }
     {
         match self.peers.close_origin(forward) {
             Some(stream) => self.linger(forward, stream),
@@ -66,6 +73,8 @@ impl<W: World> Traffic<W> {
     fn linger(&mut self, forward: u64, stream: W::Stream)
         ensures tells { (log : List Move) → ArePeers W.Stream.has_given W.Stream.has_got self.old.peers log
             → ArePeers W.Stream.has_given W.Stream.has_got self.new.peers log }
+        ensures shown { (log : List Move) → AreShown W.Stream.has_got self.old.peers.clients.table log
+            → AreShown W.Stream.has_got self.new.peers.clients.table log }
     {
         if self.course.is_late() || !self.lingering.put(forward, stream) {
             self.free_place(forward);

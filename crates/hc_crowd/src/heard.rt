@@ -2,6 +2,7 @@
 
 ghost use Rattle.std.specs.Prelude.{◌≡◌, ◌++◌, ℕ, List};
 ghost use Rattle.hc_flow.specs.Flows.{FlowGave, FlowOwes};
+ghost use Rattle.hc_flow.specs.Passing.{Stays};
 ghost use Rattle.hc_crowd.specs.Hearings.{GivesHeard, IsRead, is_end, is_lost, wants_turn};
 
 use hc_fields::Octets;
@@ -58,6 +59,7 @@ pub(crate) fn hear_flow<S: Stream>(
     ensures owes { (sent : List ℕ) → FlowOwes S.has_got flow.old sent → FlowOwes S.has_got flow.new sent }
     ensures gave { (heard : List ℕ) → FlowGave S.has_given flow.old heard → GivesHeard (FlowGave S.has_given flow.new) result heard }
     ensures reason { IsRead result }
+    ensures got { Stays (S.has_got flow.old.stream) (S.has_got flow.new.stream) }
 {
     match flow.read(buffer) {
         Arrival::Octets(count) => heard_octets(alloc, flow, &buffer[..count]),
@@ -77,6 +79,7 @@ fn heard_octets<S: Stream>(
     ensures gave { (heard : List ℕ) → FlowGave S.has_given flow.old (heard ++ octets.now)
         → GivesHeard (FlowGave S.has_given flow.new) result heard }
     ensures reason { IsRead result }
+    ensures got { Stays (S.has_got flow.old.stream) (S.has_got flow.new.stream) }
 {
     match Octets::from_slice(alloc, octets) {
         Ok(octets) => Ok(Heard::Octets(octets)),

@@ -34,6 +34,7 @@ impl<S: Stream + Drop> Peers<S> {
     ghost use Rattle.hc_crowd.specs.Crowds.{NoLinkIsLeft};
     ghost use Rattle.hc_crowd.specs.Peers.{ArePeers, HeardInTurn, IsAnswerOf, MayBeHeard, NoAnswer};
     ghost use Rattle.hc_crowd.specs.Telling.{KeepsOpened};
+    ghost use Rattle.hc_crowd.specs.Shown.{AreShown};
     ghost use Rattle.hc_events.specs.declared.Happening.TheVariants.{ClientOpened};
 
     /// Nobody has connected, and no forward is open.
@@ -84,6 +85,8 @@ impl<S: Stream + Drop> Peers<S> {
         ensures tells { S.has_given stream [] → S.has_got stream [] → (log : List Move) → ArePeers S.has_given S.has_got self.old log
             → KeepsOpened (ArePeers S.has_given S.has_got self.new) number result log }
         ensures may { (log : List Move) → ArePeers S.has_given S.has_got self.old log → MayHappen most (ClientOpened number) log }
+        ensures shown { S.has_got stream [] → (log : List Move) → AreShown S.has_got self.old.clients.table log
+            → AreShown S.has_got self.new.clients.table log }
     {
         self.clients.open(number, stream)?;
         self.last = number;
@@ -102,6 +105,7 @@ impl<S: Stream + Drop> Peers<S> {
             → TellsIfOk (ArePeers S.has_given S.has_got self.new) result log }
         ensures may { (most : ℕ) (log : List Move) → ArePeers S.has_given S.has_got self.old log → MayBeHeard most result log }
         ensures in_turn { HeardInTurn (IsAnswerOf number hearing.awaited) result }
+        ensures shown { (log : List Move) → AreShown S.has_got self.old.clients.table log → AreShown S.has_got self.new.clients.table log }
     {
         match self.clients.hear(number, buffer, hearing)? {
             Heard::Octets(octets) => Ok(Some(Happened {
@@ -127,6 +131,7 @@ impl<S: Stream + Drop> Peers<S> {
             → TellsIfOk (ArePeers S.has_given S.has_got self.new) result log }
         ensures may { (most : ℕ) (log : List Move) → ArePeers S.has_given S.has_got self.old log → MayBeHeard most result log }
         ensures in_turn { HeardInTurn NoAnswer result }
+        ensures shown { (log : List Move) → AreShown S.has_got self.old.clients.table log → AreShown S.has_got self.new.clients.table log }
     {
         match self.forwards.hear(forward, buffer)? {
             Heard::Octets(octets) => Ok(Some(Happened {
@@ -148,8 +153,9 @@ impl<S: Stream + Drop> Peers<S> {
     /// Octets are owed to a client, or a forward is opened, and its request waits for a link. Where memory is refused,
     /// nothing is sent.
     pub(crate) fn send(&mut self, to: Receiver, octets: &MessageText) -> Result<(), AllocError>
-        ensures { (log : List Move) → ArePeers S.has_given S.has_got self.old log
+        ensures sent { (log : List Move) → ArePeers S.has_given S.has_got self.old log
             → TellsSent (ArePeers S.has_given S.has_got self.new) result to octets.now log }
+        ensures shown { (log : List Move) → AreShown S.has_got self.old.clients.table log → AreShown S.has_got self.new.clients.table log }
     {
         match to {
             Receiver::Client(number) => self.clients.send(number, octets),
@@ -159,8 +165,9 @@ impl<S: Stream + Drop> Peers<S> {
 
     /// The cache has closed a client's connection: behind what is owed the client finds an end.
     pub(crate) fn close_client(&mut self, number: u64)
-        ensures { (log : List Move) → ArePeers S.has_given S.has_got self.old log
+        ensures tells { (log : List Move) → ArePeers S.has_given S.has_got self.old log
             → ArePeers S.has_given S.has_got self.new (Closed (Client number) ∷ log) }
+        ensures shown { (log : List Move) → AreShown S.has_got self.old.clients.table log → AreShown S.has_got self.new.clients.table log }
     {
         if self.clients.close(number) {
             self.connected = self.connected.saturating_sub(1);
@@ -170,8 +177,9 @@ impl<S: Stream + Drop> Peers<S> {
     /// The cache has closed a forward. What waits to be written is dropped. Where its link works, and the origin hasn't
     /// ended it, our half is ended, and its stream is answered, which is to linger until the origin ends it, too.
     pub(crate) fn close_origin(&mut self, forward: u64) -> Option<S>
-        ensures { (log : List Move) → ArePeers S.has_given S.has_got self.old log
+        ensures tells { (log : List Move) → ArePeers S.has_given S.has_got self.old log
             → ArePeers S.has_given S.has_got self.new (Closed (Origin forward) ∷ log) }
+        ensures shown { (log : List Move) → AreShown S.has_got self.old.clients.table log → AreShown S.has_got self.new.clients.table log }
     {
         self.forwards.close(forward)
     }
@@ -188,7 +196,8 @@ impl<S: Stream + Drop> Peers<S> {
 
     /// What the system tells of a link. Answers whether it has to get a turn for that now.
     pub(crate) fn learn(&mut self, link: Receiver, readiness: Readiness) -> bool
-        ensures { (log : List Move) → ArePeers S.has_given S.has_got self.old log → ArePeers S.has_given S.has_got self.new log }
+        ensures tells { (log : List Move) → ArePeers S.has_given S.has_got self.old log → ArePeers S.has_given S.has_got self.new log }
+        ensures shown { (log : List Move) → AreShown S.has_got self.old.clients.table log → AreShown S.has_got self.new.clients.table log }
     {
         match link {
             Receiver::Client(number) => self.clients.learn(number, readiness),
@@ -198,7 +207,8 @@ impl<S: Stream + Drop> Peers<S> {
 
     /// A link stands among the turns. Answers whether it is there and didn't stand there before.
     pub(crate) fn queue(&mut self, link: Receiver) -> bool
-        ensures { (log : List Move) → ArePeers S.has_given S.has_got self.old log → ArePeers S.has_given S.has_got self.new log }
+        ensures tells { (log : List Move) → ArePeers S.has_given S.has_got self.old log → ArePeers S.has_given S.has_got self.new log }
+        ensures shown { (log : List Move) → AreShown S.has_got self.old.clients.table log → AreShown S.has_got self.new.clients.table log }
     {
         match link {
             Receiver::Client(number) => self.clients.queue(number),
@@ -208,7 +218,8 @@ impl<S: Stream + Drop> Peers<S> {
 
     /// A link stands among the turns no more.
     pub(crate) fn unqueue(&mut self, link: Receiver)
-        ensures { (log : List Move) → ArePeers S.has_given S.has_got self.old log → ArePeers S.has_given S.has_got self.new log }
+        ensures tells { (log : List Move) → ArePeers S.has_given S.has_got self.old log → ArePeers S.has_given S.has_got self.new log }
+        ensures shown { (log : List Move) → AreShown S.has_got self.old.clients.table log → AreShown S.has_got self.new.clients.table log }
     {
         match link {
             Receiver::Client(number) => self.clients.unqueue(number),
@@ -234,21 +245,24 @@ impl<S: Stream + Drop> Peers<S> {
 
     /// A client's time is over: what is owed to it is lost.
     pub(crate) fn lose_client(&mut self, number: u64)
-        ensures { (log : List Move) → ArePeers S.has_given S.has_got self.old log → ArePeers S.has_given S.has_got self.new log }
+        ensures tells { (log : List Move) → ArePeers S.has_given S.has_got self.old log → ArePeers S.has_given S.has_got self.new log }
+        ensures shown { (log : List Move) → AreShown S.has_got self.old.clients.table log → AreShown S.has_got self.new.clients.table log }
     {
         self.clients.lose(number);
     }
 
     /// There is no link for a forward any more, or none could be made: that is heard next.
     pub(crate) fn lose_origin(&mut self, forward: u64, reason: Reason)
-        ensures { (log : List Move) → ArePeers S.has_given S.has_got self.old log → ArePeers S.has_given S.has_got self.new log }
+        ensures tells { (log : List Move) → ArePeers S.has_given S.has_got self.old log → ArePeers S.has_given S.has_got self.new log }
+        ensures shown { (log : List Move) → AreShown S.has_got self.old.clients.table log → AreShown S.has_got self.new.clients.table log }
     {
         self.forwards.lose(forward, reason);
     }
 
     /// Reads what a client whose connection is closed still sends, and drops it. Answers whether nothing more comes.
     pub(crate) fn discard(&mut self, number: u64, buffer: &mut [u8]) -> bool
-        ensures { (log : List Move) → ArePeers S.has_given S.has_got self.old log → ArePeers S.has_given S.has_got self.new log }
+        ensures tells { (log : List Move) → ArePeers S.has_given S.has_got self.old log → ArePeers S.has_given S.has_got self.new log }
+        ensures shown { (log : List Move) → AreShown S.has_got self.old.clients.table log → AreShown S.has_got self.new.clients.table log }
     {
         self.clients.discard(number, buffer)
     }
@@ -256,15 +270,17 @@ impl<S: Stream + Drop> Peers<S> {
     /// Drops a client's link, where the cache has closed the connection, and all that was owed was written, or is lost.
     /// Answers whether it did.
     pub(crate) fn let_go(&mut self, number: u64) -> bool
-        ensures { (log : List Move) → ArePeers S.has_given S.has_got self.old log → ArePeers S.has_given S.has_got self.new log }
+        ensures tells { (log : List Move) → ArePeers S.has_given S.has_got self.old log → ArePeers S.has_given S.has_got self.new log }
+        ensures shown { (log : List Move) → AreShown S.has_got self.old.clients.table log → AreShown S.has_got self.new.clients.table log }
     {
         self.clients.let_go(number)
     }
 
     /// A link begins to be made for a forward, if its request waits for one. Where memory is refused, it waits still.
     pub(crate) fn link(&mut self, forward: u64, stream: S) -> Result<(), AllocError>
-        ensures { S.has_given stream [] → S.has_got stream [] → (log : List Move) → ArePeers S.has_given S.has_got self.old log
+        ensures tells { S.has_given stream [] → S.has_got stream [] → (log : List Move) → ArePeers S.has_given S.has_got self.old log
             → ArePeers S.has_given S.has_got self.new log }
+        ensures shown { (log : List Move) → AreShown S.has_got self.old.clients.table log → AreShown S.has_got self.new.clients.table log }
     {
         self.forwards.link(forward, stream)
     }
@@ -272,7 +288,8 @@ impl<S: Stream + Drop> Peers<S> {
     /// Where a forward's link has failed before it was known to work, the request waits for another one. Answers whether
     /// it does.
     pub(crate) fn retry(&mut self, forward: u64) -> bool
-        ensures { (log : List Move) → ArePeers S.has_given S.has_got self.old log → ArePeers S.has_given S.has_got self.new log }
+        ensures tells { (log : List Move) → ArePeers S.has_given S.has_got self.old log → ArePeers S.has_given S.has_got self.new log }
+        ensures shown { (log : List Move) → AreShown S.has_got self.old.clients.table log → AreShown S.has_got self.new.clients.table log }
     {
         self.forwards.retry(forward)
     }

@@ -14,6 +14,7 @@ use std::alloc::AllocError;
 impl<W: World> Traffic<W> {
     ghost use Rattle.hc_order.specs.Log.{Move};
     ghost use Rattle.hc_crowd.specs.Peers.{ArePeers};
+    ghost use Rattle.hc_crowd.specs.Shown.{AreShown};
 
     /// Forwards that were opened wait for places: behind all others those that nobody awaits.
     pub(crate) fn sort_opened<A: Awaiting>(&mut self, cache: &A)
@@ -74,6 +75,8 @@ impl<W: World> Traffic<W> {
     pub(crate) fn reach_again(&mut self, forward: u64, limits: Limits)
         ensures tells { (log : List Move) → ArePeers W.Stream.has_given W.Stream.has_got self.old.peers log
             → ArePeers W.Stream.has_given W.Stream.has_got self.new.peers log }
+        ensures shown { (log : List Move) → AreShown W.Stream.has_got self.old.peers.clients.table log
+            → AreShown W.Stream.has_got self.new.peers.clients.table log }
     {
         let due = self.due_behind(limits.connect_timeout);
         self.places.extend(forward, due);
@@ -84,6 +87,8 @@ impl<W: World> Traffic<W> {
     fn connect(&mut self, forward: u64, due: u64)
         ensures tells { (log : List Move) → ArePeers W.Stream.has_given W.Stream.has_got self.old.peers log
             → ArePeers W.Stream.has_given W.Stream.has_got self.new.peers log }
+        ensures shown { (log : List Move) → AreShown W.Stream.has_got self.old.peers.clients.table log
+            → AreShown W.Stream.has_got self.new.peers.clients.table log }
     {
         let attempt = self.peers.forwards.attempts(forward);
         let Some(stream) = self.world.connect(forward, attempt) else {
@@ -100,6 +105,8 @@ impl<W: World> Traffic<W> {
     pub(crate) fn give_up(&mut self, forward: u64, reason: Reason)
         ensures tells { (log : List Move) → ArePeers W.Stream.has_given W.Stream.has_got self.old.peers log
             → ArePeers W.Stream.has_given W.Stream.has_got self.new.peers log }
+        ensures shown { (log : List Move) → AreShown W.Stream.has_got self.old.peers.clients.table log
+            → AreShown W.Stream.has_got self.new.peers.clients.table log }
     {
         self.unreached = self.unreached.saturating_add(1);
         self.lose_origin(forward, reason);
@@ -109,6 +116,8 @@ impl<W: World> Traffic<W> {
     pub(crate) fn lose_origin(&mut self, forward: u64, reason: Reason)
         ensures tells { (log : List Move) → ArePeers W.Stream.has_given W.Stream.has_got self.old.peers log
             → ArePeers W.Stream.has_given W.Stream.has_got self.new.peers log }
+        ensures shown { (log : List Move) → AreShown W.Stream.has_got self.old.peers.clients.table log
+            → AreShown W.Stream.has_got self.new.peers.clients.table log }
     {
         self.peers.lose_origin(forward, reason);
         self.give_turn(Receiver::Origin(forward));

@@ -56,14 +56,17 @@ impl<W: World + Drop> Traffic<W> {
 
 impl<W: World> Traffic<W> {
     ghost use Rattle.std.specs.Prelude.{true};
-    ghost use Rattle.hc_order.specs.Log.{Move};
     ghost use Rattle.hc_crowd.specs.Crowds.{NoLinkIsLeft};
+    ghost use Rattle.hc_order.specs.Log.{Move};
     ghost use Rattle.hc_crowd.specs.Peers.{ArePeers};
+    ghost use Rattle.hc_crowd.specs.Shown.{AreShown};
 
     /// A link is to be heard, if it is there and isn't to be heard already.
     pub(crate) fn give_turn(&mut self, link: Receiver)
         ensures tells { (log : List Move) → ArePeers W.Stream.has_given W.Stream.has_got self.old.peers log
             → ArePeers W.Stream.has_given W.Stream.has_got self.new.peers log }
+        ensures shown { (log : List Move) → AreShown W.Stream.has_got self.old.peers.clients.table log
+            → AreShown W.Stream.has_got self.new.peers.clients.table log }
     {
         if self.peers.queue(link) {
             self.agenda.give_turn(link);
@@ -81,6 +84,8 @@ impl<W: World> Traffic<W> {
     pub(crate) fn refusal(&mut self) -> Result<(), AllocError>
         ensures tells { (log : List Move) → ArePeers W.Stream.has_given W.Stream.has_got self.old.peers log
             → ArePeers W.Stream.has_given W.Stream.has_got self.new.peers log }
+        ensures shown { (log : List Move) → AreShown W.Stream.has_got self.old.peers.clients.table log
+            → AreShown W.Stream.has_got self.new.peers.clients.table log }
     {
         if self.agenda.was_refused() {
             return Err(AllocError);
@@ -92,6 +97,8 @@ impl<W: World> Traffic<W> {
     pub(crate) fn free_place(&mut self, forward: u64)
         ensures tells { (log : List Move) → ArePeers W.Stream.has_given W.Stream.has_got self.old.peers log
             → ArePeers W.Stream.has_given W.Stream.has_got self.new.peers log }
+        ensures shown { (log : List Move) → AreShown W.Stream.has_got self.old.peers.clients.table log
+            → AreShown W.Stream.has_got self.new.peers.clients.table log }
     {
         self.places.free(forward);
         // The system may have a place for a client again.

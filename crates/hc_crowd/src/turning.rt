@@ -15,6 +15,7 @@ impl<W: World> Traffic<W> {
     ghost use Rattle.hc_connection.specs.Sides.{TellsIfOk};
     ghost use Rattle.hc_order.specs.Log.{Move};
     ghost use Rattle.hc_crowd.specs.Peers.{ArePeers, HeardInTurn, IsAnswerOf, MayBeHeard, NoAnswer};
+    ghost use Rattle.hc_crowd.specs.Shown.{AreShown};
 
     /// What happens next: a client connects, or something is heard of a link that has its turn in this batch.
     pub(crate) fn happening<A: Awaiting>(
@@ -27,6 +28,8 @@ impl<W: World> Traffic<W> {
         ensures may { (log : List Move) → ArePeers W.Stream.has_given W.Stream.has_got self.old.peers log
             → MayBeHeard limits.connections result log }
         ensures in_turn { HeardInTurn (A.awaited cache.now) result }
+        ensures shown { (log : List Move) → AreShown W.Stream.has_got self.old.peers.clients.table log
+            → AreShown W.Stream.has_got self.new.peers.clients.table log }
     {
         if let Some(happened) = self.accept(limits)? {
             return Ok(Some(happened));
@@ -53,6 +56,8 @@ impl<W: World> Traffic<W> {
             → TellsIfOk (ArePeers W.Stream.has_given W.Stream.has_got self.new.peers) result log }
         ensures may { (most : ℕ) (log : List Move) → ArePeers W.Stream.has_given W.Stream.has_got self.old.peers log → MayBeHeard most result log }
         ensures in_turn { HeardInTurn (A.awaited cache.now) result }
+        ensures shown { (log : List Move) → AreShown W.Stream.has_got self.old.peers.clients.table log
+            → AreShown W.Stream.has_got self.new.peers.clients.table log }
     {
         match link {
             Receiver::Client(number) => self.client_turn(number, cache.awaits(number)),
@@ -66,6 +71,8 @@ impl<W: World> Traffic<W> {
             → TellsIfOk (ArePeers W.Stream.has_given W.Stream.has_got self.new.peers) result log }
         ensures may { (most : ℕ) (log : List Move) → ArePeers W.Stream.has_given W.Stream.has_got self.old.peers log → MayBeHeard most result log }
         ensures in_turn { HeardInTurn (IsAnswerOf number awaited) result }
+        ensures shown { (log : List Move) → AreShown W.Stream.has_got self.old.peers.clients.table log
+            → AreShown W.Stream.has_got self.new.peers.clients.table log }
     {
         self.peers.unqueue(Receiver::Client(number));
         if self.course.is_late() {
@@ -84,6 +91,8 @@ impl<W: World> Traffic<W> {
             → TellsIfOk (ArePeers W.Stream.has_given W.Stream.has_got self.new.peers) result log }
         ensures may { (most : ℕ) (log : List Move) → ArePeers W.Stream.has_given W.Stream.has_got self.old.peers log → MayBeHeard most result log }
         ensures in_turn { HeardInTurn (IsAnswerOf number awaited) result }
+        ensures shown { (log : List Move) → AreShown W.Stream.has_got self.old.peers.clients.table log
+            → AreShown W.Stream.has_got self.new.peers.clients.table log }
     {
         let hearing = Hearing {
             awaited,
@@ -101,6 +110,8 @@ impl<W: World> Traffic<W> {
     fn go_on(&mut self, link: Receiver, heard: &Result<Option<Happened>, AllocError>)
         ensures tells { (log : List Move) → ArePeers W.Stream.has_given W.Stream.has_got self.old.peers log
             → ArePeers W.Stream.has_given W.Stream.has_got self.new.peers log }
+        ensures shown { (log : List Move) → AreShown W.Stream.has_got self.old.peers.clients.table log
+            → AreShown W.Stream.has_got self.new.peers.clients.table log }
     {
         let goes_on = match heard {
             Ok(Some(_)) => self.peers.is_readable(link),
@@ -117,6 +128,8 @@ impl<W: World> Traffic<W> {
     fn drop_rest_of_client(&mut self, number: u64)
         ensures tells { (log : List Move) → ArePeers W.Stream.has_given W.Stream.has_got self.old.peers log
             → ArePeers W.Stream.has_given W.Stream.has_got self.new.peers log }
+        ensures shown { (log : List Move) → AreShown W.Stream.has_got self.old.peers.clients.table log
+            → AreShown W.Stream.has_got self.new.peers.clients.table log }
     {
         if self.peers.discard(number, self.buffer.as_mut_slice()) {
             self.let_go(number);
@@ -129,6 +142,8 @@ impl<W: World> Traffic<W> {
     pub(crate) fn let_go(&mut self, number: u64)
         ensures tells { (log : List Move) → ArePeers W.Stream.has_given W.Stream.has_got self.old.peers log
             → ArePeers W.Stream.has_given W.Stream.has_got self.new.peers log }
+        ensures shown { (log : List Move) → AreShown W.Stream.has_got self.old.peers.clients.table log
+            → AreShown W.Stream.has_got self.new.peers.clients.table log }
     {
         if self.peers.let_go(number) {
             // The system may have a place for a client again.
@@ -143,6 +158,8 @@ impl<W: World> Traffic<W> {
             → TellsIfOk (ArePeers W.Stream.has_given W.Stream.has_got self.new.peers) result log }
         ensures may { (most : ℕ) (log : List Move) → ArePeers W.Stream.has_given W.Stream.has_got self.old.peers log → MayBeHeard most result log }
         ensures in_turn { HeardInTurn NoAnswer result }
+        ensures shown { (log : List Move) → AreShown W.Stream.has_got self.old.peers.clients.table log
+            → AreShown W.Stream.has_got self.new.peers.clients.table log }
     {
         if self.lingering.has(forward) {
             self.drop_rest_of_origin(forward);
@@ -162,6 +179,8 @@ impl<W: World> Traffic<W> {
             → TellsIfOk (ArePeers W.Stream.has_given W.Stream.has_got self.new.peers) result log }
         ensures may { (most : ℕ) (log : List Move) → ArePeers W.Stream.has_given W.Stream.has_got self.old.peers log → MayBeHeard most result log }
         ensures in_turn { HeardInTurn NoAnswer result }
+        ensures shown { (log : List Move) → AreShown W.Stream.has_got self.old.peers.clients.table log
+            → AreShown W.Stream.has_got self.new.peers.clients.table log }
     {
         let heard = self.peers.hear_origin(forward, self.buffer.as_mut_slice());
         self.go_on(Receiver::Origin(forward), &heard);
@@ -175,6 +194,8 @@ impl<W: World> Traffic<W> {
     fn drop_rest_of_origin(&mut self, forward: u64)
         ensures tells { (log : List Move) → ArePeers W.Stream.has_given W.Stream.has_got self.old.peers log
             → ArePeers W.Stream.has_given W.Stream.has_got self.new.peers log }
+        ensures shown { (log : List Move) → AreShown W.Stream.has_got self.old.peers.clients.table log
+            → AreShown W.Stream.has_got self.new.peers.clients.table log }
     {
         match self.lingering.discard(forward, self.buffer.as_mut_slice()) {
             Remainder::More => self.give_lingering_turn(forward),
@@ -187,6 +208,8 @@ impl<W: World> Traffic<W> {
     pub(crate) fn give_lingering_turn(&mut self, forward: u64)
         ensures tells { (log : List Move) → ArePeers W.Stream.has_given W.Stream.has_got self.old.peers log
             → ArePeers W.Stream.has_given W.Stream.has_got self.new.peers log }
+        ensures shown { (log : List Move) → AreShown W.Stream.has_got self.old.peers.clients.table log
+            → AreShown W.Stream.has_got self.new.peers.clients.table log }
     {
         if self.lingering.queue(forward) {
             self.agenda.give_turn(Receiver::Origin(forward));
@@ -197,6 +220,8 @@ impl<W: World> Traffic<W> {
     pub(crate) fn drop_lingering(&mut self, forward: u64)
         ensures tells { (log : List Move) → ArePeers W.Stream.has_given W.Stream.has_got self.old.peers log
             → ArePeers W.Stream.has_given W.Stream.has_got self.new.peers log }
+        ensures shown { (log : List Move) → AreShown W.Stream.has_got self.old.peers.clients.table log
+            → AreShown W.Stream.has_got self.new.peers.clients.table log }
     {
         if self.lingering.drop_one(forward) {
             self.free_place(forward);

@@ -17,11 +17,14 @@ const LONGEST_WAIT: u64 = 1_000;
 impl<W: World> Traffic<W> {
     ghost use Rattle.hc_order.specs.Log.{Move};
     ghost use Rattle.hc_crowd.specs.Peers.{ArePeers};
+    ghost use Rattle.hc_crowd.specs.Shown.{AreShown};
 
     /// Waits until something is ready or due, and takes in what is. Then a new batch begins.
     pub(crate) fn wait(&mut self, limits: Limits)
         ensures tells { (log : List Move) → ArePeers W.Stream.has_given W.Stream.has_got self.old.peers log
             → ArePeers W.Stream.has_given W.Stream.has_got self.new.peers log }
+        ensures shown { (log : List Move) → AreShown W.Stream.has_got self.old.peers.clients.table log
+            → AreShown W.Stream.has_got self.new.peers.clients.table log }
     {
         let most = self.patience(limits);
         self.world.wait(most);
@@ -55,6 +58,8 @@ impl<W: World> Traffic<W> {
     fn learn_all(&mut self)
         ensures tells { (log : List Move) → ArePeers W.Stream.has_given W.Stream.has_got self.old.peers log
             → ArePeers W.Stream.has_given W.Stream.has_got self.new.peers log }
+        ensures shown { (log : List Move) → AreShown W.Stream.has_got self.old.peers.clients.table log
+            → AreShown W.Stream.has_got self.new.peers.clients.table log }
     {
         'ready: for _ in 0..u64::MAX {
             match self.world.ready() {
@@ -69,6 +74,8 @@ impl<W: World> Traffic<W> {
     fn learn(&mut self, link: Receiver, readiness: Readiness)
         ensures tells { (log : List Move) → ArePeers W.Stream.has_given W.Stream.has_got self.old.peers log
             → ArePeers W.Stream.has_given W.Stream.has_got self.new.peers log }
+        ensures shown { (log : List Move) → AreShown W.Stream.has_got self.old.peers.clients.table log
+            → AreShown W.Stream.has_got self.new.peers.clients.table log }
     {
         if let Receiver::Origin(forward) = link {
             // What is told of one that lingers asks for a turn, whatever it is.
@@ -86,6 +93,8 @@ impl<W: World> Traffic<W> {
     fn pass(&mut self, timeout: Timeout, tick: u64)
         ensures tells { (log : List Move) → ArePeers W.Stream.has_given W.Stream.has_got self.old.peers log
             → ArePeers W.Stream.has_given W.Stream.has_got self.new.peers log }
+        ensures shown { (log : List Move) → AreShown W.Stream.has_got self.old.peers.clients.table log
+            → AreShown W.Stream.has_got self.new.peers.clients.table log }
     {
         'due: for _ in 0..self.agenda.count(timeout) {
             let Some(deadline) = self.agenda.pass(timeout, tick) else {
@@ -99,6 +108,8 @@ impl<W: World> Traffic<W> {
     fn end_time(&mut self, timeout: Timeout, deadline: Deadline)
         ensures tells { (log : List Move) → ArePeers W.Stream.has_given W.Stream.has_got self.old.peers log
             → ArePeers W.Stream.has_given W.Stream.has_got self.new.peers log }
+        ensures shown { (log : List Move) → AreShown W.Stream.has_got self.old.peers.clients.table log
+            → AreShown W.Stream.has_got self.new.peers.clients.table log }
     {
         let Deadline { tick, number } = deadline;
         match timeout {
@@ -112,6 +123,8 @@ impl<W: World> Traffic<W> {
     fn end_connect(&mut self, forward: u64, tick: u64)
         ensures tells { (log : List Move) → ArePeers W.Stream.has_given W.Stream.has_got self.old.peers log
             → ArePeers W.Stream.has_given W.Stream.has_got self.new.peers log }
+        ensures shown { (log : List Move) → AreShown W.Stream.has_got self.old.peers.clients.table log
+            → AreShown W.Stream.has_got self.new.peers.clients.table log }
     {
         if self.places.is_due(forward, tick) && self.peers.forwards.is_opening(forward) {
             self.give_up(forward, Reason::Late);
@@ -122,6 +135,8 @@ impl<W: World> Traffic<W> {
     fn heed_stop(&mut self, tick: u64, limits: Limits)
         ensures tells { (log : List Move) → ArePeers W.Stream.has_given W.Stream.has_got self.old.peers log
             → ArePeers W.Stream.has_given W.Stream.has_got self.new.peers log }
+        ensures shown { (log : List Move) → AreShown W.Stream.has_got self.old.peers.clients.table log
+            → AreShown W.Stream.has_got self.new.peers.clients.table log }
     {
         match self.course {
             Course::Serving => self.heed_world(tick, limits),
@@ -138,6 +153,8 @@ impl<W: World> Traffic<W> {
     fn heed_world(&mut self, tick: u64, limits: Limits)
         ensures tells { (log : List Move) → ArePeers W.Stream.has_given W.Stream.has_got self.old.peers log
             → ArePeers W.Stream.has_given W.Stream.has_got self.new.peers log }
+        ensures shown { (log : List Move) → AreShown W.Stream.has_got self.old.peers.clients.table log
+            → AreShown W.Stream.has_got self.new.peers.clients.table log }
     {
         if self.world.stops() {
             self.course = Course::Stopping(tick.saturating_add(limits.drain_timeout));
@@ -149,6 +166,8 @@ impl<W: World> Traffic<W> {
     fn heed_time(&mut self, tick: u64, until: u64)
         ensures tells { (log : List Move) → ArePeers W.Stream.has_given W.Stream.has_got self.old.peers log
             → ArePeers W.Stream.has_given W.Stream.has_got self.new.peers log }
+        ensures shown { (log : List Move) → AreShown W.Stream.has_got self.old.peers.clients.table log
+            → AreShown W.Stream.has_got self.new.peers.clients.table log }
     {
         if tick >= until {
             self.course = Course::Late;
@@ -162,6 +181,8 @@ impl<W: World> Traffic<W> {
     fn hear_clients(&mut self)
         ensures tells { (log : List Move) → ArePeers W.Stream.has_given W.Stream.has_got self.old.peers log
             → ArePeers W.Stream.has_given W.Stream.has_got self.new.peers log }
+        ensures shown { (log : List Move) → AreShown W.Stream.has_got self.old.peers.clients.table log
+            → AreShown W.Stream.has_got self.new.peers.clients.table log }
     {
         let mut least = 0;
         'clients: for _ in 0..self.peers.clients.len() {
@@ -177,6 +198,8 @@ impl<W: World> Traffic<W> {
     fn lose_origins(&mut self)
         ensures tells { (log : List Move) → ArePeers W.Stream.has_given W.Stream.has_got self.old.peers log
             → ArePeers W.Stream.has_given W.Stream.has_got self.new.peers log }
+        ensures shown { (log : List Move) → AreShown W.Stream.has_got self.old.peers.clients.table log
+            → AreShown W.Stream.has_got self.new.peers.clients.table log }
     {
         let mut least = 0;
         'forwards: for _ in 0..self.peers.forwards.len() {
@@ -192,6 +215,8 @@ impl<W: World> Traffic<W> {
     fn drop_all_lingering(&mut self)
         ensures tells { (log : List Move) → ArePeers W.Stream.has_given W.Stream.has_got self.old.peers log
             → ArePeers W.Stream.has_given W.Stream.has_got self.new.peers log }
+        ensures shown { (log : List Move) → AreShown W.Stream.has_got self.old.peers.clients.table log
+            → AreShown W.Stream.has_got self.new.peers.clients.table log }
     {
         'lingering: for _ in 0..self.lingering.len() {
             let Some(forward) = self.lingering.drop_least() else {

@@ -31,6 +31,7 @@ pub struct Flow<S: Stream> {
 impl<S: Stream> Flow<S> {
     ghost use Rattle.hc_flow.specs.Emptyings.{LeavesWaiting, is_ended_behind, is_failed_emptying, is_writable_behind};
     ghost use Rattle.hc_flow.specs.Flows.{FailsWithStream, FlowGave, FlowOwes, KeepsEnd, KeepsLink, OwesSent};
+    ghost use Rattle.hc_flow.specs.Passing.{Stays};
     ghost use Rattle.hc_flow.specs.Reads.{FitsBuffer, HearsArrival, KeepsWaiting, is_failed_read, is_readable_behind};
 
     /// That of a stream that is open: at first both reading and writing may be tried.
@@ -175,6 +176,7 @@ impl<S: Stream> Flow<S> {
     fn end_once(&mut self)
         ensures owes { (sent : List ℕ) → FlowOwes S.has_got self.old sent → FlowOwes S.has_got self.new sent }
         ensures gave { (heard : List ℕ) → FlowGave S.has_given self.old heard → FlowGave S.has_given self.new heard }
+        ensures got { Stays (S.has_got self.old.stream) (S.has_got self.new.stream) }
         ensures half { KeepsEnd S.was_ended self.old self.new }
         ensures fails { S.has_failed self.old.stream → S.has_failed self.new.stream }
         ensures ended { self.new.ended ≡ (self.old.ended || self.old.ends) }
@@ -194,6 +196,7 @@ impl<S: Stream> Flow<S> {
     pub fn end_behind(&mut self)
         ensures owes { (sent : List ℕ) → FlowOwes S.has_got self.old sent → FlowOwes S.has_got self.new sent }
         ensures gave { (heard : List ℕ) → FlowGave S.has_given self.old heard → FlowGave S.has_given self.new heard }
+        ensures got { Stays (S.has_got self.old.stream) (S.has_got self.new.stream) }
         ensures half { KeepsEnd S.was_ended self.old self.new }
         ensures fails { S.has_failed self.old.stream → S.has_failed self.new.stream }
         ensures ends { self.new.ends ≡ true }
@@ -253,6 +256,7 @@ impl<S: Stream> Flow<S> {
     pub fn read(&mut self, buffer: &mut [u8]) -> Arrival
         ensures owes { (sent : List ℕ) → FlowOwes S.has_got self.old sent → FlowOwes S.has_got self.new sent }
         ensures gave { (heard : List ℕ) → FlowGave S.has_given self.old heard → HearsArrival (FlowGave S.has_given self.new) result buffer.new heard }
+        ensures got { Stays (S.has_got self.old.stream) (S.has_got self.new.stream) }
         ensures octets { FitsBuffer result buffer.new }
         ensures failed { self.new.failed ≡ is_failed_read result }
         ensures half { KeepsEnd S.was_ended self.old self.new }

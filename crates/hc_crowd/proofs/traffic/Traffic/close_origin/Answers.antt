@@ -3,8 +3,8 @@ use Rattle.hc_order.specs.Log.Move.{Closed}
 use Rattle.hc_order.specs.declared.receiver.Receiver.TheVariants.{Origin}
 use Rattle.hc_crowd.proofs.traffic.Traffic.close_origin.Goals as goal
 
-pub returns-in-Some : goal.returns-in-Some
-returns-in-Some g c = record { tells = λ log t. c.linger.ensures.tells (Closed (Origin c.args.forward) ∷ log) (c.close_origin.ensures log t) }
+pub returns-in-Some-clause-tells : goal.returns-in-Some-clause-tells
+returns-in-Some-clause-tells g c = λ log t. c.linger.ensures.tells (Closed (Origin c.args.forward) ∷ log) (c.close_origin.ensures.tells log t)
 
-pub returns-in-None : goal.returns-in-None
-returns-in-None g c = record { tells = λ log t. c.free_place.ensures.tells (Closed (Origin c.args.forward) ∷ log) (c.close_origin.ensures log t) }
+pub returns-in-None-clause-tells : goal.returns-in-None-clause-tells
+returns-in-None-clause-tells g c = λ log t. c.free_place.ensures.tells (Closed (Origin c.args.forward) ∷ log) (c.close_origin.ensures.tells log t)
