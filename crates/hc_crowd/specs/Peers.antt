@@ -1,5 +1,5 @@
 -- What the links of a crowd tell, all together. The newest move comes first.
-use Rattle.std.specs.Prelude.{◌≡◌, ℕ, zero, suc, ◌+◌, ◌≤◌, Bool, List, ◌∷◌, Option, Some, None, Result, Ok, Err}
+use Rattle.std.specs.Prelude.{◌≡◌, ℕ, zero, suc, ◌+◌, ◌≤◌, Bool, List, Option, Some, None, Result, Ok, Err}
 use Rattle.std.specs.declared.alloc.AllocError.{AllocError}
 use Rattle.hc_connection.specs.declared.happened.Happened.{Happened}
 use Rattle.hc_connection.specs.Telling.{HasWaited}

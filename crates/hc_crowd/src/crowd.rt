@@ -29,10 +29,12 @@ pub struct Crowd<W: World> {
 
 impl<W: World + Drop> Crowd<W> {
     ghost use Rattle.hc_crowd.specs.Crowds.{CrowdTells};
+    ghost use Rattle.hc_crowd.specs.Shown.{AreShown};
 
     /// Nobody has connected yet.
     pub fn new(alloc: Global, world: W, limits: Limits) -> Result<Self, AllocError>
         ensures tells { IfOk result (λ crowd. CrowdTells W.Stream.has_given W.Stream.has_got crowd.traffic.peers crowd.clock []) }
+        ensures shows { IfOk result (λ crowd. AreShown W.Stream.has_got crowd.traffic.peers.clients.table []) }
         ensures limits { IfOk result (λ crowd. crowd.limits ≡ limits) }
     {
         let clock = Moments::new(world.wall(), world.tick());

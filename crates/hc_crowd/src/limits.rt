@@ -5,7 +5,8 @@
 pub struct Limits {
     /// The most connections of clients at once. Those that are closed and still have a link count, too.
     pub connections: usize,
-    /// The most links to the origin at once. Those that are closed and still have a link count, too.
+    /// The most links to the origin at once. Those that are closed and still have a link count, too. Without any, forwards
+    /// wait until a stop.
     pub origin_connections: usize,
     /// So many milliseconds a link to the origin may take to be made.
     pub connect_timeout: u64,

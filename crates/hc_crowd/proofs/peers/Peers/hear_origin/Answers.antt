@@ -1,4 +1,4 @@
-use Rattle.std.proofs.Common.{arith, refl}
+use Rattle.std.proofs.Common.{arith}
 use Rattle.hc_crowd.proofs.peers.Peers.hear_origin.Goals as goal
 use Rattle.hc_order.specs.declared.occurrence.Reason.TheVariants.{Peer}
 
