@@ -1,9 +1,11 @@
 """What the tools share: how they answer to `--help`, by which words hcache is run, and how its requests for memory are
 counted and refused."""
 
+import argparse
 import collections
 import os
 import pathlib
+import resource
 import shutil
 import subprocess
 import sys
@@ -32,6 +34,52 @@ def need(*commands):
         if not shutil.which(command):
             print(f"needs {command} in PATH", file=sys.stderr)
             sys.exit(70)
+
+
+class Options(argparse.ArgumentParser):
+    """The words of a tool that has several options, and its text of help."""
+
+    def __init__(self, name, text):
+        super().__init__(f"tools/{name}", description=text, formatter_class=argparse.RawDescriptionHelpFormatter)
+
+    def add_program(self, can_be_unproved=True):
+        text = "the program hcache, in place of the proved one, which ./hcache builds"
+        self.add_argument("--program", metavar="PATH", help=text)
+        if can_be_unproved:
+            text = "run the program that isn't proved, or say that the one of --program isn't, and so is slow"
+            self.add_argument("--unproved", action="store_true", help=text)
+
+    def error(self, message):
+        """Ends with the status that tells of words that nothing can be made of."""
+        self.print_usage(sys.stderr)
+        self.exit(64, f"{self.prog}: {message}\n")
+
+
+def count(text):
+    """A number of at least one, as the word of an option."""
+    if not text.isdecimal() or int(text) < 1:
+        raise argparse.ArgumentTypeError(f"{text!r} is no number from 1")
+    return int(text)
+
+
+def as_launched(words):
+    """The words by which ./hcache starts a program that serves until it is stopped: what stops it is held back, and
+    seen by the program all the same."""
+    return ["env", "--block-signal=TERM,INT", *words]
+
+
+def open_many_files():
+    """Lets this process, and what it starts, open as many files as it may. Answers how many."""
+    _, most = resource.getrlimit(resource.RLIMIT_NOFILE)
+    resource.setrlimit(resource.RLIMIT_NOFILE, (most, most))
+    return most
+
+
+def hcache_by(options):
+    """The words by which hcache is run, by the options of `add_program`."""
+    if options.program:
+        os.environ["HCACHE"] = options.program
+    return hcache(getattr(options, "unproved", False))
 
 
 def hcache(is_unproved=False):

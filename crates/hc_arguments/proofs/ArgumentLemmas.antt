@@ -21,16 +21,19 @@ use Rattle.clap.proofs.OnLiterals.{clap_on_literals}
 use Rattle.clap.proofs.WalkLemmas.{first_value-rows}
 use Rattle.hc_history.specs.declared.settings.Settings.{Settings}
 use Rattle.hc_service.specs.declared.settings.CoreSettings.{CoreSettings}
-use Rattle.hc_service.specs.Settings.{is_name, is_size}
+use Rattle.hc_service.specs.Settings.{AreGood, is_name, is_size}
 use Rattle.hc_arguments.specs.declared.order.Order.{Order}
+use Rattle.hc_arguments.specs.declared.order.ProxyLimits.{ProxyLimits}
 use Rattle.hc_arguments.specs.declared.refusal.Refusal.{Refusal}
 use Rattle.hc_arguments.specs.declared.refusal.Refusal.TheVariants.{Memory, Missing, Slack, Ignore, Position, StandardInput, Connections, Keys, Bytes, Name}
-use Rattle.hc_arguments.specs.Command.{Asks, AsksBy, AsksCache, AsksIn, AsksSettings, CanBeDone, Command, IsFileName}
+use Rattle.hc_arguments.specs.declared.refusal.Refusal.TheVariants.{MaxConnections, OriginConnections, ConnectTimeout, DrainTimeout}
+use Rattle.hc_arguments.specs.Command.{Asks, AsksBy, AsksCache, AsksIn, AsksLimits, AsksSettings, CanBeDone, Command, IsFileName}
 use Rattle.hc_arguments.specs.Command.{IsMade, IsRefused, IsWord, RefusesBy, RefusesIn, Task, ValuesAsk, command_in, command_named, command_of, hcache, judges, lacks}
-use Rattle.hc_arguments.specs.Command.{refused_kind, service_words, task_of, value_in}
-use Rattle.hc_arguments.specs.Command.Command.{Audits, Reports, Explains, Replays, Converts, Serves}
-use Rattle.hc_arguments.specs.Command.Task.{ToAudit, ToReport, ToExplain, ToReplay, ToConvert, ToServe}
-use Rattle.hc_arguments.specs.Values.{bytes_by, connections_of, ignored_by, json_by, keys_by, name_by, plain, plain_cache, position_by, positive_of, slack_by, unmarked_by}
+use Rattle.hc_arguments.specs.Command.{proxy_words, refused_kind, serves, service_words, task_of, value_in}
+use Rattle.hc_arguments.specs.Command.Command.{Audits, Reports, Explains, Replays, Converts, Serves, Proxies}
+use Rattle.hc_arguments.specs.Command.Task.{ToAudit, ToReport, ToExplain, ToReplay, ToConvert, ToServe, ToProxy}
+use Rattle.hc_arguments.specs.Values.{bytes_by, clients_by, connect_timeout_by, connections_of, drain_timeout_by, ignored_by, json_by, keys_by, max_connections_by, name_by, origin_connections_by}
+use Rattle.hc_arguments.specs.Values.{plain, plain_cache, plain_limits, position_by, positive_of, slack_by, unmarked_by}
 
 -- ---- the command
 
@@ -104,6 +107,10 @@ second_lacks (Some a) b none = ap (λ o. both (Some a) o) none
 nothing_mapped : {A B : Type 0} (f : A → B) (o : Option A) → o ≡ None → option_map f o ≡ None
 nothing_mapped f o none = ap (option_map f) none
 
+nothing_to_map : {A B : Type 0} (f : A → B) (o : Option A) → option_map f o ≡ None → o ≡ None
+nothing_to_map f None none = refl
+nothing_to_map f (Some a) none = absurd cc
+
 abbrev settings_from : (Text → Option Text) → Option Settings
 settings_from value = option_map (λ p. record { slack = p.0; ignored = p.1; unmarked = unmarked_by (value (codes "errors-only")) })
     (both (slack_by (value (codes "slack"))) (ignored_by (value (codes "ignore"))))
@@ -111,6 +118,18 @@ settings_from value = option_map (λ p. record { slack = p.0; ignored = p.1; unm
 abbrev cache_from : (Text → Option Text) → Option CoreSettings
 cache_from value = option_map (λ p. record { name = p.1.1; keys = p.0; bytes = p.1.0 })
     (both (keys_by (value (codes "keys"))) (both (bytes_by (value (codes "bytes"))) (name_by (value (codes "name")))))
+
+abbrev limits_from : (Text → Option Text) → Option ProxyLimits
+limits_from value = option_map (λ p. record {
+  connections = p.0.0;
+  origin_connections = p.0.1;
+  connect_timeout = p.1.0;
+  drain_timeout = p.1.1.0;
+  clients = p.1.1.1;
+})
+    (both (both (max_connections_by (value (codes "max-connections"))) (origin_connections_by (value (codes "origin-connections"))))
+    (both (connect_timeout_by (value (codes "connect-timeout")))
+    (both (drain_timeout_by (value (codes "drain-timeout"))) (clients_by (value (codes "connections"))))))
 
 -- a file that isn't standard input
 abbrev file_named : Option Text → Option Text
@@ -127,6 +146,8 @@ task_from Converts value = option_map ToConvert (value (codes "FILE"))
 task_from Serves value = option_map (λ p. ToServe p.0.0 p.0.1 p.1.0.0 p.1.0.1 p.1.1)
     (both (both (value (codes "listen")) (value (codes "origin")))
     (both (both (option_and_then connections_of (value (codes "connections"))) (value (codes "record"))) (cache_from value)))
+task_from Proxies value = option_map (λ p. ToProxy p.0.0 p.0.1 (value (codes "record")) p.1.0 p.1.1)
+    (both (both (value (codes "listen")) (value (codes "origin"))) (both (limits_from value) (cache_from value)))
 
 abbrev task_by : Option Command → (Text → Option Text) → Option Task
 task_by command value = option_and_then (λ c. task_from c value) command
@@ -138,6 +159,17 @@ settings_given value settings a =
 cache_given : (value : Text → Option Text) (settings : CoreSettings) → AsksCache value settings → cache_from value ≡ Some settings
 cache_given value settings a =
     λ i. option_map (λ p. record { name = p.1.1; keys = p.0; bytes = p.1.0 }) (both (a.keys_is i) (both (a.bytes_is i) (a.name_is i)))
+
+limits_given : (value : Text → Option Text) (limits : ProxyLimits) → AsksLimits value limits → limits_from value ≡ Some limits
+limits_given value limits a =
+    λ i. option_map (λ p. record {
+      connections = p.0.0;
+      origin_connections = p.0.1;
+      connect_timeout = p.1.0;
+      drain_timeout = p.1.1.0;
+      clients = p.1.1.1;
+    })
+    (both (both (a.connections_are i) (a.origin_connections_are i)) (both (a.connect_timeout_is i) (both (a.drain_timeout_is i) (a.clients_are i))))
 
 -- what is asked is that task
 values_give : (value : Text → Option Text) (task : Task) → ValuesAsk value task → task_from (command_of task) value ≡ Some task
@@ -157,6 +189,11 @@ values_give value (ToServe listen origin connections file settings) a =
     let set = cache_given value settings a.settings_are in
     λ i. option_map (λ p. ToServe p.0.0 p.0.1 p.1.0.0 p.1.0.1 p.1.1)
     (both (both (a.listen_is i) (a.origin_is i)) (both (both (a.connections_is i) (a.file_is i)) (set i)))
+values_give value (ToProxy listen origin file limits settings) a =
+    let set = cache_given value settings a.settings_are in
+    let limited = limits_given value limits a.limits_are in
+    λ i. option_map (λ p. ToProxy p.0.0 p.0.1 (a.file_is i) p.1.0 p.1.1)
+    (both (both (a.listen_is i) (a.origin_is i)) (both (limited i) (set i)))
 
 task_given : (command : Option Command) (value : Text → Option Text) (task : Task) → AsksBy command value task → task_by command value ≡ Some task
 task_given command value task asks = ap (λ c. task_by c value) asks.0 ∙ values_give value task asks.1
@@ -182,6 +219,7 @@ lacks_nothing command value (ToReplay file) asks = rw (asks.0, asks.1) refl
 lacks_nothing command value (ToConvert file) asks = rw (asks.0, asks.1) refl
 lacks_nothing command value (ToServe listen origin n file settings) asks =
     rw (asks.0, asks.1.listen_is, asks.1.origin_is, number_is_there (value (codes "connections")) n asks.1.connections_is, asks.1.file_is) refl
+lacks_nothing command value (ToProxy listen origin file limits settings) asks = rw (asks.0, asks.1.listen_is, asks.1.origin_is) refl
 
 -- where a value has a fault there is no task
 settings_lack : (command : Command) (value : Text → Option Text) → judges command ≡ true → settings_from value ≡ None → task_from command value ≡ None
@@ -191,14 +229,42 @@ settings_lack Explains value judging none = nothing_mapped _ _ (second_lacks _ _
 settings_lack Replays value judging none = absurd cc
 settings_lack Converts value judging none = absurd cc
 settings_lack Serves value judging none = absurd cc
+settings_lack Proxies value judging none = absurd cc
 
-judged_lacks : (command : Option Command) (value : Text → Option Text) → option_map judges command ≡ Some true → settings_from value ≡ None
-    → task_by command value ≡ None
-judged_lacks None value judging none = refl
-judged_lacks (Some c) value judging none = settings_lack c value (one_some (Some (judges c)) _ _ refl judging) none
+cache_lacks : (command : Command) (value : Text → Option Text) → serves command ≡ true → cache_from value ≡ None → task_from command value ≡ None
+cache_lacks Audits value serving none = absurd cc
+cache_lacks Reports value serving none = absurd cc
+cache_lacks Explains value serving none = absurd cc
+cache_lacks Replays value serving none = absurd cc
+cache_lacks Converts value serving none = absurd cc
+cache_lacks Serves value serving none = nothing_mapped _ _ (second_lacks _ _ (second_lacks _ _ none))
+cache_lacks Proxies value serving none = nothing_mapped _ _ (second_lacks _ _ (second_lacks _ _ none))
 
-cache_lacks : (value : Text → Option Text) → cache_from value ≡ None → task_from Serves value ≡ None
-cache_lacks value none = nothing_mapped _ _ (second_lacks _ _ (second_lacks _ _ none))
+limits_lack : (value : Text → Option Text) → limits_from value ≡ None → task_from Proxies value ≡ None
+limits_lack value none = nothing_mapped _ _ (second_lacks _ _ (first_lacks _ _ none))
+
+-- a number of connections that is none is one neither where it has to be given nor where it may be left out
+no_number : (o : Option Text) → clients_by o ≡ None → option_and_then connections_of o ≡ None
+no_number None none = absurd cc
+no_number (Some text) none = nothing_to_map Some (connections_of text) none
+
+number_lacks : (command : Command) (value : Text → Option Text) → serves command ≡ true → clients_by (value (codes "connections")) ≡ None
+    → task_from command value ≡ None
+number_lacks Audits value serving none = absurd cc
+number_lacks Reports value serving none = absurd cc
+number_lacks Explains value serving none = absurd cc
+number_lacks Replays value serving none = absurd cc
+number_lacks Converts value serving none = absurd cc
+number_lacks Serves value serving none =
+    nothing_mapped _ _ (second_lacks _ _ (first_lacks _ _ (first_lacks _ _ (no_number (value (codes "connections")) none))))
+number_lacks Proxies value serving none =
+    limits_lack value (nothing_mapped _ _ (second_lacks _ _ (second_lacks _ _ (second_lacks _ _ none))))
+
+-- of a command that is of a kind
+kind_lacks : (kind : Command → Bool) (value : Text → Option Text) → ((c : Command) → kind c ≡ true → task_from c value ≡ None)
+    → (command : Option Command) → option_map kind command ≡ Some true → task_by command value ≡ None
+kind_lacks kind value lacking None is = refl
+kind_lacks kind value lacking (Some c) is = lacking c (one_some (Some (kind c)) _ _ refl is)
 
 fault_lacks : (command : Option Command) (value : Text → Option Text) (c : Command) → command ≡ Some c → task_from c value ≡ None
     → task_by command value ≡ None
@@ -209,23 +275,34 @@ module _ (command : Option Command) (value : Text → Option Text) (task : Task)
   is_given : task_by command value ≡ None → ⊥
   is_given none = none_is_some _ task none (task_given command value task asks)
 
+  unjudged : option_map judges command ≡ Some true → settings_from value ≡ None → ⊥
+  unjudged judging none = is_given (kind_lacks judges value (λ c. λ is. settings_lack c value is none) command judging)
+
+  unserved : option_map serves command ≡ Some true → cache_from value ≡ None → ⊥
+  unserved serving none = is_given (kind_lacks serves value (λ c. λ is. cache_lacks c value is none) command serving)
+
+  unlimited : command ≡ Some Proxies → limits_from value ≡ None → ⊥
+  unlimited is none = is_given (fault_lacks command value Proxies is (limits_lack value none))
+
   none_outside : (refusal : Refusal) → RefusesBy command value refusal → refused_kind refusal ≡ Some (kind_of e) → ⊥
   none_outside Memory refuses kind = cc
   none_outside Missing refuses kind = true_is_not_false _ refuses (lacks_nothing command value task asks)
-  none_outside Slack refuses kind = is_given (judged_lacks _ _ refuses.0 (nothing_mapped _ _ (first_lacks _ _ refuses.1)))
-  none_outside Ignore refuses kind = is_given (judged_lacks _ _ refuses.0 (nothing_mapped _ _ (second_lacks _ _ refuses.1)))
+  none_outside Slack refuses kind = unjudged refuses.0 (nothing_mapped _ _ (first_lacks _ _ refuses.1))
+  none_outside Ignore refuses kind = unjudged refuses.0 (nothing_mapped _ _ (second_lacks _ _ refuses.1))
   none_outside Position refuses kind =
       is_given (fault_lacks _ _ Explains refuses.0 (nothing_mapped _ _ (second_lacks _ _ (first_lacks _ _ refuses.1))))
   none_outside StandardInput refuses kind =
       is_given (fault_lacks _ _ Explains refuses.0 (nothing_mapped _ _ (first_lacks _ _ (ap file_named refuses.1))))
   none_outside Connections refuses kind =
-      is_given (fault_lacks _ _ Serves refuses.0 (nothing_mapped _ _ (second_lacks _ _ (first_lacks _ _ (first_lacks _ _ refuses.1)))))
-  none_outside Keys refuses kind =
-      is_given (fault_lacks _ _ Serves refuses.0 (cache_lacks value (nothing_mapped _ _ (first_lacks _ _ refuses.1))))
-  none_outside Bytes refuses kind =
-      is_given (fault_lacks _ _ Serves refuses.0 (cache_lacks value (nothing_mapped _ _ (second_lacks _ _ (first_lacks _ _ refuses.1)))))
-  none_outside Name refuses kind =
-      is_given (fault_lacks _ _ Serves refuses.0 (cache_lacks value (nothing_mapped _ _ (second_lacks _ _ (second_lacks _ _ refuses.1)))))
+      is_given (kind_lacks serves value (λ c. λ serving. number_lacks c value serving refuses.1) command refuses.0)
+  none_outside MaxConnections refuses kind = unlimited refuses.0 (nothing_mapped _ _ (first_lacks _ _ (first_lacks _ _ refuses.1)))
+  none_outside OriginConnections refuses kind = unlimited refuses.0 (nothing_mapped _ _ (first_lacks _ _ (second_lacks _ _ refuses.1)))
+  none_outside ConnectTimeout refuses kind = unlimited refuses.0 (nothing_mapped _ _ (second_lacks _ _ (first_lacks _ _ refuses.1)))
+  none_outside DrainTimeout refuses kind =
+      unlimited refuses.0 (nothing_mapped _ _ (second_lacks _ _ (second_lacks _ _ (first_lacks _ _ refuses.1))))
+  none_outside Keys refuses kind = unserved refuses.0 (nothing_mapped _ _ (first_lacks _ _ refuses.1))
+  none_outside Bytes refuses kind = unserved refuses.0 (nothing_mapped _ _ (second_lacks _ _ (first_lacks _ _ refuses.1)))
+  none_outside Name refuses kind = unserved refuses.0 (nothing_mapped _ _ (second_lacks _ _ (second_lacks _ _ refuses.1)))
 
 -- of the settings that are asked for there are caches
 taken_name : (b : Bool) (text name : Text) → is_name text ≡ b → cond b (Some text) None ≡ Some name → is_name name ≡ true
@@ -245,16 +322,20 @@ good_size : (o : Option Text) (keys : ℕ) → keys_by o ≡ Some keys → is_si
 good_size None keys is = let e : 1024 ≡ keys = search rules in subst (λ n. is_size n ≡ true) e refl
 good_size (Some text) keys is = taken_size (is_number text) (is_size (digits_value 10 text)) (digits_value 10 text) keys refl is
 
+good_cache : (value : Text → Option Text) (settings : CoreSettings) → AsksCache value settings → AreGood settings
+good_cache value settings asks = record {
+  name = good_name (value (codes "name")) settings.name asks.name_is;
+  size = good_size (value (codes "keys")) settings.keys asks.keys_is;
+}
+
 pub possible_from : (command : Option Command) (value : Text → Option Text) (task : Task) → AsksBy command value task → CanBeDone task
 possible_from command value (ToAudit file settings) asks = tt
 possible_from command value (ToReport file settings json) asks = tt
 possible_from command value (ToExplain file position settings) asks = tt
 possible_from command value (ToReplay file) asks = tt
 possible_from command value (ToConvert file) asks = tt
-possible_from command value (ToServe listen origin connections file settings) asks = record {
-  name = good_name (value (codes "name")) settings.name asks.1.settings_are.name_is;
-  size = good_size (value (codes "keys")) settings.keys asks.1.settings_are.keys_is;
-}
+possible_from command value (ToServe listen origin connections file settings) asks = good_cache value settings asks.1.settings_are
+possible_from command value (ToProxy listen origin file limits settings) asks = good_cache value settings asks.1.settings_are
 
 -- words that ask something are refused for want of memory alone
 pub asked_from : (words : List Text) (task : Task) (e : Error) → fault_of hcache words ≡ [] → Asks words task → IsRefused words e → kind_of e ≡ OutOfMemory
@@ -620,4 +701,56 @@ serve_words name listen origin number file connections counts = record {
     },
   );
   no_fault = no_serve_fault name listen origin number file;
+}
+
+-- ---- `proxy`
+
+module _ (name listen origin : Text) where
+  proxy_listens : value_in (subcommand_of hcache (name ∷ proxy_words listen origin)) (codes "listen") ≡ Some listen
+  unfolding clap_on_literals
+  proxy_listens = refl
+
+  proxy_forwards : value_in (subcommand_of hcache (name ∷ proxy_words listen origin)) (codes "origin") ≡ Some origin
+  unfolding clap_on_literals
+  proxy_forwards = refl
+
+  no_record : value_in (subcommand_of hcache (name ∷ proxy_words listen origin)) (codes "record") ≡ None
+  unfolding clap_on_literals
+  no_record = refl
+
+  no_limits : AsksLimits (value_in (subcommand_of hcache (name ∷ proxy_words listen origin))) plain_limits
+  unfolding clap_on_literals
+  no_limits = record {
+    connections_are = refl;
+    origin_connections_are = refl;
+    connect_timeout_is = refl;
+    drain_timeout_is = refl;
+    clients_are = refl;
+  }
+
+  plain_proxy : AsksCache (value_in (subcommand_of hcache (name ∷ proxy_words listen origin))) plain_cache
+  unfolding clap_on_literals
+  plain_proxy = record { keys_is = refl; bytes_is = refl; name_is = refl }
+
+  is_proxy : command_in (subcommand_of hcache (name ∷ proxy_words listen origin)) ≡ Some Proxies
+  unfolding clap_on_literals
+  is_proxy = refl
+
+  no_proxy_fault : fault_of hcache (name ∷ proxy_words listen origin) ≡ []
+  unfolding clap_on_literals
+  no_proxy_fault = refl
+
+pub words_of_proxy : (name listen origin : Text) → AreWordsFor (name ∷ proxy_words listen origin) (ToProxy listen origin None plain_limits plain_cache)
+words_of_proxy name listen origin = record {
+  asks = (
+    is_proxy name listen origin,
+    record {
+      listen_is = proxy_listens name listen origin;
+      origin_is = proxy_forwards name listen origin;
+      file_is = no_record name listen origin;
+      limits_are = no_limits name listen origin;
+      settings_are = plain_proxy name listen origin;
+    },
+  );
+  no_fault = no_proxy_fault name listen origin;
 }

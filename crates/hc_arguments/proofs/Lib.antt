@@ -1,2 +1,4 @@
 pub mod ArgumentLemmas
 pub mod NameLemmas
+pub mod OptionLemmas
+pub mod ValueLemmas

@@ -1,6 +1,7 @@
 -- The command line of `hcache`, as a parse sees it.
 use Rattle.std.specs.Prelude.{◌≡◌, ◌≢◌, ◌⊎◌, ⊤, ℕ, List, [], ◌∷◌, ◌++◌, Option, None, Some, Result, IfOk, true, codes}
 use Rattle.std.specs.Prelude.{Bool, ◌||◌, if◌then◌else◌, false, is_none, option_and_then, option_map, slice_get}
+use Rattle.std.specs.Option.{option_map_or}
 use Rattle.std.specs.Str.{bytes_eq}
 use Rattle.std.specs.declared.alloc.AllocError.{AllocError}
 use Rattle.clap.specs.Words.{App, HasKind, Row, Rule, Text, app_of, fault_of, first_of, kind_of, new_app, new_rule}
@@ -16,14 +17,18 @@ use Rattle.hc_history.specs.declared.settings.Settings.{Settings}
 use Rattle.hc_service.specs.declared.settings.CoreSettings.{CoreSettings}
 use Rattle.hc_service.specs.Settings.{AreGood}
 use Rattle.hc_arguments.specs.declared.order.Order.{Order}
-use Rattle.hc_arguments.specs.declared.order.Order.TheVariants.{Audit, Report, Explain, Replay, Convert, Serve}
+use Rattle.hc_arguments.specs.declared.order.Order.TheVariants.{Audit, Report, Explain, Replay, Convert, Serve, Proxy}
+use Rattle.hc_arguments.specs.declared.order.ProxyLimits.{ProxyLimits}
+use Rattle.hc_arguments.specs.declared.options.Wanted.{Wanted}
 use Rattle.hc_arguments.specs.declared.refusal.Refusal.{Refusal}
 use Rattle.hc_arguments.specs.declared.refusal.Refusal.TheVariants.{Memory, Missing, Slack, Ignore, Position, StandardInput, Connections, Keys, Bytes, Name}
-use Rattle.hc_arguments.specs.Values.{bytes_by, connections_of, ignored_by, json_by, keys_by, name_by, position_by, slack_by, unmarked_by}
+use Rattle.hc_arguments.specs.declared.refusal.Refusal.TheVariants.{MaxConnections, OriginConnections, ConnectTimeout, DrainTimeout}
+use Rattle.hc_arguments.specs.Values.{bytes_by, clients_by, connections_of, ignored_by, json_by, keys_by, name_by, position_by, slack_by, unmarked_by}
+use Rattle.hc_arguments.specs.Values.{connect_timeout_by, drain_timeout_by, max_connections_by, origin_connections_by}
 
 -- ---- what the command takes
 
--- the argument of all but `serve`
+-- the argument of all but `serve` and `proxy`
 abbrev pub file_rule : Rule
 file_rule = record (new_rule (codes "FILE")) { required = true }
 
@@ -43,9 +48,14 @@ required_rule name = record (option_rule name) { required = true }
 abbrev pub flag_rule : Text → Rule
 flag_rule name = record (new_rule name) { long = Some name; action = Some SetTrue }
 
+-- a command with these arguments behind its own
+abbrev pub with_rules : App → List Rule → App
+with_rules app [] = app
+with_rules app (rule ∷ rest) = with_rules (with_rule app rule) rest
+
 -- a command with the options that say by which settings it judges
 abbrev pub with_settings : App → App
-with_settings app = with_rule (with_rule (with_rule app (option_rule (codes "slack"))) (option_rule (codes "ignore"))) (flag_rule (codes "errors-only"))
+with_settings app = with_rules app (option_rule (codes "slack") ∷ option_rule (codes "ignore") ∷ flag_rule (codes "errors-only") ∷ [])
 
 abbrev pub audit : App
 audit = with_settings (with_rule (new_app (codes "audit")) file_rule)
@@ -61,15 +71,24 @@ replay = with_rule (new_app (codes "replay")) file_rule
 
 -- a command with the options that say between whom it serves, how long, and where that is recorded
 abbrev pub with_service : App → App
-with_service app = with_rule (with_rule (with_rule (with_rule app (required_rule (codes "listen"))) (required_rule (codes "origin")))
-    (required_rule (codes "connections"))) (required_rule (codes "record"))
+with_service app = with_rules app (required_rule (codes "listen") ∷ required_rule (codes "origin") ∷ required_rule (codes "connections")
+    ∷ required_rule (codes "record") ∷ [])
 
 -- a command with the options that say what its cache is
 abbrev pub with_cache : App → App
-with_cache app = with_rule (with_rule (with_rule app (option_rule (codes "keys"))) (option_rule (codes "bytes"))) (option_rule (codes "name"))
+with_cache app = with_rules app (option_rule (codes "keys") ∷ option_rule (codes "bytes") ∷ option_rule (codes "name") ∷ [])
 
 abbrev pub serve : App
 serve = with_cache (with_service (new_app (codes "serve")))
+
+-- a command with the options that say between whom a proxy stands, where that is recorded, and within which limits
+abbrev pub with_proxy : App → App
+with_proxy app = with_rules app (required_rule (codes "listen") ∷ required_rule (codes "origin") ∷ option_rule (codes "record")
+    ∷ option_rule (codes "max-connections") ∷ option_rule (codes "origin-connections") ∷ option_rule (codes "connect-timeout")
+    ∷ option_rule (codes "drain-timeout") ∷ option_rule (codes "connections") ∷ [])
+
+abbrev pub proxy : App
+proxy = with_cache (with_proxy (new_app (codes "proxy")))
 
 -- the command above its subcommands, without them
 abbrev pub program : App
@@ -83,7 +102,7 @@ abbrev pub judging : App
 judging = with_subcommand (with_subcommand (with_subcommand program audit.top) report.top) explain.top
 
 abbrev pub hcache : App
-hcache = with_subcommand (with_subcommand (with_subcommand judging replay.top) serve.top) convert.top
+hcache = with_subcommand (with_subcommand (with_subcommand (with_subcommand judging replay.top) serve.top) proxy.top) convert.top
 
 -- ---- what the words say
 
@@ -95,12 +114,13 @@ pub data Command : Type 0 where
   Replays : Command
   Converts : Command
   Serves : Command
+  Proxies : Command
 
 abbrev pub command_named : Text → Option Command
 command_named name = if bytes_eq name (codes "audit") then Some Audits
     else if bytes_eq name (codes "report") then Some Reports else if bytes_eq name (codes "explain") then Some Explains
     else if bytes_eq name (codes "replay") then Some Replays else if bytes_eq name (codes "serve") then Some Serves
-    else if bytes_eq name (codes "convert") then Some Converts else None
+    else if bytes_eq name (codes "proxy") then Some Proxies else if bytes_eq name (codes "convert") then Some Converts else None
 
 -- what they can be asked
 pub data Task : Type 0 where
@@ -116,6 +136,9 @@ pub data Task : Type 0 where
   ToConvert : (file : Text) → Task
   -- to serve so many connections there, before that origin, to record them to that file, from a cache of those settings
   ToServe : (listen origin : Text) (connections : ℕ) (file : Text) (settings : CoreSettings) → Task
+  -- to serve all that connect there at once, before that origin, to record them to that file, if any, within those limits, from a
+  -- cache of those settings
+  ToProxy : (listen origin : Text) (file : Option Text) (limits : ProxyLimits) (settings : CoreSettings) → Task
 
 abbrev pub command_of : Task → Command
 command_of (ToAudit file settings) = Audits
@@ -124,6 +147,7 @@ command_of (ToExplain file position settings) = Explains
 command_of (ToReplay file) = Replays
 command_of (ToConvert file) = Converts
 command_of (ToServe listen origin connections file settings) = Serves
+command_of (ToProxy listen origin file limits settings) = Proxies
 
 abbrev pub task_of : Order → Task
 task_of (Audit file settings) = ToAudit file.now settings
@@ -132,6 +156,7 @@ task_of (Explain file position settings) = ToExplain file.now position settings
 task_of (Replay file) = ToReplay file.now
 task_of (Convert file) = ToConvert file.now
 task_of (Serve listen origin connections file settings) = ToServe listen.now origin.now connections file.now settings
+task_of (Proxy p) = ToProxy p.listen.now p.origin.now (option_map (λ file. file.now) p.file) p.limits p.settings
 
 -- the values, by their names, ask to judge by those settings
 pub record AsksSettings (value : Text → Option Text) (settings : Settings) : Type 0 where
@@ -157,7 +182,7 @@ pub record AsksExplain (value : Text → Option Text) (file : Text) (position : 
   pub position_is : position_by (value (codes "POSITION")) ≡ Some position
   pub settings_are : AsksSettings value settings
 
--- and that of the cache that `serve` has
+-- and that of the cache that `serve` and `proxy` have
 pub record AsksCache (value : Text → Option Text) (settings : CoreSettings) : Type 0 where
   pub keys_is : keys_by (value (codes "keys")) ≡ Some settings.keys
   pub bytes_is : bytes_by (value (codes "bytes")) ≡ Some settings.bytes
@@ -171,6 +196,22 @@ pub record AsksService (value : Text → Option Text) (listen origin : Text) (co
   pub file_is : value (codes "record") ≡ Some file
   pub settings_are : AsksCache value settings
 
+-- and those of the limits of `proxy`
+pub record AsksLimits (value : Text → Option Text) (limits : ProxyLimits) : Type 0 where
+  pub connections_are : max_connections_by (value (codes "max-connections")) ≡ Some limits.connections
+  pub origin_connections_are : origin_connections_by (value (codes "origin-connections")) ≡ Some limits.origin_connections
+  pub connect_timeout_is : connect_timeout_by (value (codes "connect-timeout")) ≡ Some limits.connect_timeout
+  pub drain_timeout_is : drain_timeout_by (value (codes "drain-timeout")) ≡ Some limits.drain_timeout
+  pub clients_are : clients_by (value (codes "connections")) ≡ Some limits.clients
+
+-- and that of `proxy`
+pub record AsksProxy (value : Text → Option Text) (listen origin : Text) (file : Option Text) (limits : ProxyLimits) (settings : CoreSettings) : Type 0 where
+  pub listen_is : value (codes "listen") ≡ Some listen
+  pub origin_is : value (codes "origin") ≡ Some origin
+  pub file_is : value (codes "record") ≡ file
+  pub limits_are : AsksLimits value limits
+  pub settings_are : AsksCache value settings
+
 abbrev pub ValuesAsk : (Text → Option Text) → Task → Type 0
 ValuesAsk value (ToAudit file settings) = AsksAudit value file settings
 ValuesAsk value (ToReport file settings json) = AsksReport value file settings json
@@ -178,6 +219,7 @@ ValuesAsk value (ToExplain file position settings) = AsksExplain value file posi
 ValuesAsk value (ToReplay file) = value (codes "FILE") ≡ Some file
 ValuesAsk value (ToConvert file) = value (codes "FILE") ≡ Some file
 ValuesAsk value (ToServe listen origin connections file settings) = AsksService value listen origin connections file settings
+ValuesAsk value (ToProxy listen origin file limits settings) = AsksProxy value listen origin file limits settings
 
 -- the command and its values ask that
 abbrev pub AsksBy : Option Command → (Text → Option Text) → Task → Type 0
@@ -201,6 +243,7 @@ Asks words = AsksIn (subcommand_of hcache words)
 -- what a task can be asked with: of those settings there are caches
 abbrev pub CanBeDone : Task → Type 0
 CanBeDone (ToServe listen origin connections file settings) = AreGood settings
+CanBeDone (ToProxy listen origin file limits settings) = AreGood settings
 CanBeDone task = ⊤
 
 -- ---- plain words
@@ -218,6 +261,10 @@ abbrev pub service_words : Text → Text → Text → Text → List Text
 service_words listen origin number file = codes "serve" ∷ (codes "--listen=" ++ listen) ∷ (codes "--origin=" ++ origin)
     ∷ (codes "--connections=" ++ number) ∷ (codes "--record=" ++ file) ∷ []
 
+-- and those that ask for a proxy
+abbrev pub proxy_words : Text → Text → List Text
+proxy_words listen origin = codes "proxy" ∷ (codes "--listen=" ++ listen) ∷ (codes "--origin=" ++ origin) ∷ []
+
 -- ---- why words are refused
 
 -- whether a value that the command needs isn't there; without a command nothing is asked
@@ -230,6 +277,7 @@ lacks (Some Replays) value = is_none (value (codes "FILE"))
 lacks (Some Converts) value = is_none (value (codes "FILE"))
 lacks (Some Serves) value = is_none (value (codes "listen")) || (is_none (value (codes "origin"))
     || (is_none (value (codes "connections")) || is_none (value (codes "record"))))
+lacks (Some Proxies) value = is_none (value (codes "listen")) || is_none (value (codes "origin"))
 
 -- whether the command judges replies, by settings
 abbrev pub judges : Command → Bool
@@ -239,6 +287,17 @@ judges Explains = true
 judges Replays = false
 judges Converts = false
 judges Serves = false
+judges Proxies = false
+
+-- whether it serves clients, from a cache
+abbrev pub serves : Command → Bool
+serves Audits = false
+serves Reports = false
+serves Explains = false
+serves Replays = false
+serves Converts = false
+serves Serves = true
+serves Proxies = true
 
 -- why the command and its values ask nothing
 abbrev pub RefusesBy : Option Command → (Text → Option Text) → Refusal → Type 0
@@ -248,10 +307,14 @@ RefusesBy command value Slack = (option_map judges command ≡ Some true) × (sl
 RefusesBy command value Ignore = (option_map judges command ≡ Some true) × (ignored_by (value (codes "ignore")) ≡ None)
 RefusesBy command value Position = (command ≡ Some Explains) × (position_by (value (codes "POSITION")) ≡ None)
 RefusesBy command value StandardInput = (command ≡ Some Explains) × (value (codes "FILE") ≡ Some (codes "-"))
-RefusesBy command value Connections = (command ≡ Some Serves) × (option_and_then connections_of (value (codes "connections")) ≡ None)
-RefusesBy command value Keys = (command ≡ Some Serves) × (keys_by (value (codes "keys")) ≡ None)
-RefusesBy command value Bytes = (command ≡ Some Serves) × (bytes_by (value (codes "bytes")) ≡ None)
-RefusesBy command value Name = (command ≡ Some Serves) × (name_by (value (codes "name")) ≡ None)
+RefusesBy command value Connections = (option_map serves command ≡ Some true) × (clients_by (value (codes "connections")) ≡ None)
+RefusesBy command value MaxConnections = (command ≡ Some Proxies) × (max_connections_by (value (codes "max-connections")) ≡ None)
+RefusesBy command value OriginConnections = (command ≡ Some Proxies) × (origin_connections_by (value (codes "origin-connections")) ≡ None)
+RefusesBy command value ConnectTimeout = (command ≡ Some Proxies) × (connect_timeout_by (value (codes "connect-timeout")) ≡ None)
+RefusesBy command value DrainTimeout = (command ≡ Some Proxies) × (drain_timeout_by (value (codes "drain-timeout")) ≡ None)
+RefusesBy command value Keys = (option_map serves command ≡ Some true) × (keys_by (value (codes "keys")) ≡ None)
+RefusesBy command value Bytes = (option_map serves command ≡ Some true) × (bytes_by (value (codes "bytes")) ≡ None)
+RefusesBy command value Name = (option_map serves command ≡ Some true) × (name_by (value (codes "name")) ≡ None)
 
 abbrev pub RefusesIn : Option (Text × List Row) → Refusal → Type 0
 RefusesIn given = RefusesBy (command_in given) (value_in given)
@@ -265,6 +328,10 @@ refused_kind Ignore = Some kind.ValueValidation
 refused_kind Position = Some kind.ValueValidation
 refused_kind StandardInput = Some kind.ValueValidation
 refused_kind Connections = Some kind.ValueValidation
+refused_kind MaxConnections = Some kind.ValueValidation
+refused_kind OriginConnections = Some kind.ValueValidation
+refused_kind ConnectTimeout = Some kind.ValueValidation
+refused_kind DrainTimeout = Some kind.ValueValidation
 refused_kind Keys = Some kind.ValueValidation
 refused_kind Bytes = Some kind.ValueValidation
 refused_kind Name = Some kind.ValueValidation
@@ -290,6 +357,11 @@ IsErrorStatus kind.DisplayVersion status = (status ≡ 0) ⊎ (status ≡ 3)
 IsErrorStatus _ status = status ≡ 64
 
 -- ---- what private functions return
+
+-- the rule of an option that is wanted
+abbrev pub wanted_rule : Wanted → Rule
+wanted_rule wanted =
+    option_map_or (λ _. record (option_rule wanted.name.now) { required = wanted.required }) wanted.value (flag_rule wanted.name.now)
 
 -- a command that takes that, where memory sufficed, of which no argument is global
 abbrev pub IsMade : App → Result Builder AllocError → Type 0

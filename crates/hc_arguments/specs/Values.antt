@@ -1,6 +1,8 @@
 -- What the values of options say.
-use Rattle.std.specs.Prelude.{ℕ, Bool, ◌==◌, ◌&&◌, List, [], Option, Some, None, ◌∷◌, ◌+◌, codes, false, map, nat_le, nat_lt, if◌then◌else◌, option_map}
-use Rattle.std.specs.List.{list_all, slice_split}
+use Rattle.std.specs.Prelude.{ℕ, Bool, ◌==◌, ◌&&◌, ◌||◌, List, [], Option, Some, None, ◌∷◌, ◌+◌, ◌*◌, codes, false, map, nat_le, nat_lt, if◌then◌else◌, option_and_then, option_map}
+use Rattle.std.specs.Ffi.{without_last}
+use Rattle.std.specs.List.{last_or, list_all, slice_split}
+use Rattle.std.specs.Option.{option_map_or}
 use Rattle.std.specs.Str.{bytes_eq, str_to_ascii_lowercase}
 use Rattle.std.specs.Str.Parse.{digits_value}
 use Rattle.clap.specs.Words.{Text}
@@ -11,6 +13,7 @@ use Rattle.hc_history.specs.declared.settings.Settings.{Settings}
 use Rattle.hc_history.specs.declared.settings.UnmarkedReplies.{UnmarkedReplies}
 use Rattle.hc_history.specs.declared.settings.UnmarkedReplies.TheVariants.{Allow, ErrorsOnly}
 use Rattle.hc_service.specs.declared.settings.CoreSettings.{CoreSettings}
+use Rattle.hc_arguments.specs.declared.order.ProxyLimits.{ProxyLimits}
 use Rattle.hc_service.specs.Settings.{is_name, is_size}
 
 -- ---- seconds
@@ -72,6 +75,39 @@ abbrev pub position_by : Option Text → Option (Option ℕ)
 position_by None = Some None
 position_by (Some text) = option_map Some (positive_of text)
 
+-- ---- the limits of a proxy
+
+-- the number that one or more digits write, where it is from the first of these numbers to the second
+abbrev pub number_within : ℕ → ℕ → Text → Option ℕ
+number_within least most text =
+    if is_number text && (nat_le least (digits_value 10 text) && nat_le (digits_value 10 text) most) then Some (digits_value 10 text) else None
+
+-- an option with such a number: the third one where it isn't given
+abbrev pub number_by : ℕ → ℕ → ℕ → Option Text → Option ℕ
+number_by least most other None = Some other
+number_by least most other (Some text) = number_within least most text
+
+-- `--max-connections`
+abbrev pub max_connections_by : Option Text → Option ℕ
+max_connections_by value = number_by 1 60000 1024 value
+
+-- `--origin-connections`
+abbrev pub origin_connections_by : Option Text → Option ℕ
+origin_connections_by value = number_by 1 60000 100 value
+
+-- `--connect-timeout`
+abbrev pub connect_timeout_by : Option Text → Option ℕ
+connect_timeout_by value = number_by 1 3600 5 value
+
+-- `--drain-timeout`
+abbrev pub drain_timeout_by : Option Text → Option ℕ
+drain_timeout_by value = number_by 0 86400 8 value
+
+-- `--connections`, which a proxy may go without
+abbrev pub clients_by : Option Text → Option (Option ℕ)
+clients_by None = Some None
+clients_by (Some text) = option_map Some (connections_of text)
+
 -- ---- the cache
 
 -- the number that one or more digits write, where a cache may keep responses of so many targets
@@ -83,10 +119,20 @@ abbrev pub keys_by : Option Text → Option ℕ
 keys_by None = Some 1024
 keys_by (Some text) = keys_of text
 
--- the number that one or more digits write, from 0 to 999999999999
+-- as many of these units as one or more digits write, where that is from 0 to 999999999999
+abbrev pub bytes_in : ℕ → Text → Option ℕ
+bytes_in unit text =
+    if is_number text && nat_le (digits_value 10 text * unit) greatest_number then Some (digits_value 10 text * unit) else None
+
+-- the unit that a letter stands for: `k`, `m` and `g`, in either case
+abbrev pub unit_of : ℕ → Option ℕ
+unit_of letter = if letter == 107 || letter == 75 then Some 1024 else if letter == 109 || letter == 77 then Some 1048576
+    else if letter == 103 || letter == 71 then Some 1073741824 else None
+
+-- as many octets as digits say, or as many units where the letter of one ends them
 abbrev pub bytes_of : Text → Option ℕ
 bytes_of text =
-    if is_number text && nat_le (digits_value 10 text) greatest_number then Some (digits_value 10 text) else None
+    option_map_or (λ unit. bytes_in unit (without_last text)) (option_and_then unit_of (last_or None text)) (bytes_in 1 text)
 
 -- `--bytes`: 67108864 where it isn't given
 abbrev pub bytes_by : Option Text → Option ℕ
@@ -107,6 +153,10 @@ name_by (Some name) = name_of name
 -- the cache that serves
 abbrev pub plain_cache : CoreSettings
 plain_cache = record { name = codes "hcache"; keys = 1024; bytes = 67108864 }
+
+-- the limits of a proxy
+abbrev pub plain_limits : ProxyLimits
+plain_limits = record { connections = 1024; origin_connections = 100; connect_timeout = 5; drain_timeout = 8; clients = None }
 
 -- no slack, nothing ignored, and every reply may be unmarked
 abbrev pub plain : Settings

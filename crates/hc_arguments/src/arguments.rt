@@ -2,17 +2,18 @@
 
 ghost use Rattle.std.specs.Prelude.{◌≡◌, ◌∷◌, [], IfErr, IfOk, MatchResult, ℕ, Some, None, codes, false, map, true};
 ghost use Rattle.clap.specs.Words.{HasKind, Text, fault_of, first_value, found_of, kind_of, subcommand_of, subcommand_rows_of};
-ghost use Rattle.hc_arguments.specs.Command.{Asks, AsksBy, AsksCache, AsksIn, AsksSettings, CanBeDone, Command, IsFileName, IsRefused, IsRefusedIn, IsWord, RefusesBy, RefusesIn, hcache, judges, service_words, task_of};
-ghost use Rattle.hc_arguments.specs.Command.Command.{Audits, Converts, Explains, Replays, Reports, Serves};
-ghost use Rattle.hc_arguments.specs.Command.Task.{ToAudit, ToConvert, ToExplain, ToReplay, ToReport, ToServe};
-ghost use Rattle.hc_arguments.specs.Values.{connections_of, plain, plain_cache, position_by, positive_of};
+ghost use Rattle.hc_arguments.specs.Command.{Asks, AsksBy, AsksCache, AsksIn, AsksLimits, AsksSettings, CanBeDone, Command, IsFileName, IsRefused, IsRefusedIn, IsWord, RefusesBy, RefusesIn, hcache, judges, proxy_words, serves, service_words, task_of};
+ghost use Rattle.hc_arguments.specs.Command.Command.{Audits, Converts, Explains, Proxies, Replays, Reports, Serves};
+ghost use Rattle.hc_arguments.specs.Command.Task.{ToAudit, ToConvert, ToExplain, ToProxy, ToReplay, ToReport, ToServe};
+ghost use Rattle.hc_arguments.specs.Values.{connections_of, plain, plain_cache, plain_limits, position_by, positive_of};
 ghost use Rattle.hc_arguments.specs.declared.refusal.Refusal.TheVariants.{Missing};
 
 use crate::command::command;
-use crate::order::Order;
+use crate::order::{Order, ProxyLimits, Proxying};
 use crate::refusal::{Refusal, usage_error};
 use crate::values::{
-    bytes_by, ignored_by, json_by, keys_by, name_by, positive_of, slack_by, unmarked_by,
+    bytes_by, clients_by, connect_timeout_by, drain_timeout_by, ignored_by, json_by, keys_by,
+    max_connections_by, name_by, origin_connections_by, positive_of, slack_by, unmarked_by,
 };
 use clap::error::ErrorKind;
 use clap::{ArgMatches, Error};
@@ -61,6 +62,10 @@ pub fn parsed<'a, S: AsStr>(alloc: Global, words: &'a [S]) -> Result<Order<'a>, 
         → connections_of number ≡ Some connections
         → map S.text words.entry.now ≡ name ∷ service_words listen origin number file
         → MatchResult result (λ order. task_of order ≡ ToServe listen origin connections file plain_cache)
+        (λ error. kind_of error ≡ ErrorKind.OutOfMemory) }
+    // And `proxy` those of the two that it needs, no file, and the plain limits and cache.
+    ensures proxy { (name listen origin : Text) → map S.text words.entry.now ≡ name ∷ proxy_words listen origin
+        → MatchResult result (λ order. task_of order ≡ ToProxy listen origin None plain_limits plain_cache)
         (λ error. kind_of error ≡ ErrorKind.OutOfMemory) }
 
     // Other words give what they say, where the command line has no fault and the values are in their ranges.
@@ -118,6 +123,7 @@ fn order_in<'a>(alloc: Global, matches: &ArgMatches<'a>) -> Result<Order<'a>, Re
         "explain" => explain_in(alloc, found),
         "replay" => replay_in(found),
         "serve" => serve_in(alloc, found),
+        "proxy" => proxy_in(alloc, found),
         "convert" => convert_in(found),
         _ => Err(Refusal::Missing),
     }
@@ -240,10 +246,54 @@ fn serve_in<'a>(alloc: Global, found: &ArgMatches<'a>) -> Result<Order<'a>, Refu
     })
 }
 
-// What the cache is that `serve` asks for.
+// What `proxy` asks.
+fn proxy_in<'a>(alloc: Global, found: &ArgMatches<'a>) -> Result<Order<'a>, Refusal>
+    ensures ok { IfOk result (λ order. AsksBy (Some Proxies) (first_value (found_of found.now)) (task_of order)) }
+    ensures err { IfErr result (RefusesBy (Some Proxies) (first_value (found_of found.now))) }
+{
+    Ok(Order::Proxy(Proxying {
+        listen: required(found, "listen")?,
+        origin: required(found, "origin")?,
+        file: found.get_str("record"),
+        limits: limits_in(found)?,
+        settings: cache_in(alloc, found)?,
+    }))
+}
+
+// Within which limits a proxy is asked for.
+fn limits_in(found: &ArgMatches<'_>) -> Result<ProxyLimits, Refusal>
+    ensures ok { IfOk result (AsksLimits (first_value (found_of found.now))) }
+    ensures err { IfErr result (RefusesBy (Some Proxies) (first_value (found_of found.now))) }
+{
+    let Some(connections) = max_connections_by(found.get_str("max-connections")) else {
+        return Err(Refusal::MaxConnections);
+    };
+    let Some(origin_connections) = origin_connections_by(found.get_str("origin-connections")) else {
+        return Err(Refusal::OriginConnections);
+    };
+    let Some(connect_timeout) = connect_timeout_by(found.get_str("connect-timeout")) else {
+        return Err(Refusal::ConnectTimeout);
+    };
+    let Some(drain_timeout) = drain_timeout_by(found.get_str("drain-timeout")) else {
+        return Err(Refusal::DrainTimeout);
+    };
+    let Some(clients) = clients_by(found.get_str("connections")) else {
+        return Err(Refusal::Connections);
+    };
+    Ok(ProxyLimits {
+        connections,
+        origin_connections,
+        connect_timeout,
+        drain_timeout,
+        clients,
+    })
+}
+
+// What the cache is that a command asks for.
 fn cache_in(alloc: Global, found: &ArgMatches<'_>) -> Result<CoreSettings, Refusal>
     ensures ok { IfOk result (AsksCache (first_value (found_of found.now))) }
-    ensures err { IfErr result (RefusesBy (Some Serves) (first_value (found_of found.now))) }
+    ensures err { IfErr result (λ refusal. (command : Command) → serves command ≡ true
+        → RefusesBy (Some command) (first_value (found_of found.now)) refusal) }
 {
     let Some(keys) = keys_by(found.get_str("keys")) else {
         return Err(Refusal::Keys);

@@ -1,15 +1,16 @@
 //! The command `hcache`, and its subcommands.
 
-ghost use Rattle.std.specs.Prelude.{◌≡◌, false};
+ghost use Rattle.std.specs.Prelude.{◌≡◌, false, map};
 ghost use Rattle.clap.specs.Words.{App, new_app, rule_of, with_rule, with_subcommand};
-ghost use Rattle.hc_arguments.specs.Command.{IsMade, audit, convert, explain, file_rule, flag_rule, hcache, judging, option_rule, position_rule, program, replay, report, required_rule, serve, with_cache, with_service, with_settings};
+ghost use Rattle.hc_arguments.specs.Command.{IsMade, audit, convert, explain, file_rule, hcache, judging, position_rule, program, proxy, replay, report, serve, wanted_rule, with_cache, with_proxy, with_rules, with_service, with_settings};
 
+use crate::options::{CACHING, JUDGING, PROXYING, REPORTING, SERVING, Wanted};
 use clap::{Arg, ArgAction, Command};
 use std::alloc::{AllocError, Global};
 
 const ABOUT: &str =
     "Audits the transcripts of a cache, groups and explains their wrong replies, plays scripts to a cache \
-    that records one, serves clients from one, and converts transcripts";
+    that records one, serves clients from one, also many at once, and converts transcripts";
 
 const AUDIT_ABOUT: &str = "Says whether every reply in a transcript is right, in one line";
 
@@ -42,36 +43,8 @@ const SERVE_ABOUT: &str =
     "Serves clients from a new cache before an origin, one connection after another, and records \
     the transcript of both sides";
 
-const LISTEN_HELP: &str = "Where clients connect to";
-
-const ORIGIN_HELP: &str = "Where requests are forwarded to";
-
-const CONNECTIONS_HELP: &str =
-    "How many connections of clients are served: a decimal from 1 to 999999999999";
-
-const RECORD_HELP: &str = "The transcript, a file that is created or emptied";
-
-const KEYS_HELP: &str =
-    "The most targets of which responses are kept: a decimal from 1 to 65536, and 1024 without the option";
-
-const BYTES_HELP: &str =
-    "The most octets that are kept, bodies and fields together: a decimal from 0 to 999999999999, \
-    and 67108864 without the option";
-
-const NAME_HELP: &str =
-    "The name by which the cache calls itself in Via and in Cache-Status: a letter and then at most \
-    31 letters, digits, '-', '_' and '.', and hcache without the option";
-
-const SLACK_HELP: &str =
-    "The seconds by which an Age, a ttl, a lifetime and what permits staleness may be off: \
-    a decimal from 0 to 2147483648, and 0 without the option";
-
-const IGNORE_HELP: &str = "The names of fields that aren't compared, with commas between them";
-
-const ERRORS_ONLY_HELP: &str =
-    "A reply without a mark is wrong, but for those of status 400 and more";
-
-const JSON_HELP: &str = "One JSON object in place of text";
+const PROXY_ABOUT: &str =
+    "Serves many clients at once from a new cache before an origin, until it is stopped";
 
 const STATUSES: &str = "\
 Exit status:
@@ -109,6 +82,12 @@ Exit status:
   3   not all were: standard error says `error: memory` or `error: device`
   64  the command line is wrong: standard error says how";
 
+const PROXY_STATUSES: &str = "\
+Exit status:
+  0   it was stopped, or all of --connections came and went
+  3   not served on: standard error says `error: memory` or `error: device`
+  64  the command line is wrong: standard error says how";
+
 /// The whole command.
 pub(crate) fn command<'a>(alloc: Global) -> Result<Command<'a>, AllocError>
     ensures { IsMade hcache result }
@@ -116,7 +95,8 @@ pub(crate) fn command<'a>(alloc: Global) -> Result<Command<'a>, AllocError>
     let judging = judging_command(alloc);
     let replaying = with_subcommand(judging, replay_command(alloc));
     let serving = with_subcommand(replaying, serve_command(alloc));
-    with_subcommand(serving, convert_command(alloc))
+    let proxying = with_subcommand(serving, proxy_command(alloc));
+    with_subcommand(proxying, convert_command(alloc))
 }
 
 // The whole command, of its subcommands with those alone that judge.
@@ -142,6 +122,7 @@ pub(crate) fn command_named<'a>(
         "explain" => explain_command(alloc),
         "replay" => replay_command(alloc),
         "serve" => serve_command(alloc),
+        "proxy" => proxy_command(alloc),
         "convert" => convert_command(alloc),
         _ => command(alloc),
     }
@@ -174,7 +155,7 @@ fn report_command<'a>(alloc: Global) -> Result<Command<'a>, AllocError>
     let bare = begun(alloc, "report", "hcache report", REPORT_ABOUT, STATUSES);
     let with_file = with_argument(bare, file_argument(alloc, AUDITED_HELP));
     let set = with_settings(alloc, with_file);
-    with_argument(set, flag(alloc, "json", JSON_HELP))
+    with_options(alloc, set, &REPORTING)
 }
 
 // The command `explain`, without the one above it.
@@ -229,6 +210,14 @@ fn serve_command<'a>(alloc: Global) -> Result<Command<'a>, AllocError>
     with_cache(alloc, with_service(alloc, bare))
 }
 
+// The command `proxy`, without the one above it.
+fn proxy_command<'a>(alloc: Global) -> Result<Command<'a>, AllocError>
+    ensures { IsMade proxy result }
+{
+    let bare = begun(alloc, "proxy", "hcache proxy", PROXY_ABOUT, PROXY_STATUSES);
+    with_cache(alloc, with_proxy(alloc, bare))
+}
+
 // A subcommand of that name, without its arguments.
 fn begun<'a>(
     alloc: Global,
@@ -263,9 +252,7 @@ fn with_settings<'a>(
 ) -> Result<Command<'a>, AllocError>
     ensures { (app : App) → IsMade app command.entry → IsMade (with_settings app) result }
 {
-    let with_slack = with_argument(command, option(alloc, "slack", "N", SLACK_HELP));
-    let with_names = with_argument(with_slack, option(alloc, "ignore", "NAME,..", IGNORE_HELP));
-    with_argument(with_names, flag(alloc, "errors-only", ERRORS_ONLY_HELP))
+    with_options(alloc, command, &JUDGING)
 }
 
 // The command with the options that say between whom it serves, how long, and where that is recorded.
@@ -275,16 +262,17 @@ fn with_service<'a>(
 ) -> Result<Command<'a>, AllocError>
     ensures { (app : App) → IsMade app command.entry → IsMade (with_service app) result }
 {
-    let listening = with_argument(command, required(alloc, "listen", "HOST:PORT", LISTEN_HELP));
-    let forwarding = with_argument(
-        listening,
-        required(alloc, "origin", "HOST:PORT", ORIGIN_HELP),
-    );
-    let counting = with_argument(
-        forwarding,
-        required(alloc, "connections", "N", CONNECTIONS_HELP),
-    );
-    with_argument(counting, required(alloc, "record", "FILE", RECORD_HELP))
+    with_options(alloc, command, &SERVING)
+}
+
+// The command with the options that say between whom a proxy stands, where that is recorded, and within which limits.
+fn with_proxy<'a>(
+    alloc: Global,
+    command: Result<Command<'a>, AllocError>,
+) -> Result<Command<'a>, AllocError>
+    ensures { (app : App) → IsMade app command.entry → IsMade (with_proxy app) result }
+{
+    with_options(alloc, command, &PROXYING)
 }
 
 // The command with the options that say what its cache is.
@@ -294,9 +282,21 @@ fn with_cache<'a>(
 ) -> Result<Command<'a>, AllocError>
     ensures { (app : App) → IsMade app command.entry → IsMade (with_cache app) result }
 {
-    let with_keys = with_argument(command, option(alloc, "keys", "N", KEYS_HELP));
-    let with_bytes = with_argument(with_keys, option(alloc, "bytes", "N", BYTES_HELP));
-    with_argument(with_bytes, option(alloc, "name", "NAME", NAME_HELP))
+    with_options(alloc, command, &CACHING)
+}
+
+// The command with these options behind its own.
+fn with_options<'a>(
+    alloc: Global,
+    mut command: Result<Command<'a>, AllocError>,
+    options: &[Wanted],
+) -> Result<Command<'a>, AllocError>
+    ensures { (app : App) → IsMade app command.entry → IsMade (with_rules app (map wanted_rule options.now)) result }
+{
+    for wanted in options {
+        command = with_argument(command, option(alloc, wanted));
+    }
+    command
 }
 
 // The command with one more subcommand.
@@ -324,36 +324,16 @@ fn position_argument<'a>(alloc: Global) -> Arg<'a>
     Arg::new(alloc, "POSITION").help(POSITION_HELP)
 }
 
-// An option with one value.
-fn option<'a>(alloc: Global, name: &'a str, value: &'a str, help: &'a str) -> Arg<'a>
-    ensures rule { rule_of result ≡ option_rule name.entry.now }
+// An option, as it is wanted.
+fn option<'a>(alloc: Global, wanted: &Wanted) -> Arg<'a>
+    ensures rule { rule_of result ≡ wanted_rule wanted.now }
     ensures local { result.global ≡ false }
 {
-    Arg::new(alloc, name)
-        .long(name)
-        .value_name(value)
-        .help(help)
-}
-
-// An option with one value, without which there is no order.
-fn required<'a>(alloc: Global, name: &'a str, value: &'a str, help: &'a str) -> Arg<'a>
-    ensures rule { rule_of result ≡ required_rule name.entry.now }
-    ensures local { result.global ≡ false }
-{
-    Arg::new(alloc, name)
-        .long(name)
-        .required(true)
-        .value_name(value)
-        .help(help)
-}
-
-// An option without a value.
-fn flag<'a>(alloc: Global, name: &'a str, help: &'a str) -> Arg<'a>
-    ensures rule { rule_of result ≡ flag_rule name.entry.now }
-    ensures local { result.global ≡ false }
-{
-    Arg::new(alloc, name)
-        .long(name)
-        .action(ArgAction::SetTrue)
-        .help(help)
+    let bare = Arg::new(alloc, wanted.name)
+        .long(wanted.name)
+        .help(wanted.help);
+    match wanted.value {
+        Some(value) => bare.value_name(value).required(wanted.required),
+        None => bare.action(ArgAction::SetTrue),
+    }
 }

@@ -4,9 +4,10 @@
 mod arguments;
 mod command;
 mod names;
+mod options;
 mod order;
 mod refusal;
 mod values;
 
 pub use arguments::{not_text, parsed};
-pub use order::Order;
+pub use order::{Order, ProxyLimits, Proxying};

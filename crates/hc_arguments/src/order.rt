@@ -54,4 +54,37 @@ pub enum Order<'a> {
         /// What the cache is: one can be.
         settings: CoreSettings,
     },
+    /// To serve many clients at once.
+    Proxy(Proxying<'a>),
+}
+
+/// Between whom a proxy stands, and how.
+#[derive(Drop)]
+pub struct Proxying<'a> {
+    /// The host and the port to which clients connect.
+    pub listen: &'a str,
+    /// The host and the port of the origin.
+    pub origin: &'a str,
+    /// The name of the file that is recorded to, which is new or empty; without it nothing is recorded.
+    pub file: Option<&'a str>,
+    /// How much it takes on at once, and for how long.
+    pub limits: ProxyLimits,
+    /// What the cache is: one can be.
+    pub settings: CoreSettings,
+}
+
+/// How much a proxy takes on at once, and for how long.
+#[derive(Clone, Copy)]
+pub struct ProxyLimits {
+    /// How many clients are connected at most, from 1 to 60,000.
+    pub connections: u64,
+    /// How many connections to the origin there are at most, from 1 to 60,000.
+    pub origin_connections: u64,
+    /// After how many seconds a connection to the origin that isn't made has failed, from 1 to 3,600.
+    pub connect_timeout: u64,
+    /// For how many seconds what is open goes on once the proxy is stopped, from 0 to 86,400.
+    pub drain_timeout: u64,
+    /// Behind how many clients, which have come and gone, it ends, from 1 to 999,999,999,999; it serves until it is stopped
+    /// without it.
+    pub clients: Option<u64>,
 }

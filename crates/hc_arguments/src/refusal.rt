@@ -26,6 +26,14 @@ pub(crate) enum Refusal {
     StandardInput,
     /// The value of `--connections` is no number of connections, or too great.
     Connections,
+    /// The value of `--max-connections` is no number of clients that a proxy may have at once.
+    MaxConnections,
+    /// The value of `--origin-connections` is no number of connections that it may have to the origin.
+    OriginConnections,
+    /// The value of `--connect-timeout` is no number of seconds, or out of its range.
+    ConnectTimeout,
+    /// The value of `--drain-timeout` is no number of seconds, or too great.
+    DrainTimeout,
     /// The value of `--keys` is no number of targets of which a cache may keep responses.
     Keys,
     /// The value of `--bytes` is no number of octets, or too great.
@@ -76,9 +84,23 @@ impl Refusal {
             Refusal::Connections => {
                 "invalid value for '--connections <N>': not a decimal from 1 to 999999999999"
             }
+            Refusal::MaxConnections => {
+                "invalid value for '--max-connections <N>': not a decimal from 1 to 60000"
+            }
+            Refusal::OriginConnections => {
+                "invalid value for '--origin-connections <N>': not a decimal from 1 to 60000"
+            }
+            Refusal::ConnectTimeout => {
+                "invalid value for '--connect-timeout <N>': not a decimal from 1 to 3600"
+            }
+            Refusal::DrainTimeout => {
+                "invalid value for '--drain-timeout <N>': not a decimal from 0 to 86400"
+            }
             Refusal::Keys => "invalid value for '--keys <N>': not a decimal from 1 to 65536",
-            Refusal::Bytes =>
-                "invalid value for '--bytes <N>': not a decimal from 0 to 999999999999",
+            Refusal::Bytes => {
+                "invalid value for '--bytes <N>': not a decimal, by itself or with k, m or g behind it, \
+                from 0 to 999999999999"
+            }
             Refusal::Name => {
                 "invalid value for '--name <NAME>': not a letter and then at most 31 letters, digits, '-', '_' and '.'"
             }

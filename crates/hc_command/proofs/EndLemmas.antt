@@ -2,7 +2,7 @@
 use Rattle.std.proofs.Common.{◌≡◌, ℕ, List, Option, Some, None, inl, inr, subst}
 use Rattle.std.specs.Io.KnownBytes.{Keeps}
 use Rattle.hc_arguments.specs.Command.{Task}
-use Rattle.hc_arguments.specs.Command.Task.{ToAudit, ToReport, ToExplain, ToReplay, ToConvert, ToServe}
+use Rattle.hc_arguments.specs.Command.Task.{ToAudit, ToReport, ToExplain, ToReplay, ToConvert, ToServe, ToProxy}
 use Rattle.hc_command.specs.Ends.{Does, Ends}
 use Rattle.hc_command.specs.Report.{Explained}
 
@@ -24,6 +24,7 @@ fails_with_3 (ToExplain file position settings) status old new faults_old faults
 fails_with_3 (ToReplay file) status old new faults_old faults_new is kept = inl is
 fails_with_3 (ToConvert file) status old new faults_old faults_new is kept = inl is
 fails_with_3 (ToServe listen origin connections file settings) status old new faults_old faults_new is kept = (kept, inl is)
+fails_with_3 (ToProxy listen origin file limits settings) status old new faults_old faults_new is kept = (kept, inl is)
 
 -- and what is answered to a task is how the program ends
 pub does_ends : (task : Task) (status : ℕ) (old new faults_old faults_new : Option (List ℕ)) → Does task status old new faults_old faults_new
@@ -34,3 +35,4 @@ does_ends (ToExplain file position settings) status old new faults_old faults_ne
 does_ends (ToReplay file) status old new faults_old faults_new does = inr (inr (inr (inl does)))
 does_ends (ToConvert file) status old new faults_old faults_new does = inr (inr (inr (inr (inl does))))
 does_ends (ToServe listen origin connections file settings) status old new faults_old faults_new does = inr (inr (inr (inr (inr (inl does)))))
+does_ends (ToProxy listen origin file limits settings) status old new faults_old faults_new does = inr (inr (inr (inr (inr (inr (inl does))))))

@@ -2,15 +2,20 @@
 use Rattle.std.specs.Prelude.{◌≡◌, ◌⊎◌, ℕ, List, Bool, Option}
 use Rattle.std.specs.Io.KnownBytes.{Keeps}
 use Rattle.hc_arguments.specs.Command.{Task}
-use Rattle.hc_arguments.specs.Command.Task.{ToAudit, ToReport, ToExplain, ToReplay, ToConvert, ToServe}
+use Rattle.hc_arguments.specs.Command.Task.{ToAudit, ToReport, ToExplain, ToReplay, ToConvert, ToServe, ToProxy}
 use Rattle.hc_command.specs.Audit.{Answers}
 use Rattle.hc_command.specs.Convert.{Converted}
 use Rattle.hc_command.specs.Replay.{Played}
 use Rattle.hc_command.specs.Report.{Explained, Reported}
+use Rattle.hc_sockets.specs.Notices.{SaysSome}
 
 -- nothing was written on the output; all clients were served and nothing was said, or the status is 3
 abbrev pub Served : ℕ → Option (List ℕ) → Option (List ℕ) → Option (List ℕ) → Option (List ℕ) → Type 0
 Served status old new faults_old faults_new = Keeps old new × ((status ≡ 3) ⊎ ((status ≡ 0) × Keeps faults_old faults_new))
+
+-- nothing was written on the output; clients were served until it was stopped, or all had come and gone, and notices alone were said, the last perhaps in part; or the status is 3
+abbrev pub Proxied : ℕ → Option (List ℕ) → Option (List ℕ) → Option (List ℕ) → Option (List ℕ) → Type 0
+Proxied status old new faults_old faults_new = Keeps old new × ((status ≡ 3) ⊎ ((status ≡ 0) × SaysSome faults_old faults_new))
 
 -- what is answered to a task
 abbrev pub Does : Task → ℕ → Option (List ℕ) → Option (List ℕ) → Option (List ℕ) → Option (List ℕ) → Type 0
@@ -20,6 +25,7 @@ Does (ToExplain file position settings) status old new faults_old faults_new = E
 Does (ToReplay file) status old new faults_old faults_new = Played status old new faults_old faults_new
 Does (ToConvert file) status old new faults_old faults_new = Converted status old new faults_old faults_new
 Does (ToServe listen origin connections file settings) status old new faults_old faults_new = Served status old new faults_old faults_new
+Does (ToProxy listen origin file limits settings) status old new faults_old faults_new = Proxied status old new faults_old faults_new
 
 -- a task is answered, help or the version is shown, or the words are refused with nothing on the output
 abbrev pub Ends : ℕ → Option (List ℕ) → Option (List ℕ) → Option (List ℕ) → Option (List ℕ) → Type 0
@@ -27,4 +33,4 @@ Ends status old new faults_old faults_new = Answers status old new faults_old fa
     ⊎ ((json : Bool) × Reported json status old new faults_old faults_new)
     ⊎ ((position : Option ℕ) × Explained position status old new faults_old faults_new)
     ⊎ Played status old new faults_old faults_new ⊎ Converted status old new faults_old faults_new ⊎ Served status old new faults_old faults_new
-    ⊎ ((status ≡ 0) × Keeps faults_old faults_new) ⊎ ((status ≡ 64) × Keeps old new)
+    ⊎ Proxied status old new faults_old faults_new ⊎ ((status ≡ 0) × Keeps faults_old faults_new) ⊎ ((status ≡ 64) × Keeps old new)

@@ -2,14 +2,15 @@
 ghost use Rattle.std.specs.Prelude.{◌≡◌, ◌⊎◌, ◌∷◌, [], ℕ, None, Some, codes, false, map};
 ghost use Rattle.std.specs.Io.KnownBytes.{Keeps};
 ghost use Rattle.clap.specs.Words.{Text, fault_of, kind_of};
-ghost use Rattle.hc_arguments.specs.Command.{Asks, CanBeDone, IsErrorStatus, IsFileName, IsWord, Task, hcache, service_words, task_of};
+ghost use Rattle.hc_arguments.specs.Command.{Asks, CanBeDone, IsErrorStatus, IsFileName, IsWord, Task, hcache, proxy_words, service_words, task_of};
 ghost use Rattle.hc_arguments.specs.Values.{connections_of};
 ghost use Rattle.hc_command.specs.Audit.{Answers};
 ghost use Rattle.hc_command.specs.Convert.{Converted};
-ghost use Rattle.hc_command.specs.Ends.{Does, Ends, Served};
+ghost use Rattle.hc_command.specs.Ends.{Does, Ends, Proxied, Served};
 ghost use Rattle.hc_command.specs.Replay.{Played};
 ghost use Rattle.hc_command.specs.Report.{Explained, Reported};
 ghost use Rattle.hc_service.specs.Settings.{AreGood};
+ghost use Rattle.hc_sockets.specs.Notices.{SaysSome};
 
 use crate::auditing::audit;
 use crate::converting::convert;
@@ -20,10 +21,11 @@ use crate::reporting::report;
 use crate::trouble::Trouble;
 use clap::Error;
 use clap::error::ErrorKind;
-use hc_arguments::{Order, not_text, parsed};
+use hc_arguments::{Order, ProxyLimits, Proxying, not_text, parsed};
+use hc_crowd::Limits;
 use hc_history::Settings;
 use hc_service::CoreSettings;
-use hc_sockets::{Claim, ServeFault, Service, serve};
+use hc_sockets::{Claim, Proxy, ServeFault, Service, serve, serve_proxy};
 use std::convert::AsStr;
 use std::io::Write;
 use std::net::Net;
@@ -36,6 +38,7 @@ const USAGE: &str =
     "\nUsage: hcache audit [OPTIONS] <FILE>\n       hcache report [OPTIONS] <FILE>\n       \
     hcache explain [OPTIONS] <FILE> [POSITION]\n       hcache replay <FILE>\n       \
     hcache serve [OPTIONS] --listen <HOST:PORT> --origin <HOST:PORT> --connections <N> --record <FILE>\n       \
+    hcache proxy [OPTIONS] --listen <HOST:PORT> --origin <HOST:PORT>\n       \
     hcache convert <FILE>\n";
 
 /// Does what the program's own arguments ask, and answers its exit status.
@@ -114,6 +117,12 @@ where
         → Served result (W.contents output.old) (W.contents output.new)
         (E.contents faults.old) (E.contents faults.new) }
 
+    // And `proxy` with the two options that it needs by serving many clients at once.
+    ensures proxy { (name listen origin : Text)
+        → map S.text words.now ≡ name ∷ proxy_words listen origin
+        → Proxied result (W.contents output.old) (W.contents output.new)
+        (E.contents faults.old) (E.contents faults.new) }
+
     // So are other words that ask for one of these, and have no fault.
     ensures asked { (task : Task) → fault_of hcache (map S.text words.now) ≡ []
         → Asks (map S.text words.now) task
@@ -166,6 +175,7 @@ where
             };
             served(rt, service, settings, faults)
         }
+        Order::Proxy(proxying) => proxied(rt, proxying, faults),
     }
 }
 
@@ -295,13 +305,72 @@ where
     requires { AreGood settings }
     ensures { (result ≡ 3) ⊎ ((result ≡ 0) × Keeps (E.contents faults.old) (E.contents faults.new)) }
 {
+    let names = Proxy {
+        listen: service.listen,
+        origin: service.origin,
+        file: Some(service.file),
+    };
     match serve(rt, service, settings) {
         Ok(()) => 0,
-        Err(ServeFault::Memory) => Trouble::Memory.told("", faults),
-        Err(ServeFault::Listener(reason)) => Trouble::Device(reason).told(service.listen, faults),
-        Err(ServeFault::Record(reason)) => Trouble::Device(reason).told(service.file, faults),
-        Err(ServeFault::Random(reason)) => Trouble::Device(reason).told("random numbers", faults),
-        Err(ServeFault::Clock) => {
+        Err(fault) => unserved(fault, names, faults),
+    }
+}
+
+// Serves many clients at once.
+fn proxied<R, E: Write>(rt: &R, proxying: Proxying<'_>, faults: &mut E) -> u8
+where
+    R: Files + Net + Clock + RandomSource + AllocGlobal,
+    R::File: Claim,
+    requires { AreGood proxying.settings }
+    ensures { (result ≡ 3) ⊎ ((result ≡ 0) × SaysSome (E.contents faults.old) (E.contents faults.new)) }
+{
+    let Proxying {
+        listen,
+        origin,
+        file,
+        limits,
+        settings,
+    } = proxying;
+    let proxy = Proxy {
+        listen,
+        origin,
+        file,
+    };
+    match serve_proxy(rt, proxy, in_milliseconds(limits), settings, faults) {
+        Ok(()) => 0,
+        Err(fault) => unserved(fault, proxy, faults),
+    }
+}
+
+// The same limits, with times in milliseconds in place of seconds.
+fn in_milliseconds(limits: ProxyLimits) -> Limits {
+    Limits {
+        connections: limits.connections as usize,
+        origin_connections: limits.origin_connections as usize,
+        connect_timeout: limits.connect_timeout.saturating_mul(1_000),
+        drain_timeout: limits.drain_timeout.saturating_mul(1_000),
+        clients: limits.clients,
+    }
+}
+
+// Says why nobody is served any more, with the name of what failed, and answers the exit status.
+fn unserved<E: Write>(fault: ServeFault, names: Proxy<'_>, faults: &mut E) -> u8
+    ensures { result ≡ 3 }
+{
+    match fault {
+        ServeFault::Memory => Trouble::Memory.told("", faults),
+        ServeFault::Listener(reason) => Trouble::Device(reason).told(names.listen, faults),
+        ServeFault::Origin(reason) => Trouble::Device(reason).told(names.origin, faults),
+        ServeFault::Record(reason) => {
+            Trouble::Device(reason).told(names.file.unwrap_or(""), faults)
+        }
+        ServeFault::Random(reason) => Trouble::Device(reason).told("random numbers", faults),
+        ServeFault::OpenFiles => {
+            let reason =
+                "so many may be open that --max-connections and --origin-connections don't fit";
+            Trouble::Device(io::Error::other(reason)).told("open files", faults)
+        }
+        ServeFault::Clock => {
             let reason = io::Error::other("it is past the year 9999");
             Trouble::Device(reason).told("clock", faults)
         }

@@ -1,7 +1,7 @@
 //! What words ask for.
 
 use crate::words::words_of;
-use hc_arguments::{Order, parsed};
+use hc_arguments::{Order, ProxyLimits, Proxying, parsed};
 use hc_cases::{Unanswered, show_short};
 use hc_history::{Settings, UnmarkedReplies};
 use hc_service::CoreSettings;
@@ -61,6 +61,38 @@ fn write_order(order: &Order<'_>, out: &mut String) -> Result<(), AllocError> {
             )?;
             write_cache(settings, out)
         }
+        Order::Proxy(asked) => write_proxy(asked, out),
+    }
+}
+
+fn write_proxy(asked: &Proxying<'_>, out: &mut String) -> Result<(), AllocError> {
+    let listen = asked.listen;
+    let origin = asked.origin;
+    write!(out, "to proxy at {listen} before {origin}, ")?;
+    match asked.file {
+        Some(file) => write!(out, "recorded to {file}")?,
+        None => out.push_str("unrecorded")?,
+    }
+    write_limits(&asked.limits, out)?;
+    write_cache(&asked.settings, out)
+}
+
+fn write_limits(limits: &ProxyLimits, out: &mut String) -> Result<(), AllocError> {
+    let connections = limits.connections;
+    let origin = limits.origin_connections;
+    write!(
+        out,
+        ", with at most {connections} clients and {origin} connections to the origin"
+    )?;
+    let connect = limits.connect_timeout;
+    let drain = limits.drain_timeout;
+    write!(
+        out,
+        ", {connect} seconds to connect and {drain} to drain, until "
+    )?;
+    match limits.clients {
+        Some(clients) => write!(out, "{clients} have come and gone"),
+        None => out.push_str("it is stopped"),
     }
 }
 

@@ -1,4 +1,5 @@
 pub mod CrowdLaws
+pub mod Courses
 pub mod Crowds
 pub mod Hearings
 pub mod Links

@@ -11,14 +11,22 @@ use hc_order::{Reason, Receiver};
 use std::alloc::AllocError;
 
 impl<W: World> Traffic<W> {
+    ghost use Rattle.std.specs.Prelude.{false};
     ghost use Rattle.hc_connection.specs.Sides.{TellsIfOk};
+    ghost use Rattle.hc_crowd.specs.Courses.{ServesNoMore};
     ghost use Rattle.hc_order.specs.Log.{Move};
     ghost use Rattle.hc_crowd.specs.Peers.{ArePeers, HeardInTurn, MayBeHeard, NoAnswer};
     ghost use Rattle.hc_crowd.specs.Shown.{AreShown};
 
-    /// Whether further clients may connect: no stop was asked, and not all of those have come that are served.
-    pub(crate) fn serves_more(&self, limits: Limits) -> bool {
-        if self.course.stops() {
+    /// Whether further clients may be accepted: not all of those have come that are served, and no stop was asked, or some
+    /// had connected by then.
+    pub(crate) fn serves_more(&self, limits: Limits) -> bool
+        ensures { result ≡ false → ServesNoMore limits.clients self.now.course self.now.peers.last }
+    {
+        if self.course.is_late() {
+            return false;
+        }
+        if self.course.stops() && self.listening.is_idle() {
             return false;
         }
         match limits.clients {

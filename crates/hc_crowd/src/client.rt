@@ -13,7 +13,7 @@ use std::alloc::{AllocError, Global};
 pub(crate) struct Hearing {
     /// Whether a request of the client awaits its reply.
     pub(crate) awaited: bool,
-    /// Whether a stop was asked.
+    /// Whether a stop ends the client.
     pub(crate) stops: bool,
 }
 
@@ -29,6 +29,8 @@ pub(crate) struct Client<S: Stream> {
     late: bool,
     /// Whether it stands among the turns.
     queued: bool,
+    /// Whether it wasn't read yet.
+    fresh: bool,
 }
 
 impl<S: Stream> Client<S> {
@@ -49,6 +51,7 @@ impl<S: Stream> Client<S> {
             closed: false,
             late: false,
             queued: true,
+            fresh: true,
         }
     }
 
@@ -123,6 +126,7 @@ impl<S: Stream> Client<S> {
         ensures reason { (late : Bool) → IsHeardFor false late result }
         ensures got { Stays (S.has_got self.old.flow.stream) (S.has_got self.new.flow.stream) }
     {
+        self.fresh = false;
         match hear_flow(alloc, &mut self.flow, buffer)? {
             Heard::Octets(octets) => Ok(Heard::Octets(octets)),
             Heard::End(reason) => Ok(self.end(reason)),
@@ -214,6 +218,13 @@ impl<S: Stream> Client<S> {
         ensures { result ≡ self.now.closed }
     {
         self.closed
+    }
+
+    /// Whether it wasn't read yet.
+    pub(crate) fn is_fresh(&self) -> bool
+        ensures { result ≡ self.now.fresh }
+    {
+        self.fresh
     }
 
     /// Whether octets wait to be written.

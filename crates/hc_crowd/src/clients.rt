@@ -233,6 +233,16 @@ impl<S: Stream + Drop> Clients<S> {
         }
     }
 
+    /// Whether a client is there who wasn't read yet.
+    pub(crate) fn is_fresh(&self, number: u64) -> bool
+        ensures { result ≡ is_there_and (get nat_cmp self.now.table number) (λ client. client.fresh) }
+    {
+        match self.table.get(&number) {
+            Some(client) => client.is_fresh(),
+            None => false,
+        }
+    }
+
     /// Whether octets wait to be written to a client.
     pub(crate) fn is_owed(&self, number: u64) -> bool
         ensures { result ≡ is_there_and (get nat_cmp self.now.table number) (λ client. is_owed client.flow) }

@@ -1,5 +1,8 @@
 //! How far a crowd has come.
 
+ghost use Rattle.std.specs.Prelude.{◌≡◌, true};
+ghost use Rattle.hc_crowd.specs.Courses.{stops};
+
 /// How far a crowd has come.
 #[derive(Clone, Copy, PartialEq, Eq)]
 pub(crate) enum Course {
@@ -13,7 +16,9 @@ pub(crate) enum Course {
 
 impl Course {
     /// Whether a stop was asked.
-    pub(crate) fn stops(self) -> bool {
+    pub(crate) fn stops(self) -> bool
+        ensures { result ≡ stops self }
+    {
         match self {
             Course::Serving => false,
             Course::Stopping(_) => true,
@@ -22,7 +27,9 @@ impl Course {
     }
 
     /// Whether the time for what is awaited is over.
-    pub(crate) fn is_late(self) -> bool {
+    pub(crate) fn is_late(self) -> bool
+        ensures { result ≡ true → stops self ≡ true }
+    {
         match self {
             Course::Serving => false,
             Course::Stopping(_) => false,

@@ -2,6 +2,7 @@
 
 ghost use Rattle.std.specs.Prelude.{◌≡◌, ℕ, List, [], ◌∷◌, IfOk};
 
+use crate::failures::Failures;
 use crate::limits::Limits;
 use crate::moments::Moments;
 use crate::traffic::Traffic;
@@ -73,9 +74,14 @@ impl<W: World> Crowd<W> {
         self.clock.is_behind()
     }
 
-    /// How many forwards no link could be made for in time.
-    pub fn unreached(&self) -> u64 {
-        self.traffic.unreached
+    /// How many forwards failed, by kind.
+    pub fn failures(&self) -> Failures {
+        self.traffic.failures
+    }
+
+    /// The milliseconds that the world's clock has counted which is never set.
+    pub fn tick(&self) -> u64 {
+        self.traffic.world.tick()
     }
 
     /// How many clients have connected.
@@ -119,10 +125,11 @@ impl<W: World> Links for Crowd<W> {
 }
 
 impl<W: World> Batches for Crowd<W> {
+    ghost use Rattle.hc_crowd.specs.Courses.{ServesNoMore};
     ghost use Rattle.hc_crowd.specs.CrowdLaws.{none_is_open, told_in_time};
     ghost use Rattle.hc_crowd.specs.Crowds.{NoLinkIsLeft};
 
-    ghost over = { λ crowd. NoLinkIsLeft crowd.traffic.peers };
+    ghost over = { λ crowd. NoLinkIsLeft crowd.traffic.peers × ServesNoMore crowd.limits.clients crowd.traffic.course crowd.traffic.peers.last };
 
     /// It begins to connect for forwards that wait, as far as there are places. Where memory is refused for a note of what
     /// is to be done, links may wait for ever, so whoever drives the crowd should end then.
@@ -149,5 +156,5 @@ impl<W: World> Batches for Crowd<W> {
 
     ghost in_time = { λ crowd. told_in_time W.Stream.has_given W.Stream.has_got crowd.traffic.peers crowd.clock };
 
-    ghost all_closed = { λ crowd. none_is_open W.Stream.has_given W.Stream.has_got crowd.traffic.peers crowd.clock };
+    ghost all_closed = { λ crowd log over. none_is_open W.Stream.has_given W.Stream.has_got crowd.traffic.peers crowd.clock log over.0 };
 }

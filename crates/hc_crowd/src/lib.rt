@@ -9,6 +9,7 @@ mod course;
 mod crowd;
 mod deadlines;
 mod delivering;
+mod failures;
 mod forward;
 mod forwards;
 mod heard;
@@ -27,6 +28,7 @@ mod waiting;
 mod world;
 
 pub use crowd::Crowd;
+pub use failures::Failures;
 pub use limits::Limits;
 pub use moments::{Moments, moments_follow_what_stays_ahead};
 pub use world::{Accepted, Ready, World};

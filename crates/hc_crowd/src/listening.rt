@@ -38,6 +38,11 @@ impl Listening {
         self.gate == Gate::Ready
     }
 
+    /// Whether none has connected, as far as is known, or no further one can.
+    pub(crate) fn is_idle(&self) -> bool {
+        self.gate == Gate::Idle || self.is_over()
+    }
+
     /// Whether no further client can connect.
     pub(crate) fn is_over(&self) -> bool {
         self.gate == Gate::Over

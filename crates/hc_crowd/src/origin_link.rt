@@ -1,6 +1,6 @@
 //! One link to the origin.
 
-ghost use Rattle.std.specs.Prelude.{◌≡◌, ◌&&◌, not, ℕ, List, [], Some, None, is_some, IfOk, IfSome};
+ghost use Rattle.std.specs.Prelude.{◌≡◌, ◌&&◌, ◌||◌, not, false, ℕ, List, [], Some, None, is_some, IfOk, IfSome};
 
 use crate::heard::{Heard, hear_flow};
 use hc_flow::{Emptying, Flow, Readiness, Stream};
@@ -72,10 +72,15 @@ impl<S: Stream + Drop> OriginLink<S> {
         Emptying::Later
     }
 
-    /// What the system tells of it. It is known to work once something is told without a failure.
+    /// What the system tells of it. It is known to work once something is told without a failure. Behind that a failure is
+    /// left to the next read, since what came before it counts.
     pub(crate) fn learn(&mut self, readiness: Readiness)
         ensures { (sent heard : List ℕ) → IsLinked S.has_given S.has_got self.old sent heard → IsLinked S.has_given S.has_got self.new sent heard }
     {
+        if !self.is_opening() {
+            self.flow.learn(left_to_read(readiness));
+            return;
+        }
         self.flow.learn(readiness);
         if readiness.failed {
             return;
@@ -124,5 +129,19 @@ impl<S: Stream + Drop> OriginLink<S> {
         ensures { result ≡ self.now.flow.readable }
     {
         self.flow.is_readable()
+    }
+}
+
+/// What is told of a link that works: that it has failed is left to the next read or write.
+fn left_to_read(readiness: Readiness) -> Readiness
+    ensures failed { result.failed ≡ false }
+    ensures ended { result.ended ≡ readiness.ended }
+    ensures ready { (result.readable ≡ (readiness.readable || readiness.failed)) × (result.writable ≡ (readiness.writable || readiness.failed)) }
+{
+    Readiness {
+        readable: readiness.readable | readiness.failed,
+        writable: readiness.writable | readiness.failed,
+        ended: readiness.ended,
+        failed: false,
     }
 }

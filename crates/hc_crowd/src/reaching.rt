@@ -108,7 +108,7 @@ impl<W: World> Traffic<W> {
         ensures shown { (log : List Move) → AreShown W.Stream.has_got self.old.peers.clients.table log
             → AreShown W.Stream.has_got self.new.peers.clients.table log }
     {
-        self.unreached = self.unreached.saturating_add(1);
+        self.failures.give_up(reason);
         self.lose_origin(forward, reason);
     }
 

@@ -4,6 +4,7 @@ ghost use Rattle.std.specs.Prelude.{◌≡◌, ℕ, List, [], ◌∷◌, IfOk};
 
 use crate::agenda::Agenda;
 use crate::course::Course;
+use crate::failures::Failures;
 use crate::limits::Limits;
 use crate::lingering::Lingering;
 use crate::listening::Listening;
@@ -28,8 +29,7 @@ pub(crate) struct Traffic<W: World> {
     pub(crate) lingering: Lingering<W::Stream>,
     pub(crate) listening: Listening,
     pub(crate) course: Course,
-    /// How many forwards no link could be made for in time.
-    pub(crate) unreached: u64,
+    pub(crate) failures: Failures,
 }
 
 impl<W: World + Drop> Traffic<W> {
@@ -49,13 +49,14 @@ impl<W: World + Drop> Traffic<W> {
             lingering: Lingering::new(alloc),
             listening: Listening::new(),
             course: Course::Serving,
-            unreached: 0,
+            failures: Failures::new(),
         })
     }
 }
 
 impl<W: World> Traffic<W> {
     ghost use Rattle.std.specs.Prelude.{true};
+    ghost use Rattle.hc_crowd.specs.Courses.{ServesNoMore};
     ghost use Rattle.hc_crowd.specs.Crowds.{NoLinkIsLeft};
     ghost use Rattle.hc_order.specs.Log.{Move};
     ghost use Rattle.hc_crowd.specs.Peers.{ArePeers};
@@ -75,7 +76,8 @@ impl<W: World> Traffic<W> {
 
     /// Whether no further client is served, and no link is left.
     pub(crate) fn is_over(&self, limits: Limits) -> bool
-        ensures { result ≡ true → NoLinkIsLeft self.now.peers }
+        ensures gone { result ≡ true → NoLinkIsLeft self.now.peers }
+        ensures asked { result ≡ true → ServesNoMore limits.clients self.now.course self.now.peers.last }
     {
         !self.serves_more(limits) && self.peers.are_gone() && self.lingering.len() == 0
     }

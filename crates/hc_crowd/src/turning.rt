@@ -8,6 +8,7 @@ use crate::lingering::Remainder;
 use crate::traffic::Traffic;
 use crate::world::World;
 use hc_connection::{Awaiting, Happened};
+use hc_events::Happening;
 use hc_order::Receiver;
 use std::alloc::AllocError;
 
@@ -85,7 +86,7 @@ impl<W: World> Traffic<W> {
         self.hear_client(number, awaited)
     }
 
-    /// What is heard of a client.
+    /// What is heard of a client. Behind a stop, too, one that wasn't read yet is read once.
     fn hear_client(&mut self, number: u64, awaited: bool) -> Result<Option<Happened>, AllocError>
         ensures tells { (log : List Move) → ArePeers W.Stream.has_given W.Stream.has_got self.old.peers log
             → TellsIfOk (ArePeers W.Stream.has_given W.Stream.has_got self.new.peers) result log }
@@ -94,20 +95,27 @@ impl<W: World> Traffic<W> {
         ensures shown { (log : List Move) → AreShown W.Stream.has_got self.old.peers.clients.table log
             → AreShown W.Stream.has_got self.new.peers.clients.table log }
     {
+        let stops = self.course.stops();
+        let is_fresh = self.peers.clients.is_fresh(number);
         let hearing = Hearing {
             awaited,
-            stops: self.course.stops(),
+            stops: stops && !is_fresh,
         };
         let heard = self
             .peers
             .hear_client(number, self.buffer.as_mut_slice(), hearing);
-        self.go_on(Receiver::Client(number), &heard);
+        self.go_on(Receiver::Client(number), &heard, stops && is_fresh);
         heard
     }
 
-    /// A link is to be heard again, where more may come behind what was heard. Where memory was refused for what came,
-    /// the link has failed, which is to be heard.
-    fn go_on(&mut self, link: Receiver, heard: &Result<Option<Happened>, AllocError>)
+    /// A link is to be heard again, where more may come behind what was heard, and wherever that is asked for. Where memory
+    /// was refused for what came, the link has failed, which is to be heard.
+    fn go_on(
+        &mut self,
+        link: Receiver,
+        heard: &Result<Option<Happened>, AllocError>,
+        in_any_case: bool,
+    )
         ensures tells { (log : List Move) → ArePeers W.Stream.has_given W.Stream.has_got self.old.peers log
             → ArePeers W.Stream.has_given W.Stream.has_got self.new.peers log }
         ensures shown { (log : List Move) → AreShown W.Stream.has_got self.old.peers.clients.table log
@@ -118,7 +126,7 @@ impl<W: World> Traffic<W> {
             Ok(None) => false,
             Err(AllocError) => true,
         };
-        if goes_on {
+        if goes_on || in_any_case {
             self.give_turn(link);
         }
     }
@@ -182,8 +190,10 @@ impl<W: World> Traffic<W> {
         ensures shown { (log : List Move) → AreShown W.Stream.has_got self.old.peers.clients.table log
             → AreShown W.Stream.has_got self.new.peers.clients.table log }
     {
+        let was_linked = self.peers.forwards.has_link(forward);
         let heard = self.peers.hear_origin(forward, self.buffer.as_mut_slice());
-        self.go_on(Receiver::Origin(forward), &heard);
+        self.go_on(Receiver::Origin(forward), &heard, false);
+        self.failures.break_off(was_linked & is_failure(&heard));
         if !self.peers.forwards.is_there(forward) {
             self.free_place(forward);
         }
@@ -226,5 +236,14 @@ impl<W: World> Traffic<W> {
         if self.lingering.drop_one(forward) {
             self.free_place(forward);
         }
+    }
+}
+
+/// Whether a forward has failed by that.
+fn is_failure(heard: &Result<Option<Happened>, AllocError>) -> bool {
+    match heard {
+        Ok(Some(happened)) => matches!(happened.of, Happening::OriginFailed(_)),
+        Ok(None) => false,
+        Err(AllocError) => false,
     }
 }

@@ -63,10 +63,22 @@ impl<W: World> Traffic<W> {
     {
         'ready: for _ in 0..u64::MAX {
             match self.world.ready() {
-                Some(Ready::Clients) => self.listening.wake(),
+                Some(Ready::Clients) => self.wake_listening(),
                 Some(Ready::Link(link, readiness)) => self.learn(link, readiness),
                 None => return,
             }
+        }
+    }
+
+    /// Clients may have connected. Behind a stop no further ones are accepted.
+    fn wake_listening(&mut self)
+        ensures tells { (log : List Move) → ArePeers W.Stream.has_given W.Stream.has_got self.old.peers log
+            → ArePeers W.Stream.has_given W.Stream.has_got self.new.peers log }
+        ensures shown { (log : List Move) → AreShown W.Stream.has_got self.old.peers.clients.table log
+            → AreShown W.Stream.has_got self.new.peers.clients.table log }
+    {
+        if !self.course.stops() {
+            self.listening.wake();
         }
     }
 
@@ -157,6 +169,8 @@ impl<W: World> Traffic<W> {
             → AreShown W.Stream.has_got self.new.peers.clients.table log }
     {
         if self.world.stops() {
+            // Who has connected by now is accepted still.
+            self.listening.wake();
             self.course = Course::Stopping(tick.saturating_add(limits.drain_timeout));
             self.hear_clients();
         }

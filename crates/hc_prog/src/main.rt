@@ -1,5 +1,5 @@
 //! `hcache`: a program that audits, reports on, explains and converts transcripts of caches, and has a cache of its own,
-//! to which it plays scripts of events and from which it serves clients.
+//! to which it plays scripts of events and from which it serves clients, one after another or many at once.
 //!
 //! `hcache audit FILE` reads a transcript, says on standard output whether every reply in it is right, and ends with
 //! a status: 0 for a transcript that is right, 1 for one with a wrong reply, 2 for one that is malformed, 3 where no
@@ -17,6 +17,9 @@
 //!
 //! `hcache serve --listen A --origin B --connections N --record FILE` serves so many connections of clients, one after
 //! another, records both sides to the file, and prints nothing. It ends with 0, or with 3 where it couldn't go on.
+//!
+//! `hcache proxy --listen A --origin B` serves many connections at once, until it is stopped, and says on standard error
+//! where clients can connect, and what is amiss; with `--record FILE` it records both sides. It ends with 0, or with 3.
 #![tactic(auto)]
 
 use std::process::ExitCode;

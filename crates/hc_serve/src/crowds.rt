@@ -15,6 +15,7 @@ use crate::asked::Asked;
 use crate::fault::DriveFault;
 use crate::recorder::flush;
 use crate::rounds::round;
+use crate::watcher::Watcher;
 use hc_connection::{Batches, Recorder};
 use hc_machine::Core;
 use hc_order::{a_new_cache_mirrors_what_is_before, what_may_happen_in_turn_is_served};
@@ -53,11 +54,12 @@ fn pause<S: BuildHasher, L: Batches, R: Recorder>(
 }
 
 /// Rounds, with a pause behind each batch of them, until all is served.
-fn serve_batches<S: BuildHasher, L: Batches, R: Recorder>(
+fn serve_batches<S: BuildHasher, L: Batches, R: Recorder, V: Watcher<L>>(
     alloc: Global,
     core: &mut Core<S>,
     links: &mut L,
     recorder: &mut R,
+    watcher: &mut V,
 ) -> Result<(), DriveFault>
     ensures serves { (log : List Move) (text : List ℕ) → L.tells links.old log → R.has_got recorder.old text
         → GivesCrowd (L.most links.old) (L.shows links.old log × R.has_kept recorder.old text) result
@@ -67,6 +69,7 @@ fn serve_batches<S: BuildHasher, L: Batches, R: Recorder>(
     ensures moments { (moment : ℕ) → L.may_tell links.new moment → L.may_tell links.old moment }
     ensures unread { (times : ℕ) → R.was_read recorder.old times → R.was_read recorder.new times }
     ensures count { CountsRecorder result (R.count recorder.old) (R.count recorder.new) }
+    ensures watched { V.may_become watcher.old watcher.new }
 {
     // Laws, which do nothing: what is proved below rests on them.
     steps_are_runs();
@@ -83,24 +86,26 @@ fn serve_batches<S: BuildHasher, L: Batches, R: Recorder>(
         if pause(&*core, links, recorder)? {
             return Ok(());
         }
+        watcher.look(&*links);
     }
     Err(DriveFault::Core(StepFault::Failed))
 }
 
 /// Serves clients at once, until the links are over: what happens is handed to the cache, and what the cache does is
 /// carried out, batch by batch. Behind each batch its records are flushed, before anything of it is written to a client:
-/// so no client has seen a reply that the recording lacks, whatever goes wrong. Where all is served, nothing is left open
-/// in the cache.
+/// so, as far as the links tell what was written, no client has seen a reply that the recording lacks, whatever goes wrong.
+/// Then the watcher looks at the links. Where all is served, nothing is left open in the cache.
 ///
 /// Of a new cache the recording, if it was the opening of a transcript before, is a transcript to which the strictest
 /// audit says yes, as far as records can be numbered; or a beginning of one, where it ends by a fault. Of a new cache with
 /// room for as many connections as the links have open at once, any fault says that memory was refused, that the recorder
 /// failed, or, as `Failed`, that it went round 2^64 - 1 times: by a round for each event, or by a pause.
-pub fn serve_crowd<S: BuildHasher, L: Batches, R: Recorder>(
+pub fn serve_crowd<S: BuildHasher, L: Batches, R: Recorder, V: Watcher<L>>(
     alloc: Global,
     core: &mut Core<S>,
     crowd: &mut L,
     recorder: &mut R,
+    watcher: &mut V,
 ) -> Result<(), DriveFault>
     ensures transcript { (settings : CoreSettings) (room : ℕ) → AreGood settings → StandsFor settings core.old (new_state_with settings room)
         → L.tells crowd.old [] → R.has_got recorder.old (opening recorded_format)
@@ -113,9 +118,10 @@ pub fn serve_crowd<S: BuildHasher, L: Batches, R: Recorder>(
     ensures moments { (moment : ℕ) → L.may_tell crowd.new moment → L.may_tell crowd.old moment }
     ensures unread { (times : ℕ) → R.was_read recorder.old times → R.was_read recorder.new times }
     ensures count { CountsRecorder result (R.count recorder.old) (R.count recorder.new) }
+    ensures watched { V.may_become watcher.old watcher.new }
 {
     // Laws, which do nothing: what is proved below rests on them.
     runs_are_judged_right();
     new_cache_agrees();
-    serve_batches(alloc, core, crowd, recorder)
+    serve_batches(alloc, core, crowd, recorder, watcher)
 }

@@ -11,9 +11,11 @@ mod fault;
 mod recorder;
 mod rounds;
 mod serving;
+mod watcher;
 
 pub use clients::serve_clients;
 pub use crowds::serve_crowd;
 pub use driving::drive;
 pub use fault::{DriveFault, ServingFault};
 pub use serving::serve_connection;
+pub use watcher::{Unwatched, Watcher};

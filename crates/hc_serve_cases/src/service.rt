@@ -174,6 +174,8 @@ fn word_of(answer: Result<(), ServeFault>) -> &'static str {
         Ok(()) => "served",
         Err(ServeFault::Memory) => "no memory",
         Err(ServeFault::Listener(_)) => "listener failed",
+        Err(ServeFault::Origin(_)) => "origin not found",
+        Err(ServeFault::OpenFiles) => "too few open files",
         Err(ServeFault::Record(_)) => "record failed",
         Err(ServeFault::Random(_)) => "no random numbers",
         Err(ServeFault::Clock) => "clock failed",

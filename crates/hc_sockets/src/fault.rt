@@ -16,6 +16,12 @@ pub enum ServeFault {
     /// The socket to which clients connect failed, for this reason.
     #[error("no client could connect: {0}")]
     Listener(io::Error),
+    /// The origin's name can't be resolved, for this reason.
+    #[error("the origin can't be found: {0}")]
+    Origin(io::Error),
+    /// The system doesn't let so many files be open at once.
+    #[error("the limit on open files is too low")]
+    OpenFiles,
     /// The file that is recorded to failed, for this reason.
     #[error("the file can't be recorded to: {0}")]
     Record(io::Error),

@@ -1,14 +1,30 @@
-//! A cache behind sockets: clients connect to it, it connects to an origin, and both sides are recorded to a file.
+//! A cache behind sockets: clients connect to it, one after another or many at once, it connects to an origin, and both
+//! sides are recorded to a file.
 #![tactic(auto)]
 
+mod addresses;
+mod attempts;
 mod claim;
 mod clock;
 mod fault;
+mod herald;
+mod listeners;
 mod listening;
+mod notice;
+mod open_files;
 mod origin;
+mod process;
+mod proxying;
 mod serving;
+mod signals;
+mod sockets;
 mod system_link;
+mod tokens;
+mod voice;
+mod wire;
 
 pub use claim::Claim;
 pub use fault::ServeFault;
+pub use notice::{Greeting, Notice};
+pub use proxying::{Proxy, serve_proxy};
 pub use serving::{Service, serve};

@@ -159,7 +159,7 @@ where
 }
 
 /// The file of that name, opened as it is, or a new one, which can be read and written by its owner alone.
-fn opened<R: Files>(rt: &R, name: &str) -> io::Result<R::File> {
+pub(crate) fn opened<R: Files>(rt: &R, name: &str) -> io::Result<R::File> {
     match OpenOptions::new()
         .write(true)
         .create_new(true)

@@ -1,6 +1,6 @@
 use Rattle.std.proofs.Common.{rules}
 use Rattle.clap.specs.Words.{found_of}
-use Rattle.hc_arguments.specs.Command.Command.{Audits, Reports, Explains, Replays, Serves, Converts}
+use Rattle.hc_arguments.specs.Command.Command.{Audits, Reports, Explains, Replays, Serves, Proxies, Converts}
 use Rattle.hc_arguments.proofs.ArgumentLemmas.{asks_in, refuses_in}
 use Rattle.hc_arguments.proofs.arguments.order_in.Goals as goal
 
@@ -53,6 +53,16 @@ pub returns-in-serve-clause-err : goal.returns-in-serve-clause-err
 returns-in-serve-clause-err c =
     refuses_in c.args.matches.now c.in-Some.name.now (found_of c.in-Some.found.now) c.in-Some.ensures.name c.in-Some.ensures.rows Serves (search rules)
     c.serve_in.result c.serve_in.ensures.err
+
+pub returns-in-proxy-clause-ok : goal.returns-in-proxy-clause-ok
+returns-in-proxy-clause-ok c =
+    asks_in c.args.matches.now c.in-Some.name.now (found_of c.in-Some.found.now) c.in-Some.ensures.name c.in-Some.ensures.rows Proxies (search rules)
+    c.proxy_in.result c.proxy_in.ensures.ok
+
+pub returns-in-proxy-clause-err : goal.returns-in-proxy-clause-err
+returns-in-proxy-clause-err c =
+    refuses_in c.args.matches.now c.in-Some.name.now (found_of c.in-Some.found.now) c.in-Some.ensures.name c.in-Some.ensures.rows Proxies (search rules)
+    c.proxy_in.result c.proxy_in.ensures.err
 
 pub returns-in-convert-clause-ok : goal.returns-in-convert-clause-ok
 returns-in-convert-clause-ok c =

@@ -1,6 +1,6 @@
 use Rattle.std.proofs.lemmas.Result.{IfOk-weaker}
 use Rattle.hc_arguments.specs.Command.{task_of}
-use Rattle.hc_arguments.proofs.ArgumentLemmas.{audit_words, convert_words, explain_at_words, explain_words, possible_from, replay_words, report_words, serve_words, words_give}
+use Rattle.hc_arguments.proofs.ArgumentLemmas.{audit_words, convert_words, explain_at_words, explain_words, possible_from, replay_words, report_words, serve_words, words_give, words_of_proxy}
 use Rattle.hc_arguments.proofs.arguments.parsed.Goals as goal
 
 pub returns-clause-audit : goal.returns-clause-audit
@@ -30,6 +30,10 @@ returns-clause-convert g c = λ name file word same.
 pub returns-clause-serve : goal.returns-clause-serve
 returns-clause-serve g c = λ name listen origin number file connections counts same.
     words_give _ _ _ c.asked.result (serve_words name listen origin number file connections counts) same c.asked.ensures.asked c.asked.ensures.refused
+
+pub returns-clause-proxy : goal.returns-clause-proxy
+returns-clause-proxy g c = λ name listen origin same.
+    words_give _ _ _ c.asked.result (words_of_proxy name listen origin) same c.asked.ensures.asked c.asked.ensures.refused
 
 pub returns-clause-possible : goal.returns-clause-possible
 returns-clause-possible g c = IfOk-weaker c.asked.result _ _ (λ order asks. possible_from _ _ (task_of order) asks) c.asked.ensures.asked

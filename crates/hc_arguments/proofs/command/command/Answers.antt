@@ -1,5 +1,5 @@
 use Rattle.clap.specs.Words.{with_subcommand}
-use Rattle.hc_arguments.specs.Command.{convert, judging, replay, serve}
+use Rattle.hc_arguments.specs.Command.{convert, judging, proxy, replay, serve}
 use Rattle.hc_arguments.proofs.command.command.Goals as goal
 
 pub returns : goal.returns
@@ -7,4 +7,6 @@ returns c =
     let with_replay = with_subcommand judging replay.top in
     let replaying = c.with_subcommand-replaying.ensures judging replay c.judging_command-judging.ensures c.replay_command.ensures in
     let serving = c.with_subcommand-serving.ensures with_replay serve replaying c.serve_command.ensures in
-    c.with_subcommand.ensures (with_subcommand with_replay serve.top) convert serving c.convert_command.ensures
+    let with_serve = with_subcommand with_replay serve.top in
+    let proxying = c.with_subcommand-proxying.ensures with_serve proxy serving c.proxy_command.ensures in
+    c.with_subcommand.ensures (with_subcommand with_serve proxy.top) convert proxying c.convert_command.ensures

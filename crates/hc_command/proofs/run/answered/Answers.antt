@@ -1,8 +1,8 @@
 use Rattle.std.proofs.Common.{false, inl, map, None, subst}
 use Rattle.clap.specs.declared.error.ErrorKind.{ErrorKind}
 use Rattle.hc_arguments.specs.Command.{IsErrorStatus, task_of}
-use Rattle.hc_arguments.specs.Command.Task.{ToAudit, ToReport, ToExplain, ToReplay, ToConvert, ToServe}
-use Rattle.hc_arguments.specs.Values.{plain, plain_cache}
+use Rattle.hc_arguments.specs.Command.Task.{ToAudit, ToReport, ToExplain, ToReplay, ToConvert, ToServe, ToProxy}
+use Rattle.hc_arguments.specs.Values.{plain, plain_cache, plain_limits}
 use Rattle.hc_arguments.proofs.ArgumentLemmas.{asked_from, one_task}
 use Rattle.hc_command.proofs.EndLemmas.{does_as, does_ends, fails_with_3}
 use Rattle.hc_command.proofs.run.answered.Goals as goal
@@ -31,6 +31,10 @@ pub returns-in-Ok-clause-serve : goal.returns-in-Ok-clause-serve
 returns-in-Ok-clause-serve g c = λ name listen origin number file connections counts same.
     does_as (task_of c.in-Ok.order) (ToServe listen origin connections file plain_cache) _ _ _ _ _
     (c.in-Ok.ensures.serve name listen origin number file connections counts same) c.done.ensures
+
+pub returns-in-Ok-clause-proxy : goal.returns-in-Ok-clause-proxy
+returns-in-Ok-clause-proxy g c = λ name listen origin same.
+    does_as (task_of c.in-Ok.order) (ToProxy listen origin None plain_limits plain_cache) _ _ _ _ _ (c.in-Ok.ensures.proxy name listen origin same) c.done.ensures
 
 pub returns-in-Ok-clause-asked : goal.returns-in-Ok-clause-asked
 returns-in-Ok-clause-asked g c = λ task none asks.
@@ -62,6 +66,11 @@ returns-in-Err-clause-convert g c = λ name file word same.
 pub returns-in-Err-clause-serve : goal.returns-in-Err-clause-serve
 returns-in-Err-clause-serve g c = λ name listen origin number file connections counts same.
     let refused = c.in-Err.ensures.serve name listen origin number file connections counts same in
+    (c.shown.ensures.memory refused, inl (subst (λ (k : ErrorKind). IsErrorStatus k c.shown.result) refused c.shown.ensures.status))
+
+pub returns-in-Err-clause-proxy : goal.returns-in-Err-clause-proxy
+returns-in-Err-clause-proxy g c = λ name listen origin same.
+    let refused = c.in-Err.ensures.proxy name listen origin same in
     (c.shown.ensures.memory refused, inl (subst (λ (k : ErrorKind). IsErrorStatus k c.shown.result) refused c.shown.ensures.status))
 
 pub returns-in-Err-clause-asked : goal.returns-in-Err-clause-asked

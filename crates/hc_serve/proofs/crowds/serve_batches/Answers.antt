@@ -27,6 +27,7 @@ turns-init g c = record {
   moments = λ moment may. may;
   unread = λ times was. was;
   count = refl;
+  watched = g.met.V.Watcher.stays c.args.watcher.now;
 }
 
 pub turns-preserved-then-branch : goal.turns-preserved-then-branch
@@ -43,6 +44,7 @@ turns-preserved-then-branch g c = record {
   moments = λ moment may. c.turns.invariant.moments moment (c.in_ok-round.ensures.moments moment may);
   unread = λ times was. c.in_ok-round.ensures.unread times (c.turns.invariant.unread times was);
   count = c.in_ok-round.ensures.count ∙ c.turns.invariant.count;
+  watched = c.turns.invariant.watched;
 }
 
 pub turns-preserved : goal.turns-preserved
@@ -58,6 +60,7 @@ turns-preserved g c = record {
   moments = λ moment may. c.turns.invariant.moments moment (c.in_ok-round.ensures.moments moment (c.in_ok-pause.ensures.moments moment may));
   unread = λ times was. c.in_ok-pause.ensures.unread times (c.in_ok-round.ensures.unread times (c.turns.invariant.unread times was));
   count = c.in_ok-pause.ensures.count ∙ c.in_ok-round.ensures.count ∙ c.turns.invariant.count;
+  watched = g.met.V.Watcher.goes_on c.args.watcher.now c.turns.watcher c.look.new.self c.turns.invariant.watched c.look.ensures;
 }
 
 pub returns-then-branch-2-clause-serves : goal.returns-then-branch-2-clause-serves

@@ -15,4 +15,5 @@ invariant-turns g l = record {
   moments : (moment : ℕ) → g.L.Links.may_tell l.links moment → g.L.Links.may_tell l.initial.links moment;
   unread : (times : ℕ) → g.R.Link.was_read l.initial.recorder times → g.R.Link.was_read l.recorder times;
   count : g.R.Link.count l.recorder ≡ g.R.Link.count l.initial.recorder;
+  watched : g.V.Watcher.may_become l.initial.watcher l.watcher;
 }

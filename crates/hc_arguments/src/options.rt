@@ -1,0 +1,145 @@
+//! The options of the commands.
+
+/// An option that a command takes.
+pub(crate) struct Wanted {
+    /// What stands behind its two hyphens.
+    pub(crate) name: &'static str,
+    /// What help calls its value; a flag has none.
+    pub(crate) value: Option<&'static str>,
+    /// What help says of it.
+    pub(crate) help: &'static str,
+    /// Whether there is no order without it. A flag may always be left out.
+    pub(crate) required: bool,
+}
+
+/// By which settings a command judges.
+pub(crate) const JUDGING: [Wanted; 3] = [
+    Wanted {
+        name: "slack",
+        value: Some("N"),
+        help: "The seconds by which an Age, a ttl, a lifetime and what permits staleness may be off: \
+            a decimal from 0 to 2147483648, and 0 without the option",
+        required: false,
+    },
+    Wanted {
+        name: "ignore",
+        value: Some("NAME,.."),
+        help: "The names of fields that aren't compared, with commas between them",
+        required: false,
+    },
+    Wanted {
+        name: "errors-only",
+        value: None,
+        help: "A reply without a mark is wrong, but for those of status 400 and more",
+        required: false,
+    },
+];
+
+/// In which form it reports.
+pub(crate) const REPORTING: [Wanted; 1] = [Wanted {
+    name: "json",
+    value: None,
+    help: "One JSON object in place of text",
+    required: false,
+}];
+
+const LISTEN: Wanted = Wanted {
+    name: "listen",
+    value: Some("HOST:PORT"),
+    help: "Where clients connect to",
+    required: true,
+};
+
+const ORIGIN: Wanted = Wanted {
+    name: "origin",
+    value: Some("HOST:PORT"),
+    help: "Where requests are forwarded to",
+    required: true,
+};
+
+/// Between whom it serves one connection after another, how many, and where that is recorded.
+pub(crate) const SERVING: [Wanted; 4] = [
+    LISTEN,
+    ORIGIN,
+    Wanted {
+        name: "connections",
+        value: Some("N"),
+        help: "How many connections of clients are served: a decimal from 1 to 999999999999",
+        required: true,
+    },
+    Wanted {
+        name: "record",
+        value: Some("FILE"),
+        help: "The transcript, a file that is created or emptied",
+        required: true,
+    },
+];
+
+/// Between whom a proxy stands, where that is recorded, and within which limits.
+pub(crate) const PROXYING: [Wanted; 8] = [
+    LISTEN,
+    ORIGIN,
+    Wanted {
+        name: "record",
+        value: Some("FILE"),
+        help: "The transcript, a new or an empty file; nothing is recorded without the option",
+        required: false,
+    },
+    Wanted {
+        name: "max-connections",
+        value: Some("N"),
+        help: "The most connections of clients at once: a decimal from 1 to 60000, and 1024 without the option",
+        required: false,
+    },
+    Wanted {
+        name: "origin-connections",
+        value: Some("N"),
+        help: "The most connections to the origin at once: a decimal from 1 to 60000, and 100 without the option",
+        required: false,
+    },
+    Wanted {
+        name: "connect-timeout",
+        value: Some("N"),
+        help: "The seconds after which a connection to the origin that isn't made has failed: \
+            a decimal from 1 to 3600, and 5 without the option",
+        required: false,
+    },
+    Wanted {
+        name: "drain-timeout",
+        value: Some("N"),
+        help: "The seconds for which what is open goes on once it is stopped: a decimal from 0 to 86400, \
+            and 8 without the option",
+        required: false,
+    },
+    Wanted {
+        name: "connections",
+        value: Some("N"),
+        help: "After how many connections of clients it ends, for tests: a decimal from 1 to 999999999999; \
+            it serves until it is stopped without the option",
+        required: false,
+    },
+];
+
+/// What the cache is.
+pub(crate) const CACHING: [Wanted; 3] = [
+    Wanted {
+        name: "keys",
+        value: Some("N"),
+        help: "The most targets of which responses are kept: a decimal from 1 to 65536, and 1024 without the option",
+        required: false,
+    },
+    Wanted {
+        name: "bytes",
+        value: Some("N"),
+        help: "The most octets that are kept, bodies and fields together: a decimal, by itself or with k, m or g \
+            behind it for so many times 1024, 1048576 or 1073741824, from 0 to 999999999999, and 64m without the option",
+        required: false,
+    },
+    Wanted {
+        name: "name",
+        value: Some("NAME"),
+        help: "The name by which the cache calls itself in Via and in Cache-Status: a letter and then at most \
+            31 letters, digits, '-', '_' and '.', and hcache without the option",
+        required: false,
+    },
+];

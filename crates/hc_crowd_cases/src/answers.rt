@@ -1,0 +1,127 @@
+//! The questions of the cases.
+
+use crate::comparing::{Judged, compare};
+use crate::playing::played;
+use crate::reading::{number_of, script_in};
+use crate::schedules::script_of;
+use crate::script::Script;
+use crate::telling::{say_events, say_replies};
+use hc_cases::{Ask, Case, Unanswered, unescaped};
+use std::alloc::{AllocError, Global};
+use std::fmt::Write;
+
+/// What is asked of many clients at once.
+#[derive(Clone, Copy)]
+pub(crate) struct Crowds;
+
+impl Ask for Crowds {
+    fn answer(&self, case: &Case<'_>, out: &mut String) -> Result<(), Unanswered> {
+        let Case {
+            alloc,
+            question,
+            about,
+        } = *case;
+        match question {
+            "replies" => say_replies(alloc, script_about(alloc, about)?, out),
+            "events" => say_events(alloc, script_about(alloc, about)?, out),
+            "seeds" => say_seeds(alloc, Seeds::of(about)?, out),
+            _ => Err(Unanswered::Unknown),
+        }
+    }
+}
+
+/// The schedule that is written down, or that of a seed.
+fn script_about(alloc: Global, about: &[Vec<u8>]) -> Result<Script, Unanswered> {
+    match about {
+        [text] => script_in(alloc, text.as_slice()),
+        _ => {
+            let seeds = Seeds::of(about)?;
+            seeds.script(alloc, seeds.first)
+        }
+    }
+}
+
+/// Seeds that are tried.
+#[derive(Clone, Copy)]
+struct Seeds<'a> {
+    /// What clients send, a request a line.
+    requests: &'a [u8],
+    /// What the origin answers, an answer a line.
+    answers: &'a [u8],
+    first: u64,
+    count: u64,
+}
+
+impl<'a> Seeds<'a> {
+    fn of(about: &'a [Vec<u8>]) -> Result<Self, Unanswered> {
+        let [requests, answers, first, count] = about else {
+            return Err(Unanswered::Unknown);
+        };
+        Ok(Seeds {
+            requests: requests.as_slice(),
+            answers: answers.as_slice(),
+            first: number_in(first.as_slice())?,
+            count: number_in(count.as_slice())?,
+        })
+    }
+
+    /// The schedule of a seed.
+    fn script(&self, alloc: Global, seed: u64) -> Result<Script, Unanswered> {
+        let requests = lines_of(alloc, self.requests)?;
+        let answers = lines_of(alloc, self.answers)?;
+        Ok(script_of(alloc, seed, requests.as_slice(), answers)?)
+    }
+
+    /// What comes of a seed.
+    fn judged(&self, alloc: Global, seed: u64) -> Result<Judged, Unanswered> {
+        let (served, play) = played(alloc, self.script(alloc, seed)?)?;
+        compare(alloc, served, &play)
+    }
+}
+
+fn number_in(text: &[u8]) -> Result<u64, Unanswered> {
+    match str::from_utf8(text) {
+        Ok(text) => number_of(text),
+        Err(_) => Err(Unanswered::Unknown),
+    }
+}
+
+/// The octets of each line, but for empty ones and those that begin with `#`.
+fn lines_of(alloc: Global, text: &[u8]) -> Result<Vec<Vec<u8>>, Unanswered> {
+    let mut lines = Vec::new(alloc);
+    'lines: for line in text.split(|octet| *octet == b'\n') {
+        if !line.is_empty() && !line.starts_with(b"#") {
+            lines.push(unescaped(alloc, line)?)?;
+        }
+    }
+    Ok(lines)
+}
+
+/// Writes whether each seed gives what a run gives, and whether some requests were hits, collapsed and forwarded.
+fn say_seeds(alloc: Global, seeds: Seeds<'_>, out: &mut String) -> Result<(), Unanswered> {
+    let mut sum = Judged::nothing();
+    'seeds: for seed in seeds.first..seeds.first.saturating_add(seeds.count) {
+        let judged = seeds.judged(alloc, seed)?;
+        if let Some(fault) = judged.fault {
+            write!(out, "{seed}: {fault}, ")?;
+        }
+        sum = sum.with(judged);
+    }
+    Ok(say_sum(sum, out)?)
+}
+
+fn say_sum(sum: Judged, out: &mut String) -> Result<(), AllocError> {
+    if sum.fault.is_none() {
+        out.push_str("same, yes")?;
+    }
+    say_some(", hits", sum.hits, out)?;
+    say_some(", collapsed", sum.collapsed, out)?;
+    say_some(", forwarded", sum.forwarded, out)
+}
+
+fn say_some(what: &str, some: bool, out: &mut String) -> Result<(), AllocError> {
+    if some {
+        out.push_str(what)?;
+    }
+    Ok(())
+}

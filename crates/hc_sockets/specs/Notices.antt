@@ -1,0 +1,46 @@
+-- What a proxy says on standard error.
+use Rattle.std.specs.Prelude.{◌≡◌, ℕ, List, [], ◌∷◌, ◌++◌, Option, codes, decimal}
+use Rattle.std.specs.Io.KnownBytes.{Appends}
+use Rattle.hc_sockets.specs.declared.notice.Notice.{Notice}
+use Rattle.hc_sockets.specs.declared.notice.Notice.TheVariants.{Listening, Deaf, Unreached, Late, Broken, Behind}
+
+-- how many forwards that befell, with the line feed behind it
+abbrev pub of_forwards : ℕ → List ℕ
+of_forwards count = decimal count ++ (codes " forwards" ++ 10 ∷ [])
+
+-- the line on standard error, with its line feed
+abbrev pub notice_line : Notice → List ℕ
+notice_line (Listening greeting) = codes "hcache: listening at " ++ (greeting.addresses.now
+    ++ (codes ", before " ++ (greeting.origin.now
+    ++ (codes ", with a store of " ++ (decimal greeting.keys
+    ++ (codes " keys and " ++ (decimal greeting.bytes ++ (codes " bytes" ++ 10 ∷ []))))))))
+notice_line Deaf = codes "hcache: a signal ends it at once, since SIGTERM and SIGINT aren't blocked" ++ 10 ∷ []
+notice_line (Unreached count) = codes "hcache: no link to the origin could be made: " ++ of_forwards count
+notice_line (Late count) = codes "hcache: no link to the origin was made in time: " ++ of_forwards count
+notice_line (Broken count) = codes "hcache: the link to the origin broke off: " ++ of_forwards count
+notice_line Behind = codes "hcache: the clock was set back, and ages don't follow it: a restart is due" ++ 10 ∷ []
+
+-- the lines of those notices, one behind the other
+abbrev pub lines_of : List Notice → List ℕ
+lines_of [] = []
+lines_of (notice ∷ notices) = notice_line notice ++ lines_of notices
+
+-- known octets grow by the lines of notices
+pub record SaysAll (old new : Option (List ℕ)) : Type 0 where
+  pub notices : List Notice
+  pub said : Appends old new (lines_of notices)
+
+-- known octets grow by a beginning of the lines of notices
+pub record SaysSome (old new : Option (List ℕ)) : Type 0 where
+  pub notices : List Notice
+  pub said : List ℕ
+  pub unsaid : List ℕ
+  pub lines_are : said ++ unsaid ≡ lines_of notices
+  pub appended : Appends old new said
+
+-- known octets grow by a beginning of those
+pub record BeginsBehind (old new : Option (List ℕ)) (octets : List ℕ) : Type 0 where
+  pub said : List ℕ
+  pub unsaid : List ℕ
+  pub octets_are : said ++ unsaid ≡ octets
+  pub appended : Appends old new said

@@ -1,0 +1,104 @@
+//! What is amiss is told on standard error.
+
+use crate::notice::Notice;
+use crate::voice::Voice;
+use hc_crowd::{Crowd, Failures, World};
+use hc_serve::Watcher;
+use std::io::Write;
+
+/// So many milliseconds lie between two lines about failures of a kind at least.
+const PAUSE: u64 = 1_000;
+
+/// Says what is amiss: of each kind of failure a line a second at most.
+#[derive(Drop)]
+pub(crate) struct Herald<'a, E: Write> {
+    voice: Voice<'a, E>,
+    /// The failures that were told.
+    told: Failures,
+    /// Whether the wall clock was behind when it was last looked at.
+    was_behind: bool,
+    /// Nothing is said of failures before that millisecond.
+    due: u64,
+}
+
+impl<'a, E: Write> Herald<'a, E> {
+    ghost use Rattle.std.specs.Prelude.{◌≡◌};
+    ghost use Rattle.hc_sockets.specs.Voices.{GoesOn};
+
+    /// By that voice. Of so many failures nothing is said.
+    pub(crate) fn new(voice: Voice<'a, E>, told: Failures) -> Self
+        ensures { result.voice ≡ voice.entry }
+    {
+        Herald {
+            voice,
+            told,
+            was_behind: false,
+            due: 0,
+        }
+    }
+
+    /// Says a notice.
+    pub(crate) fn say(&mut self, notice: Notice<'_>)
+        ensures { GoesOn E.contents self.old.voice self.new.voice }
+    {
+        self.voice.say(notice);
+    }
+
+    /// Says a notice if it is due.
+    pub(crate) fn say_if(&mut self, is_due: bool, notice: Notice<'_>)
+        ensures { GoesOn E.contents self.old.voice self.new.voice }
+    {
+        self.voice.say_if(is_due, notice);
+    }
+
+    /// Says what is new by that millisecond: so many forwards have failed, and the wall clock is behind or isn't.
+    fn look_at(&mut self, tick: u64, failures: Failures, is_behind: bool)
+        ensures { GoesOn E.contents self.old.voice self.new.voice }
+    {
+        self.look_at_clock(is_behind);
+        self.look_at_failures(tick, failures);
+    }
+
+    /// Says that the wall clock is behind, if it wasn't before.
+    fn look_at_clock(&mut self, is_behind: bool)
+        ensures { GoesOn E.contents self.old.voice self.new.voice }
+    {
+        let is_new = is_behind & !self.was_behind;
+        self.was_behind = is_behind;
+        self.voice.say_if(is_new, Notice::Behind);
+    }
+
+    /// Says what failed and wasn't told yet, if its time has come.
+    fn look_at_failures(&mut self, tick: u64, failures: Failures)
+        ensures { GoesOn E.contents self.old.voice self.new.voice }
+    {
+        let unreached = failures.unreached.saturating_sub(self.told.unreached);
+        let late = failures.late.saturating_sub(self.told.late);
+        let broken = failures.broken.saturating_sub(self.told.broken);
+        let is_due = (tick >= self.due) & ((unreached | late | broken) > 0);
+        if !is_due {
+            return;
+        }
+        self.told = failures;
+        self.due = tick.saturating_add(PAUSE);
+        self.voice
+            .say_if(unreached > 0, Notice::Unreached(unreached));
+        self.voice.say_if(late > 0, Notice::Late(late));
+        self.voice.say_if(broken > 0, Notice::Broken(broken));
+    }
+}
+
+impl<'a, W: World, E: Write> Watcher<Crowd<W>> for Herald<'a, E> {
+    ghost use Rattle.hc_sockets.specs.VoiceLaws.{joined, stays_as_it_is};
+    ghost use Rattle.hc_sockets.specs.Voices.{GoesOn};
+
+    ghost may_become = { λ before after. GoesOn E.contents before.voice after.voice };
+
+    fn look(&mut self, links: &Crowd<W>) {
+        self.look_at(links.tick(), links.failures(), links.is_behind());
+    }
+
+    ghost stays = { λ herald. stays_as_it_is E.contents herald.voice };
+
+    ghost goes_on = { λ first then last one other. joined E.contents first.voice then.voice last.voice one other };
+}

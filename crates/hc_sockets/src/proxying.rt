@@ -1,0 +1,269 @@
+//! Many clients at once.
+
+ghost use Rattle.hc_service.specs.Settings.{AreGood};
+ghost use Rattle.hc_sockets.specs.Notices.{SaysSome};
+ghost use Rattle.hc_sockets.specs.Outcomes.{EndsFor};
+
+use crate::claim::Claim;
+use crate::fault::ServeFault;
+use crate::herald::Herald;
+use crate::notice::{Greeting, Notice};
+use crate::open_files::open_files;
+use crate::serving::opened;
+use crate::sockets::{Sockets, SocketsFault};
+use crate::system_link::{Recording, SystemLink};
+use crate::voice::Voice;
+use hc_connection::{Buffered, Off, Recorder};
+use hc_crowd::{Crowd, Limits};
+use hc_machine::{Core, CoreFault};
+use hc_serve::{DriveFault, serve_crowd};
+use hc_service::{CoreSettings, StepFault};
+use hc_transcript::Format;
+use std::alloc::{AllocError, Global};
+use std::collections::hash_map::RandomState;
+use std::fmt::Write as _;
+use std::fs::OpenFile;
+use std::io;
+use std::io::{ErrorKind, Write};
+use std::net::{Net, SocketAddr};
+use std::random::RandomSource;
+use std::rt::Files;
+use std::time::Clock;
+
+/// So many files may be open besides the links: the listeners and what is recorded to among them.
+const FILES_BESIDE: u64 = 32;
+
+/// Between whom a proxy serves.
+#[derive(Clone, Copy)]
+pub struct Proxy<'a> {
+    /// The host and the port to which clients connect, at each address that the host has.
+    pub listen: &'a str,
+    /// The host and the port of the origin.
+    pub origin: &'a str,
+    /// The file that is recorded to, if any is.
+    pub file: Option<&'a str>,
+}
+
+/// Where clients connect to, what bounds them, and what is said once they can.
+#[derive(Drop)]
+struct Serving<'a, R: Net + Clock + Files> {
+    sockets: Sockets<'a, R>,
+    limits: Limits,
+    greeting: Greeting<'a>,
+}
+
+/// Serves clients from a new cache of those settings, many at once in one thread, until the program is asked to stop, or as
+/// many have come as the limits say. The settings have to be such as a cache can have (`is_name` and `is_size` of
+/// hc_service). Where the system doesn't let so many files be open as the limits may want, nothing is begun.
+///
+/// The file is created, or has to be empty: a recording is never emptied. A new one can be read and written by its owner
+/// alone, since it tells what clients send, credentials too. It is claimed, so that no other program records to it as long
+/// as it is open; a pipe or a device is neither claimed nor has it to be empty. It gets the opening of a transcript before
+/// clients are accepted, and the records of a batch before what they tell leaves for a client.
+///
+/// Once clients can connect, `faults` gets a line that says where. Later it gets one for each kind of failure of the origin,
+/// a second apart at least, and one where the wall clock was set back. Behind a line that can't be written it gets no other.
+///
+/// No clause says what passes at sockets and files, since none can say what the system's hold. What is recorded of the
+/// octets that links give and get is what `serve_crowd` of hc_serve promises, and what it asks of the cache and of the file
+/// holds here: the cache is new, and the file has the opening.
+pub fn serve_proxy<R, E: Write>(
+    rt: &R,
+    proxy: Proxy<'_>,
+    limits: Limits,
+    settings: CoreSettings,
+    faults: &mut E,
+) -> Result<(), ServeFault>
+where
+    R: Net + Files + Clock + RandomSource + AllocGlobal,
+    R::File: Claim,
+    requires { AreGood settings }
+    ensures { SaysSome (E.contents faults.old) (E.contents faults.new) }
+{
+    check_open_files(rt, limits)?;
+    let sockets = new_sockets(rt, proxy)?;
+    let addresses = listed(rt.alloc(), sockets.addresses())?;
+    let greeting = Greeting {
+        addresses: addresses.as_str(),
+        origin: proxy.origin,
+        keys: settings.keys,
+        bytes: settings.bytes,
+    };
+    let mut core = new_core(rt, settings, limits.connections)?;
+    let serving = Serving {
+        sockets,
+        limits,
+        greeting,
+    };
+    serve_recorded(rt, serving, proxy.file, &mut core, faults)
+}
+
+/// Serves, and records to the file of that name, if any.
+fn serve_recorded<R, E: Write>(
+    rt: &R,
+    serving: Serving<'_, R>,
+    file: Option<&str>,
+    core: &mut Core<RandomState>,
+    faults: &mut E,
+) -> Result<(), ServeFault>
+where
+    R: Net + Files + Clock + AllocGlobal,
+    R::File: Claim,
+    ensures { SaysSome (E.contents faults.old) (E.contents faults.new) }
+{
+    let Some(name) = file else {
+        return serve_unrecorded(rt.alloc(), serving, core, faults);
+    };
+    let mut recorder = new_recorder(rt, name)?;
+    match serve_with(rt.alloc(), serving, core, &mut recorder, faults) {
+        Ok(()) => Ok(()),
+        Err(fault) => Err(fault_of(fault, recorder.link().reason())),
+    }
+}
+
+/// Serves, and records nothing.
+fn serve_unrecorded<R: Net + Files + Clock, E: Write>(
+    alloc: Global,
+    serving: Serving<'_, R>,
+    core: &mut Core<RandomState>,
+    faults: &mut E,
+) -> Result<(), ServeFault>
+    ensures { SaysSome (E.contents faults.old) (E.contents faults.new) }
+{
+    match serve_with(alloc, serving, core, &mut Off, faults) {
+        Ok(()) => Ok(()),
+        Err(fault) => Err(fault_of(fault, None)),
+    }
+}
+
+/// Serves, and records to that.
+fn serve_with<R: Net + Files + Clock, T: Recorder, E: Write>(
+    alloc: Global,
+    serving: Serving<'_, R>,
+    core: &mut Core<RandomState>,
+    recorder: &mut T,
+    faults: &mut E,
+) -> Result<(), DriveFault>
+    ensures { SaysSome (E.contents faults.old) (E.contents faults.new) }
+{
+    let Serving {
+        sockets,
+        limits,
+        greeting,
+    } = serving;
+    let hears_stops = sockets.hears_stops();
+    let mut crowd = Crowd::new(alloc, sockets, limits)?;
+    let mut herald = Herald::new(Voice::new(alloc, faults), crowd.failures());
+    herald.say(Notice::Listening(greeting));
+    herald.say_if(!hears_stops, Notice::Deaf);
+    serve_crowd(alloc, core, &mut crowd, recorder, &mut herald)
+}
+
+/// Fails where the system doesn't let so many files be open as the limits may want.
+fn check_open_files<R: Files>(rt: &R, limits: Limits) -> Result<(), ServeFault> {
+    let Some(most) = open_files(rt) else {
+        return Ok(());
+    };
+    let links = (limits.connections as u64).saturating_add(limits.origin_connections as u64);
+    if links.saturating_add(FILES_BESIDE) > most {
+        return Err(ServeFault::OpenFiles);
+    }
+    Ok(())
+}
+
+/// Sockets to which clients connect, and the addresses of the origin.
+fn new_sockets<'a, R>(rt: &'a R, proxy: Proxy<'_>) -> Result<Sockets<'a, R>, ServeFault>
+where
+    R: Net + Files + Clock + AllocGlobal,
+{
+    match Sockets::new(rt, proxy.listen, proxy.origin) {
+        Ok(sockets) => Ok(sockets),
+        Err(SocketsFault::Memory) => Err(ServeFault::Memory),
+        Err(SocketsFault::Listen(reason)) => Err(ServeFault::Listener(reason)),
+        Err(SocketsFault::Origin(reason)) => Err(ServeFault::Origin(reason)),
+    }
+}
+
+/// A new cache with room for so many connections, whose store hashes targets with keys that no client knows.
+fn new_core<R: RandomSource + AllocGlobal>(
+    rt: &R,
+    settings: CoreSettings,
+    connections: usize,
+) -> Result<Core<RandomState>, ServeFault>
+    requires { AreGood settings }
+{
+    let keys = match RandomState::new(rt) {
+        Ok(keys) => keys,
+        Err(reason) => return Err(ServeFault::Random(reason)),
+    };
+    match Core::with_room(rt.alloc(), settings, keys, connections) {
+        Ok(core) => Ok(core),
+        Err(CoreFault::Memory) => Err(ServeFault::Memory),
+        // A cache may have this name.
+        Err(CoreFault::Name) => unreachable!(),
+        // It may keep responses of so many targets.
+        Err(CoreFault::Size) => unreachable!(),
+        Err(CoreFault::Room) => Err(ServeFault::Listener(io::Error::other(
+            "a cache has room for 1 to 65536 connections",
+        ))),
+    }
+}
+
+/// What records to the file of that name, which has the opening of a transcript.
+fn new_recorder<R: Files + AllocGlobal>(
+    rt: &R,
+    name: &str,
+) -> Result<Buffered<SystemLink<Recording<R::File>>>, ServeFault>
+where
+    R::File: Claim,
+{
+    match begun(rt, name) {
+        Ok(file) => Ok(Buffered::new(rt.alloc(), SystemLink::new(Recording { file }))),
+        Err(reason) => Err(ServeFault::Record(reason)),
+    }
+}
+
+/// The file, claimed, and then with the opening of a transcript. One that isn't empty stays as it is.
+fn begun<R: Files>(rt: &R, name: &str) -> io::Result<R::File>
+where
+    R::File: Claim,
+{
+    let mut file = opened(rt, name)?;
+    if file.metadata()?.is_file() {
+        file.claim()?;
+        // What another program recorded until now is seen only behind the claim.
+        if file.metadata()?.len() > 0 {
+            let reason = "it isn't empty, and a recording is never emptied";
+            return Err(io::Error::other(reason));
+        }
+    }
+    file.write_all(Format::Second.opening())?;
+    Ok(file)
+}
+
+/// The addresses, with commas between them.
+fn listed(alloc: Global, addresses: &[SocketAddr]) -> Result<String, AllocError> {
+    let mut text = String::new(alloc);
+    let mut between = "";
+    for address in addresses {
+        write!(text, "{between}{address}")?;
+        between = ", ";
+    }
+    Ok(text)
+}
+
+/// Why serving ended. The reason is that for which the recorder failed last.
+fn fault_of(fault: DriveFault, recording: Option<io::Error>) -> ServeFault
+    ensures { EndsFor fault result }
+{
+    match fault {
+        DriveFault::Recorder => {
+            ServeFault::Record(recording.unwrap_or(io::Error::from(ErrorKind::Other)))
+        }
+        DriveFault::Core(StepFault::MomentTooLarge) => ServeFault::Clock,
+        // It is want of memory: a crowd tells a cache of nothing that it answers by another fault.
+        DriveFault::Core(_) => ServeFault::Memory,
+        // A crowd has no client whose link ends it all.
+        DriveFault::Client => ServeFault::Memory,
+    }
+}

@@ -1,0 +1,245 @@
+//! The world of a crowd: the system's sockets, none of which is waited for alone.
+
+ghost use Rattle.std.specs.Prelude.{◌≡◌, ◌||◌, ◌&&◌};
+ghost use Rattle.mio.specs.Event.{is_error, is_read_closed, is_readable, is_writable};
+
+use crate::addresses::addresses_of;
+use crate::attempts::{Attempts, Stage};
+use crate::listeners::Listeners;
+use crate::signals::Signals;
+use crate::tokens::Source;
+use crate::wire::Wire;
+use hc_crowd::{Accepted, Ready, World};
+use hc_flow::Readiness;
+use hc_order::Receiver;
+use mio::event::Event;
+use mio::net::TcpStream;
+use mio::{Events, Interest, Poll};
+use std::alloc::AllocError;
+use std::io;
+use std::io::ErrorKind;
+use std::net::{Net, SocketAddr};
+use std::rt::Files;
+use std::time::{Clock, Duration};
+
+/// So many things that became ready are taken in at once.
+const MOST_EVENTS: usize = 1_024;
+
+/// So many milliseconds are waited for at most, so that a stop is seen within that time.
+const LONGEST_WAIT: u64 = 250;
+
+/// Why there are no sockets.
+#[derive(Clone, Copy, Debug)]
+pub(crate) enum SocketsFault {
+    /// Memory was refused.
+    Memory,
+    /// No client could connect, for this reason.
+    Listen(io::Error),
+    /// The origin has no address, for this reason.
+    Origin(io::Error),
+}
+
+impl From<AllocError> for SocketsFault {
+    fn from(_error: AllocError) -> SocketsFault {
+        SocketsFault::Memory
+    }
+}
+
+/// The system's sockets, clocks and signals. What is ready is asked of all sockets at once.
+#[derive(Drop)]
+pub(crate) struct Sockets<'a, R: Net + Files + Clock> {
+    rt: &'a R,
+    poll: Poll,
+    /// What became ready.
+    events: Events,
+    /// How many of them were told.
+    told: usize,
+    listeners: Listeners,
+    /// The addresses of the origin, in the order in which they are tried.
+    origin: Vec<SocketAddr>,
+    attempts: Attempts,
+    signals: Signals<R::File>,
+}
+
+impl<'a, R: Net + Files + Clock + AllocGlobal> Sockets<'a, R> {
+    /// Clients can connect to each address of the host and port `listen`. The name of the origin is resolved now, once.
+    pub(crate) fn new(rt: &'a R, listen: &str, origin: &str) -> Result<Self, SocketsFault> {
+        let origin = addresses_of(rt, origin).map_err(origin_fault)?;
+        let poll = Poll::new(rt).map_err(listen_fault)?;
+        let listeners = Listeners::bind(rt, &poll, listen).map_err(listen_fault)?;
+        Ok(Sockets {
+            rt,
+            poll,
+            events: Events::with_capacity(rt.alloc(), MOST_EVENTS)?,
+            told: 0,
+            listeners,
+            origin,
+            attempts: Attempts::new(rt.alloc())?,
+            signals: Signals::new(rt, rt.alloc())?,
+        })
+    }
+}
+
+impl<'a, R: Net + Files + Clock> Sockets<'a, R> {
+    /// The addresses to which clients connect, each with the port that it really has.
+    pub(crate) fn addresses(&self) -> &[SocketAddr] {
+        self.listeners.addresses()
+    }
+
+    /// Whether signals that ask the program to stop can be seen: they are blocked, and the system tells which are pending.
+    pub(crate) fn hears_stops(&self) -> bool {
+        self.signals.are_heard()
+    }
+
+    /// The next thing that became ready and wasn't looked at yet.
+    fn next_event(&mut self) -> Option<Event> {
+        let event = *self.events.iter().as_slice().get(self.told)?;
+        self.told = self.told.saturating_add(1);
+        Some(event)
+    }
+
+    /// What an event tells: nothing, where it is of a link in whose place there is another one.
+    fn told_by(&mut self, event: Event) -> Option<Ready> {
+        match Source::of(event.token()) {
+            Source::Listener(place) => {
+                self.listeners.wake(place);
+                Some(Ready::Clients)
+            }
+            Source::Client(number) => {
+                let readiness = readiness_of(event, true);
+                Some(Ready::Link(Receiver::Client(number), readiness))
+            }
+            Source::Origin(forward, attempt) => {
+                let fails = match self.attempts.tell(forward, attempt) {
+                    Stage::Opening => true,
+                    Stage::Made => false,
+                    Stage::Gone => return None,
+                };
+                let readiness = readiness_of(event, fails);
+                Some(Ready::Link(Receiver::Origin(forward), readiness))
+            }
+        }
+    }
+
+    /// Begins to connect to the first address of the origin, from that place on, for which that is possible.
+    fn begin_connecting(&self, first: usize) -> Option<TcpStream> {
+        'addresses: for address in self.origin.as_slice().get(first..)? {
+            if let Ok(stream) = TcpStream::connect(self.rt, *address) {
+                return Some(stream);
+            }
+        }
+        None
+    }
+
+    /// What becomes ready at a stream is told from now on. None, where the system refuses that.
+    fn wired(&self, mut stream: TcpStream, source: Source) -> Option<Wire> {
+        // A socket that refuses it works all the same.
+        let _ = stream.set_nodelay(true);
+        let token = source.token()?;
+        self.poll
+            .registry()
+            .register(&mut stream, token, Interest::READABLE | Interest::WRITABLE)
+            .ok()?;
+        Some(Wire::new(stream))
+    }
+}
+
+impl<'a, R: Net + Files + Clock> World for Sockets<'a, R> {
+    type Stream = Wire;
+
+    fn wait(&mut self, most: u64) {
+        // What wasn't told yet is told first.
+        if self.told < self.events.iter().len() {
+            return;
+        }
+        self.told = 0;
+        let most = Duration::from_millis(most.min(LONGEST_WAIT));
+        // Where the system refuses it, nothing is ready.
+        let _ = self.poll.poll(&mut self.events, Some(most));
+    }
+
+    fn ready(&mut self) -> Option<Ready> {
+        'events: for _ in 0..MOST_EVENTS {
+            let event = self.next_event()?;
+            if let Some(ready) = self.told_by(event) {
+                return Some(ready);
+            }
+        }
+        None
+    }
+
+    fn accept(&mut self, number: u64) -> Accepted<Wire> {
+        match self.listeners.accept() {
+            Accepted::Client(stream) => match self.wired(stream, Source::Client(number)) {
+                Some(wire) => Accepted::Client(wire),
+                None => Accepted::Full,
+            },
+            Accepted::Later => Accepted::Later,
+            Accepted::Full => Accepted::Full,
+        }
+    }
+
+    fn connect(&mut self, forward: u64, attempt: u32) -> Option<Wire> {
+        let stream = self.begin_connecting(attempt as usize)?;
+        let wire = self.wired(stream, Source::Origin(forward, attempt))?;
+        self.attempts.begin(forward, attempt);
+        Some(wire)
+    }
+
+    fn wall(&self) -> Option<u64> {
+        match self.rt.since_1970() {
+            Ok(since) => Some(since.as_secs()),
+            Err(_) => None,
+        }
+    }
+
+    fn tick(&self) -> u64 {
+        match self.rt.monotonic() {
+            Ok(since) => u64::try_from(since.as_millis()).unwrap_or(u64::MAX),
+            Err(_) => 0,
+        }
+    }
+
+    fn stops(&mut self) -> bool {
+        let tick = self.tick();
+        self.signals.have_come(tick)
+    }
+
+    fn stop_listening(&mut self) {
+        self.listeners.close();
+    }
+}
+
+/// What an event tells of a link. Where its error doesn't make the link fail, the next read or write does: what came before
+/// can still be read.
+fn readiness_of(event: Event, fails: bool) -> Readiness
+    ensures readable { result.readable ≡ (is_readable event || (is_read_closed event || is_error event)) }
+    ensures writable { result.writable ≡ (is_writable event || is_error event) }
+    ensures ended { result.ended ≡ (is_read_closed event || is_error event) }
+    ensures failed { result.failed ≡ (is_error event && fails) }
+{
+    let error = event.is_error();
+    let ended = event.is_read_closed() | error;
+    Readiness {
+        readable: event.is_readable() | ended,
+        writable: event.is_writable() | error,
+        ended,
+        failed: error & fails,
+    }
+}
+
+/// Why no client could connect.
+fn listen_fault(error: io::Error) -> SocketsFault {
+    if error.kind() == ErrorKind::OutOfMemory {
+        return SocketsFault::Memory;
+    }
+    SocketsFault::Listen(error)
+}
+
+/// Why the origin has no address.
+fn origin_fault(error: io::Error) -> SocketsFault {
+    if error.kind() == ErrorKind::OutOfMemory {
+        return SocketsFault::Memory;
+    }
+    SocketsFault::Origin(error)
+}
