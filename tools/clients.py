@@ -19,6 +19,7 @@ STORED = "hcache;fwd=uri-miss;stored"
 PASSED = "hcache;fwd=uri-miss"
 COLLAPSED = "hcache;fwd=uri-miss;collapsed"
 HIT = "hcache;hit;ttl=*"
+STALE_HIT = "hcache;hit;ttl=-*"
 VALIDATED = "hcache;fwd=stale;fwd-status=304"
 METHOD = "hcache;fwd=method"
 BYPASS = "hcache;fwd=bypass"
@@ -140,6 +141,12 @@ class Client:
     def is_over(self):
         """Whether nothing comes any more."""
         return not self.came and not self.link.recv(1)
+
+
+def fill(client, paths):
+    """Has what the origin says of the paths stored."""
+    for path in paths:
+        got(client.ask(path), 200, STORED, text(path))
 
 
 # -- What each kind of client does. Each has targets of its own, by its number, and those that it shares.
@@ -486,6 +493,36 @@ def at_once(port, count, kinds=KINDS):
 
     with concurrent.futures.ThreadPoolExecutor(count) as pool:
         return [trouble for trouble in pool.map(tried, range(count)) if trouble]
+
+
+# -- Clients that are cut off
+
+
+class Asker:
+    """A client that asks until it is cut off, and knows how many whole replies it got, and for which paths."""
+
+    def __init__(self, port, number):
+        self.client, self.number, self.replies = Client(port), number, 0
+        self.seen, self.is_cut = collections.Counter(), False
+
+    def path(self):
+        which = self.replies
+        if which % 10 == 9:
+            return f"/slow/{self.number}-{which}"
+        return f"/kept/{self.number}-{which}" if which % 3 == 0 else f"/kept/{which % 5}"
+
+    def ask_on(self):
+        """Answers how many whole replies it got. `is_cut` tells whether it was cut off inside of one."""
+        with self.client as client:
+            while True:
+                path = self.path()
+                try:
+                    client.ask(path)
+                except (OSError, Wrong):
+                    self.is_cut = bool(client.came)
+                    return self.replies
+                self.seen[path] += 1
+                self.replies += 1
 
 
 # -- Batches of requests, of which every tenth is for a target that nobody asked for

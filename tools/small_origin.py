@@ -234,17 +234,19 @@ class Origin:
         with link, contextlib.suppress(OSError):
             link.settimeout(LIMIT)
             asked = self.asked(link)
-            if asked is None:
-                return
-            kind = asked.path.split("/")[1]
-            if kind.startswith("slow"):
-                time.sleep(PAUSE)
-            if (kind == "hung" and asked.before) or kind == "hung-first":
-                self.released.wait()
-            link.sendall(ANSWERS[kind](asked))
-            if kind == "resets":
-                time.sleep(PAUSE / 20)
-                reset(link)
+            if asked is not None:
+                self.answer(link, asked)
+
+    def answer(self, link, asked):
+        kind = asked.path.split("/")[1]
+        if kind.startswith("slow"):
+            time.sleep(PAUSE)
+        if (kind == "hung" and asked.before) or kind == "hung-first":
+            self.released.wait()
+        link.sendall(ANSWERS[kind](asked))
+        if kind == "resets":
+            time.sleep(PAUSE / 20)
+            reset(link)
 
 
 def main():

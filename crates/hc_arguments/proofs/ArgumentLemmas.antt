@@ -22,18 +22,23 @@ use Rattle.clap.proofs.WalkLemmas.{first_value-rows}
 use Rattle.hc_history.specs.declared.settings.Settings.{Settings}
 use Rattle.hc_service.specs.declared.settings.CoreSettings.{CoreSettings}
 use Rattle.hc_service.specs.Settings.{AreGood, is_name, is_size}
+use Rattle.hc_arguments.specs.declared.limit.Limit.{Limit}
+use Rattle.hc_arguments.specs.declared.limit.Limit.TheVariants.{MaxConnections, OriginConnections, IdleTimeout, RequestTimeout, SendTimeout}
+use Rattle.hc_arguments.specs.declared.limit.Limit.TheVariants.{QueueTimeout, ConnectTimeout, OriginTimeout, OriginTotal, DrainTimeout}
 use Rattle.hc_arguments.specs.declared.order.Order.{Order}
 use Rattle.hc_arguments.specs.declared.order.ProxyLimits.{ProxyLimits}
+use Rattle.hc_arguments.specs.declared.order.ProxyPatience.{ProxyPatience}
+use Rattle.hc_arguments.specs.declared.order.RecordTerms.{RecordTerms}
 use Rattle.hc_arguments.specs.declared.refusal.Refusal.{Refusal}
 use Rattle.hc_arguments.specs.declared.refusal.Refusal.TheVariants.{Memory, Missing, Slack, Ignore, Position, StandardInput, Connections, Keys, Bytes, Name}
-use Rattle.hc_arguments.specs.declared.refusal.Refusal.TheVariants.{MaxConnections, OriginConnections, ConnectTimeout, DrainTimeout}
-use Rattle.hc_arguments.specs.Command.{Asks, AsksBy, AsksCache, AsksIn, AsksLimits, AsksSettings, CanBeDone, Command, IsFileName}
-use Rattle.hc_arguments.specs.Command.{IsMade, IsRefused, IsWord, RefusesBy, RefusesIn, Task, ValuesAsk, command_in, command_named, command_of, hcache, judges, lacks}
+use Rattle.hc_arguments.specs.declared.refusal.Refusal.TheVariants.{RecordLimit, OutOfRange}
+use Rattle.hc_arguments.specs.Command.{Asks, AsksBy, AsksCache, AsksIn, AsksLimits, AsksPatience, AsksSettings, AsksTerms, CanBeDone, Command, IsFileName}
+use Rattle.hc_arguments.specs.Command.{IsMade, IsRefused, IsWord, RefusesBy, RefusesIn, Task, ValuesAsk, command_in, command_named, command_of, hcache, judges, lacks, limit_in}
 use Rattle.hc_arguments.specs.Command.{proxy_words, refused_kind, serves, service_words, task_of, value_in}
 use Rattle.hc_arguments.specs.Command.Command.{Audits, Reports, Explains, Replays, Converts, Serves, Proxies}
 use Rattle.hc_arguments.specs.Command.Task.{ToAudit, ToReport, ToExplain, ToReplay, ToConvert, ToServe, ToProxy}
-use Rattle.hc_arguments.specs.Values.{bytes_by, clients_by, connect_timeout_by, connections_of, drain_timeout_by, ignored_by, json_by, keys_by, max_connections_by, name_by, origin_connections_by}
-use Rattle.hc_arguments.specs.Values.{plain, plain_cache, plain_limits, position_by, positive_of, slack_by, unmarked_by}
+use Rattle.hc_arguments.specs.Values.{bytes_by, clients_by, connections_of, flag_by, ignored_by, keys_by, name_by}
+use Rattle.hc_arguments.specs.Values.{plain, plain_cache, plain_limits, plain_patience, plain_terms, position_by, positive_of, record_limit_by, slack_by, unmarked_by}
 
 -- ---- the command
 
@@ -119,17 +124,32 @@ abbrev cache_from : (Text → Option Text) → Option CoreSettings
 cache_from value = option_map (λ p. record { name = p.1.1; keys = p.0; bytes = p.1.0 })
     (both (keys_by (value (codes "keys"))) (both (bytes_by (value (codes "bytes"))) (name_by (value (codes "name")))))
 
+abbrev terms_from : (Text → Option Text) → Option RecordTerms
+terms_from value = option_map (λ limit. record { strict = flag_by (value (codes "record-strict")); limit = limit }) (record_limit_by (value (codes "record-limit")))
+
+abbrev patience_from : (Text → Option Text) → Option ProxyPatience
+patience_from value = option_map (λ p. record {
+  idle_timeout = p.0.0;
+  request_timeout = p.0.1.0;
+  send_timeout = p.0.1.1;
+  queue_timeout = p.1.0;
+  origin_timeout = p.1.1.0;
+  origin_total = p.1.1.1;
+})
+    (both (both (limit_in value IdleTimeout) (both (limit_in value RequestTimeout) (limit_in value SendTimeout)))
+    (both (limit_in value QueueTimeout) (both (limit_in value OriginTimeout) (limit_in value OriginTotal))))
+
 abbrev limits_from : (Text → Option Text) → Option ProxyLimits
 limits_from value = option_map (λ p. record {
   connections = p.0.0;
   origin_connections = p.0.1;
-  connect_timeout = p.1.0;
-  drain_timeout = p.1.1.0;
+  connect_timeout = p.1.0.0;
+  drain_timeout = p.1.0.1;
+  patience = p.1.1.0;
   clients = p.1.1.1;
 })
-    (both (both (max_connections_by (value (codes "max-connections"))) (origin_connections_by (value (codes "origin-connections"))))
-    (both (connect_timeout_by (value (codes "connect-timeout")))
-    (both (drain_timeout_by (value (codes "drain-timeout"))) (clients_by (value (codes "connections"))))))
+    (both (both (limit_in value MaxConnections) (limit_in value OriginConnections))
+    (both (both (limit_in value ConnectTimeout) (limit_in value DrainTimeout)) (both (patience_from value) (clients_by (value (codes "connections"))))))
 
 -- a file that isn't standard input
 abbrev file_named : Option Text → Option Text
@@ -138,7 +158,7 @@ file_named (Some file) = cond (bytes_eq file (codes "-")) None (Some file)
 
 abbrev task_from : Command → (Text → Option Text) → Option Task
 task_from Audits value = option_map (λ p. ToAudit p.0 p.1) (both (value (codes "FILE")) (settings_from value))
-task_from Reports value = option_map (λ p. ToReport p.0 p.1 (json_by (value (codes "json")))) (both (value (codes "FILE")) (settings_from value))
+task_from Reports value = option_map (λ p. ToReport p.0 p.1 (flag_by (value (codes "json")))) (both (value (codes "FILE")) (settings_from value))
 task_from Explains value = option_map (λ p. ToExplain p.0 p.1.0 p.1.1)
     (both (file_named (value (codes "FILE"))) (both (position_by (value (codes "POSITION"))) (settings_from value)))
 task_from Replays value = option_map ToReplay (value (codes "FILE"))
@@ -146,8 +166,8 @@ task_from Converts value = option_map ToConvert (value (codes "FILE"))
 task_from Serves value = option_map (λ p. ToServe p.0.0 p.0.1 p.1.0.0 p.1.0.1 p.1.1)
     (both (both (value (codes "listen")) (value (codes "origin")))
     (both (both (option_and_then connections_of (value (codes "connections"))) (value (codes "record"))) (cache_from value)))
-task_from Proxies value = option_map (λ p. ToProxy p.0.0 p.0.1 (value (codes "record")) p.1.0 p.1.1)
-    (both (both (value (codes "listen")) (value (codes "origin"))) (both (limits_from value) (cache_from value)))
+task_from Proxies value = option_map (λ p. ToProxy p.0.0 p.0.1 (value (codes "record")) p.1.0 p.1.1.0 p.1.1.1)
+    (both (both (value (codes "listen")) (value (codes "origin"))) (both (terms_from value) (both (limits_from value) (cache_from value))))
 
 abbrev task_by : Option Command → (Text → Option Text) → Option Task
 task_by command value = option_and_then (λ c. task_from c value) command
@@ -160,16 +180,35 @@ cache_given : (value : Text → Option Text) (settings : CoreSettings) → AsksC
 cache_given value settings a =
     λ i. option_map (λ p. record { name = p.1.1; keys = p.0; bytes = p.1.0 }) (both (a.keys_is i) (both (a.bytes_is i) (a.name_is i)))
 
+terms_given : (value : Text → Option Text) (terms : RecordTerms) → AsksTerms value terms → terms_from value ≡ Some terms
+terms_given value terms a = λ i. option_map (λ limit. record { strict = a.strict_is i; limit = limit }) (a.limit_is i)
+
+patience_given : (value : Text → Option Text) (patience : ProxyPatience) → AsksPatience value patience → patience_from value ≡ Some patience
+patience_given value patience a =
+    λ i. option_map (λ p. record {
+      idle_timeout = p.0.0;
+      request_timeout = p.0.1.0;
+      send_timeout = p.0.1.1;
+      queue_timeout = p.1.0;
+      origin_timeout = p.1.1.0;
+      origin_total = p.1.1.1;
+    })
+    (both (both (a.idle_timeout_is i) (both (a.request_timeout_is i) (a.send_timeout_is i)))
+    (both (a.queue_timeout_is i) (both (a.origin_timeout_is i) (a.origin_total_is i))))
+
 limits_given : (value : Text → Option Text) (limits : ProxyLimits) → AsksLimits value limits → limits_from value ≡ Some limits
 limits_given value limits a =
+    let patient = patience_given value limits.patience a.patience_is in
     λ i. option_map (λ p. record {
       connections = p.0.0;
       origin_connections = p.0.1;
-      connect_timeout = p.1.0;
-      drain_timeout = p.1.1.0;
+      connect_timeout = p.1.0.0;
+      drain_timeout = p.1.0.1;
+      patience = p.1.1.0;
       clients = p.1.1.1;
     })
-    (both (both (a.connections_are i) (a.origin_connections_are i)) (both (a.connect_timeout_is i) (both (a.drain_timeout_is i) (a.clients_are i))))
+    (both (both (a.connections_are i) (a.origin_connections_are i))
+    (both (both (a.connect_timeout_is i) (a.drain_timeout_is i)) (both (patient i) (a.clients_are i))))
 
 -- what is asked is that task
 values_give : (value : Text → Option Text) (task : Task) → ValuesAsk value task → task_from (command_of task) value ≡ Some task
@@ -189,11 +228,12 @@ values_give value (ToServe listen origin connections file settings) a =
     let set = cache_given value settings a.settings_are in
     λ i. option_map (λ p. ToServe p.0.0 p.0.1 p.1.0.0 p.1.0.1 p.1.1)
     (both (both (a.listen_is i) (a.origin_is i)) (both (both (a.connections_is i) (a.file_is i)) (set i)))
-values_give value (ToProxy listen origin file limits settings) a =
+values_give value (ToProxy listen origin file terms limits settings) a =
     let set = cache_given value settings a.settings_are in
     let limited = limits_given value limits a.limits_are in
-    λ i. option_map (λ p. ToProxy p.0.0 p.0.1 (a.file_is i) p.1.0 p.1.1)
-    (both (both (a.listen_is i) (a.origin_is i)) (both (limited i) (set i)))
+    let recorded = terms_given value terms a.terms_are in
+    λ i. option_map (λ p. ToProxy p.0.0 p.0.1 (a.file_is i) p.1.0 p.1.1.0 p.1.1.1)
+    (both (both (a.listen_is i) (a.origin_is i)) (both (recorded i) (both (limited i) (set i))))
 
 task_given : (command : Option Command) (value : Text → Option Text) (task : Task) → AsksBy command value task → task_by command value ≡ Some task
 task_given command value task asks = ap (λ c. task_by c value) asks.0 ∙ values_give value task asks.1
@@ -219,7 +259,7 @@ lacks_nothing command value (ToReplay file) asks = rw (asks.0, asks.1) refl
 lacks_nothing command value (ToConvert file) asks = rw (asks.0, asks.1) refl
 lacks_nothing command value (ToServe listen origin n file settings) asks =
     rw (asks.0, asks.1.listen_is, asks.1.origin_is, number_is_there (value (codes "connections")) n asks.1.connections_is, asks.1.file_is) refl
-lacks_nothing command value (ToProxy listen origin file limits settings) asks = rw (asks.0, asks.1.listen_is, asks.1.origin_is) refl
+lacks_nothing command value (ToProxy listen origin file terms limits settings) asks = rw (asks.0, asks.1.listen_is, asks.1.origin_is) refl
 
 -- where a value has a fault there is no task
 settings_lack : (command : Command) (value : Text → Option Text) → judges command ≡ true → settings_from value ≡ None → task_from command value ≡ None
@@ -238,10 +278,13 @@ cache_lacks Explains value serving none = absurd cc
 cache_lacks Replays value serving none = absurd cc
 cache_lacks Converts value serving none = absurd cc
 cache_lacks Serves value serving none = nothing_mapped _ _ (second_lacks _ _ (second_lacks _ _ none))
-cache_lacks Proxies value serving none = nothing_mapped _ _ (second_lacks _ _ (second_lacks _ _ none))
+cache_lacks Proxies value serving none = nothing_mapped _ _ (second_lacks _ _ (second_lacks _ _ (second_lacks _ _ none)))
 
 limits_lack : (value : Text → Option Text) → limits_from value ≡ None → task_from Proxies value ≡ None
-limits_lack value none = nothing_mapped _ _ (second_lacks _ _ (first_lacks _ _ none))
+limits_lack value none = nothing_mapped _ _ (second_lacks _ _ (second_lacks _ _ (first_lacks _ _ none)))
+
+terms_lack : (value : Text → Option Text) → terms_from value ≡ None → task_from Proxies value ≡ None
+terms_lack value none = nothing_mapped _ _ (second_lacks _ _ (first_lacks _ _ none))
 
 -- a number of connections that is none is one neither where it has to be given nor where it may be left out
 no_number : (o : Option Text) → clients_by o ≡ None → option_and_then connections_of o ≡ None
@@ -259,6 +302,21 @@ number_lacks Serves value serving none =
     nothing_mapped _ _ (second_lacks _ _ (first_lacks _ _ (first_lacks _ _ (no_number (value (codes "connections")) none))))
 number_lacks Proxies value serving none =
     limits_lack value (nothing_mapped _ _ (second_lacks _ _ (second_lacks _ _ (second_lacks _ _ none))))
+
+impatient : (value : Text → Option Text) → patience_from value ≡ None → limits_from value ≡ None
+impatient value none = nothing_mapped _ _ (second_lacks _ _ (second_lacks _ _ (first_lacks _ _ none)))
+
+limit_lacks : (limit : Limit) (value : Text → Option Text) → limit_in value limit ≡ None → limits_from value ≡ None
+limit_lacks MaxConnections value none = nothing_mapped _ _ (first_lacks _ _ (first_lacks _ _ none))
+limit_lacks OriginConnections value none = nothing_mapped _ _ (first_lacks _ _ (second_lacks _ _ none))
+limit_lacks ConnectTimeout value none = nothing_mapped _ _ (second_lacks _ _ (first_lacks _ _ (first_lacks _ _ none)))
+limit_lacks DrainTimeout value none = nothing_mapped _ _ (second_lacks _ _ (first_lacks _ _ (second_lacks _ _ none)))
+limit_lacks IdleTimeout value none = impatient value (nothing_mapped _ _ (first_lacks _ _ (first_lacks _ _ none)))
+limit_lacks RequestTimeout value none = impatient value (nothing_mapped _ _ (first_lacks _ _ (second_lacks _ _ (first_lacks _ _ none))))
+limit_lacks SendTimeout value none = impatient value (nothing_mapped _ _ (first_lacks _ _ (second_lacks _ _ (second_lacks _ _ none))))
+limit_lacks QueueTimeout value none = impatient value (nothing_mapped _ _ (second_lacks _ _ (first_lacks _ _ none)))
+limit_lacks OriginTimeout value none = impatient value (nothing_mapped _ _ (second_lacks _ _ (second_lacks _ _ (first_lacks _ _ none))))
+limit_lacks OriginTotal value none = impatient value (nothing_mapped _ _ (second_lacks _ _ (second_lacks _ _ (second_lacks _ _ none))))
 
 -- of a command that is of a kind
 kind_lacks : (kind : Command → Bool) (value : Text → Option Text) → ((c : Command) → kind c ≡ true → task_from c value ≡ None)
@@ -295,11 +353,8 @@ module _ (command : Option Command) (value : Text → Option Text) (task : Task)
       is_given (fault_lacks _ _ Explains refuses.0 (nothing_mapped _ _ (first_lacks _ _ (ap file_named refuses.1))))
   none_outside Connections refuses kind =
       is_given (kind_lacks serves value (λ c. λ serving. number_lacks c value serving refuses.1) command refuses.0)
-  none_outside MaxConnections refuses kind = unlimited refuses.0 (nothing_mapped _ _ (first_lacks _ _ (first_lacks _ _ refuses.1)))
-  none_outside OriginConnections refuses kind = unlimited refuses.0 (nothing_mapped _ _ (first_lacks _ _ (second_lacks _ _ refuses.1)))
-  none_outside ConnectTimeout refuses kind = unlimited refuses.0 (nothing_mapped _ _ (second_lacks _ _ (first_lacks _ _ refuses.1)))
-  none_outside DrainTimeout refuses kind =
-      unlimited refuses.0 (nothing_mapped _ _ (second_lacks _ _ (second_lacks _ _ (first_lacks _ _ refuses.1))))
+  none_outside RecordLimit refuses kind = is_given (fault_lacks _ _ Proxies refuses.0 (terms_lack value (nothing_mapped _ _ refuses.1)))
+  none_outside (OutOfRange limit) refuses kind = unlimited refuses.0 (limit_lacks limit value refuses.1)
   none_outside Keys refuses kind = unserved refuses.0 (nothing_mapped _ _ (first_lacks _ _ refuses.1))
   none_outside Bytes refuses kind = unserved refuses.0 (nothing_mapped _ _ (second_lacks _ _ (first_lacks _ _ refuses.1)))
   none_outside Name refuses kind = unserved refuses.0 (nothing_mapped _ _ (second_lacks _ _ (second_lacks _ _ refuses.1)))
@@ -335,7 +390,7 @@ possible_from command value (ToExplain file position settings) asks = tt
 possible_from command value (ToReplay file) asks = tt
 possible_from command value (ToConvert file) asks = tt
 possible_from command value (ToServe listen origin connections file settings) asks = good_cache value settings asks.1.settings_are
-possible_from command value (ToProxy listen origin file limits settings) asks = good_cache value settings asks.1.settings_are
+possible_from command value (ToProxy listen origin file terms limits settings) asks = good_cache value settings asks.1.settings_are
 
 -- words that ask something are refused for want of memory alone
 pub asked_from : (words : List Text) (task : Task) (e : Error) → fault_of hcache words ≡ [] → Asks words task → IsRefused words e → kind_of e ≡ OutOfMemory
@@ -464,7 +519,7 @@ module _ (name file : Text) (h : IsNoFlag file) where
   unfolding clap_on_literals
   reported = rw (h.dashes, h.long, h.short) refl
 
-  no_json : json_by (value_in (subcommand_of hcache (name ∷ codes "report" ∷ file ∷ [])) (codes "json")) ≡ false
+  no_json : flag_by (value_in (subcommand_of hcache (name ∷ codes "report" ∷ file ∷ [])) (codes "json")) ≡ false
   unfolding clap_on_literals
   no_json = rw (h.dashes, h.long, h.short) refl
 
@@ -718,6 +773,21 @@ module _ (name listen origin : Text) where
   unfolding clap_on_literals
   no_record = refl
 
+  no_terms : AsksTerms (value_in (subcommand_of hcache (name ∷ proxy_words listen origin))) plain_terms
+  unfolding clap_on_literals
+  no_terms = record { strict_is = refl; limit_is = refl }
+
+  no_patience : AsksPatience (value_in (subcommand_of hcache (name ∷ proxy_words listen origin))) plain_patience
+  unfolding clap_on_literals
+  no_patience = record {
+    idle_timeout_is = refl;
+    request_timeout_is = refl;
+    send_timeout_is = refl;
+    queue_timeout_is = refl;
+    origin_timeout_is = refl;
+    origin_total_is = refl;
+  }
+
   no_limits : AsksLimits (value_in (subcommand_of hcache (name ∷ proxy_words listen origin))) plain_limits
   unfolding clap_on_literals
   no_limits = record {
@@ -725,6 +795,7 @@ module _ (name listen origin : Text) where
     origin_connections_are = refl;
     connect_timeout_is = refl;
     drain_timeout_is = refl;
+    patience_is = no_patience;
     clients_are = refl;
   }
 
@@ -740,7 +811,7 @@ module _ (name listen origin : Text) where
   unfolding clap_on_literals
   no_proxy_fault = refl
 
-pub words_of_proxy : (name listen origin : Text) → AreWordsFor (name ∷ proxy_words listen origin) (ToProxy listen origin None plain_limits plain_cache)
+pub words_of_proxy : (name listen origin : Text) → AreWordsFor (name ∷ proxy_words listen origin) (ToProxy listen origin None plain_terms plain_limits plain_cache)
 words_of_proxy name listen origin = record {
   asks = (
     is_proxy name listen origin,
@@ -748,6 +819,7 @@ words_of_proxy name listen origin = record {
       listen_is = proxy_listens name listen origin;
       origin_is = proxy_forwards name listen origin;
       file_is = no_record name listen origin;
+      terms_are = no_terms name listen origin;
       limits_are = no_limits name listen origin;
       settings_are = plain_proxy name listen origin;
     },

@@ -16,15 +16,20 @@ use Rattle.clap.specs.declared.error.ErrorKind.TheVariants as kind
 use Rattle.hc_history.specs.declared.settings.Settings.{Settings}
 use Rattle.hc_service.specs.declared.settings.CoreSettings.{CoreSettings}
 use Rattle.hc_service.specs.Settings.{AreGood}
+use Rattle.hc_arguments.specs.declared.limit.Limit.{Limit}
+use Rattle.hc_arguments.specs.declared.limit.Limit.TheVariants.{MaxConnections, OriginConnections, IdleTimeout, RequestTimeout, SendTimeout}
+use Rattle.hc_arguments.specs.declared.limit.Limit.TheVariants.{QueueTimeout, ConnectTimeout, OriginTimeout, OriginTotal, DrainTimeout}
 use Rattle.hc_arguments.specs.declared.order.Order.{Order}
 use Rattle.hc_arguments.specs.declared.order.Order.TheVariants.{Audit, Report, Explain, Replay, Convert, Serve, Proxy}
 use Rattle.hc_arguments.specs.declared.order.ProxyLimits.{ProxyLimits}
+use Rattle.hc_arguments.specs.declared.order.ProxyPatience.{ProxyPatience}
+use Rattle.hc_arguments.specs.declared.order.RecordTerms.{RecordTerms}
 use Rattle.hc_arguments.specs.declared.options.Wanted.{Wanted}
 use Rattle.hc_arguments.specs.declared.refusal.Refusal.{Refusal}
 use Rattle.hc_arguments.specs.declared.refusal.Refusal.TheVariants.{Memory, Missing, Slack, Ignore, Position, StandardInput, Connections, Keys, Bytes, Name}
-use Rattle.hc_arguments.specs.declared.refusal.Refusal.TheVariants.{MaxConnections, OriginConnections, ConnectTimeout, DrainTimeout}
-use Rattle.hc_arguments.specs.Values.{bytes_by, clients_by, connections_of, ignored_by, json_by, keys_by, name_by, position_by, slack_by, unmarked_by}
-use Rattle.hc_arguments.specs.Values.{connect_timeout_by, drain_timeout_by, max_connections_by, origin_connections_by}
+use Rattle.hc_arguments.specs.declared.refusal.Refusal.TheVariants.{RecordLimit, OutOfRange}
+use Rattle.hc_arguments.specs.Values.{bytes_by, clients_by, connections_of, flag_by, ignored_by, keys_by, name_by, position_by, slack_by, unmarked_by}
+use Rattle.hc_arguments.specs.Values.{limit_by, option_of, record_limit_by}
 
 -- ---- what the command takes
 
@@ -81,10 +86,13 @@ with_cache app = with_rules app (option_rule (codes "keys") ∷ option_rule (cod
 abbrev pub serve : App
 serve = with_cache (with_service (new_app (codes "serve")))
 
--- a command with the options that say between whom a proxy stands, where that is recorded, and within which limits
+-- a command with the options that say between whom a proxy stands, where and how far that is recorded, and within which limits
 abbrev pub with_proxy : App → App
 with_proxy app = with_rules app (required_rule (codes "listen") ∷ required_rule (codes "origin") ∷ option_rule (codes "record")
-    ∷ option_rule (codes "max-connections") ∷ option_rule (codes "origin-connections") ∷ option_rule (codes "connect-timeout")
+    ∷ option_rule (codes "record-limit") ∷ flag_rule (codes "record-strict")
+    ∷ option_rule (codes "max-connections") ∷ option_rule (codes "origin-connections") ∷ option_rule (codes "idle-timeout")
+    ∷ option_rule (codes "request-timeout") ∷ option_rule (codes "send-timeout") ∷ option_rule (codes "queue-timeout")
+    ∷ option_rule (codes "connect-timeout") ∷ option_rule (codes "origin-timeout") ∷ option_rule (codes "origin-total")
     ∷ option_rule (codes "drain-timeout") ∷ option_rule (codes "connections") ∷ [])
 
 abbrev pub proxy : App
@@ -136,9 +144,9 @@ pub data Task : Type 0 where
   ToConvert : (file : Text) → Task
   -- to serve so many connections there, before that origin, to record them to that file, from a cache of those settings
   ToServe : (listen origin : Text) (connections : ℕ) (file : Text) (settings : CoreSettings) → Task
-  -- to serve all that connect there at once, before that origin, to record them to that file, if any, within those limits, from a
-  -- cache of those settings
-  ToProxy : (listen origin : Text) (file : Option Text) (limits : ProxyLimits) (settings : CoreSettings) → Task
+  -- to serve all that connect there at once, before that origin, to record them to that file, if any, on those terms, within those
+  -- limits, from a cache of those settings
+  ToProxy : (listen origin : Text) (file : Option Text) (terms : RecordTerms) (limits : ProxyLimits) (settings : CoreSettings) → Task
 
 abbrev pub command_of : Task → Command
 command_of (ToAudit file settings) = Audits
@@ -147,7 +155,7 @@ command_of (ToExplain file position settings) = Explains
 command_of (ToReplay file) = Replays
 command_of (ToConvert file) = Converts
 command_of (ToServe listen origin connections file settings) = Serves
-command_of (ToProxy listen origin file limits settings) = Proxies
+command_of (ToProxy listen origin file terms limits settings) = Proxies
 
 abbrev pub task_of : Order → Task
 task_of (Audit file settings) = ToAudit file.now settings
@@ -156,7 +164,7 @@ task_of (Explain file position settings) = ToExplain file.now position settings
 task_of (Replay file) = ToReplay file.now
 task_of (Convert file) = ToConvert file.now
 task_of (Serve listen origin connections file settings) = ToServe listen.now origin.now connections file.now settings
-task_of (Proxy p) = ToProxy p.listen.now p.origin.now (option_map (λ file. file.now) p.file) p.limits p.settings
+task_of (Proxy p) = ToProxy p.listen.now p.origin.now (option_map (λ file. file.now) p.file) p.terms p.limits p.settings
 
 -- the values, by their names, ask to judge by those settings
 pub record AsksSettings (value : Text → Option Text) (settings : Settings) : Type 0 where
@@ -173,7 +181,7 @@ pub record AsksAudit (value : Text → Option Text) (file : Text) (settings : Se
 pub record AsksReport (value : Text → Option Text) (file : Text) (settings : Settings) (json : Bool) : Type 0 where
   pub file_is : value (codes "FILE") ≡ Some file
   pub settings_are : AsksSettings value settings
-  pub json_is : json_by (value (codes "json")) ≡ json
+  pub json_is : flag_by (value (codes "json")) ≡ json
 
 -- and that of `explain`, which can't read standard input twice
 pub record AsksExplain (value : Text → Option Text) (file : Text) (position : Option ℕ) (settings : Settings) : Type 0 where
@@ -196,19 +204,39 @@ pub record AsksService (value : Text → Option Text) (listen origin : Text) (co
   pub file_is : value (codes "record") ≡ Some file
   pub settings_are : AsksCache value settings
 
--- and those of the limits of `proxy`
+-- and those that say how far `proxy` records
+pub record AsksTerms (value : Text → Option Text) (terms : RecordTerms) : Type 0 where
+  pub strict_is : flag_by (value (codes "record-strict")) ≡ terms.strict
+  pub limit_is : record_limit_by (value (codes "record-limit")) ≡ Some terms.limit
+
+-- the number of a limit of `proxy`
+abbrev pub limit_in : (Text → Option Text) → Limit → Option ℕ
+limit_in value limit = limit_by limit (value (option_of limit))
+
+-- and those of its patience
+pub record AsksPatience (value : Text → Option Text) (patience : ProxyPatience) : Type 0 where
+  pub idle_timeout_is : limit_in value IdleTimeout ≡ Some patience.idle_timeout
+  pub request_timeout_is : limit_in value RequestTimeout ≡ Some patience.request_timeout
+  pub send_timeout_is : limit_in value SendTimeout ≡ Some patience.send_timeout
+  pub queue_timeout_is : limit_in value QueueTimeout ≡ Some patience.queue_timeout
+  pub origin_timeout_is : limit_in value OriginTimeout ≡ Some patience.origin_timeout
+  pub origin_total_is : limit_in value OriginTotal ≡ Some patience.origin_total
+
+-- and those of all its limits
 pub record AsksLimits (value : Text → Option Text) (limits : ProxyLimits) : Type 0 where
-  pub connections_are : max_connections_by (value (codes "max-connections")) ≡ Some limits.connections
-  pub origin_connections_are : origin_connections_by (value (codes "origin-connections")) ≡ Some limits.origin_connections
-  pub connect_timeout_is : connect_timeout_by (value (codes "connect-timeout")) ≡ Some limits.connect_timeout
-  pub drain_timeout_is : drain_timeout_by (value (codes "drain-timeout")) ≡ Some limits.drain_timeout
+  pub connections_are : limit_in value MaxConnections ≡ Some limits.connections
+  pub origin_connections_are : limit_in value OriginConnections ≡ Some limits.origin_connections
+  pub connect_timeout_is : limit_in value ConnectTimeout ≡ Some limits.connect_timeout
+  pub drain_timeout_is : limit_in value DrainTimeout ≡ Some limits.drain_timeout
+  pub patience_is : AsksPatience value limits.patience
   pub clients_are : clients_by (value (codes "connections")) ≡ Some limits.clients
 
 -- and that of `proxy`
-pub record AsksProxy (value : Text → Option Text) (listen origin : Text) (file : Option Text) (limits : ProxyLimits) (settings : CoreSettings) : Type 0 where
+pub record AsksProxy (value : Text → Option Text) (listen origin : Text) (file : Option Text) (terms : RecordTerms) (limits : ProxyLimits) (settings : CoreSettings) : Type 0 where
   pub listen_is : value (codes "listen") ≡ Some listen
   pub origin_is : value (codes "origin") ≡ Some origin
   pub file_is : value (codes "record") ≡ file
+  pub terms_are : AsksTerms value terms
   pub limits_are : AsksLimits value limits
   pub settings_are : AsksCache value settings
 
@@ -219,7 +247,7 @@ ValuesAsk value (ToExplain file position settings) = AsksExplain value file posi
 ValuesAsk value (ToReplay file) = value (codes "FILE") ≡ Some file
 ValuesAsk value (ToConvert file) = value (codes "FILE") ≡ Some file
 ValuesAsk value (ToServe listen origin connections file settings) = AsksService value listen origin connections file settings
-ValuesAsk value (ToProxy listen origin file limits settings) = AsksProxy value listen origin file limits settings
+ValuesAsk value (ToProxy listen origin file terms limits settings) = AsksProxy value listen origin file terms limits settings
 
 -- the command and its values ask that
 abbrev pub AsksBy : Option Command → (Text → Option Text) → Task → Type 0
@@ -243,7 +271,7 @@ Asks words = AsksIn (subcommand_of hcache words)
 -- what a task can be asked with: of those settings there are caches
 abbrev pub CanBeDone : Task → Type 0
 CanBeDone (ToServe listen origin connections file settings) = AreGood settings
-CanBeDone (ToProxy listen origin file limits settings) = AreGood settings
+CanBeDone (ToProxy listen origin file terms limits settings) = AreGood settings
 CanBeDone task = ⊤
 
 -- ---- plain words
@@ -308,10 +336,8 @@ RefusesBy command value Ignore = (option_map judges command ≡ Some true) × (i
 RefusesBy command value Position = (command ≡ Some Explains) × (position_by (value (codes "POSITION")) ≡ None)
 RefusesBy command value StandardInput = (command ≡ Some Explains) × (value (codes "FILE") ≡ Some (codes "-"))
 RefusesBy command value Connections = (option_map serves command ≡ Some true) × (clients_by (value (codes "connections")) ≡ None)
-RefusesBy command value MaxConnections = (command ≡ Some Proxies) × (max_connections_by (value (codes "max-connections")) ≡ None)
-RefusesBy command value OriginConnections = (command ≡ Some Proxies) × (origin_connections_by (value (codes "origin-connections")) ≡ None)
-RefusesBy command value ConnectTimeout = (command ≡ Some Proxies) × (connect_timeout_by (value (codes "connect-timeout")) ≡ None)
-RefusesBy command value DrainTimeout = (command ≡ Some Proxies) × (drain_timeout_by (value (codes "drain-timeout")) ≡ None)
+RefusesBy command value RecordLimit = (command ≡ Some Proxies) × (record_limit_by (value (codes "record-limit")) ≡ None)
+RefusesBy command value (OutOfRange limit) = (command ≡ Some Proxies) × (limit_in value limit ≡ None)
 RefusesBy command value Keys = (option_map serves command ≡ Some true) × (keys_by (value (codes "keys")) ≡ None)
 RefusesBy command value Bytes = (option_map serves command ≡ Some true) × (bytes_by (value (codes "bytes")) ≡ None)
 RefusesBy command value Name = (option_map serves command ≡ Some true) × (name_by (value (codes "name")) ≡ None)
@@ -328,10 +354,8 @@ refused_kind Ignore = Some kind.ValueValidation
 refused_kind Position = Some kind.ValueValidation
 refused_kind StandardInput = Some kind.ValueValidation
 refused_kind Connections = Some kind.ValueValidation
-refused_kind MaxConnections = Some kind.ValueValidation
-refused_kind OriginConnections = Some kind.ValueValidation
-refused_kind ConnectTimeout = Some kind.ValueValidation
-refused_kind DrainTimeout = Some kind.ValueValidation
+refused_kind RecordLimit = Some kind.ValueValidation
+refused_kind (OutOfRange limit) = Some kind.ValueValidation
 refused_kind Keys = Some kind.ValueValidation
 refused_kind Bytes = Some kind.ValueValidation
 refused_kind Name = Some kind.ValueValidation

@@ -13,7 +13,13 @@ use Rattle.hc_history.specs.declared.settings.Settings.{Settings}
 use Rattle.hc_history.specs.declared.settings.UnmarkedReplies.{UnmarkedReplies}
 use Rattle.hc_history.specs.declared.settings.UnmarkedReplies.TheVariants.{Allow, ErrorsOnly}
 use Rattle.hc_service.specs.declared.settings.CoreSettings.{CoreSettings}
+use Rattle.hc_arguments.specs.declared.limit.Limit.{Limit}
+use Rattle.hc_arguments.specs.declared.limit.Limit.TheVariants.{MaxConnections, OriginConnections, IdleTimeout, RequestTimeout, SendTimeout}
+use Rattle.hc_arguments.specs.declared.limit.Limit.TheVariants.{QueueTimeout, ConnectTimeout, OriginTimeout, OriginTotal, DrainTimeout}
+use Rattle.hc_arguments.specs.declared.limit.NumberRange.{NumberRange}
 use Rattle.hc_arguments.specs.declared.order.ProxyLimits.{ProxyLimits}
+use Rattle.hc_arguments.specs.declared.order.ProxyPatience.{ProxyPatience}
+use Rattle.hc_arguments.specs.declared.order.RecordTerms.{RecordTerms}
 use Rattle.hc_service.specs.Settings.{is_name, is_size}
 
 -- ---- seconds
@@ -54,10 +60,10 @@ abbrev pub unmarked_by : Option Text → UnmarkedReplies
 unmarked_by None = Allow
 unmarked_by (Some text) = if bytes_eq text (codes "true") then ErrorsOnly else Allow
 
--- and so has `--json`
-abbrev pub json_by : Option Text → Bool
-json_by None = false
-json_by (Some text) = bytes_eq text (codes "true")
+-- and so has every flag: whether it was given
+abbrev pub flag_by : Option Text → Bool
+flag_by None = false
+flag_by (Some text) = bytes_eq text (codes "true")
 
 -- ---- connections and positions
 
@@ -77,31 +83,45 @@ position_by (Some text) = option_map Some (positive_of text)
 
 -- ---- the limits of a proxy
 
--- the number that one or more digits write, where it is from the first of these numbers to the second
-abbrev pub number_within : ℕ → ℕ → Text → Option ℕ
-number_within least most text =
-    if is_number text && (nat_le least (digits_value 10 text) && nat_le (digits_value 10 text) most) then Some (digits_value 10 text) else None
+-- the name of a limit's option
+abbrev pub option_of : Limit → Text
+option_of MaxConnections = codes "max-connections"
+option_of OriginConnections = codes "origin-connections"
+option_of IdleTimeout = codes "idle-timeout"
+option_of RequestTimeout = codes "request-timeout"
+option_of SendTimeout = codes "send-timeout"
+option_of QueueTimeout = codes "queue-timeout"
+option_of ConnectTimeout = codes "connect-timeout"
+option_of OriginTimeout = codes "origin-timeout"
+option_of OriginTotal = codes "origin-total"
+option_of DrainTimeout = codes "drain-timeout"
 
--- an option with such a number: the third one where it isn't given
-abbrev pub number_by : ℕ → ℕ → ℕ → Option Text → Option ℕ
-number_by least most other None = Some other
-number_by least most other (Some text) = number_within least most text
+-- the numbers from the first to the second, and the third one where the option isn't given
+abbrev pub number_range : ℕ → ℕ → ℕ → NumberRange
+number_range least most usual = record { least = least; most = most; usual = usual }
 
--- `--max-connections`
-abbrev pub max_connections_by : Option Text → Option ℕ
-max_connections_by value = number_by 1 60000 1024 value
+-- the numbers that it takes; all times are in seconds
+abbrev pub range_of : Limit → NumberRange
+range_of MaxConnections = number_range 1 60000 1024
+range_of OriginConnections = number_range 1 60000 100
+range_of IdleTimeout = number_range 1 86400 75
+range_of RequestTimeout = number_range 1 86400 60
+range_of SendTimeout = number_range 1 86400 60
+range_of QueueTimeout = number_range 1 86400 5
+range_of ConnectTimeout = number_range 1 3600 5
+range_of OriginTimeout = number_range 1 86400 60
+range_of OriginTotal = number_range 1 86400 600
+range_of DrainTimeout = number_range 0 86400 8
 
--- `--origin-connections`
-abbrev pub origin_connections_by : Option Text → Option ℕ
-origin_connections_by value = number_by 1 60000 100 value
+-- the number that one or more digits write, where it is in that range
+abbrev pub number_within : NumberRange → Text → Option ℕ
+number_within range text =
+    if is_number text && (nat_le range.least (digits_value 10 text) && nat_le (digits_value 10 text) range.most) then Some (digits_value 10 text) else None
 
--- `--connect-timeout`
-abbrev pub connect_timeout_by : Option Text → Option ℕ
-connect_timeout_by value = number_by 1 3600 5 value
-
--- `--drain-timeout`
-abbrev pub drain_timeout_by : Option Text → Option ℕ
-drain_timeout_by value = number_by 0 86400 8 value
+-- the number of a limit
+abbrev pub limit_by : Limit → Option Text → Option ℕ
+limit_by limit None = Some (range_of limit).usual
+limit_by limit (Some text) = number_within (range_of limit) text
 
 -- `--connections`, which a proxy may go without
 abbrev pub clients_by : Option Text → Option (Option ℕ)
@@ -139,6 +159,11 @@ abbrev pub bytes_by : Option Text → Option ℕ
 bytes_by None = Some 67108864
 bytes_by (Some text) = bytes_of text
 
+-- `--record-limit`, which a proxy may go without
+abbrev pub record_limit_by : Option Text → Option (Option ℕ)
+record_limit_by None = Some None
+record_limit_by (Some text) = option_map Some (bytes_of text)
+
 -- the name, where a cache may have it
 abbrev pub name_of : Text → Option Text
 name_of name = if is_name name then Some name else None
@@ -154,9 +179,31 @@ name_by (Some name) = name_of name
 abbrev pub plain_cache : CoreSettings
 plain_cache = record { name = codes "hcache"; keys = 1024; bytes = 67108864 }
 
+-- how far a proxy records: to no end, and without it where it can't
+abbrev pub plain_terms : RecordTerms
+plain_terms = record { strict = false; limit = None }
+
+-- how many seconds clients of a proxy, and requests to its origin, may take
+abbrev pub plain_patience : ProxyPatience
+plain_patience = record {
+  idle_timeout = 75;
+  request_timeout = 60;
+  send_timeout = 60;
+  queue_timeout = 5;
+  origin_timeout = 60;
+  origin_total = 600;
+}
+
 -- the limits of a proxy
 abbrev pub plain_limits : ProxyLimits
-plain_limits = record { connections = 1024; origin_connections = 100; connect_timeout = 5; drain_timeout = 8; clients = None }
+plain_limits = record {
+  connections = 1024;
+  origin_connections = 100;
+  connect_timeout = 5;
+  drain_timeout = 8;
+  patience = plain_patience;
+  clients = None;
+}
 
 -- no slack, nothing ignored, and every reply may be unmarked
 abbrev pub plain : Settings

@@ -2,18 +2,19 @@
 
 ghost use Rattle.std.specs.Prelude.{◌≡◌, ◌∷◌, [], IfErr, IfOk, MatchResult, ℕ, Some, None, codes, false, map, true};
 ghost use Rattle.clap.specs.Words.{HasKind, Text, fault_of, first_value, found_of, kind_of, subcommand_of, subcommand_rows_of};
-ghost use Rattle.hc_arguments.specs.Command.{Asks, AsksBy, AsksCache, AsksIn, AsksLimits, AsksSettings, CanBeDone, Command, IsFileName, IsRefused, IsRefusedIn, IsWord, RefusesBy, RefusesIn, hcache, judges, proxy_words, serves, service_words, task_of};
+ghost use Rattle.hc_arguments.specs.Command.{Asks, AsksBy, AsksCache, AsksIn, AsksLimits, AsksPatience, AsksSettings, AsksTerms, CanBeDone, Command, IsFileName, IsRefused, IsRefusedIn, IsWord, RefusesBy, RefusesIn, hcache, judges, limit_in, proxy_words, serves, service_words, task_of};
 ghost use Rattle.hc_arguments.specs.Command.Command.{Audits, Converts, Explains, Proxies, Replays, Reports, Serves};
 ghost use Rattle.hc_arguments.specs.Command.Task.{ToAudit, ToConvert, ToExplain, ToProxy, ToReplay, ToReport, ToServe};
-ghost use Rattle.hc_arguments.specs.Values.{connections_of, plain, plain_cache, plain_limits, position_by, positive_of};
+ghost use Rattle.hc_arguments.specs.Values.{clients_by, connections_of, plain, plain_cache, plain_limits, plain_terms, position_by, positive_of};
 ghost use Rattle.hc_arguments.specs.declared.refusal.Refusal.TheVariants.{Missing};
 
 use crate::command::command;
-use crate::order::{Order, ProxyLimits, Proxying};
+use crate::limit::Limit;
+use crate::order::{Order, ProxyLimits, ProxyPatience, Proxying, RecordTerms};
 use crate::refusal::{Refusal, usage_error};
 use crate::values::{
-    bytes_by, clients_by, connect_timeout_by, drain_timeout_by, ignored_by, json_by, keys_by,
-    max_connections_by, name_by, origin_connections_by, positive_of, slack_by, unmarked_by,
+    bytes_by, clients_by, flag_by, ignored_by, keys_by, limit_by, name_by, positive_of,
+    record_limit_by, slack_by, unmarked_by,
 };
 use clap::error::ErrorKind;
 use clap::{ArgMatches, Error};
@@ -63,9 +64,9 @@ pub fn parsed<'a, S: AsStr>(alloc: Global, words: &'a [S]) -> Result<Order<'a>, 
         → map S.text words.entry.now ≡ name ∷ service_words listen origin number file
         → MatchResult result (λ order. task_of order ≡ ToServe listen origin connections file plain_cache)
         (λ error. kind_of error ≡ ErrorKind.OutOfMemory) }
-    // And `proxy` those of the two that it needs, no file, and the plain limits and cache.
+    // And `proxy` those of the two that it needs, no file, and the plain terms, limits and cache.
     ensures proxy { (name listen origin : Text) → map S.text words.entry.now ≡ name ∷ proxy_words listen origin
-        → MatchResult result (λ order. task_of order ≡ ToProxy listen origin None plain_limits plain_cache)
+        → MatchResult result (λ order. task_of order ≡ ToProxy listen origin None plain_terms plain_limits plain_cache)
         (λ error. kind_of error ≡ ErrorKind.OutOfMemory) }
 
     // Other words give what they say, where the command line has no fault and the values are in their ranges.
@@ -145,7 +146,7 @@ fn report_in<'a>(alloc: Global, found: &ArgMatches<'a>) -> Result<Order<'a>, Ref
     ensures err { IfErr result (RefusesBy (Some Reports) (first_value (found_of found.now))) }
 {
     let file = required(found, "FILE")?;
-    let json = json_by(found.get_str("json"));
+    let json = flag_by(found.get_str("json"));
     let settings = settings_in(alloc, found)?;
     Ok(Order::Report {
         file,
@@ -255,9 +256,22 @@ fn proxy_in<'a>(alloc: Global, found: &ArgMatches<'a>) -> Result<Order<'a>, Refu
         listen: required(found, "listen")?,
         origin: required(found, "origin")?,
         file: found.get_str("record"),
+        terms: terms_in(found)?,
         limits: limits_in(found)?,
         settings: cache_in(alloc, found)?,
     }))
+}
+
+// How far a proxy is to record.
+fn terms_in(found: &ArgMatches<'_>) -> Result<RecordTerms, Refusal>
+    ensures ok { IfOk result (AsksTerms (first_value (found_of found.now))) }
+    ensures err { IfErr result (RefusesBy (Some Proxies) (first_value (found_of found.now))) }
+{
+    let Some(limit) = record_limit_by(found.get_str("record-limit")) else {
+        return Err(Refusal::RecordLimit);
+    };
+    let strict = flag_by(found.get_str("record-strict"));
+    Ok(RecordTerms { strict, limit })
 }
 
 // Within which limits a proxy is asked for.
@@ -265,28 +279,51 @@ fn limits_in(found: &ArgMatches<'_>) -> Result<ProxyLimits, Refusal>
     ensures ok { IfOk result (AsksLimits (first_value (found_of found.now))) }
     ensures err { IfErr result (RefusesBy (Some Proxies) (first_value (found_of found.now))) }
 {
-    let Some(connections) = max_connections_by(found.get_str("max-connections")) else {
-        return Err(Refusal::MaxConnections);
-    };
-    let Some(origin_connections) = origin_connections_by(found.get_str("origin-connections")) else {
-        return Err(Refusal::OriginConnections);
-    };
-    let Some(connect_timeout) = connect_timeout_by(found.get_str("connect-timeout")) else {
-        return Err(Refusal::ConnectTimeout);
-    };
-    let Some(drain_timeout) = drain_timeout_by(found.get_str("drain-timeout")) else {
-        return Err(Refusal::DrainTimeout);
-    };
-    let Some(clients) = clients_by(found.get_str("connections")) else {
-        return Err(Refusal::Connections);
-    };
     Ok(ProxyLimits {
-        connections,
-        origin_connections,
-        connect_timeout,
-        drain_timeout,
-        clients,
+        connections: limit_in(found, Limit::MaxConnections)?,
+        origin_connections: limit_in(found, Limit::OriginConnections)?,
+        connect_timeout: limit_in(found, Limit::ConnectTimeout)?,
+        drain_timeout: limit_in(found, Limit::DrainTimeout)?,
+        patience: patience_in(found)?,
+        clients: clients_in(found)?,
     })
+}
+
+// How long clients, and requests to the origin, may take.
+fn patience_in(found: &ArgMatches<'_>) -> Result<ProxyPatience, Refusal>
+    ensures ok { IfOk result (AsksPatience (first_value (found_of found.now))) }
+    ensures err { IfErr result (RefusesBy (Some Proxies) (first_value (found_of found.now))) }
+{
+    Ok(ProxyPatience {
+        idle_timeout: limit_in(found, Limit::IdleTimeout)?,
+        request_timeout: limit_in(found, Limit::RequestTimeout)?,
+        send_timeout: limit_in(found, Limit::SendTimeout)?,
+        queue_timeout: limit_in(found, Limit::QueueTimeout)?,
+        origin_timeout: limit_in(found, Limit::OriginTimeout)?,
+        origin_total: limit_in(found, Limit::OriginTotal)?,
+    })
+}
+
+// The number of a limit.
+fn limit_in(found: &ArgMatches<'_>, limit: Limit) -> Result<u64, Refusal>
+    ensures ok { IfOk result (λ number. limit_in (first_value (found_of found.now)) limit ≡ Some number) }
+    ensures err { IfErr result (RefusesBy (Some Proxies) (first_value (found_of found.now))) }
+{
+    match limit_by(limit, found.get_str(limit.option())) {
+        Some(number) => Ok(number),
+        None => Err(Refusal::OutOfRange(limit)),
+    }
+}
+
+// Behind how many clients a proxy ends, if any.
+fn clients_in(found: &ArgMatches<'_>) -> Result<Option<u64>, Refusal>
+    ensures ok { IfOk result (λ clients. clients_by (first_value (found_of found.now) (codes "connections")) ≡ Some clients) }
+    ensures err { IfErr result (RefusesBy (Some Proxies) (first_value (found_of found.now))) }
+{
+    match clients_by(found.get_str("connections")) {
+        Some(clients) => Ok(clients),
+        None => Err(Refusal::Connections),
+    }
 }
 
 // What the cache is that a command asks for.

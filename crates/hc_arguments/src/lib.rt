@@ -3,6 +3,7 @@
 
 mod arguments;
 mod command;
+mod limit;
 mod names;
 mod options;
 mod order;
@@ -10,4 +11,4 @@ mod refusal;
 mod values;
 
 pub use arguments::{not_text, parsed};
-pub use order::{Order, ProxyLimits, Proxying};
+pub use order::{Order, ProxyLimits, ProxyPatience, Proxying, RecordTerms};

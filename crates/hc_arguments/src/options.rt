@@ -75,14 +75,29 @@ pub(crate) const SERVING: [Wanted; 4] = [
     },
 ];
 
-/// Between whom a proxy stands, where that is recorded, and within which limits.
-pub(crate) const PROXYING: [Wanted; 8] = [
+/// Between whom a proxy stands, where and how far that is recorded, and within which limits.
+pub(crate) const PROXYING: [Wanted; 16] = [
     LISTEN,
     ORIGIN,
     Wanted {
         name: "record",
         value: Some("FILE"),
-        help: "The transcript, a new or an empty file; nothing is recorded without the option",
+        help: "The transcript, a new or an empty file; nothing is recorded without the option. Where it can't be \
+            written on, it ends there, and serving goes on",
+        required: false,
+    },
+    Wanted {
+        name: "record-limit",
+        value: Some("SIZE"),
+        help: "The octets behind which the transcript ends, with the records of the batch in which it has got so \
+            many, while serving goes on: a decimal, as --bytes takes it, from 0 to 999999999999; it has no end \
+            without the option",
+        required: false,
+    },
+    Wanted {
+        name: "record-strict",
+        value: None,
+        help: "Where the transcript can't be written on, serving ends with status 3",
         required: false,
     },
     Wanted {
@@ -98,10 +113,46 @@ pub(crate) const PROXYING: [Wanted; 8] = [
         required: false,
     },
     Wanted {
+        name: "idle-timeout",
+        value: Some("N"),
+        help: "The seconds for which a client may send nothing before a request: a decimal from 1 to 86400, and 75 without the option",
+        required: false,
+    },
+    Wanted {
+        name: "request-timeout",
+        value: Some("N"),
+        help: "The seconds that a request may take to come, and one more for each 1024 octets that came: a decimal from 1 to 86400, and 60 without the option",
+        required: false,
+    },
+    Wanted {
+        name: "send-timeout",
+        value: Some("N"),
+        help: "The seconds for which a client may take nothing of what it is sent: a decimal from 1 to 86400, and 60 without the option",
+        required: false,
+    },
+    Wanted {
+        name: "queue-timeout",
+        value: Some("N"),
+        help: "The seconds for which a request may wait for one of --origin-connections: a decimal from 1 to 86400, and 5 without the option",
+        required: false,
+    },
+    Wanted {
         name: "connect-timeout",
         value: Some("N"),
         help: "The seconds after which a connection to the origin that isn't made has failed: \
             a decimal from 1 to 3600, and 5 without the option",
+        required: false,
+    },
+    Wanted {
+        name: "origin-timeout",
+        value: Some("N"),
+        help: "The seconds for which the origin may neither send nor take anything: a decimal from 1 to 86400, and 60 without the option",
+        required: false,
+    },
+    Wanted {
+        name: "origin-total",
+        value: Some("N"),
+        help: "The seconds that the origin may take until its response is whole: a decimal from 1 to 86400, and 600 without the option",
         required: false,
     },
     Wanted {

@@ -67,10 +67,21 @@ pub struct Proxying<'a> {
     pub origin: &'a str,
     /// The name of the file that is recorded to, which is new or empty; without it nothing is recorded.
     pub file: Option<&'a str>,
+    /// How far it records there.
+    pub terms: RecordTerms,
     /// How much it takes on at once, and for how long.
     pub limits: ProxyLimits,
     /// What the cache is: one can be.
     pub settings: CoreSettings,
+}
+
+/// How far a proxy records.
+#[derive(Clone, Copy)]
+pub struct RecordTerms {
+    /// Whether serving ends where a record can't be written; else the recording alone does.
+    pub strict: bool,
+    /// Behind how many octets the recording ends, from 0 to 999,999,999,999; it has no end without it.
+    pub limit: Option<u64>,
 }
 
 /// How much a proxy takes on at once, and for how long.
@@ -84,7 +95,26 @@ pub struct ProxyLimits {
     pub connect_timeout: u64,
     /// For how many seconds what is open goes on once the proxy is stopped, from 0 to 86,400.
     pub drain_timeout: u64,
+    /// How long clients, and requests to the origin, may take.
+    pub patience: ProxyPatience,
     /// Behind how many clients, which have come and gone, it ends, from 1 to 999,999,999,999; it serves until it is stopped
     /// without it.
     pub clients: Option<u64>,
+}
+
+/// How many seconds clients, and requests to the origin, may take: each from 1 to 86,400.
+#[derive(Clone, Copy)]
+pub struct ProxyPatience {
+    /// So long a client may send nothing before a request.
+    pub idle_timeout: u64,
+    /// So long a request may take to come, and a second more for each KiB of it.
+    pub request_timeout: u64,
+    /// So long a client to which octets are owed may take none.
+    pub send_timeout: u64,
+    /// So long a request may wait for a connection to the origin.
+    pub queue_timeout: u64,
+    /// So long the origin may give no octet and take none.
+    pub origin_timeout: u64,
+    /// So long the origin may take until its response is whole.
+    pub origin_total: u64,
 }

@@ -5,6 +5,7 @@ ghost use Rattle.clap.specs.Words.{kind_of};
 ghost use Rattle.hc_arguments.specs.declared.refusal.Refusal.TheVariants.{Memory};
 
 use crate::command::command_named;
+use crate::limit::Limit;
 use clap::error::ErrorKind;
 use clap::{Command, Error};
 use std::alloc::{AllocError, Global};
@@ -26,14 +27,10 @@ pub(crate) enum Refusal {
     StandardInput,
     /// The value of `--connections` is no number of connections, or too great.
     Connections,
-    /// The value of `--max-connections` is no number of clients that a proxy may have at once.
-    MaxConnections,
-    /// The value of `--origin-connections` is no number of connections that it may have to the origin.
-    OriginConnections,
-    /// The value of `--connect-timeout` is no number of seconds, or out of its range.
-    ConnectTimeout,
-    /// The value of `--drain-timeout` is no number of seconds, or too great.
-    DrainTimeout,
+    /// The value of `--record-limit` is no number of octets, or too great.
+    RecordLimit,
+    /// The value of the option of that limit is no number, or out of its range.
+    OutOfRange(Limit),
     /// The value of `--keys` is no number of targets of which a cache may keep responses.
     Keys,
     /// The value of `--bytes` is no number of octets, or too great.
@@ -52,7 +49,11 @@ impl Refusal {
         let Some(kind) = self.kind() else {
             return Err(AllocError);
         };
-        usage_error(command_named(alloc, name), kind, self.message())
+        usage_error(
+            command_named(alloc, name),
+            kind,
+            self.message(alloc)?.as_str(),
+        )
     }
 
     // Of which kind the error is, if it isn't that memory was refused.
@@ -67,8 +68,9 @@ impl Refusal {
     }
 
     // What is wrong.
-    fn message(self) -> &'static str {
-        match self {
+    fn message(self, alloc: Global) -> Result<String, AllocError> {
+        let text = match self {
+            Refusal::OutOfRange(limit) => return limit.fault(alloc),
             Refusal::Memory => "memory was refused",
             Refusal::Missing => "a value is missing",
             Refusal::Slack => "invalid value for '--slack <N>': not a decimal from 0 to 2147483648",
@@ -84,17 +86,9 @@ impl Refusal {
             Refusal::Connections => {
                 "invalid value for '--connections <N>': not a decimal from 1 to 999999999999"
             }
-            Refusal::MaxConnections => {
-                "invalid value for '--max-connections <N>': not a decimal from 1 to 60000"
-            }
-            Refusal::OriginConnections => {
-                "invalid value for '--origin-connections <N>': not a decimal from 1 to 60000"
-            }
-            Refusal::ConnectTimeout => {
-                "invalid value for '--connect-timeout <N>': not a decimal from 1 to 3600"
-            }
-            Refusal::DrainTimeout => {
-                "invalid value for '--drain-timeout <N>': not a decimal from 0 to 86400"
+            Refusal::RecordLimit => {
+                "invalid value for '--record-limit <SIZE>': not a decimal, by itself or with k, m or g behind it, \
+                from 0 to 999999999999"
             }
             Refusal::Keys => "invalid value for '--keys <N>': not a decimal from 1 to 65536",
             Refusal::Bytes => {
@@ -104,7 +98,8 @@ impl Refusal {
             Refusal::Name => {
                 "invalid value for '--name <NAME>': not a letter and then at most 31 letters, digits, '-', '_' and '.'"
             }
-        }
+        };
+        String::from_str(alloc, text)
     }
 }
 

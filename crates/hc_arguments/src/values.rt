@@ -1,35 +1,15 @@
 //! What the values of options say.
 
 ghost use Rattle.std.specs.Prelude.{◌≡◌, IfOk, option_map};
-ghost use Rattle.hc_arguments.specs.Values.{bytes_by, bytes_in, bytes_of, clients_by, connect_timeout_by, drain_timeout_by, ignored_by, json_by, keys_by, keys_of, max_connections_by, name_by, name_of, number_by, number_within, origin_connections_by, positive_of, seconds_of, slack_by, unit_of, unmarked_by};
+ghost use Rattle.hc_arguments.specs.Values.{bytes_by, bytes_in, bytes_of, clients_by, flag_by, ignored_by, keys_by, keys_of, limit_by, name_by, name_of, number_within, positive_of, record_limit_by, seconds_of, slack_by, unit_of, unmarked_by};
 
+use crate::limit::{Limit, NumberRange};
 use crate::names::names_of;
 use hc_fields::{LARGEST_NUMBER, Octets, decimal};
 use hc_history::{FieldNames, UnmarkedReplies};
 use hc_service::{is_name, is_size};
 use hc_transcript::GREATEST_NUMBER;
 use std::alloc::{AllocError, Global};
-
-/// How many connections a proxy may have at most, of clients, and to the origin.
-const MOST_CONNECTIONS: u32 = 60_000;
-
-/// How many clients are connected to a proxy at most, without `--max-connections`.
-const MAX_CONNECTIONS: u32 = 1_024;
-
-/// How many connections to the origin it has at most, without `--origin-connections`.
-const ORIGIN_CONNECTIONS: u32 = 100;
-
-/// The most seconds of `--connect-timeout`.
-const LONGEST_CONNECT: u32 = 3_600;
-
-/// Its seconds without the option.
-const CONNECT_TIMEOUT: u32 = 5;
-
-/// The most seconds of `--drain-timeout`.
-const LONGEST_DRAIN: u32 = 86_400;
-
-/// Its seconds without the option.
-const DRAIN_TIMEOUT: u32 = 8;
 
 /// The most targets of which responses are kept, without `--keys`.
 const KEYS: usize = 1_024;
@@ -84,9 +64,9 @@ pub(crate) fn unmarked_by(value: Option<&str>) -> UnmarkedReplies
     }
 }
 
-/// What `--json` says. A flag that was given has the value `true`.
-pub(crate) fn json_by(value: Option<&str>) -> bool
-    ensures { result ≡ json_by (option_map (λ text. text.now) value.entry) }
+/// Whether a flag was given: it has the value `true` then.
+pub(crate) fn flag_by(value: Option<&str>) -> bool
+    ensures { result ≡ flag_by (option_map (λ text. text.now) value.entry) }
 {
     value == Some("true")
 }
@@ -102,50 +82,33 @@ pub(crate) fn positive_of(text: &[u8]) -> Option<u64>
     Some(number)
 }
 
-/// The number of `--max-connections`, where it is in its range.
-pub(crate) fn max_connections_by(value: Option<&str>) -> Option<u64>
-    ensures { result ≡ max_connections_by (option_map (λ text. text.now) value.entry) }
-{
-    number_by(value, 1, MOST_CONNECTIONS, MAX_CONNECTIONS)
-}
-
-/// The number of `--origin-connections`, where it is in its range.
-pub(crate) fn origin_connections_by(value: Option<&str>) -> Option<u64>
-    ensures { result ≡ origin_connections_by (option_map (λ text. text.now) value.entry) }
-{
-    number_by(value, 1, MOST_CONNECTIONS, ORIGIN_CONNECTIONS)
-}
-
-/// The seconds of `--connect-timeout`, where they are in their range.
-pub(crate) fn connect_timeout_by(value: Option<&str>) -> Option<u64>
-    ensures { result ≡ connect_timeout_by (option_map (λ text. text.now) value.entry) }
-{
-    number_by(value, 1, LONGEST_CONNECT, CONNECT_TIMEOUT)
-}
-
-/// The seconds of `--drain-timeout`, where they are in their range.
-pub(crate) fn drain_timeout_by(value: Option<&str>) -> Option<u64>
-    ensures { result ≡ drain_timeout_by (option_map (λ text. text.now) value.entry) }
-{
-    number_by(value, 0, LONGEST_DRAIN, DRAIN_TIMEOUT)
-}
-
-// The number that one or more digits write, where it is in that range; `other` without them.
-fn number_by(value: Option<&str>, least: u32, most: u32, other: u32) -> Option<u64>
-    ensures { result ≡ number_by least most other (option_map (λ text. text.now) value.entry) }
+/// The octets of `--record-limit`, which a proxy may go without, where they are in their range.
+pub(crate) fn record_limit_by(value: Option<&str>) -> Option<Option<u64>>
+    ensures { result ≡ record_limit_by (option_map (λ text. text.now) value.entry) }
 {
     match value {
-        Some(text) => number_within(text.as_bytes(), least, most),
-        None => Some(u64::from(other)),
+        Some(text) => Some(Some(bytes_of(text.as_bytes())?)),
+        None => Some(None),
+    }
+}
+
+/// The number of a limit, where it is in its range.
+pub(crate) fn limit_by(limit: Limit, value: Option<&str>) -> Option<u64>
+    ensures { result ≡ limit_by limit (option_map (λ text. text.now) value.entry) }
+{
+    let range = limit.range();
+    match value {
+        Some(text) => number_within(text.as_bytes(), range),
+        None => Some(u64::from(range.usual)),
     }
 }
 
 // The number that one or more digits write, where it is in that range.
-fn number_within(text: &[u8], least: u32, most: u32) -> Option<u64>
-    ensures { result ≡ number_within least most text.now }
+fn number_within(text: &[u8], range: NumberRange) -> Option<u64>
+    ensures { result ≡ number_within range text.now }
 {
     let number = decimal(text)?;
-    if number < u64::from(least) || number > u64::from(most) {
+    if number < u64::from(range.least) || number > u64::from(range.most) {
         return None;
     }
     Some(number)

@@ -24,7 +24,7 @@ fails_with_3 (ToExplain file position settings) status old new faults_old faults
 fails_with_3 (ToReplay file) status old new faults_old faults_new is kept = inl is
 fails_with_3 (ToConvert file) status old new faults_old faults_new is kept = inl is
 fails_with_3 (ToServe listen origin connections file settings) status old new faults_old faults_new is kept = (kept, inl is)
-fails_with_3 (ToProxy listen origin file limits settings) status old new faults_old faults_new is kept = (kept, inl is)
+fails_with_3 (ToProxy listen origin file terms limits settings) status old new faults_old faults_new is kept = (kept, inl is)
 
 -- and what is answered to a task is how the program ends
 pub does_ends : (task : Task) (status : ℕ) (old new faults_old faults_new : Option (List ℕ)) → Does task status old new faults_old faults_new
@@ -35,4 +35,4 @@ does_ends (ToExplain file position settings) status old new faults_old faults_ne
 does_ends (ToReplay file) status old new faults_old faults_new does = inr (inr (inr (inl does)))
 does_ends (ToConvert file) status old new faults_old faults_new does = inr (inr (inr (inr (inl does))))
 does_ends (ToServe listen origin connections file settings) status old new faults_old faults_new does = inr (inr (inr (inr (inr (inl does)))))
-does_ends (ToProxy listen origin file limits settings) status old new faults_old faults_new does = inr (inr (inr (inr (inr (inr (inl does))))))
+does_ends (ToProxy listen origin file terms limits settings) status old new faults_old faults_new does = inr (inr (inr (inr (inr (inr (inl does))))))

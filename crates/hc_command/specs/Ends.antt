@@ -25,7 +25,7 @@ Does (ToExplain file position settings) status old new faults_old faults_new = E
 Does (ToReplay file) status old new faults_old faults_new = Played status old new faults_old faults_new
 Does (ToConvert file) status old new faults_old faults_new = Converted status old new faults_old faults_new
 Does (ToServe listen origin connections file settings) status old new faults_old faults_new = Served status old new faults_old faults_new
-Does (ToProxy listen origin file limits settings) status old new faults_old faults_new = Proxied status old new faults_old faults_new
+Does (ToProxy listen origin file terms limits settings) status old new faults_old faults_new = Proxied status old new faults_old faults_new
 
 -- a task is answered, help or the version is shown, or the words are refused with nothing on the output
 abbrev pub Ends : ℕ → Option (List ℕ) → Option (List ℕ) → Option (List ℕ) → Option (List ℕ) → Type 0

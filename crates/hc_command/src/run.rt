@@ -21,11 +21,11 @@ use crate::reporting::report;
 use crate::trouble::Trouble;
 use clap::Error;
 use clap::error::ErrorKind;
-use hc_arguments::{Order, ProxyLimits, Proxying, not_text, parsed};
-use hc_crowd::Limits;
+use hc_arguments::{Order, ProxyLimits, ProxyPatience, Proxying, RecordTerms, not_text, parsed};
+use hc_crowd::{Limits, Patience};
 use hc_history::Settings;
 use hc_service::CoreSettings;
-use hc_sockets::{Claim, Proxy, ServeFault, Service, serve, serve_proxy};
+use hc_sockets::{Claim, Proxy, RecordTo, ServeFault, Service, serve, serve_proxy};
 use std::convert::AsStr;
 use std::io::Write;
 use std::net::Net;
@@ -308,7 +308,11 @@ where
     let names = Proxy {
         listen: service.listen,
         origin: service.origin,
-        file: Some(service.file),
+        recording: Some(RecordTo {
+            file: service.file,
+            strict: true,
+            limit: None,
+        }),
     };
     match serve(rt, service, settings) {
         Ok(()) => 0,
@@ -328,13 +332,14 @@ where
         listen,
         origin,
         file,
+        terms,
         limits,
         settings,
     } = proxying;
     let proxy = Proxy {
         listen,
         origin,
-        file,
+        recording: recording_to(file, terms),
     };
     match serve_proxy(rt, proxy, in_milliseconds(limits), settings, faults) {
         Ok(()) => 0,
@@ -342,15 +347,42 @@ where
     }
 }
 
+// Where a proxy records on those terms, if it has a file.
+fn recording_to(file: Option<&str>, terms: RecordTerms) -> Option<RecordTo<'_>> {
+    let RecordTerms { strict, limit } = terms;
+    Some(RecordTo {
+        file: file?,
+        strict,
+        limit,
+    })
+}
+
 // The same limits, with times in milliseconds in place of seconds.
 fn in_milliseconds(limits: ProxyLimits) -> Limits {
     Limits {
         connections: limits.connections as usize,
         origin_connections: limits.origin_connections as usize,
-        connect_timeout: limits.connect_timeout.saturating_mul(1_000),
-        drain_timeout: limits.drain_timeout.saturating_mul(1_000),
+        patience: patience_of(limits.patience),
+        queue_timeout: milliseconds(limits.patience.queue_timeout),
+        connect_timeout: milliseconds(limits.connect_timeout),
+        drain_timeout: milliseconds(limits.drain_timeout),
         clients: limits.clients,
     }
+}
+
+// The same patience, in milliseconds. For how long a place at the origin is awaited isn't part of it.
+fn patience_of(patience: ProxyPatience) -> Patience {
+    Patience {
+        idle_timeout: milliseconds(patience.idle_timeout),
+        request_timeout: milliseconds(patience.request_timeout),
+        send_timeout: milliseconds(patience.send_timeout),
+        origin_timeout: milliseconds(patience.origin_timeout),
+        origin_total: milliseconds(patience.origin_total),
+    }
+}
+
+fn milliseconds(seconds: u64) -> u64 {
+    seconds.saturating_mul(1_000)
 }
 
 // Says why nobody is served any more, with the name of what failed, and answers the exit status.
@@ -362,7 +394,11 @@ fn unserved<E: Write>(fault: ServeFault, names: Proxy<'_>, faults: &mut E) -> u8
         ServeFault::Listener(reason) => Trouble::Device(reason).told(names.listen, faults),
         ServeFault::Origin(reason) => Trouble::Device(reason).told(names.origin, faults),
         ServeFault::Record(reason) => {
-            Trouble::Device(reason).told(names.file.unwrap_or(""), faults)
+            let file = match names.recording {
+                Some(to) => to.file,
+                None => "",
+            };
+            Trouble::Device(reason).told(file, faults)
         }
         ServeFault::Random(reason) => Trouble::Device(reason).told("random numbers", faults),
         ServeFault::OpenFiles => {

@@ -1,7 +1,7 @@
 //! What words ask for.
 
 use crate::words::words_of;
-use hc_arguments::{Order, ProxyLimits, Proxying, parsed};
+use hc_arguments::{Order, ProxyLimits, ProxyPatience, Proxying, RecordTerms, parsed};
 use hc_cases::{Unanswered, show_short};
 use hc_history::{Settings, UnmarkedReplies};
 use hc_service::CoreSettings;
@@ -73,8 +73,20 @@ fn write_proxy(asked: &Proxying<'_>, out: &mut String) -> Result<(), AllocError>
         Some(file) => write!(out, "recorded to {file}")?,
         None => out.push_str("unrecorded")?,
     }
+    write_terms(&asked.terms, out)?;
     write_limits(&asked.limits, out)?;
     write_cache(&asked.settings, out)
+}
+
+// Nothing of terms that are plain.
+fn write_terms(terms: &RecordTerms, out: &mut String) -> Result<(), AllocError> {
+    if terms.strict {
+        out.push_str(", strictly")?;
+    }
+    match terms.limit {
+        Some(octets) => write!(out, ", up to {octets} octets"),
+        None => Ok(()),
+    }
 }
 
 fn write_limits(limits: &ProxyLimits, out: &mut String) -> Result<(), AllocError> {
@@ -86,14 +98,30 @@ fn write_limits(limits: &ProxyLimits, out: &mut String) -> Result<(), AllocError
     )?;
     let connect = limits.connect_timeout;
     let drain = limits.drain_timeout;
-    write!(
-        out,
-        ", {connect} seconds to connect and {drain} to drain, until "
-    )?;
+    write!(out, ", {connect} seconds to connect and {drain} to drain")?;
+    write_patience(&limits.patience, out)?;
+    out.push_str(", until ")?;
     match limits.clients {
         Some(clients) => write!(out, "{clients} have come and gone"),
         None => out.push_str("it is stopped"),
     }
+}
+
+fn write_patience(patience: &ProxyPatience, out: &mut String) -> Result<(), AllocError> {
+    let idle = patience.idle_timeout;
+    let request = patience.request_timeout;
+    let send = patience.send_timeout;
+    write!(
+        out,
+        ", {idle} to be idle, {request} to ask and {send} to take"
+    )?;
+    let queue = patience.queue_timeout;
+    let silence = patience.origin_timeout;
+    let total = patience.origin_total;
+    write!(
+        out,
+        ", {queue} to queue, {silence} of silence at the origin and {total} in all"
+    )
 }
 
 fn write_cache(settings: &CoreSettings, out: &mut String) -> Result<(), AllocError> {

@@ -3,6 +3,7 @@ pub mod Buffers
 pub mod Clients
 pub mod Connections
 pub mod Forwards
+pub mod Lapses
 pub mod Links
 pub mod Moves
 pub mod Sides

@@ -16,6 +16,9 @@ pub trait Batches: Links {
     /// No further client is served, and no link is left.
     ghost over: { Self → Type 0 };
 
+    /// There are no more links than there may be.
+    ghost within: { Self → Type 0 };
+
     /// Writes what was sent, as far as links take it now, and may ask the cache what it awaits. It fails only where
     /// memory is refused.
     fn deliver<A: Awaiting>(&mut self, cache: &A) -> Result<(), AllocError>
@@ -38,6 +41,9 @@ pub trait Batches: Links {
     // Whatever is told can be told by a transcript.
     ghost in_time: { (links : Self) (occurrence : Occurrence) (log : List Move) → Self.tells links (Heard occurrence ∷ log)
         → occurrence.event.moment ≤ greatest_moment };
+
+    // Wherever something is told, links are within their bounds.
+    ghost few: { (links : Self) (log : List Move) → Self.tells links log → within links };
 
     // Where no link is left, nothing is open.
     ghost all_closed: { (links : Self) (log : List Move) → over links → Self.tells links log → NothingIsOpen log };

@@ -1,11 +1,14 @@
 -- What a crowd tells goes on.
-use Rattle.std.proofs.Common.{◌≡◌, ℕ, ◌≤◌, List, [], ◌∷◌, arith, subst, sym}
+use Rattle.std.proofs.Common.{◌≡◌, ℕ, ◌≤◌, List, [], ◌∷◌, Result, Ok, Err, arith, subst, sym}
+use Rattle.std.specs.declared.alloc.AllocError.{AllocError}
 use Rattle.hc_events.specs.declared.Happening.{Happening}
 use Rattle.hc_order.specs.declared.occurrence.Occurrence.{Occurrence}
 use Rattle.hc_order.specs.declared.occurrence.Reason.{Reason}
 use Rattle.hc_order.specs.Log.{Move}
 use Rattle.hc_order.specs.Log.Move.{Before, Closed, Heard, Sent}
+use Rattle.hc_order.specs.declared.receiver.Receiver.{Receiver}
 use Rattle.hc_connection.specs.Moves.{occurs}
+use Rattle.hc_connection.specs.Telling.{TellsSent}
 use Rattle.hc_crowd.specs.Crowds.{AreUpTo}
 
 -- moments up to one are up to a later one
@@ -19,6 +22,12 @@ up_to m n (Closed link ∷ log) less all = up_to m n log less all
 -- what is heard now comes at the latest moment
 pub told_now : (latest : ℕ) (occurrence : Occurrence) (log : List Move) → occurrence.event.moment ≡ latest → AreUpTo latest log → AreUpTo latest (Heard occurrence ∷ log)
 told_now latest occurrence log is all = (omega (arith, is), subst (λ (n : ℕ). AreUpTo n log) (sym is) all)
+
+-- what was sent was sent by the latest moment
+pub sent_in_time : {T : Type 0} (P : List Move → Type 0) (latest : ℕ) (result : Result T AllocError) (to : Receiver) (octets : List ℕ) (log : List Move) → TellsSent P result to octets log → AreUpTo latest log
+    → TellsSent (λ (l : List Move). P l × AreUpTo latest l) result to octets log
+sent_in_time P latest (Ok done) to octets log told all = (told, all)
+sent_in_time P latest (Err refused) to octets log told all = (told, all)
 
 -- what holds of what happens, whatever the moment, holds of it now
 pub heard_now : (P : List Move → Type 0) (occurrence : Occurrence) (of : Happening) (reason : Reason) (log : List Move) → occurrence.event.of ≡ of → occurrence.reason ≡ reason

@@ -1,12 +1,5 @@
-pub mod CrowdLaws
 pub mod Courses
+pub mod CrowdLaws
 pub mod Crowds
-pub mod Hearings
-pub mod Links
-pub mod Moments
-pub mod MomentsKept
-pub mod Peers
-pub mod Shown
-pub mod Telling
-pub mod Turns
+pub mod Failures
 pub mod Worlds

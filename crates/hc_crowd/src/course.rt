@@ -1,7 +1,7 @@
 //! How far a crowd has come.
 
-ghost use Rattle.std.specs.Prelude.{◌≡◌, true};
-ghost use Rattle.hc_crowd.specs.Courses.{stops};
+ghost use Rattle.std.specs.Prelude.{◌≡◌, ◌&&◌, not, true};
+ghost use Rattle.hc_crowd.specs.Courses.{is_late, stops};
 
 /// How far a crowd has come.
 #[derive(Clone, Copy, PartialEq, Eq)]
@@ -26,9 +26,17 @@ impl Course {
         }
     }
 
+    /// Whether a stop ends a client of whom nothing is awaited: not one that wasn't read yet.
+    pub(crate) fn ends_client(self, is_fresh: bool) -> bool
+        ensures { result ≡ (stops self && not is_fresh) }
+    {
+        self.stops() && !is_fresh
+    }
+
     /// Whether the time for what is awaited is over.
     pub(crate) fn is_late(self) -> bool
-        ensures { result ≡ true → stops self ≡ true }
+        ensures late { result ≡ is_late self }
+        ensures stops { result ≡ true → stops self ≡ true }
     {
         match self {
             Course::Serving => false,

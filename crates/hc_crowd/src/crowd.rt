@@ -4,9 +4,9 @@ ghost use Rattle.std.specs.Prelude.{◌≡◌, ℕ, List, [], ◌∷◌, IfOk};
 
 use crate::failures::Failures;
 use crate::limits::Limits;
-use crate::moments::Moments;
 use crate::traffic::Traffic;
 use crate::world::World;
+use hc_agenda::Moments;
 use hc_connection::{Awaiting, Batches, Happened, Links};
 use hc_events::Event;
 use hc_framing::MessageText;
@@ -30,12 +30,12 @@ pub struct Crowd<W: World> {
 
 impl<W: World + Drop> Crowd<W> {
     ghost use Rattle.hc_crowd.specs.Crowds.{CrowdTells};
-    ghost use Rattle.hc_crowd.specs.Shown.{AreShown};
+    ghost use Rattle.hc_peers.specs.Shown.{ShowNoMore};
 
     /// Nobody has connected yet.
     pub fn new(alloc: Global, world: W, limits: Limits) -> Result<Self, AllocError>
-        ensures tells { IfOk result (λ crowd. CrowdTells W.Stream.has_given W.Stream.has_got crowd.traffic.peers crowd.clock []) }
-        ensures shows { IfOk result (λ crowd. AreShown W.Stream.has_got crowd.traffic.peers.clients.table []) }
+        ensures tells { IfOk result (λ crowd. CrowdTells W.Stream.has_given W.Stream.has_got crowd.limits crowd.traffic.peers crowd.clock []) }
+        ensures shows { IfOk result (λ crowd. ShowNoMore W.Stream.has_got crowd.traffic.peers []) }
         ensures limits { IfOk result (λ crowd. crowd.limits ≡ limits) }
     {
         let clock = Moments::new(world.wall(), world.tick());
@@ -52,8 +52,10 @@ impl<W: World> Crowd<W> {
     ghost use Rattle.std.specs.Prelude.{◌≤◌};
     ghost use Rattle.hc_order.specs.Log.{Move};
     ghost use Rattle.hc_crowd.specs.Crowds.{CrowdTells, MayTell};
-    ghost use Rattle.hc_crowd.specs.MomentsKept.{told_by};
-    ghost use Rattle.hc_crowd.specs.Shown.{AreShown};
+    ghost use Rattle.hc_agenda.specs.Moments.{History, is_behind_in};
+    ghost use Rattle.hc_agenda.specs.MomentsKept.{Tells, told_by};
+    ghost use Rattle.hc_peers.specs.Peers.{last_given};
+    ghost use Rattle.hc_peers.specs.Shown.{ShowNoMore};
 
     /// That happens now.
     fn now(&self, happened: Happened) -> Occurrence
@@ -70,22 +72,28 @@ impl<W: World> Crowd<W> {
     }
 
     /// Whether the wall clock was behind the moment that is told by more than ten seconds when it was last read.
-    pub fn is_behind(&self) -> bool {
+    pub fn is_behind(&self) -> bool
+        ensures { (history : History) → Tells self.now.clock history → result ≡ is_behind_in history }
+    {
         self.clock.is_behind()
     }
 
     /// How many forwards failed, by kind.
-    pub fn failures(&self) -> Failures {
+    pub fn failures(&self) -> Failures
+        ensures { result ≡ self.now.traffic.failures }
+    {
         self.traffic.failures
     }
 
-    /// The milliseconds that the world's clock has counted which is never set.
+    /// The milliseconds that the world's clock has counted which is never set, as it was last looked at.
     pub fn tick(&self) -> u64 {
-        self.traffic.world.tick()
+        self.traffic.tick
     }
 
     /// How many clients have connected.
-    pub fn accepted(&self) -> u64 {
+    pub fn accepted(&self) -> u64
+        ensures { result ≡ last_given self.now.traffic.peers }
+    {
         self.traffic.peers.last()
     }
 }
@@ -93,11 +101,11 @@ impl<W: World> Crowd<W> {
 impl<W: World> Links for Crowd<W> {
     ghost use Rattle.hc_connection.specs.Telling.{IsInTurn};
     ghost use Rattle.hc_crowd.specs.Crowds.{CrowdTells, MayTell};
-    ghost use Rattle.hc_crowd.specs.Shown.{AreShown};
+    ghost use Rattle.hc_peers.specs.Shown.{ShowNoMore};
 
-    ghost tells = { λ crowd. CrowdTells W.Stream.has_given W.Stream.has_got crowd.traffic.peers crowd.clock };
+    ghost tells = { λ crowd. CrowdTells W.Stream.has_given W.Stream.has_got crowd.limits crowd.traffic.peers crowd.clock };
 
-    ghost shows = { λ crowd. AreShown W.Stream.has_got crowd.traffic.peers.clients.table };
+    ghost shows = { λ crowd. ShowNoMore W.Stream.has_got crowd.traffic.peers };
 
     // A further batch may bring more.
     ghost rests = { λ _. Unit {0} };
@@ -126,15 +134,20 @@ impl<W: World> Links for Crowd<W> {
 
 impl<W: World> Batches for Crowd<W> {
     ghost use Rattle.hc_crowd.specs.Courses.{ServesNoMore};
-    ghost use Rattle.hc_crowd.specs.CrowdLaws.{none_is_open, told_in_time};
-    ghost use Rattle.hc_crowd.specs.Crowds.{NoLinkIsLeft};
+    ghost use Rattle.hc_crowd.specs.CrowdLaws.{links_are_few, none_is_open, told_in_time};
+    ghost use Rattle.hc_crowd.specs.Crowds.{bounds_of};
+    ghost use Rattle.hc_peers.specs.Peers.{HasFewLinks, NoLinkIsLeft, last_given};
 
-    ghost over = { λ crowd. NoLinkIsLeft crowd.traffic.peers × ServesNoMore crowd.limits.clients crowd.traffic.course crowd.traffic.peers.last };
+    ghost over = { λ crowd. NoLinkIsLeft crowd.traffic.peers × ServesNoMore crowd.limits.clients crowd.traffic.course (last_given crowd.traffic.peers) };
+
+    // As many as its limits say, those that linger among them.
+    ghost within = { λ crowd. HasFewLinks (bounds_of crowd.limits) crowd.traffic.peers };
 
     /// It begins to connect for forwards that wait, as far as there are places. Where memory is refused for a note of what
     /// is to be done, links may wait for ever, so whoever drives the crowd should end then.
     fn deliver<A: Awaiting>(&mut self, cache: &A) -> Result<(), AllocError> {
-        self.traffic.sort_opened(cache);
+        self.traffic.look_at_clock();
+        self.traffic.sort_opened(cache, self.limits);
         self.traffic.give_places(self.limits);
         self.traffic.write_owed();
         self.traffic.refusal()
@@ -144,8 +157,7 @@ impl<W: World> Batches for Crowd<W> {
     fn wait(&mut self) -> Result<(), AllocError> {
         self.traffic.wait(self.limits);
         let wall = self.traffic.world.wall();
-        let tick = self.traffic.world.tick();
-        self.clock.look(wall, tick);
+        self.clock.look(wall, self.traffic.tick);
         self.traffic.refusal()
     }
 
@@ -154,7 +166,9 @@ impl<W: World> Batches for Crowd<W> {
         self.traffic.is_over(self.limits)
     }
 
-    ghost in_time = { λ crowd. told_in_time W.Stream.has_given W.Stream.has_got crowd.traffic.peers crowd.clock };
+    ghost in_time = { λ crowd. told_in_time W.Stream.has_given W.Stream.has_got crowd.limits crowd.traffic.peers crowd.clock };
 
-    ghost all_closed = { λ crowd log over. none_is_open W.Stream.has_given W.Stream.has_got crowd.traffic.peers crowd.clock log over.0 };
+    ghost few = { λ crowd. links_are_few W.Stream.has_given W.Stream.has_got crowd.limits crowd.traffic.peers crowd.clock };
+
+    ghost all_closed = { λ crowd log over. none_is_open W.Stream.has_given W.Stream.has_got crowd.limits crowd.traffic.peers crowd.clock log over.0 };
 }

@@ -2,9 +2,9 @@
 
 ghost use Rattle.std.specs.Prelude.{◌≡◌, ℕ, List, ◌∷◌};
 
-use crate::agenda::Timeout;
 use crate::traffic::Traffic;
 use crate::world::World;
+use hc_agenda::Timeout;
 use hc_flow::Emptying;
 use hc_framing::MessageText;
 use hc_order::Receiver;
@@ -21,31 +21,30 @@ impl<W: World> Traffic<W> {
     ghost use Rattle.hc_order.specs.Log.{Move};
     ghost use Rattle.hc_order.specs.Log.Move.{Closed};
     ghost use Rattle.hc_order.specs.declared.receiver.Receiver.TheVariants.{Client, Origin};
-    ghost use Rattle.hc_crowd.specs.Peers.{ArePeers};
-    ghost use Rattle.hc_crowd.specs.Shown.{AreShown};
+    ghost use Rattle.hc_peers.specs.Peers.{ArePeers, Bounds};
+    ghost use Rattle.hc_peers.specs.Shown.{ShowNoMore};
 
     /// Octets are owed to a client, or a forward is opened, and its request waits for a link. Where memory is refused,
     /// nothing is sent.
     pub(crate) fn send(&mut self, to: Receiver, octets: &MessageText) -> Result<(), AllocError>
-        ensures tells { (log : List Move) → ArePeers W.Stream.has_given W.Stream.has_got self.old.peers log
-            → TellsSent (ArePeers W.Stream.has_given W.Stream.has_got self.new.peers) result to octets.now log }
-        ensures shown { (log : List Move) → AreShown W.Stream.has_got self.old.peers.clients.table log
-            → AreShown W.Stream.has_got self.new.peers.clients.table log }
+        ensures tells { (bounds : Bounds) (log : List Move) → ArePeers W.Stream.has_given W.Stream.has_got bounds self.old.peers log
+            → TellsSent (ArePeers W.Stream.has_given W.Stream.has_got bounds self.new.peers) result to octets.now log }
+        ensures shown { (log : List Move) → ShowNoMore W.Stream.has_got self.old.peers log
+            → ShowNoMore W.Stream.has_got self.new.peers log }
     {
         // What is to be done has its place before anything is sent.
-        match to {
-            Receiver::Client(_) => self.agenda.owe(to)?,
-            Receiver::Origin(forward) => self.places.open(forward)?,
+        if let Receiver::Client(_) = to {
+            self.agenda.owe(to)?;
         }
-        self.peers.send(to, octets)
+        self.peers.send(to, octets, self.tick)
     }
 
     /// The cache has closed a client's connection, or a forward.
     pub(crate) fn close(&mut self, link: Receiver)
-        ensures tells { (log : List Move) → ArePeers W.Stream.has_given W.Stream.has_got self.old.peers log
-            → ArePeers W.Stream.has_given W.Stream.has_got self.new.peers (Closed link ∷ log) }
-        ensures shown { (log : List Move) → AreShown W.Stream.has_got self.old.peers.clients.table log
-            → AreShown W.Stream.has_got self.new.peers.clients.table log }
+        ensures tells { (bounds : Bounds) (log : List Move) → ArePeers W.Stream.has_given W.Stream.has_got bounds self.old.peers log
+            → ArePeers W.Stream.has_given W.Stream.has_got bounds self.new.peers (Closed link ∷ log) }
+        ensures shown { (log : List Move) → ShowNoMore W.Stream.has_got self.old.peers log
+            → ShowNoMore W.Stream.has_got self.new.peers log }
     {
         match link {
             Receiver::Client(number) => {
@@ -58,10 +57,10 @@ impl<W: World> Traffic<W> {
 
     /// The cache has closed a forward.
     fn close_origin(&mut self, forward: u64)
-        ensures tells { (log : List Move) → ArePeers W.Stream.has_given W.Stream.has_got self.old.peers log
-            → ArePeers W.Stream.has_given W.Stream.has_got self.new.peers (Closed (Origin forward) ∷ log) }
-        ensures shown { (log : List Move) → AreShown W.Stream.has_got self.old.peers.clients.table log
-            → AreShown W.Stream.has_got self.new.peers.clients.table log }
+        ensures tells { (bounds : Bounds) (log : List Move) → ArePeers W.Stream.has_given W.Stream.has_got bounds self.old.peers log
+            → ArePeers W.Stream.has_given W.Stream.has_got bounds self.new.peers (Closed (Origin forward) ∷ log) }
+        ensures shown { (log : List Move) → ShowNoMore W.Stream.has_got self.old.peers log
+            → ShowNoMore W.Stream.has_got self.new.peers log }
     {
         match self.peers.close_origin(forward) {
             Some(stream) => self.linger(forward, stream),
@@ -71,24 +70,37 @@ impl<W: World> Traffic<W> {
 
     /// A link to the origin lingers, as long as there is time for that.
     fn linger(&mut self, forward: u64, stream: W::Stream)
-        ensures tells { (log : List Move) → ArePeers W.Stream.has_given W.Stream.has_got self.old.peers log
-            → ArePeers W.Stream.has_given W.Stream.has_got self.new.peers log }
-        ensures shown { (log : List Move) → AreShown W.Stream.has_got self.old.peers.clients.table log
-            → AreShown W.Stream.has_got self.new.peers.clients.table log }
+        ensures tells { (bounds : Bounds) (log : List Move) → ArePeers W.Stream.has_given W.Stream.has_got bounds self.old.peers log
+            → ArePeers W.Stream.has_given W.Stream.has_got bounds self.new.peers log }
+        ensures shown { (log : List Move) → ShowNoMore W.Stream.has_got self.old.peers log
+            → ShowNoMore W.Stream.has_got self.new.peers log }
     {
-        if self.course.is_late() || !self.lingering.put(forward, stream) {
+        if !self.keep_lingering(forward, stream) {
             self.free_place(forward);
             return;
         }
         let due = self.due_behind(ORIGIN_LINGERS);
-        self.agenda.note(Timeout::Origin, due, forward);
+        self.agenda.note(Timeout::OriginLingering, due, forward);
         self.give_lingering_turn(forward);
+    }
+
+    /// A link to the origin lingers, if there is time for that, and memory. Answers whether it does; else it is dropped.
+    fn keep_lingering(&mut self, forward: u64, stream: W::Stream) -> bool
+        ensures tells { (bounds : Bounds) (log : List Move) → ArePeers W.Stream.has_given W.Stream.has_got bounds self.old.peers log
+            → ArePeers W.Stream.has_given W.Stream.has_got bounds self.new.peers log }
+        ensures shown { (log : List Move) → ShowNoMore W.Stream.has_got self.old.peers log
+            → ShowNoMore W.Stream.has_got self.new.peers log }
+    {
+        if self.course.is_late() {
+            return false;
+        }
+        self.peers.linger(forward, stream)
     }
 
     /// Writes what is owed, as far as links take it now.
     pub(crate) fn write_owed(&mut self)
-        ensures tells { (log : List Move) → ArePeers W.Stream.has_given W.Stream.has_got self.old.peers log
-            → ArePeers W.Stream.has_given W.Stream.has_got self.new.peers log }
+        ensures tells { (bounds : Bounds) (log : List Move) → ArePeers W.Stream.has_given W.Stream.has_got bounds self.old.peers log
+            → ArePeers W.Stream.has_given W.Stream.has_got bounds self.new.peers log }
     {
         'owed: for _ in 0..self.agenda.owed() {
             let Some(link) = self.agenda.next_owed() else {
@@ -100,10 +112,10 @@ impl<W: World> Traffic<W> {
 
     /// Writes what is owed at a link, as far as it is taken now.
     fn write(&mut self, link: Receiver)
-        ensures tells { (log : List Move) → ArePeers W.Stream.has_given W.Stream.has_got self.old.peers log
-            → ArePeers W.Stream.has_given W.Stream.has_got self.new.peers log }
+        ensures tells { (bounds : Bounds) (log : List Move) → ArePeers W.Stream.has_given W.Stream.has_got bounds self.old.peers log
+            → ArePeers W.Stream.has_given W.Stream.has_got bounds self.new.peers log }
     {
-        match self.peers.write(link) {
+        match self.peers.write(link, self.tick) {
             Some(Emptying::Emptied) => self.written(link),
             Some(Emptying::Failed) => self.give_turn(link),
             // It goes on once the link takes more.
@@ -114,18 +126,26 @@ impl<W: World> Traffic<W> {
 
     /// All that was owed at a link was written: a client is heard again, or lingers where its connection is closed.
     fn written(&mut self, link: Receiver)
-        ensures tells { (log : List Move) → ArePeers W.Stream.has_given W.Stream.has_got self.old.peers log
-            → ArePeers W.Stream.has_given W.Stream.has_got self.new.peers log }
+        ensures tells { (bounds : Bounds) (log : List Move) → ArePeers W.Stream.has_given W.Stream.has_got bounds self.old.peers log
+            → ArePeers W.Stream.has_given W.Stream.has_got bounds self.new.peers log }
     {
         let Receiver::Client(number) = link else {
             return;
         };
-        if self.peers.clients.is_closed(number) {
-            let due = self.due_behind(CLIENT_LINGERS);
-            self.agenda.note(Timeout::Client, due, number);
-        }
+        self.time_client(number);
         if self.course.stops() || self.peers.is_readable(link) {
             self.give_turn(link);
+        }
+    }
+
+    /// A client lingers from now on, where its connection is closed.
+    fn time_client(&mut self, number: u64)
+        ensures tells { (bounds : Bounds) (log : List Move) → ArePeers W.Stream.has_given W.Stream.has_got bounds self.old.peers log
+            → ArePeers W.Stream.has_given W.Stream.has_got bounds self.new.peers log }
+    {
+        if self.peers.clients.is_closed(number) {
+            let due = self.due_behind(CLIENT_LINGERS);
+            self.agenda.note(Timeout::ClientLingering, due, number);
         }
     }
 }

@@ -1,13 +1,20 @@
 //! What bounds a crowd.
 
+use hc_peers::Patience;
+
 /// What bounds a crowd.
 #[derive(Clone, Copy)]
 pub struct Limits {
-    /// The most connections of clients at once. Those that are closed and still have a link count, too.
+    /// The most connections of clients at once. Those that are closed and still have a link count, too, but that the one
+    /// that has lingered for longest gives way to a client who connects.
     pub connections: usize,
-    /// The most links to the origin at once. Those that are closed and still have a link count, too. Without any, forwards
-    /// wait until a stop.
+    /// The most links to the origin at once. Those that are closed and still have a link count, too. Without any no forward
+    /// gets one.
     pub origin_connections: usize,
+    /// How long clients and the origin may take.
+    pub patience: Patience,
+    /// So many milliseconds a forward may wait for a place at the origin.
+    pub queue_timeout: u64,
     /// So many milliseconds a link to the origin may take to be made.
     pub connect_timeout: u64,
     /// So many milliseconds behind a stop what is awaited is served still.

@@ -2,21 +2,22 @@
 
 ghost use Rattle.std.specs.Prelude.{◌≡◌, ℕ, List, ◌∷◌};
 
-use crate::client::Hearing;
 use crate::limits::Limits;
-use crate::lingering::Remainder;
 use crate::traffic::Traffic;
 use crate::world::World;
 use hc_connection::{Awaiting, Happened};
 use hc_events::Happening;
 use hc_order::Receiver;
+use hc_peers::{Hearing, Patience, Remainder};
 use std::alloc::AllocError;
 
 impl<W: World> Traffic<W> {
     ghost use Rattle.hc_connection.specs.Sides.{TellsIfOk};
     ghost use Rattle.hc_order.specs.Log.{Move};
-    ghost use Rattle.hc_crowd.specs.Peers.{ArePeers, HeardInTurn, IsAnswerOf, MayBeHeard, NoAnswer};
-    ghost use Rattle.hc_crowd.specs.Shown.{AreShown};
+    ghost use Rattle.hc_crowd.specs.Courses.{is_over_for, stops};
+    ghost use Rattle.hc_peers.specs.Peers.{ArePeers, Bounds, HeardFor, HeardInTurn, IsAnswerOf, MayBeHeard, NoAnswer};
+    ghost use Rattle.hc_peers.specs.Peers.Bounds.{AtMost};
+    ghost use Rattle.hc_peers.specs.Shown.{ShowNoMore};
 
     /// What happens next: a client connects, or something is heard of a link that has its turn in this batch.
     pub(crate) fn happening<A: Awaiting>(
@@ -24,13 +25,13 @@ impl<W: World> Traffic<W> {
         cache: &A,
         limits: Limits,
     ) -> Result<Option<Happened>, AllocError>
-        ensures tells { (log : List Move) → ArePeers W.Stream.has_given W.Stream.has_got self.old.peers log
-            → TellsIfOk (ArePeers W.Stream.has_given W.Stream.has_got self.new.peers) result log }
-        ensures may { (log : List Move) → ArePeers W.Stream.has_given W.Stream.has_got self.old.peers log
+        ensures tells { (origin : ℕ) (log : List Move) → ArePeers W.Stream.has_given W.Stream.has_got (AtMost limits.connections origin) self.old.peers log
+            → TellsIfOk (ArePeers W.Stream.has_given W.Stream.has_got (AtMost limits.connections origin) self.new.peers) result log }
+        ensures may { (origin : ℕ) (log : List Move) → ArePeers W.Stream.has_given W.Stream.has_got (AtMost limits.connections origin) self.old.peers log
             → MayBeHeard limits.connections result log }
         ensures in_turn { HeardInTurn (A.awaited cache.now) result }
-        ensures shown { (log : List Move) → AreShown W.Stream.has_got self.old.peers.clients.table log
-            → AreShown W.Stream.has_got self.new.peers.clients.table log }
+        ensures shown { (log : List Move) → ShowNoMore W.Stream.has_got self.old.peers log
+            → ShowNoMore W.Stream.has_got self.new.peers log }
     {
         if let Some(happened) = self.accept(limits)? {
             return Ok(Some(happened));
@@ -53,53 +54,79 @@ impl<W: World> Traffic<W> {
         cache: &A,
         limits: Limits,
     ) -> Result<Option<Happened>, AllocError>
-        ensures tells { (log : List Move) → ArePeers W.Stream.has_given W.Stream.has_got self.old.peers log
-            → TellsIfOk (ArePeers W.Stream.has_given W.Stream.has_got self.new.peers) result log }
-        ensures may { (most : ℕ) (log : List Move) → ArePeers W.Stream.has_given W.Stream.has_got self.old.peers log → MayBeHeard most result log }
+        ensures tells { (bounds : Bounds) (log : List Move) → ArePeers W.Stream.has_given W.Stream.has_got bounds self.old.peers log
+            → TellsIfOk (ArePeers W.Stream.has_given W.Stream.has_got bounds self.new.peers) result log }
+        ensures may { (most : ℕ) (bounds : Bounds) (log : List Move) → ArePeers W.Stream.has_given W.Stream.has_got bounds self.old.peers log → MayBeHeard most result log }
         ensures in_turn { HeardInTurn (A.awaited cache.now) result }
-        ensures shown { (log : List Move) → AreShown W.Stream.has_got self.old.peers.clients.table log
-            → AreShown W.Stream.has_got self.new.peers.clients.table log }
+        ensures shown { (log : List Move) → ShowNoMore W.Stream.has_got self.old.peers log
+            → ShowNoMore W.Stream.has_got self.new.peers log }
     {
         match link {
-            Receiver::Client(number) => self.client_turn(number, cache.awaits(number)),
+            Receiver::Client(number) => {
+                self.client_turn(number, cache.awaits(number), limits.patience)
+            }
             Receiver::Origin(forward) => self.origin_turn(forward, limits),
         }
     }
 
     /// What is heard in the turn of a client, of whose requests one awaits its reply or none does.
-    fn client_turn(&mut self, number: u64, awaited: bool) -> Result<Option<Happened>, AllocError>
-        ensures tells { (log : List Move) → ArePeers W.Stream.has_given W.Stream.has_got self.old.peers log
-            → TellsIfOk (ArePeers W.Stream.has_given W.Stream.has_got self.new.peers) result log }
-        ensures may { (most : ℕ) (log : List Move) → ArePeers W.Stream.has_given W.Stream.has_got self.old.peers log → MayBeHeard most result log }
+    fn client_turn(
+        &mut self,
+        number: u64,
+        awaited: bool,
+        patience: Patience,
+    ) -> Result<Option<Happened>, AllocError>
+        ensures tells { (bounds : Bounds) (log : List Move) → ArePeers W.Stream.has_given W.Stream.has_got bounds self.old.peers log
+            → TellsIfOk (ArePeers W.Stream.has_given W.Stream.has_got bounds self.new.peers) result log }
+        ensures may { (most : ℕ) (bounds : Bounds) (log : List Move) → ArePeers W.Stream.has_given W.Stream.has_got bounds self.old.peers log → MayBeHeard most result log }
         ensures in_turn { HeardInTurn (IsAnswerOf number awaited) result }
-        ensures shown { (log : List Move) → AreShown W.Stream.has_got self.old.peers.clients.table log
-            → AreShown W.Stream.has_got self.new.peers.clients.table log }
+        ensures reason { HeardFor (stops self.old.course) (is_over_for self.old.course self.old.peers number awaited self.old.tick patience) result }
+        ensures shown { (log : List Move) → ShowNoMore W.Stream.has_got self.old.peers log
+            → ShowNoMore W.Stream.has_got self.new.peers log }
     {
+        let late = self.is_over_for(number, awaited, patience);
         self.peers.unqueue(Receiver::Client(number));
-        if self.course.is_late() {
-            self.peers.lose_client(number);
-        }
         if self.peers.clients.is_closed(number) {
-            self.drop_rest_of_client(number);
+            self.drop_rest_of_client(number, late);
             return Ok(None);
         }
-        self.hear_client(number, awaited)
+        self.hear_client(number, awaited, late)
+    }
+
+    /// Whether there is no more time for a client: behind a stop, or, where no request of it awaits its reply, by how it is
+    /// getting on.
+    fn is_over_for(&self, number: u64, awaited: bool, patience: Patience) -> bool
+        ensures { result ≡ is_over_for self.now.course self.now.peers number awaited self.now.tick patience }
+    {
+        if self.course.is_late() {
+            return true;
+        }
+        !awaited && self.peers.is_overdue(number, self.tick, patience)
     }
 
     /// What is heard of a client. Behind a stop, too, one that wasn't read yet is read once.
-    fn hear_client(&mut self, number: u64, awaited: bool) -> Result<Option<Happened>, AllocError>
-        ensures tells { (log : List Move) → ArePeers W.Stream.has_given W.Stream.has_got self.old.peers log
-            → TellsIfOk (ArePeers W.Stream.has_given W.Stream.has_got self.new.peers) result log }
-        ensures may { (most : ℕ) (log : List Move) → ArePeers W.Stream.has_given W.Stream.has_got self.old.peers log → MayBeHeard most result log }
+    fn hear_client(
+        &mut self,
+        number: u64,
+        awaited: bool,
+        late: bool,
+    ) -> Result<Option<Happened>, AllocError>
+        ensures tells { (bounds : Bounds) (log : List Move) → ArePeers W.Stream.has_given W.Stream.has_got bounds self.old.peers log
+            → TellsIfOk (ArePeers W.Stream.has_given W.Stream.has_got bounds self.new.peers) result log }
+        ensures may { (most : ℕ) (bounds : Bounds) (log : List Move) → ArePeers W.Stream.has_given W.Stream.has_got bounds self.old.peers log → MayBeHeard most result log }
         ensures in_turn { HeardInTurn (IsAnswerOf number awaited) result }
-        ensures shown { (log : List Move) → AreShown W.Stream.has_got self.old.peers.clients.table log
-            → AreShown W.Stream.has_got self.new.peers.clients.table log }
+        ensures reason { HeardFor (stops self.old.course) late result }
+        ensures shown { (log : List Move) → ShowNoMore W.Stream.has_got self.old.peers log
+            → ShowNoMore W.Stream.has_got self.new.peers log }
     {
         let stops = self.course.stops();
         let is_fresh = self.peers.clients.is_fresh(number);
+        let ends = self.course.ends_client(is_fresh);
         let hearing = Hearing {
             awaited,
-            stops: stops && !is_fresh,
+            stops: ends,
+            late,
+            tick: self.tick,
         };
         let heard = self
             .peers
@@ -116,10 +143,10 @@ impl<W: World> Traffic<W> {
         heard: &Result<Option<Happened>, AllocError>,
         in_any_case: bool,
     )
-        ensures tells { (log : List Move) → ArePeers W.Stream.has_given W.Stream.has_got self.old.peers log
-            → ArePeers W.Stream.has_given W.Stream.has_got self.new.peers log }
-        ensures shown { (log : List Move) → AreShown W.Stream.has_got self.old.peers.clients.table log
-            → AreShown W.Stream.has_got self.new.peers.clients.table log }
+        ensures tells { (bounds : Bounds) (log : List Move) → ArePeers W.Stream.has_given W.Stream.has_got bounds self.old.peers log
+            → ArePeers W.Stream.has_given W.Stream.has_got bounds self.new.peers log }
+        ensures shown { (log : List Move) → ShowNoMore W.Stream.has_got self.old.peers log
+            → ShowNoMore W.Stream.has_got self.new.peers log }
     {
         let goes_on = match heard {
             Ok(Some(_)) => self.peers.is_readable(link),
@@ -132,13 +159,14 @@ impl<W: World> Traffic<W> {
     }
 
     /// Drops what a client whose connection is closed still sends, and then its link, once nothing more comes and all that
-    /// was owed to it was written or is lost.
-    fn drop_rest_of_client(&mut self, number: u64)
-        ensures tells { (log : List Move) → ArePeers W.Stream.has_given W.Stream.has_got self.old.peers log
-            → ArePeers W.Stream.has_given W.Stream.has_got self.new.peers log }
-        ensures shown { (log : List Move) → AreShown W.Stream.has_got self.old.peers.clients.table log
-            → AreShown W.Stream.has_got self.new.peers.clients.table log }
+    /// was owed to it was written or is lost. Where its time is over, that is lost.
+    fn drop_rest_of_client(&mut self, number: u64, late: bool)
+        ensures tells { (bounds : Bounds) (log : List Move) → ArePeers W.Stream.has_given W.Stream.has_got bounds self.old.peers log
+            → ArePeers W.Stream.has_given W.Stream.has_got bounds self.new.peers log }
+        ensures shown { (log : List Move) → ShowNoMore W.Stream.has_got self.old.peers log
+            → ShowNoMore W.Stream.has_got self.new.peers log }
     {
+        self.lose_late(number, late);
         if self.peers.discard(number, self.buffer.as_mut_slice()) {
             self.let_go(number);
         } else if self.peers.clients.is_readable(number) {
@@ -146,14 +174,27 @@ impl<W: World> Traffic<W> {
         }
     }
 
+    /// Where a client's time is over, what is owed to it is lost.
+    fn lose_late(&mut self, number: u64, late: bool)
+        ensures tells { (bounds : Bounds) (log : List Move) → ArePeers W.Stream.has_given W.Stream.has_got bounds self.old.peers log
+            → ArePeers W.Stream.has_given W.Stream.has_got bounds self.new.peers log }
+        ensures shown { (log : List Move) → ShowNoMore W.Stream.has_got self.old.peers log
+            → ShowNoMore W.Stream.has_got self.new.peers log }
+    {
+        if late {
+            self.peers.lose_client(number);
+        }
+    }
+
     /// Drops a client's link, where the cache has closed the connection, and all that was owed was written, or is lost.
     pub(crate) fn let_go(&mut self, number: u64)
-        ensures tells { (log : List Move) → ArePeers W.Stream.has_given W.Stream.has_got self.old.peers log
-            → ArePeers W.Stream.has_given W.Stream.has_got self.new.peers log }
-        ensures shown { (log : List Move) → AreShown W.Stream.has_got self.old.peers.clients.table log
-            → AreShown W.Stream.has_got self.new.peers.clients.table log }
+        ensures tells { (bounds : Bounds) (log : List Move) → ArePeers W.Stream.has_given W.Stream.has_got bounds self.old.peers log
+            → ArePeers W.Stream.has_given W.Stream.has_got bounds self.new.peers log }
+        ensures shown { (log : List Move) → ShowNoMore W.Stream.has_got self.old.peers log
+            → ShowNoMore W.Stream.has_got self.new.peers log }
     {
         if self.peers.let_go(number) {
+            self.agenda.forget_client(number);
             // The system may have a place for a client again.
             self.listening.retry();
         }
@@ -162,20 +203,20 @@ impl<W: World> Traffic<W> {
     /// What is heard in the turn of a forward. Behind a link that has failed before it was known to work, another one is
     /// tried.
     fn origin_turn(&mut self, forward: u64, limits: Limits) -> Result<Option<Happened>, AllocError>
-        ensures tells { (log : List Move) → ArePeers W.Stream.has_given W.Stream.has_got self.old.peers log
-            → TellsIfOk (ArePeers W.Stream.has_given W.Stream.has_got self.new.peers) result log }
-        ensures may { (most : ℕ) (log : List Move) → ArePeers W.Stream.has_given W.Stream.has_got self.old.peers log → MayBeHeard most result log }
+        ensures tells { (bounds : Bounds) (log : List Move) → ArePeers W.Stream.has_given W.Stream.has_got bounds self.old.peers log
+            → TellsIfOk (ArePeers W.Stream.has_given W.Stream.has_got bounds self.new.peers) result log }
+        ensures may { (most : ℕ) (bounds : Bounds) (log : List Move) → ArePeers W.Stream.has_given W.Stream.has_got bounds self.old.peers log → MayBeHeard most result log }
         ensures in_turn { HeardInTurn NoAnswer result }
-        ensures shown { (log : List Move) → AreShown W.Stream.has_got self.old.peers.clients.table log
-            → AreShown W.Stream.has_got self.new.peers.clients.table log }
+        ensures shown { (log : List Move) → ShowNoMore W.Stream.has_got self.old.peers log
+            → ShowNoMore W.Stream.has_got self.new.peers log }
     {
-        if self.lingering.has(forward) {
+        if self.peers.lingering.has(forward) {
             self.drop_rest_of_origin(forward);
             return Ok(None);
         }
         self.peers.unqueue(Receiver::Origin(forward));
         if self.peers.retry(forward) {
-            self.reach_again(forward, limits);
+            self.connect(forward, limits);
             return Ok(None);
         }
         self.hear_origin(forward)
@@ -183,15 +224,17 @@ impl<W: World> Traffic<W> {
 
     /// What is heard of a forward. One that has failed needs its place no more.
     fn hear_origin(&mut self, forward: u64) -> Result<Option<Happened>, AllocError>
-        ensures tells { (log : List Move) → ArePeers W.Stream.has_given W.Stream.has_got self.old.peers log
-            → TellsIfOk (ArePeers W.Stream.has_given W.Stream.has_got self.new.peers) result log }
-        ensures may { (most : ℕ) (log : List Move) → ArePeers W.Stream.has_given W.Stream.has_got self.old.peers log → MayBeHeard most result log }
+        ensures tells { (bounds : Bounds) (log : List Move) → ArePeers W.Stream.has_given W.Stream.has_got bounds self.old.peers log
+            → TellsIfOk (ArePeers W.Stream.has_given W.Stream.has_got bounds self.new.peers) result log }
+        ensures may { (most : ℕ) (bounds : Bounds) (log : List Move) → ArePeers W.Stream.has_given W.Stream.has_got bounds self.old.peers log → MayBeHeard most result log }
         ensures in_turn { HeardInTurn NoAnswer result }
-        ensures shown { (log : List Move) → AreShown W.Stream.has_got self.old.peers.clients.table log
-            → AreShown W.Stream.has_got self.new.peers.clients.table log }
+        ensures shown { (log : List Move) → ShowNoMore W.Stream.has_got self.old.peers log
+            → ShowNoMore W.Stream.has_got self.new.peers log }
     {
         let was_linked = self.peers.forwards.has_link(forward);
-        let heard = self.peers.hear_origin(forward, self.buffer.as_mut_slice());
+        let heard = self
+            .peers
+            .hear_origin(forward, self.buffer.as_mut_slice(), self.tick);
         self.go_on(Receiver::Origin(forward), &heard, false);
         self.failures.break_off(was_linked & is_failure(&heard));
         if !self.peers.forwards.is_there(forward) {
@@ -202,12 +245,15 @@ impl<W: World> Traffic<W> {
 
     /// Drops what comes on a link to the origin that lingers, and then the link, once nothing more does.
     fn drop_rest_of_origin(&mut self, forward: u64)
-        ensures tells { (log : List Move) → ArePeers W.Stream.has_given W.Stream.has_got self.old.peers log
-            → ArePeers W.Stream.has_given W.Stream.has_got self.new.peers log }
-        ensures shown { (log : List Move) → AreShown W.Stream.has_got self.old.peers.clients.table log
-            → AreShown W.Stream.has_got self.new.peers.clients.table log }
+        ensures tells { (bounds : Bounds) (log : List Move) → ArePeers W.Stream.has_given W.Stream.has_got bounds self.old.peers log
+            → ArePeers W.Stream.has_given W.Stream.has_got bounds self.new.peers log }
+        ensures shown { (log : List Move) → ShowNoMore W.Stream.has_got self.old.peers log
+            → ShowNoMore W.Stream.has_got self.new.peers log }
     {
-        match self.lingering.discard(forward, self.buffer.as_mut_slice()) {
+        match self
+            .peers
+            .discard_lingering(forward, self.buffer.as_mut_slice())
+        {
             Remainder::More => self.give_lingering_turn(forward),
             Remainder::Later => {}
             Remainder::Over => self.drop_lingering(forward),
@@ -216,24 +262,24 @@ impl<W: World> Traffic<W> {
 
     /// A link to the origin that lingers is to be heard.
     pub(crate) fn give_lingering_turn(&mut self, forward: u64)
-        ensures tells { (log : List Move) → ArePeers W.Stream.has_given W.Stream.has_got self.old.peers log
-            → ArePeers W.Stream.has_given W.Stream.has_got self.new.peers log }
-        ensures shown { (log : List Move) → AreShown W.Stream.has_got self.old.peers.clients.table log
-            → AreShown W.Stream.has_got self.new.peers.clients.table log }
+        ensures tells { (bounds : Bounds) (log : List Move) → ArePeers W.Stream.has_given W.Stream.has_got bounds self.old.peers log
+            → ArePeers W.Stream.has_given W.Stream.has_got bounds self.new.peers log }
+        ensures shown { (log : List Move) → ShowNoMore W.Stream.has_got self.old.peers log
+            → ShowNoMore W.Stream.has_got self.new.peers log }
     {
-        if self.lingering.queue(forward) {
+        if self.peers.queue_lingering(forward) {
             self.agenda.give_turn(Receiver::Origin(forward));
         }
     }
 
     /// Drops a link to the origin, if it lingers.
     pub(crate) fn drop_lingering(&mut self, forward: u64)
-        ensures tells { (log : List Move) → ArePeers W.Stream.has_given W.Stream.has_got self.old.peers log
-            → ArePeers W.Stream.has_given W.Stream.has_got self.new.peers log }
-        ensures shown { (log : List Move) → AreShown W.Stream.has_got self.old.peers.clients.table log
-            → AreShown W.Stream.has_got self.new.peers.clients.table log }
+        ensures tells { (bounds : Bounds) (log : List Move) → ArePeers W.Stream.has_given W.Stream.has_got bounds self.old.peers log
+            → ArePeers W.Stream.has_given W.Stream.has_got bounds self.new.peers log }
+        ensures shown { (log : List Move) → ShowNoMore W.Stream.has_got self.old.peers log
+            → ShowNoMore W.Stream.has_got self.new.peers log }
     {
-        if self.lingering.drop_one(forward) {
+        if self.peers.drop_lingering(forward) {
             self.free_place(forward);
         }
     }

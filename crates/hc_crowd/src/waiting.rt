@@ -2,12 +2,11 @@
 
 ghost use Rattle.std.specs.Prelude.{◌≡◌, ℕ, List, ◌∷◌};
 
-use crate::agenda::{Timeout, earlier};
 use crate::course::Course;
-use crate::deadlines::Deadline;
 use crate::limits::Limits;
 use crate::traffic::Traffic;
 use crate::world::{Ready, World};
+use hc_agenda::earlier;
 use hc_flow::Readiness;
 use hc_order::{Reason, Receiver};
 
@@ -16,32 +15,30 @@ const LONGEST_WAIT: u64 = 1_000;
 
 impl<W: World> Traffic<W> {
     ghost use Rattle.hc_order.specs.Log.{Move};
-    ghost use Rattle.hc_crowd.specs.Peers.{ArePeers};
-    ghost use Rattle.hc_crowd.specs.Shown.{AreShown};
+    ghost use Rattle.hc_peers.specs.Peers.{ArePeers, Bounds};
+    ghost use Rattle.hc_peers.specs.Shown.{ShowNoMore};
 
     /// Waits until something is ready or due, and takes in what is. Then a new batch begins.
     pub(crate) fn wait(&mut self, limits: Limits)
-        ensures tells { (log : List Move) → ArePeers W.Stream.has_given W.Stream.has_got self.old.peers log
-            → ArePeers W.Stream.has_given W.Stream.has_got self.new.peers log }
-        ensures shown { (log : List Move) → AreShown W.Stream.has_got self.old.peers.clients.table log
-            → AreShown W.Stream.has_got self.new.peers.clients.table log }
+        ensures tells { (bounds : Bounds) (log : List Move) → ArePeers W.Stream.has_given W.Stream.has_got bounds self.old.peers log
+            → ArePeers W.Stream.has_given W.Stream.has_got bounds self.new.peers log }
+        ensures shown { (log : List Move) → ShowNoMore W.Stream.has_got self.old.peers log
+            → ShowNoMore W.Stream.has_got self.new.peers log }
     {
-        let most = self.patience(limits);
+        let most = self.longest_wait(limits);
         self.world.wait(most);
+        self.look_at_clock();
         self.learn_all();
         // Each time the system may have a place for a client again.
         self.listening.retry();
-        let tick = self.world.tick();
-        self.pass(Timeout::Connect, tick);
-        self.pass(Timeout::Client, tick);
-        self.pass(Timeout::Origin, tick);
-        self.heed_stop(tick, limits);
+        self.pass_all(limits);
+        self.heed_stop(limits);
         self.listening.begin_batch();
         self.agenda.turns.begin_batch();
     }
 
     /// How many milliseconds may be waited for.
-    fn patience(&self, limits: Limits) -> u64 {
+    fn longest_wait(&self, limits: Limits) -> u64 {
         if !self.agenda.turns.is_empty() {
             return 0;
         }
@@ -49,33 +46,45 @@ impl<W: World> Traffic<W> {
             return 0;
         }
         match earlier(self.agenda.first(), self.course.until()) {
-            Some(due) => due.saturating_sub(self.world.tick()).min(LONGEST_WAIT),
+            Some(due) => due.saturating_sub(self.tick).min(LONGEST_WAIT),
             None => LONGEST_WAIT,
         }
     }
 
     /// Takes in all that became ready.
     fn learn_all(&mut self)
-        ensures tells { (log : List Move) → ArePeers W.Stream.has_given W.Stream.has_got self.old.peers log
-            → ArePeers W.Stream.has_given W.Stream.has_got self.new.peers log }
-        ensures shown { (log : List Move) → AreShown W.Stream.has_got self.old.peers.clients.table log
-            → AreShown W.Stream.has_got self.new.peers.clients.table log }
+        ensures tells { (bounds : Bounds) (log : List Move) → ArePeers W.Stream.has_given W.Stream.has_got bounds self.old.peers log
+            → ArePeers W.Stream.has_given W.Stream.has_got bounds self.new.peers log }
+        ensures shown { (log : List Move) → ShowNoMore W.Stream.has_got self.old.peers log
+            → ShowNoMore W.Stream.has_got self.new.peers log }
     {
         'ready: for _ in 0..u64::MAX {
-            match self.world.ready() {
-                Some(Ready::Clients) => self.wake_listening(),
-                Some(Ready::Link(link, readiness)) => self.learn(link, readiness),
-                None => return,
-            }
+            let Some(ready) = self.world.ready() else {
+                return;
+            };
+            self.take_in(ready);
+        }
+    }
+
+    /// Takes in that this became ready.
+    fn take_in(&mut self, ready: Ready)
+        ensures tells { (bounds : Bounds) (log : List Move) → ArePeers W.Stream.has_given W.Stream.has_got bounds self.old.peers log
+            → ArePeers W.Stream.has_given W.Stream.has_got bounds self.new.peers log }
+        ensures shown { (log : List Move) → ShowNoMore W.Stream.has_got self.old.peers log
+            → ShowNoMore W.Stream.has_got self.new.peers log }
+    {
+        match ready {
+            Ready::Clients => self.wake_listening(),
+            Ready::Link(link, readiness) => self.learn(link, readiness),
         }
     }
 
     /// Clients may have connected. Behind a stop no further ones are accepted.
     fn wake_listening(&mut self)
-        ensures tells { (log : List Move) → ArePeers W.Stream.has_given W.Stream.has_got self.old.peers log
-            → ArePeers W.Stream.has_given W.Stream.has_got self.new.peers log }
-        ensures shown { (log : List Move) → AreShown W.Stream.has_got self.old.peers.clients.table log
-            → AreShown W.Stream.has_got self.new.peers.clients.table log }
+        ensures tells { (bounds : Bounds) (log : List Move) → ArePeers W.Stream.has_given W.Stream.has_got bounds self.old.peers log
+            → ArePeers W.Stream.has_given W.Stream.has_got bounds self.new.peers log }
+        ensures shown { (log : List Move) → ShowNoMore W.Stream.has_got self.old.peers log
+            → ShowNoMore W.Stream.has_got self.new.peers log }
     {
         if !self.course.stops() {
             self.listening.wake();
@@ -84,106 +93,93 @@ impl<W: World> Traffic<W> {
 
     /// Takes in what the system tells of a link.
     fn learn(&mut self, link: Receiver, readiness: Readiness)
-        ensures tells { (log : List Move) → ArePeers W.Stream.has_given W.Stream.has_got self.old.peers log
-            → ArePeers W.Stream.has_given W.Stream.has_got self.new.peers log }
-        ensures shown { (log : List Move) → AreShown W.Stream.has_got self.old.peers.clients.table log
-            → AreShown W.Stream.has_got self.new.peers.clients.table log }
+        ensures tells { (bounds : Bounds) (log : List Move) → ArePeers W.Stream.has_given W.Stream.has_got bounds self.old.peers log
+            → ArePeers W.Stream.has_given W.Stream.has_got bounds self.new.peers log }
+        ensures shown { (log : List Move) → ShowNoMore W.Stream.has_got self.old.peers log
+            → ShowNoMore W.Stream.has_got self.new.peers log }
     {
-        if let Receiver::Origin(forward) = link {
-            // What is told of one that lingers asks for a turn, whatever it is.
-            self.give_lingering_turn(forward);
-        }
-        if self.peers.learn(link, readiness) {
-            self.agenda.give_turn(link);
-        }
+        self.wake_lingering(link);
+        self.wake(link, readiness);
         if readiness.writable && self.peers.is_owed(link) {
             self.agenda.note_owed(link);
         }
     }
 
-    /// Takes in what is due by that millisecond.
-    fn pass(&mut self, timeout: Timeout, tick: u64)
-        ensures tells { (log : List Move) → ArePeers W.Stream.has_given W.Stream.has_got self.old.peers log
-            → ArePeers W.Stream.has_given W.Stream.has_got self.new.peers log }
-        ensures shown { (log : List Move) → AreShown W.Stream.has_got self.old.peers.clients.table log
-            → AreShown W.Stream.has_got self.new.peers.clients.table log }
+    /// A link that doesn't linger gets a turn, where what is told of it asks for one.
+    fn wake(&mut self, link: Receiver, readiness: Readiness)
+        ensures tells { (bounds : Bounds) (log : List Move) → ArePeers W.Stream.has_given W.Stream.has_got bounds self.old.peers log
+            → ArePeers W.Stream.has_given W.Stream.has_got bounds self.new.peers log }
+        ensures shown { (log : List Move) → ShowNoMore W.Stream.has_got self.old.peers log
+            → ShowNoMore W.Stream.has_got self.new.peers log }
     {
-        'due: for _ in 0..self.agenda.count(timeout) {
-            let Some(deadline) = self.agenda.pass(timeout, tick) else {
-                return;
-            };
-            self.end_time(timeout, deadline);
+        if self.peers.learn(link, readiness) {
+            self.agenda.give_turn(link);
         }
     }
 
-    /// A link's time is over. Nothing is done where the link has gone or moved on.
-    fn end_time(&mut self, timeout: Timeout, deadline: Deadline)
-        ensures tells { (log : List Move) → ArePeers W.Stream.has_given W.Stream.has_got self.old.peers log
-            → ArePeers W.Stream.has_given W.Stream.has_got self.new.peers log }
-        ensures shown { (log : List Move) → AreShown W.Stream.has_got self.old.peers.clients.table log
-            → AreShown W.Stream.has_got self.new.peers.clients.table log }
+    /// What is told of a link that lingers asks for a turn, whatever it is.
+    fn wake_lingering(&mut self, link: Receiver)
+        ensures tells { (bounds : Bounds) (log : List Move) → ArePeers W.Stream.has_given W.Stream.has_got bounds self.old.peers log
+            → ArePeers W.Stream.has_given W.Stream.has_got bounds self.new.peers log }
+        ensures shown { (log : List Move) → ShowNoMore W.Stream.has_got self.old.peers log
+            → ShowNoMore W.Stream.has_got self.new.peers log }
     {
-        let Deadline { tick, number } = deadline;
-        match timeout {
-            Timeout::Connect => self.end_connect(number, tick),
-            Timeout::Client => self.let_go(number),
-            Timeout::Origin => self.drop_lingering(number),
-        }
-    }
-
-    /// A forward fails whose link isn't made, if it had to be made by that millisecond.
-    fn end_connect(&mut self, forward: u64, tick: u64)
-        ensures tells { (log : List Move) → ArePeers W.Stream.has_given W.Stream.has_got self.old.peers log
-            → ArePeers W.Stream.has_given W.Stream.has_got self.new.peers log }
-        ensures shown { (log : List Move) → AreShown W.Stream.has_got self.old.peers.clients.table log
-            → AreShown W.Stream.has_got self.new.peers.clients.table log }
-    {
-        if self.places.is_due(forward, tick) && self.peers.forwards.is_opening(forward) {
-            self.give_up(forward, Reason::Late);
+        if let Receiver::Origin(forward) = link {
+            self.give_lingering_turn(forward);
         }
     }
 
     /// Heeds a stop, and that the time behind it is over. Where no further clients are served, none can connect.
-    fn heed_stop(&mut self, tick: u64, limits: Limits)
-        ensures tells { (log : List Move) → ArePeers W.Stream.has_given W.Stream.has_got self.old.peers log
-            → ArePeers W.Stream.has_given W.Stream.has_got self.new.peers log }
-        ensures shown { (log : List Move) → AreShown W.Stream.has_got self.old.peers.clients.table log
-            → AreShown W.Stream.has_got self.new.peers.clients.table log }
+    fn heed_stop(&mut self, limits: Limits)
+        ensures tells { (bounds : Bounds) (log : List Move) → ArePeers W.Stream.has_given W.Stream.has_got bounds self.old.peers log
+            → ArePeers W.Stream.has_given W.Stream.has_got bounds self.new.peers log }
+        ensures shown { (log : List Move) → ShowNoMore W.Stream.has_got self.old.peers log
+            → ShowNoMore W.Stream.has_got self.new.peers log }
     {
-        match self.course {
-            Course::Serving => self.heed_world(tick, limits),
-            Course::Stopping(until) => self.heed_time(tick, until),
-            Course::Late => {}
-        }
+        self.heed_course(limits);
         if !self.serves_more(limits) && !self.listening.is_over() {
             self.world.stop_listening();
             self.listening.end();
         }
     }
 
+    /// Heeds a stop, or that the time behind it is over.
+    fn heed_course(&mut self, limits: Limits)
+        ensures tells { (bounds : Bounds) (log : List Move) → ArePeers W.Stream.has_given W.Stream.has_got bounds self.old.peers log
+            → ArePeers W.Stream.has_given W.Stream.has_got bounds self.new.peers log }
+        ensures shown { (log : List Move) → ShowNoMore W.Stream.has_got self.old.peers log
+            → ShowNoMore W.Stream.has_got self.new.peers log }
+    {
+        match self.course {
+            Course::Serving => self.heed_world(limits),
+            Course::Stopping(until) => self.heed_time(until),
+            Course::Late => {}
+        }
+    }
+
     /// Where the program was asked to stop, all clients are to be heard: those that nobody has to serve any more end.
-    fn heed_world(&mut self, tick: u64, limits: Limits)
-        ensures tells { (log : List Move) → ArePeers W.Stream.has_given W.Stream.has_got self.old.peers log
-            → ArePeers W.Stream.has_given W.Stream.has_got self.new.peers log }
-        ensures shown { (log : List Move) → AreShown W.Stream.has_got self.old.peers.clients.table log
-            → AreShown W.Stream.has_got self.new.peers.clients.table log }
+    fn heed_world(&mut self, limits: Limits)
+        ensures tells { (bounds : Bounds) (log : List Move) → ArePeers W.Stream.has_given W.Stream.has_got bounds self.old.peers log
+            → ArePeers W.Stream.has_given W.Stream.has_got bounds self.new.peers log }
+        ensures shown { (log : List Move) → ShowNoMore W.Stream.has_got self.old.peers log
+            → ShowNoMore W.Stream.has_got self.new.peers log }
     {
         if self.world.stops() {
             // Who has connected by now is accepted still.
             self.listening.wake();
-            self.course = Course::Stopping(tick.saturating_add(limits.drain_timeout));
+            self.course = Course::Stopping(self.due_behind(limits.drain_timeout));
             self.hear_clients();
         }
     }
 
     /// Where the time behind a stop is over, all links are lost.
-    fn heed_time(&mut self, tick: u64, until: u64)
-        ensures tells { (log : List Move) → ArePeers W.Stream.has_given W.Stream.has_got self.old.peers log
-            → ArePeers W.Stream.has_given W.Stream.has_got self.new.peers log }
-        ensures shown { (log : List Move) → AreShown W.Stream.has_got self.old.peers.clients.table log
-            → AreShown W.Stream.has_got self.new.peers.clients.table log }
+    fn heed_time(&mut self, until: u64)
+        ensures tells { (bounds : Bounds) (log : List Move) → ArePeers W.Stream.has_given W.Stream.has_got bounds self.old.peers log
+            → ArePeers W.Stream.has_given W.Stream.has_got bounds self.new.peers log }
+        ensures shown { (log : List Move) → ShowNoMore W.Stream.has_got self.old.peers log
+            → ShowNoMore W.Stream.has_got self.new.peers log }
     {
-        if tick >= until {
+        if self.tick >= until {
             self.course = Course::Late;
             self.drop_all_lingering();
             self.lose_origins();
@@ -193,10 +189,10 @@ impl<W: World> Traffic<W> {
 
     /// All clients are to be heard.
     fn hear_clients(&mut self)
-        ensures tells { (log : List Move) → ArePeers W.Stream.has_given W.Stream.has_got self.old.peers log
-            → ArePeers W.Stream.has_given W.Stream.has_got self.new.peers log }
-        ensures shown { (log : List Move) → AreShown W.Stream.has_got self.old.peers.clients.table log
-            → AreShown W.Stream.has_got self.new.peers.clients.table log }
+        ensures tells { (bounds : Bounds) (log : List Move) → ArePeers W.Stream.has_given W.Stream.has_got bounds self.old.peers log
+            → ArePeers W.Stream.has_given W.Stream.has_got bounds self.new.peers log }
+        ensures shown { (log : List Move) → ShowNoMore W.Stream.has_got self.old.peers log
+            → ShowNoMore W.Stream.has_got self.new.peers log }
     {
         let mut least = 0;
         'clients: for _ in 0..self.peers.clients.len() {
@@ -210,10 +206,10 @@ impl<W: World> Traffic<W> {
 
     /// All forwards fail, since their time is over.
     fn lose_origins(&mut self)
-        ensures tells { (log : List Move) → ArePeers W.Stream.has_given W.Stream.has_got self.old.peers log
-            → ArePeers W.Stream.has_given W.Stream.has_got self.new.peers log }
-        ensures shown { (log : List Move) → AreShown W.Stream.has_got self.old.peers.clients.table log
-            → AreShown W.Stream.has_got self.new.peers.clients.table log }
+        ensures tells { (bounds : Bounds) (log : List Move) → ArePeers W.Stream.has_given W.Stream.has_got bounds self.old.peers log
+            → ArePeers W.Stream.has_given W.Stream.has_got bounds self.new.peers log }
+        ensures shown { (log : List Move) → ShowNoMore W.Stream.has_got self.old.peers log
+            → ShowNoMore W.Stream.has_got self.new.peers log }
     {
         let mut least = 0;
         'forwards: for _ in 0..self.peers.forwards.len() {
@@ -227,13 +223,13 @@ impl<W: World> Traffic<W> {
 
     /// Drops all links to the origin that linger.
     fn drop_all_lingering(&mut self)
-        ensures tells { (log : List Move) → ArePeers W.Stream.has_given W.Stream.has_got self.old.peers log
-            → ArePeers W.Stream.has_given W.Stream.has_got self.new.peers log }
-        ensures shown { (log : List Move) → AreShown W.Stream.has_got self.old.peers.clients.table log
-            → AreShown W.Stream.has_got self.new.peers.clients.table log }
+        ensures tells { (bounds : Bounds) (log : List Move) → ArePeers W.Stream.has_given W.Stream.has_got bounds self.old.peers log
+            → ArePeers W.Stream.has_given W.Stream.has_got bounds self.new.peers log }
+        ensures shown { (log : List Move) → ShowNoMore W.Stream.has_got self.old.peers log
+            → ShowNoMore W.Stream.has_got self.new.peers log }
     {
-        'lingering: for _ in 0..self.lingering.len() {
-            let Some(forward) = self.lingering.drop_least() else {
+        'lingering: for _ in 0..self.peers.lingering.len() {
+            let Some(forward) = self.peers.drop_least_lingering() else {
                 return;
             };
             self.free_place(forward);

@@ -1,12 +1,11 @@
 //! The questions of the cases.
 
 use crate::comparing::{Judged, compare};
-use crate::playing::played;
-use crate::reading::{number_of, script_in};
-use crate::schedules::script_of;
-use crate::script::Script;
-use crate::telling::{say_events, say_replies};
+use crate::playing::perform;
+use crate::telling::{Told, say_played};
 use hc_cases::{Ask, Case, Unanswered, unescaped};
+use hc_crowd_world::{Script, script_in, script_of};
+use hc_fields::decimal;
 use std::alloc::{AllocError, Global};
 use std::fmt::Write;
 
@@ -22,12 +21,24 @@ impl Ask for Crowds {
             about,
         } = *case;
         match question {
-            "replies" => say_replies(alloc, script_about(alloc, about)?, out),
-            "events" => say_events(alloc, script_about(alloc, about)?, out),
+            "replies" => say_schedule(alloc, Told::Replies, about, out),
+            "events" => say_schedule(alloc, Told::Events, about, out),
             "seeds" => say_seeds(alloc, Seeds::of(about)?, out),
             _ => Err(Unanswered::Unknown),
         }
     }
+}
+
+/// Writes what comes of a schedule.
+fn say_schedule(
+    alloc: Global,
+    told: Told,
+    about: &[Vec<u8>],
+    out: &mut String,
+) -> Result<(), Unanswered> {
+    let script = script_about(alloc, about)?;
+    let mut played = perform(alloc, script)?;
+    say_played(alloc, told, &mut played, out)
 }
 
 /// The schedule that is written down, or that of a seed.
@@ -74,15 +85,16 @@ impl<'a> Seeds<'a> {
 
     /// What comes of a seed.
     fn judged(&self, alloc: Global, seed: u64) -> Result<Judged, Unanswered> {
-        let (served, play) = played(alloc, self.script(alloc, seed)?)?;
-        compare(alloc, served, &play)
+        let script = self.script(alloc, seed)?;
+        let mut played = perform(alloc, script)?;
+        compare(alloc, &mut played)
     }
 }
 
 fn number_in(text: &[u8]) -> Result<u64, Unanswered> {
-    match str::from_utf8(text) {
-        Ok(text) => number_of(text),
-        Err(_) => Err(Unanswered::Unknown),
+    match decimal(text) {
+        Some(number) => Ok(number),
+        None => Err(Unanswered::Unknown),
     }
 }
 

@@ -3,22 +3,13 @@
 #![tactic(auto)]
 
 mod answers;
+mod by_link;
 mod comparing;
-mod cues;
-mod deeds;
-mod dice;
-mod made;
-mod noted;
-mod origin;
-mod peer;
-mod play;
+mod passed;
 mod playing;
-mod reading;
-mod schedules;
-mod script;
-mod sheet;
-mod strand;
+mod replies;
 mod telling;
+mod verdict;
 
 use crate::answers::Crowds;
 use std::process::ExitCode;

@@ -1,42 +1,60 @@
 //! A script is played, and clients are served meanwhile.
 
-use crate::made::Made;
-use crate::noted::Noted;
-use crate::play::Play;
-use crate::script::Script;
-use crate::sheet::Sheet;
 use hc_cases::Unanswered;
-use hc_connection::Buffered;
+use hc_connection::{Batches, Buffered, Recorder};
 use hc_core::{Core, CoreFault, CoreSettings};
-use hc_crowd::{Crowd, Failures, Limits};
+use hc_crowd::{Crowd, Failures, Limits, World};
+use hc_crowd_world::{Made, Noted, Play, Script, Sheet};
 use hc_events::Event;
 use hc_fields::Octets;
 use hc_serve::{DriveFault, Unwatched, serve_crowd};
 use std::alloc::{AllocError, Global};
 use std::cell::RefCell;
+use std::hash::BuildHasher;
 
-/// What came of it.
-#[derive(Drop)]
+/// What came of a script that was played.
+pub(crate) struct Played {
+    pub(crate) served: Served,
+    /// The world behind it.
+    pub(crate) play: Play,
+}
+
+impl Drop for Played {
+    fn drop(self) {
+        let Played { served, play } = self;
+        drop(served);
+        drop(play);
+    }
+}
+
+/// What came of serving.
 pub(crate) struct Served {
     /// What happened.
     pub(crate) events: Vec<Event>,
-    pub(crate) ended: Ended,
-}
-
-/// How it ended.
-#[derive(Drop)]
-pub(crate) struct Ended {
-    pub(crate) result: Result<(), DriveFault>,
-    /// Whether all that happened was noted.
-    pub(crate) complete: bool,
     /// What was recorded for good.
     pub(crate) recording: Vec<u8>,
+    pub(crate) result: Result<(), DriveFault>,
     pub(crate) signs: Signs,
+}
+
+impl Drop for Served {
+    fn drop(self) {
+        let Served {
+            events,
+            recording,
+            result: _,
+            signs: _,
+        } = self;
+        drop(events);
+        drop(recording);
+    }
 }
 
 /// What else can be seen behind it.
 #[derive(Clone, Copy)]
 pub(crate) struct Signs {
+    /// Whether all that happened was noted.
+    pub(crate) complete: bool,
     /// Whether the cache is idle.
     pub(crate) idle: bool,
     /// Whether the wall clock is behind.
@@ -62,13 +80,16 @@ fn new_core(alloc: Global) -> Result<Core, Unanswered> {
     }
 }
 
-/// Plays the script, and answers what came of it and the world behind it.
-pub(crate) fn played(alloc: Global, script: Script) -> Result<(Served, Play), Unanswered> {
+/// Plays the script, and answers what came of it.
+pub(crate) fn perform(alloc: Global, script: Script) -> Result<Played, Unanswered> {
     let limits = script.limits;
     let writes = script.writes;
     let play = RefCell::new(Play::new(alloc, script));
     let served = serve(alloc, &play, limits, writes)?;
-    Ok((served, play.into_inner()))
+    Ok(Played {
+        served,
+        play: play.into_inner(),
+    })
 }
 
 fn serve(
@@ -78,32 +99,49 @@ fn serve(
     writes: u64,
 ) -> Result<Served, Unanswered> {
     let mut core = new_core(alloc)?;
-    serve_by(alloc, &mut core, play, limits, writes)
+    serve_world(alloc, &mut core, Made { play }, limits, writes)
 }
 
-fn serve_by(
+/// Serves the clients of a world.
+fn serve_world<W: World + Drop>(
     alloc: Global,
     core: &mut Core,
-    play: &RefCell<Play>,
+    world: W,
     limits: Limits,
     writes: u64,
 ) -> Result<Served, Unanswered> {
-    let crowd = Crowd::new(alloc, Made { play }, limits)?;
-    let mut noted = Noted::new(alloc, crowd);
+    let mut noted = Noted::new(alloc, Crowd::new(alloc, world, limits)?);
+    serve_noted(alloc, core, &mut noted, writes)
+}
+
+fn serve_noted<W: World + Drop>(
+    alloc: Global,
+    core: &mut Core,
+    noted: &mut Noted<Crowd<W>>,
+    writes: u64,
+) -> Result<Served, Unanswered> {
     let mut recorder = Buffered::new(alloc, Sheet::new(alloc, writes)?);
-    let result = serve_crowd(alloc, core, &mut noted, &mut recorder, &mut Unwatched);
+    let result = serve_links(alloc, core, noted, &mut recorder);
     let signs = Signs {
+        complete: !noted.is_torn(),
         idle: core.idle(),
         behind: noted.links.is_behind(),
         failures: noted.links.failures(),
     };
     Ok(Served {
-        ended: Ended {
-            result,
-            complete: !noted.torn,
-            recording: recorder.into_link().into_got(),
-            signs,
-        },
-        events: noted.events,
+        events: noted.take_events(),
+        recording: recorder.into_link().into_got(),
+        result,
+        signs,
     })
+}
+
+// What `serve_crowd` promises is of any links, and costs a check least where it isn't asked of these.
+fn serve_links<S: BuildHasher, L: Batches, R: Recorder>(
+    alloc: Global,
+    core: &mut Core<S>,
+    noted: &mut Noted<L>,
+    recorder: &mut R,
+) -> Result<(), DriveFault> {
+    serve_crowd(alloc, core, noted, recorder, &mut Unwatched)
 }

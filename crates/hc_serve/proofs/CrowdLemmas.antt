@@ -18,7 +18,7 @@ use Rattle.hc_service.specs.State.{State, Table, new_state_with}
 use Rattle.hc_service.proofs.TableLemmas.{get_none}
 use Rattle.hc_machine.specs.Steps.{Cache, StandsFor}
 use Rattle.hc_order.specs.declared.occurrence.Occurrence.{Occurrence}
-use Rattle.hc_order.specs.Log.{Move}
+use Rattle.hc_order.specs.Log.{Move, carried}
 use Rattle.hc_order.specs.Log.Move.{Heard}
 use Rattle.hc_order.specs.Mirrors.{Mirrors}
 use Rattle.hc_order.specs.Passed.{IsUsual, events_of, passed}
@@ -272,6 +272,19 @@ module _ {most : ℕ} {was_safe : Type 0} {mid : Telling} {from : Stage} {betwee
 pub told_of_pause : (why : DriveFault) → (why ≡ fault.Recorder) ⊎ (why ≡ fault.Core Memory) → IsToldBy Before why ⊎ EndsBetween Before why
 told_of_pause why (inl is) = inr (refl, inl is)
 told_of_pause why (inr is) = inl is
+
+-- ---- something is told, however it ends
+
+told_at : (T : List Move → Type 0) (H : List ℕ → Type 0) (break : Break) (log : List Move) (text : List ℕ) → StopsAt break T H log text → (later : List Move) × T later
+told_at T H Before log text stops = (log, stops.0)
+told_at T H (AtAnswer occurrence step) log text stops = (Heard occurrence ∷ log, stops.0)
+told_at T H (Carrying occurrence actions) log text stops = (carried stops.done (Heard occurrence ∷ log), stops.told)
+
+pub still_told : (T : Type 0) (result : Result T DriveFault) (most : ℕ) (was_safe : Type 0) (new : Telling) (from : Stage) (cache : Cache)
+    → GivesCrowd most was_safe result new from cache → (later : List Move) × new.tells later
+still_told T (Ok done) most was_safe new from cache ends = (passed ends.rounds.occurrences ends.rounds.results from.log, ends.rounds.told)
+still_told T (Err why) most was_safe new from cache breaks =
+    let c = breaks.cut in told_at new.tells new.holds c.break (passed c.occurrences c.results from.log) (from.text ++ texts_given c.results) c.stops
 
 -- ---- the recording
 

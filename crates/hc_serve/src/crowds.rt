@@ -54,7 +54,7 @@ fn pause<S: BuildHasher, L: Batches, R: Recorder>(
 }
 
 /// Rounds, with a pause behind each batch of them, until all is served.
-fn serve_batches<S: BuildHasher, L: Batches, R: Recorder, V: Watcher<L>>(
+fn serve_batches<S: BuildHasher, L: Batches, R: Recorder, V: Watcher<L, R>>(
     alloc: Global,
     core: &mut Core<S>,
     links: &mut L,
@@ -86,7 +86,7 @@ fn serve_batches<S: BuildHasher, L: Batches, R: Recorder, V: Watcher<L>>(
         if pause(&*core, links, recorder)? {
             return Ok(());
         }
-        watcher.look(&*links);
+        watcher.look(&*links, &*recorder);
     }
     Err(DriveFault::Core(StepFault::Failed))
 }
@@ -94,13 +94,20 @@ fn serve_batches<S: BuildHasher, L: Batches, R: Recorder, V: Watcher<L>>(
 /// Serves clients at once, until the links are over: what happens is handed to the cache, and what the cache does is
 /// carried out, batch by batch. Behind each batch its records are flushed, before anything of it is written to a client:
 /// so, as far as the links tell what was written, no client has seen a reply that the recording lacks, whatever goes wrong.
-/// Then the watcher looks at the links. Where all is served, nothing is left open in the cache.
+/// Then the watcher looks at the links and at the recorder. Where all is served, nothing is left open in the cache.
+///
+/// A recorder that has fallen silent (`Lapsing` of hc_connection) never fails, so all goes on: then what stands in its file
+/// is a beginning of the recording, and of what clients have seen since it tells nothing. As long as it speaks, no client
+/// has seen a reply that the file lacks.
 ///
 /// Of a new cache the recording, if it was the opening of a transcript before, is a transcript to which the strictest
 /// audit says yes, as far as records can be numbered; or a beginning of one, where it ends by a fault. Of a new cache with
 /// room for as many connections as the links have open at once, any fault says that memory was refused, that the recorder
 /// failed, or, as `Failed`, that it went round 2^64 - 1 times: by a round for each event, or by a pause.
-pub fn serve_crowd<S: BuildHasher, L: Batches, R: Recorder, V: Watcher<L>>(
+///
+/// However it ends, there are no more links than there may be (`within`). So it is behind each round and pause, too: each
+/// keeps what is told, and nothing is told of more links.
+pub fn serve_crowd<S: BuildHasher, L: Batches, R: Recorder, V: Watcher<L, R>>(
     alloc: Global,
     core: &mut Core<S>,
     crowd: &mut L,
@@ -113,6 +120,7 @@ pub fn serve_crowd<S: BuildHasher, L: Batches, R: Recorder, V: Watcher<L>>(
     ensures serves { (log : List Move) (text : List ℕ) → L.tells crowd.old log → R.has_got recorder.old text
         → GivesCrowd (L.most crowd.old) (L.shows crowd.old log × R.has_kept recorder.old text) result
         (telling (L.tells crowd.new) (L.shows crowd.new) (R.has_got recorder.new) (R.has_kept recorder.new)) (stage core.old log text) core.new }
+    ensures few { (log : List Move) (text : List ℕ) → L.tells crowd.old log → R.has_got recorder.old text → L.within crowd.new }
     ensures over { IfOk result (λ _. L.over crowd.new) }
     ensures as_many { L.most crowd.new ≡ L.most crowd.old }
     ensures moments { (moment : ℕ) → L.may_tell crowd.new moment → L.may_tell crowd.old moment }

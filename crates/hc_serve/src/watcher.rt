@@ -1,15 +1,15 @@
-//! Who looks at links between batches.
+//! Who looks at links and at the recorder between batches.
 
 ghost use Rattle.std.specs.Prelude.{◌≡◌};
 ghost use Rattle.std.proofs.Common.{refl, ◌∙◌};
 
-/// Who looks at links between batches, to tell what is amiss there.
-pub trait Watcher<L> {
+/// Who looks at links and at the recorder between batches, to tell what is amiss there.
+pub trait Watcher<L, R> {
     /// What looks may make of it.
     ghost may_become: { Self → Self → Type 0 };
 
-    /// Looks at the links, behind a batch.
-    fn look(&mut self, links: &L)
+    /// Looks at the links and at the recorder, behind a batch.
+    fn look(&mut self, links: &L, recorder: &R)
         ensures { may_become self.old self.new };
 
     // Without a look it is as it was.
@@ -23,10 +23,10 @@ pub trait Watcher<L> {
 #[derive(Clone, Copy)]
 pub struct Unwatched;
 
-impl<L> Watcher<L> for Unwatched {
+impl<L, R> Watcher<L, R> for Unwatched {
     ghost may_become = { λ before after. after ≡ before };
 
-    fn look(&mut self, _links: &L) {}
+    fn look(&mut self, _links: &L, _recorder: &R) {}
 
     ghost stays = { λ _. refl };
 

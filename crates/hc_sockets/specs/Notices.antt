@@ -1,12 +1,16 @@
 -- What a proxy says on standard error.
-use Rattle.std.specs.Prelude.{◌≡◌, ℕ, List, [], ◌∷◌, ◌++◌, Option, codes, decimal}
+use Rattle.std.specs.Prelude.{◌≡◌, ℕ, ◌==◌, List, [], ◌∷◌, ◌++◌, Option, codes, decimal, if◌then◌else◌}
 use Rattle.std.specs.Io.KnownBytes.{Appends}
 use Rattle.hc_sockets.specs.declared.notice.Notice.{Notice}
-use Rattle.hc_sockets.specs.declared.notice.Notice.TheVariants.{Listening, Deaf, Unreached, Late, Broken, Behind}
+use Rattle.hc_sockets.specs.declared.notice.Notice.TheVariants.{Listening, Deaf, Unreached, Late, Broken, Silent, Unfinished, Unplaced, Behind, RecordFailed, RecordFull}
+
+-- the word for so many forwards
+abbrev pub forwards_word : ℕ → List ℕ
+forwards_word count = if count == 1 then codes "forward" else codes "forwards"
 
 -- how many forwards that befell, with the line feed behind it
 abbrev pub of_forwards : ℕ → List ℕ
-of_forwards count = decimal count ++ (codes " forwards" ++ 10 ∷ [])
+of_forwards count = decimal count ++ (codes " " ++ (forwards_word count ++ 10 ∷ []))
 
 -- the line on standard error, with its line feed
 abbrev pub notice_line : Notice → List ℕ
@@ -18,7 +22,12 @@ notice_line Deaf = codes "hcache: a signal ends it at once, since SIGTERM and SI
 notice_line (Unreached count) = codes "hcache: no link to the origin could be made: " ++ of_forwards count
 notice_line (Late count) = codes "hcache: no link to the origin was made in time: " ++ of_forwards count
 notice_line (Broken count) = codes "hcache: the link to the origin broke off: " ++ of_forwards count
+notice_line (Silent count) = codes "hcache: the origin fell silent: " ++ of_forwards count
+notice_line (Unfinished count) = codes "hcache: the origin took too long: " ++ of_forwards count
+notice_line (Unplaced count) = codes "hcache: no place at the origin came free in time: " ++ of_forwards count
 notice_line Behind = codes "hcache: the clock was set back, and ages don't follow it: a restart is due" ++ 10 ∷ []
+notice_line (RecordFailed reason) = codes "hcache: the recording has ended, and serving goes on: " ++ (reason.now ++ 10 ∷ [])
+notice_line RecordFull = codes "hcache: the recording has ended at its limit, and serving goes on" ++ 10 ∷ []
 
 -- the lines of those notices, one behind the other
 abbrev pub lines_of : List Notice → List ℕ

@@ -1,6 +1,7 @@
 //! What is amiss is told on standard error.
 
 use crate::notice::Notice;
+use crate::recorded::{RecordEnd, Recorded};
 use crate::voice::Voice;
 use hc_crowd::{Crowd, Failures, World};
 use hc_serve::Watcher;
@@ -9,7 +10,7 @@ use std::io::Write;
 /// So many milliseconds lie between two lines about failures of a kind at least.
 const PAUSE: u64 = 1_000;
 
-/// Says what is amiss: of each kind of failure a line a second at most.
+/// Says what is amiss: of each kind of failure a line a second at most, and once that the recording has ended.
 #[derive(Drop)]
 pub(crate) struct Herald<'a, E: Write> {
     voice: Voice<'a, E>,
@@ -19,6 +20,8 @@ pub(crate) struct Herald<'a, E: Write> {
     was_behind: bool,
     /// Nothing is said of failures before that millisecond.
     due: u64,
+    /// Whether it was told that the recording has ended.
+    told_end: bool,
 }
 
 impl<'a, E: Write> Herald<'a, E> {
@@ -34,6 +37,7 @@ impl<'a, E: Write> Herald<'a, E> {
             told,
             was_behind: false,
             due: 0,
+            told_end: false,
         }
     }
 
@@ -68,6 +72,23 @@ impl<'a, E: Write> Herald<'a, E> {
         self.voice.say_if(is_new, Notice::Behind);
     }
 
+    /// Says that the recording has ended, if that wasn't told yet.
+    pub(crate) fn look_at_recording<T: Recorded>(&mut self, recording: &T)
+        ensures { GoesOn E.contents self.old.voice self.new.voice }
+    {
+        if self.told_end {
+            return;
+        }
+        let Some(end) = recording.end() else {
+            return;
+        };
+        self.told_end = true;
+        match end {
+            RecordEnd::Failed(reason) => self.voice.say_record_failed(reason),
+            RecordEnd::Full => self.voice.say(Notice::RecordFull),
+        }
+    }
+
     /// Says what failed and wasn't told yet, if its time has come.
     fn look_at_failures(&mut self, tick: u64, failures: Failures)
         ensures { GoesOn E.contents self.old.voice self.new.voice }
@@ -75,7 +96,11 @@ impl<'a, E: Write> Herald<'a, E> {
         let unreached = failures.unreached.saturating_sub(self.told.unreached);
         let late = failures.late.saturating_sub(self.told.late);
         let broken = failures.broken.saturating_sub(self.told.broken);
-        let is_due = (tick >= self.due) & ((unreached | late | broken) > 0);
+        let silent = failures.silent.saturating_sub(self.told.silent);
+        let unfinished = failures.unfinished.saturating_sub(self.told.unfinished);
+        let unplaced = failures.unplaced.saturating_sub(self.told.unplaced);
+        let is_new = (unreached | late | broken | silent | unfinished | unplaced) > 0;
+        let is_due = (tick >= self.due) & is_new;
         if !is_due {
             return;
         }
@@ -85,17 +110,22 @@ impl<'a, E: Write> Herald<'a, E> {
             .say_if(unreached > 0, Notice::Unreached(unreached));
         self.voice.say_if(late > 0, Notice::Late(late));
         self.voice.say_if(broken > 0, Notice::Broken(broken));
+        self.voice.say_if(silent > 0, Notice::Silent(silent));
+        self.voice
+            .say_if(unfinished > 0, Notice::Unfinished(unfinished));
+        self.voice.say_if(unplaced > 0, Notice::Unplaced(unplaced));
     }
 }
 
-impl<'a, W: World, E: Write> Watcher<Crowd<W>> for Herald<'a, E> {
+impl<'a, W: World, T: Recorded, E: Write> Watcher<Crowd<W>, T> for Herald<'a, E> {
     ghost use Rattle.hc_sockets.specs.VoiceLaws.{joined, stays_as_it_is};
     ghost use Rattle.hc_sockets.specs.Voices.{GoesOn};
 
     ghost may_become = { λ before after. GoesOn E.contents before.voice after.voice };
 
-    fn look(&mut self, links: &Crowd<W>) {
+    fn look(&mut self, links: &Crowd<W>, recorder: &T) {
         self.look_at(links.tick(), links.failures(), links.is_behind());
+        self.look_at_recording(recorder);
     }
 
     ghost stays = { λ herald. stays_as_it_is E.contents herald.voice };

@@ -1,7 +1,7 @@
 //! What a proxy says on standard error.
 
 ghost use Rattle.std.specs.Prelude.{◌≡◌, IfOk, string_bytes};
-ghost use Rattle.hc_sockets.specs.Notices.{notice_line};
+ghost use Rattle.hc_sockets.specs.Notices.{forwards_word, notice_line};
 
 use std::alloc::{AllocError, Global};
 
@@ -31,8 +31,18 @@ pub enum Notice<'a> {
     Late(u64),
     /// Of so many the link broke off.
     Broken(u64),
+    /// Of so many the origin fell silent.
+    Silent(u64),
+    /// So many took too long in all.
+    Unfinished(u64),
+    /// For so many no place came free in time.
+    Unplaced(u64),
     /// The wall clock is behind the moment that is told.
     Behind,
+    /// The recording has ended since it couldn't be written on, for this reason.
+    RecordFailed(&'a str),
+    /// It has ended since it has as many octets as it may have.
+    RecordFull,
 }
 
 impl<'a> Notice<'a> {
@@ -46,19 +56,53 @@ impl<'a> Notice<'a> {
                 "hcache: a signal ends it at once, since SIGTERM and SIGINT aren't blocked\n"
             ),
             Notice::Unreached(count) => {
-                format!(in alloc; "hcache: no link to the origin could be made: {count} forwards\n")
+                let forwards = forwards_word(count);
+                format!(in alloc;
+                    "hcache: no link to the origin could be made: {count} {forwards}\n"
+                )
             }
-            Notice::Late(count) => format!(in alloc;
-                "hcache: no link to the origin was made in time: {count} forwards\n"
-            ),
+            Notice::Late(count) => {
+                let forwards = forwards_word(count);
+                format!(in alloc;
+                    "hcache: no link to the origin was made in time: {count} {forwards}\n"
+                )
+            }
             Notice::Broken(count) => {
-                format!(in alloc; "hcache: the link to the origin broke off: {count} forwards\n")
+                let forwards = forwards_word(count);
+                format!(in alloc; "hcache: the link to the origin broke off: {count} {forwards}\n")
+            }
+            Notice::Silent(count) => {
+                let forwards = forwards_word(count);
+                format!(in alloc; "hcache: the origin fell silent: {count} {forwards}\n")
+            }
+            Notice::Unfinished(count) => {
+                let forwards = forwards_word(count);
+                format!(in alloc; "hcache: the origin took too long: {count} {forwards}\n")
+            }
+            Notice::Unplaced(count) => {
+                let forwards = forwards_word(count);
+                format!(in alloc;
+                    "hcache: no place at the origin came free in time: {count} {forwards}\n"
+                )
             }
             Notice::Behind => format!(in alloc;
                 "hcache: the clock was set back, and ages don't follow it: a restart is due\n"
             ),
+            Notice::RecordFailed(reason) => format!(in alloc;
+                "hcache: the recording has ended, and serving goes on: {reason}\n"
+            ),
+            Notice::RecordFull => format!(in alloc;
+                "hcache: the recording has ended at its limit, and serving goes on\n"
+            ),
         }
     }
+}
+
+/// The word for so many forwards.
+fn forwards_word(count: u64) -> &'static str
+    ensures { result.now ≡ forwards_word count }
+{
+    if count == 1 { "forward" } else { "forwards" }
 }
 
 /// The line that says where clients can connect.

@@ -9,11 +9,12 @@ use crate::fault::ServeFault;
 use crate::herald::Herald;
 use crate::notice::{Greeting, Notice};
 use crate::open_files::open_files;
+use crate::recorded::Recorded;
 use crate::serving::opened;
 use crate::sockets::{Sockets, SocketsFault};
 use crate::system_link::{Recording, SystemLink};
 use crate::voice::Voice;
-use hc_connection::{Buffered, Off, Recorder};
+use hc_connection::{Buffered, Lapsing, Off, Recorder};
 use hc_crowd::{Crowd, Limits};
 use hc_machine::{Core, CoreFault};
 use hc_serve::{DriveFault, serve_crowd};
@@ -40,9 +41,24 @@ pub struct Proxy<'a> {
     pub listen: &'a str,
     /// The host and the port of the origin.
     pub origin: &'a str,
-    /// The file that is recorded to, if any is.
-    pub file: Option<&'a str>,
+    /// Where and how far that is recorded, if it is.
+    pub recording: Option<RecordTo<'a>>,
 }
+
+/// Where something is recorded, and how far.
+#[derive(Clone, Copy)]
+pub struct RecordTo<'a> {
+    /// The file.
+    pub file: &'a str,
+    /// Whether serving ends where a record can't be written; else the recording alone does.
+    pub strict: bool,
+    /// Behind how many octets the recording ends, those of its opening among them; it has no end without it. It ends with
+    /// the records of the batch in which it gets so many.
+    pub limit: Option<u64>,
+}
+
+/// What a proxy records by.
+type FileRecorder<F> = Lapsing<Buffered<SystemLink<Recording<F>>>>;
 
 /// Where clients connect to, what bounds them, and what is said once they can.
 #[derive(Drop)]
@@ -59,10 +75,13 @@ struct Serving<'a, R: Net + Clock + Files> {
 /// The file is created, or has to be empty: a recording is never emptied. A new one can be read and written by its owner
 /// alone, since it tells what clients send, credentials too. It is claimed, so that no other program records to it as long
 /// as it is open; a pipe or a device is neither claimed nor has it to be empty. It gets the opening of a transcript before
-/// clients are accepted, and the records of a batch before what they tell leaves for a client.
+/// clients are accepted, and the records of a batch before what they tell leaves for a client. Where a record can't be
+/// written, or the limit was reached, the recording ends for good, as a beginning of a transcript, and serving goes on;
+/// where it is strict, it is serving that ends where a record can't be written.
 ///
 /// Once clients can connect, `faults` gets a line that says where. Later it gets one for each kind of failure of the origin,
-/// a second apart at least, and one where the wall clock was set back. Behind a line that can't be written it gets no other.
+/// a second apart at least, one where the wall clock was set back, and one where the recording ends before serving does.
+/// Behind a line that can't be written it gets no other.
 ///
 /// No clause says what passes at sockets and files, since none can say what the system's hold. What is recorded of the
 /// octets that links give and get is what `serve_crowd` of hc_serve promises, and what it asks of the cache and of the file
@@ -95,14 +114,14 @@ where
         limits,
         greeting,
     };
-    serve_recorded(rt, serving, proxy.file, &mut core, faults)
+    serve_recorded(rt, serving, proxy.recording, &mut core, faults)
 }
 
-/// Serves, and records to the file of that name, if any.
+/// Serves, and records there, if anywhere.
 fn serve_recorded<R, E: Write>(
     rt: &R,
     serving: Serving<'_, R>,
-    file: Option<&str>,
+    recording: Option<RecordTo<'_>>,
     core: &mut Core<RandomState>,
     faults: &mut E,
 ) -> Result<(), ServeFault>
@@ -111,13 +130,13 @@ where
     R::File: Claim,
     ensures { SaysSome (E.contents faults.old) (E.contents faults.new) }
 {
-    let Some(name) = file else {
+    let Some(to) = recording else {
         return serve_unrecorded(rt.alloc(), serving, core, faults);
     };
-    let mut recorder = new_recorder(rt, name)?;
+    let mut recorder = new_recorder(rt, to)?;
     match serve_with(rt.alloc(), serving, core, &mut recorder, faults) {
         Ok(()) => Ok(()),
-        Err(fault) => Err(fault_of(fault, recorder.link().reason())),
+        Err(fault) => Err(fault_of(fault, recorder.recorder().link().reason())),
     }
 }
 
@@ -137,7 +156,7 @@ fn serve_unrecorded<R: Net + Files + Clock, E: Write>(
 }
 
 /// Serves, and records to that.
-fn serve_with<R: Net + Files + Clock, T: Recorder, E: Write>(
+fn serve_with<R: Net + Files + Clock, T: Recorder + Recorded, E: Write>(
     alloc: Global,
     serving: Serving<'_, R>,
     core: &mut Core<RandomState>,
@@ -156,7 +175,10 @@ fn serve_with<R: Net + Files + Clock, T: Recorder, E: Write>(
     let mut herald = Herald::new(Voice::new(alloc, faults), crowd.failures());
     herald.say(Notice::Listening(greeting));
     herald.say_if(!hears_stops, Notice::Deaf);
-    serve_crowd(alloc, core, &mut crowd, recorder, &mut herald)
+    let served = serve_crowd(alloc, core, &mut crowd, recorder, &mut herald);
+    // Behind the last batch nobody has looked.
+    herald.look_at_recording(&*recorder);
+    served
 }
 
 /// Fails where the system doesn't let so many files be open as the limits may want.
@@ -209,18 +231,21 @@ fn new_core<R: RandomSource + AllocGlobal>(
     }
 }
 
-/// What records to the file of that name, which has the opening of a transcript.
+/// What records there, behind the opening of a transcript.
 fn new_recorder<R: Files + AllocGlobal>(
     rt: &R,
-    name: &str,
-) -> Result<Buffered<SystemLink<Recording<R::File>>>, ServeFault>
+    to: RecordTo<'_>,
+) -> Result<FileRecorder<R::File>, ServeFault>
 where
     R::File: Claim,
 {
-    match begun(rt, name) {
-        Ok(file) => Ok(Buffered::new(rt.alloc(), SystemLink::new(Recording { file }))),
-        Err(reason) => Err(ServeFault::Record(reason)),
-    }
+    let file = match begun(rt, to.file) {
+        Ok(file) => file,
+        Err(reason) => return Err(ServeFault::Record(reason)),
+    };
+    let written = Format::Second.opening().len() as u64;
+    let buffered = Buffered::new(rt.alloc(), SystemLink::new(Recording { file }));
+    Ok(Lapsing::new(buffered, written, to.limit, to.strict))
 }
 
 /// The file, claimed, and then with the opening of a transcript. One that isn't empty stays as it is.

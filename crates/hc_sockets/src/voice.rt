@@ -6,6 +6,7 @@ ghost use Rattle.hc_sockets.specs.Notices.{BeginsBehind};
 
 use crate::notice::Notice;
 use std::alloc::Global;
+use std::io;
 use std::io::Write;
 
 /// Says notices, line by line. Behind a line that couldn't be written whole nothing more is said.
@@ -44,6 +45,16 @@ impl<'a, E: Write> Voice<'a, E> {
             return;
         };
         self.silent = !put(self.to, line.as_bytes());
+    }
+
+    /// Says that the recording has ended for that reason, likewise.
+    pub(crate) fn say_record_failed(&mut self, reason: io::Error)
+        ensures { GoesOn E.contents self.old self.new }
+    {
+        let Ok(reason) = format!(in self.alloc; "{reason}") else {
+            return;
+        };
+        self.say(Notice::RecordFailed(reason.as_str()));
     }
 
     /// Says a notice if it is due.

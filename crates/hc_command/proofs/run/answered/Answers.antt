@@ -2,7 +2,7 @@ use Rattle.std.proofs.Common.{false, inl, map, None, subst}
 use Rattle.clap.specs.declared.error.ErrorKind.{ErrorKind}
 use Rattle.hc_arguments.specs.Command.{IsErrorStatus, task_of}
 use Rattle.hc_arguments.specs.Command.Task.{ToAudit, ToReport, ToExplain, ToReplay, ToConvert, ToServe, ToProxy}
-use Rattle.hc_arguments.specs.Values.{plain, plain_cache, plain_limits}
+use Rattle.hc_arguments.specs.Values.{plain, plain_cache, plain_limits, plain_terms}
 use Rattle.hc_arguments.proofs.ArgumentLemmas.{asked_from, one_task}
 use Rattle.hc_command.proofs.EndLemmas.{does_as, does_ends, fails_with_3}
 use Rattle.hc_command.proofs.run.answered.Goals as goal
@@ -34,7 +34,7 @@ returns-in-Ok-clause-serve g c = λ name listen origin number file connections c
 
 pub returns-in-Ok-clause-proxy : goal.returns-in-Ok-clause-proxy
 returns-in-Ok-clause-proxy g c = λ name listen origin same.
-    does_as (task_of c.in-Ok.order) (ToProxy listen origin None plain_limits plain_cache) _ _ _ _ _ (c.in-Ok.ensures.proxy name listen origin same) c.done.ensures
+    does_as (task_of c.in-Ok.order) (ToProxy listen origin None plain_terms plain_limits plain_cache) _ _ _ _ _ (c.in-Ok.ensures.proxy name listen origin same) c.done.ensures
 
 pub returns-in-Ok-clause-asked : goal.returns-in-Ok-clause-asked
 returns-in-Ok-clause-asked g c = λ task none asks.

@@ -1,7 +1,13 @@
-use Rattle.hc_crowd.proofs.ShownLemmas.{told_shown}
+use Rattle.hc_peers.proofs.ShownLemmas.{peers_show}
 use Rattle.hc_crowd.proofs.crowd.CrowdBatches.deliver.Goals as goal
 
 pub returns-clause-shown : goal.returns-clause-shown
 returns-clause-shown g c = λ log t.
-    told_shown g.W.Stream.Stream.has_given g.W.Stream.Stream.has_got c.refusal.new.self.peers.clients.table log
-    (c.refusal.ensures.tells log (c.write_owed.ensures.tells log (c.give_places.ensures.tells log (c.sort_opened.ensures.tells log t.0)))).clients
+    peers_show g.W.Stream.Stream.has_given g.W.Stream.Stream.has_got _ c.refusal.new.self.peers log
+    (c.refusal.ensures.tells _ log (c.write_owed.ensures.tells _ log (c.give_places.ensures.tells _ log (c.sort_opened.ensures.tells _ log (c.look_at_clock.ensures.tells _ log t.0)))))
+
+pub returns-clause-tells : goal.returns-clause-tells
+returns-clause-tells g c = λ log t. (
+  c.refusal.ensures.tells _ log (c.write_owed.ensures.tells _ log (c.give_places.ensures.tells _ log (c.sort_opened.ensures.tells _ log (c.look_at_clock.ensures.tells _ log t.0)))),
+  t.1,
+)

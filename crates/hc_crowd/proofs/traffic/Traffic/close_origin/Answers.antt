@@ -4,7 +4,7 @@ use Rattle.hc_order.specs.declared.receiver.Receiver.TheVariants.{Origin}
 use Rattle.hc_crowd.proofs.traffic.Traffic.close_origin.Goals as goal
 
 pub returns-in-Some-clause-tells : goal.returns-in-Some-clause-tells
-returns-in-Some-clause-tells g c = λ log t. c.linger.ensures.tells (Closed (Origin c.args.forward) ∷ log) (c.close_origin.ensures.tells log t)
+returns-in-Some-clause-tells g c = λ bounds log t. c.linger.ensures.tells bounds (Closed (Origin c.args.forward) ∷ log) (c.close_origin.ensures.tells bounds log t)
 
 pub returns-in-None-clause-tells : goal.returns-in-None-clause-tells
-returns-in-None-clause-tells g c = λ log t. c.free_place.ensures.tells (Closed (Origin c.args.forward) ∷ log) (c.close_origin.ensures.tells log t)
+returns-in-None-clause-tells g c = λ bounds log t. c.free_place.ensures.tells bounds (Closed (Origin c.args.forward) ∷ log) (c.close_origin.ensures.tells bounds log t)

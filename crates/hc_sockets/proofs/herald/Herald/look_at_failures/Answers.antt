@@ -6,4 +6,6 @@ returns-then-not-is_due g c = stays_as_it_is g.E.Write.contents c.args.self.now.
 
 pub returns : goal.returns
 returns g c =
-    joined g.E.Write.contents _ _ _ (joined g.E.Write.contents _ _ _ c.say_if.ensures c.say_if-2.ensures) c.say_if-3.ensures
+    let first = joined g.E.Write.contents _ _ _ (joined g.E.Write.contents _ _ _ c.say_if.ensures c.say_if-2.ensures) c.say_if-3.ensures in
+    let last = joined g.E.Write.contents _ _ _ (joined g.E.Write.contents _ _ _ c.say_if-4.ensures c.say_if-5.ensures) c.say_if-6.ensures in
+    joined g.E.Write.contents _ _ _ first last

@@ -1,0 +1,2 @@
+pub mod MomentsLaws
+pub mod MomentsLemmas

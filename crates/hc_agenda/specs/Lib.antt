@@ -1,0 +1,4 @@
+pub mod Moments
+pub mod MomentsKept
+pub mod Places
+pub mod Turns

@@ -1,0 +1,191 @@
+//! The places at the origin: who has one, and who waits for one.
+
+ghost use Rattle.std.specs.Prelude.{◌≡◌, ◌+◌, ◌≤◌, ℕ, true, false, IfSome, OnOk};
+ghost use Rattle.std.specs.BTreeMap.{is_at};
+ghost use Rattle.std.specs.Ordering.{nat_cmp};
+ghost use Rattle.hc_agenda.specs.Places.{HasPlaceLeft, KeepsPlaces, has_place, places_given, places_in_all};
+
+use std::alloc::{AllocError, Global};
+use std::collections::{BTreeMap, VecDeque};
+
+/// A forward that may have a place.
+#[derive(Clone, Copy)]
+pub struct Candidate {
+    pub forward: u64,
+    /// Whether nobody awaits what comes on it.
+    background: bool,
+}
+
+/// The places at the origin. Forwards wait for them in the order in which they were opened, those that nobody awaits
+/// behind all others; these have half of all places at most.
+#[derive(Drop)]
+pub struct Places {
+    /// How many places there are.
+    most: usize,
+    /// Those that were given, by forward: whether nobody awaited what comes on it.
+    given: BTreeMap<u64, bool>,
+    /// How many of these nobody awaits.
+    background: usize,
+    /// Forwards that were opened and aren't sorted yet.
+    opened: VecDeque<u64>,
+    /// Forwards that wait.
+    awaited: VecDeque<u64>,
+    /// Forwards that wait, and that nobody awaits.
+    unawaited: VecDeque<u64>,
+}
+
+impl Places {
+    /// So many places, of which none was given.
+    pub fn new(alloc: Global, most: usize) -> Self
+        ensures all { places_in_all result ≡ most }
+        ensures none { places_given result ≡ 0 }
+        ensures empty { (f : ℕ) → has_place f result ≡ false }
+    {
+        Places {
+            most,
+            given: BTreeMap::new(alloc),
+            background: 0,
+            opened: VecDeque::new(alloc),
+            awaited: VecDeque::new(alloc),
+            unawaited: VecDeque::new(alloc),
+        }
+    }
+
+    /// A forward was opened.
+    pub fn open(&mut self, forward: u64) -> Result<(), AllocError>
+        ensures { KeepsPlaces self.old self.new }
+    {
+        self.opened.push_back(forward)?;
+        Ok(())
+    }
+
+    /// How many forwards were opened and aren't sorted yet.
+    pub fn opened(&self) -> usize {
+        self.opened.len()
+    }
+
+    /// The first of those that were opened and aren't sorted yet, which is taken out.
+    pub fn next_opened(&mut self) -> Option<u64>
+        ensures { KeepsPlaces self.old self.new }
+    {
+        self.opened.pop_front()
+    }
+
+    /// A forward waits for a place.
+    pub fn wait(&mut self, forward: u64, background: bool) -> Result<(), AllocError>
+        ensures { KeepsPlaces self.old self.new }
+    {
+        if background {
+            self.unawaited.push_back(forward)?;
+        } else {
+            self.awaited.push_back(forward)?;
+        }
+        Ok(())
+    }
+
+    /// How many forwards wait.
+    pub fn waiting(&self) -> usize {
+        self.awaited.len().saturating_add(self.unawaited.len())
+    }
+
+    /// The next forward that may have a place now, which is taken out.
+    pub fn next(&mut self) -> Option<Candidate>
+        ensures kept { KeepsPlaces self.old self.new }
+        ensures left { IfSome result (λ _. HasPlaceLeft self.new) }
+    {
+        if self.given.len() >= self.most {
+            return None;
+        }
+        if let Some(forward) = self.awaited.pop_front() {
+            return Some(Candidate {
+                forward,
+                background: false,
+            });
+        }
+        self.next_unawaited()
+    }
+
+    /// The same of those that nobody awaits. Of an odd number of places the larger half is theirs, so that they have one
+    /// at least.
+    fn next_unawaited(&mut self) -> Option<Candidate>
+        ensures { KeepsPlaces self.old self.new }
+    {
+        if self.background >= self.most - self.most / 2 {
+            return None;
+        }
+        let forward = self.unawaited.pop_front()?;
+        Some(Candidate {
+            forward,
+            background: true,
+        })
+    }
+
+    /// A forward has a place. Where memory is refused, all is as it was.
+    pub fn give(&mut self, candidate: Candidate) -> Result<(), AllocError>
+        ensures all { places_in_all self.new ≡ places_in_all self.old }
+        ensures one_more { places_given self.new ≤ places_given self.old + 1 }
+        ensures kept { (f : ℕ) → has_place f self.old ≡ true → has_place f self.new ≡ true }
+        ensures given { OnOk result (has_place candidate.forward self.new ≡ true) }
+    {
+        let Candidate {
+            forward,
+            background,
+        } = candidate;
+        let before = self.given.insert(forward, background)?;
+        if let Some(was_background) = before {
+            self.count_out(was_background);
+        }
+        if background {
+            self.background = self.background.saturating_add(1);
+        }
+        Ok(())
+    }
+
+    /// A forward waits no more. The one that has waited for longest is taken out at once, any other once its turn comes.
+    pub fn leave(&mut self, forward: u64)
+        ensures { KeepsPlaces self.old self.new }
+    {
+        take_first(&mut self.awaited, forward);
+        take_first(&mut self.unawaited, forward);
+    }
+
+    /// Whether a forward has a place.
+    pub fn has(&self, forward: u64) -> bool
+        ensures { result ≡ has_place forward self.now }
+    {
+        self.given.contains_key(&forward)
+    }
+
+    /// A forward needs no place any more. Answers whether it had one.
+    pub fn free(&mut self, forward: u64) -> bool
+        ensures all { places_in_all self.new ≡ places_in_all self.old }
+        ensures fewer { places_given self.new ≤ places_given self.old }
+        ensures others { (f : ℕ) → is_at (nat_cmp forward) f ≡ false → has_place f self.new ≡ has_place f self.old }
+    {
+        let Some(background) = self.given.remove(&forward) else {
+            return false;
+        };
+        self.count_out(background);
+        true
+    }
+
+    /// A place isn't given any more.
+    fn count_out(&mut self, background: bool)
+        ensures { KeepsPlaces self.old self.new }
+    {
+        if background {
+            self.background = self.background.saturating_sub(1);
+        }
+    }
+}
+
+/// Takes the first out, if it is that one.
+fn take_first(waiting: &mut VecDeque<u64>, forward: u64) {
+    let is_first = match waiting.front() {
+        Some(first) => *first == forward,
+        None => false,
+    };
+    if is_first {
+        waiting.pop_front();
+    }
+}

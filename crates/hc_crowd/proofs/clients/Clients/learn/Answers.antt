@@ -1,9 +1,0 @@
-use Rattle.hc_order.specs.declared.receiver.Receiver.TheVariants.{Client}
-use Rattle.hc_crowd.specs.Links.{IsClientAt}
-use Rattle.hc_crowd.proofs.TableLemmas.{lent_stays}
-use Rattle.hc_crowd.proofs.clients.Clients.learn.Goals as goal
-
-pub returns-in-Some-clause-kept : goal.returns-in-Some-clause-kept
-returns-in-Some-clause-kept g c =
-    lent_stays (IsClientAt g.S.Stream.has_given g.S.Stream.has_got) c.args.self.now.table (c.get_mut.follows.lender c.learn.new.self) c.args.number c.in-Some.client.now c.learn.new.self
-    c.in-Some.ensures.value (c.get_mut.follows.holds c.learn.new.self) Client c.learn.ensures.kept

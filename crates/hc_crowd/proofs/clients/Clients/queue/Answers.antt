@@ -1,9 +1,0 @@
-use Rattle.hc_order.specs.declared.receiver.Receiver.TheVariants.{Client}
-use Rattle.hc_crowd.specs.Links.{IsClientAt}
-use Rattle.hc_crowd.proofs.TableLemmas.{lent_stays}
-use Rattle.hc_crowd.proofs.clients.Clients.queue.Goals as goal
-
-pub returns-in-Some-clause-kept : goal.returns-in-Some-clause-kept
-returns-in-Some-clause-kept g c =
-    lent_stays (IsClientAt g.S.Stream.has_given g.S.Stream.has_got) c.args.self.now.table (c.get_mut.follows.lender c.queue.new.self) c.args.number c.in-Some.client.now c.queue.new.self
-    c.in-Some.ensures.value (c.get_mut.follows.holds c.queue.new.self) Client c.queue.ensures.kept

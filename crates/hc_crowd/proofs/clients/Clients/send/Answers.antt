@@ -1,8 +1,0 @@
-use Rattle.hc_crowd.specs.Links.{IsClientAt}
-use Rattle.hc_crowd.proofs.TableLemmas.{client_sent}
-use Rattle.hc_crowd.proofs.clients.Clients.send.Goals as goal
-
-pub returns-clause-sent : goal.returns-clause-sent
-returns-clause-sent g c =
-    client_sent (IsClientAt g.S.Stream.has_given g.S.Stream.has_got) c.args.self.now.table (c.get_mut.follows.lender c.send.new.self) c.args.number c.in-Some.client.now c.send.new.self
-    c.in-Some.ensures.value (c.get_mut.follows.holds c.send.new.self) c.send.result c.args.text.now c.send.ensures.kept

@@ -1,0 +1,14 @@
+-- How forwards fail.
+use Rattle.hc_order.specs.declared.occurrence.Reason.{Reason}
+use Rattle.hc_order.specs.declared.occurrence.Reason.TheVariants as told
+use Rattle.hc_crowd.specs.declared.failures.Failure.{Failure}
+use Rattle.hc_crowd.specs.declared.failures.Failure.TheVariants.{Unplaced, Unreached, Late, Broken, Silent, Unfinished}
+
+-- why a failure is told: the time for something was over, or a link failed
+abbrev pub reason_of : Failure → Reason
+reason_of Unplaced = told.Late
+reason_of Unreached = told.Reset
+reason_of Late = told.Late
+reason_of Broken = told.Reset
+reason_of Silent = told.Late
+reason_of Unfinished = told.Late

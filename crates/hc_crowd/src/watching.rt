@@ -1,0 +1,167 @@
+//! Deadlines: who is looked at, and when.
+
+ghost use Rattle.std.specs.Prelude.{◌≡◌, ℕ, List, ◌∷◌};
+
+use crate::failures::Failure;
+use crate::limits::Limits;
+use crate::traffic::Traffic;
+use crate::world::World;
+use hc_agenda::{Deadline, Timeout};
+use hc_order::Receiver;
+use hc_peers::Patience;
+
+/// So many milliseconds later a client whose time is over is looked at again: a request of it may await its reply.
+const LOOKS_AGAIN: u64 = 1_000;
+
+impl<W: World> Traffic<W> {
+    ghost use Rattle.hc_order.specs.Log.{Move};
+    ghost use Rattle.hc_peers.specs.Peers.{ArePeers, Bounds};
+    ghost use Rattle.hc_peers.specs.Shown.{ShowNoMore};
+
+    /// A client is looked at once its time may be over. What passes at its link moves no deadline: that is moved, where the
+    /// time isn't over, once it has come.
+    pub(crate) fn watch_client(&mut self, number: u64, patience: Patience)
+        ensures tells { (bounds : Bounds) (log : List Move) → ArePeers W.Stream.has_given W.Stream.has_got bounds self.old.peers log
+            → ArePeers W.Stream.has_given W.Stream.has_got bounds self.new.peers log }
+        ensures shown { (log : List Move) → ShowNoMore W.Stream.has_got self.old.peers log
+            → ShowNoMore W.Stream.has_got self.new.peers log }
+    {
+        if let Some(pace) = self.peers.clients.pace(number) {
+            let look = pace.next_look(self.tick, patience);
+            self.agenda.note(Timeout::Client, look, number);
+        }
+    }
+
+    /// A forward that has a link is looked at once its time may be over: so it is with that of a client.
+    fn watch_forward(&mut self, forward: u64, patience: Patience)
+        ensures tells { (bounds : Bounds) (log : List Move) → ArePeers W.Stream.has_given W.Stream.has_got bounds self.old.peers log
+            → ArePeers W.Stream.has_given W.Stream.has_got bounds self.new.peers log }
+        ensures shown { (log : List Move) → ShowNoMore W.Stream.has_got self.old.peers log
+            → ShowNoMore W.Stream.has_got self.new.peers log }
+    {
+        if let Some(progress) = self.peers.forwards.progress(forward) {
+            let look = progress.next_look(patience);
+            self.agenda.note(Timeout::Origin, look, forward);
+        }
+    }
+
+    /// A link for a forward begins to be made.
+    pub(crate) fn watch_link(&mut self, forward: u64, limits: Limits)
+        ensures tells { (bounds : Bounds) (log : List Move) → ArePeers W.Stream.has_given W.Stream.has_got bounds self.old.peers log
+            → ArePeers W.Stream.has_given W.Stream.has_got bounds self.new.peers log }
+        ensures shown { (log : List Move) → ShowNoMore W.Stream.has_got self.old.peers log
+            → ShowNoMore W.Stream.has_got self.new.peers log }
+    {
+        let due = self.due_behind(limits.connect_timeout);
+        self.agenda.note(Timeout::Connect, due, forward);
+        self.watch_forward(forward, limits.patience);
+    }
+
+    /// Takes in all that is due.
+    pub(crate) fn pass_all(&mut self, limits: Limits)
+        ensures tells { (bounds : Bounds) (log : List Move) → ArePeers W.Stream.has_given W.Stream.has_got bounds self.old.peers log
+            → ArePeers W.Stream.has_given W.Stream.has_got bounds self.new.peers log }
+        ensures shown { (log : List Move) → ShowNoMore W.Stream.has_got self.old.peers log
+            → ShowNoMore W.Stream.has_got self.new.peers log }
+    {
+        self.pass(Timeout::Client, limits);
+        self.pass(Timeout::ClientLingering, limits);
+        self.pass(Timeout::Place, limits);
+        self.pass(Timeout::Connect, limits);
+        self.pass(Timeout::Origin, limits);
+        self.pass(Timeout::OriginLingering, limits);
+    }
+
+    /// Takes in what is due by that time-out.
+    fn pass(&mut self, timeout: Timeout, limits: Limits)
+        ensures tells { (bounds : Bounds) (log : List Move) → ArePeers W.Stream.has_given W.Stream.has_got bounds self.old.peers log
+            → ArePeers W.Stream.has_given W.Stream.has_got bounds self.new.peers log }
+        ensures shown { (log : List Move) → ShowNoMore W.Stream.has_got self.old.peers log
+            → ShowNoMore W.Stream.has_got self.new.peers log }
+    {
+        'due: for _ in 0..self.agenda.deadlines() {
+            let Some(deadline) = self.agenda.pass(timeout, self.tick) else {
+                return;
+            };
+            self.end_time(deadline, limits);
+        }
+    }
+
+    /// A deadline has come. Nothing is done where the link has gone or moved on.
+    fn end_time(&mut self, deadline: Deadline, limits: Limits)
+        ensures tells { (bounds : Bounds) (log : List Move) → ArePeers W.Stream.has_given W.Stream.has_got bounds self.old.peers log
+            → ArePeers W.Stream.has_given W.Stream.has_got bounds self.new.peers log }
+        ensures shown { (log : List Move) → ShowNoMore W.Stream.has_got self.old.peers log
+            → ShowNoMore W.Stream.has_got self.new.peers log }
+    {
+        let number = deadline.number;
+        match deadline.timeout {
+            Timeout::Client => self.look_at_client(number, limits.patience),
+            Timeout::ClientLingering => self.let_go(number),
+            Timeout::Place => self.end_waiting(number),
+            Timeout::Connect => self.end_connect(number),
+            Timeout::Origin => self.look_at_forward(number, limits.patience),
+            Timeout::OriginLingering => self.drop_lingering(number),
+        }
+    }
+
+    /// A client whose time is over is to be heard: in its turn the cache is asked whether a request of it awaits its reply.
+    fn look_at_client(&mut self, number: u64, patience: Patience)
+        ensures tells { (bounds : Bounds) (log : List Move) → ArePeers W.Stream.has_given W.Stream.has_got bounds self.old.peers log
+            → ArePeers W.Stream.has_given W.Stream.has_got bounds self.new.peers log }
+        ensures shown { (log : List Move) → ShowNoMore W.Stream.has_got self.old.peers log
+            → ShowNoMore W.Stream.has_got self.new.peers log }
+    {
+        if self.peers.is_overdue(number, self.tick, patience) {
+            self.give_turn(Receiver::Client(number));
+            let look = self.due_behind(LOOKS_AGAIN);
+            self.agenda.note(Timeout::Client, look, number);
+        } else {
+            self.watch_client(number, patience);
+        }
+    }
+
+    /// A forward fails that waits for a place still.
+    fn end_waiting(&mut self, forward: u64)
+        ensures tells { (bounds : Bounds) (log : List Move) → ArePeers W.Stream.has_given W.Stream.has_got bounds self.old.peers log
+            → ArePeers W.Stream.has_given W.Stream.has_got bounds self.new.peers log }
+        ensures shown { (log : List Move) → ShowNoMore W.Stream.has_got self.old.peers log
+            → ShowNoMore W.Stream.has_got self.new.peers log }
+    {
+        if self.peers.forwards.is_waiting(forward) {
+            self.peers.leave_places(forward);
+            self.give_up(forward, Failure::Unplaced);
+        }
+    }
+
+    /// A forward fails whose link isn't made.
+    fn end_connect(&mut self, forward: u64)
+        ensures tells { (bounds : Bounds) (log : List Move) → ArePeers W.Stream.has_given W.Stream.has_got bounds self.old.peers log
+            → ArePeers W.Stream.has_given W.Stream.has_got bounds self.new.peers log }
+        ensures shown { (log : List Move) → ShowNoMore W.Stream.has_got self.old.peers log
+            → ShowNoMore W.Stream.has_got self.new.peers log }
+    {
+        if self.peers.forwards.is_opening(forward) {
+            self.give_up(forward, Failure::Late);
+        }
+    }
+
+    /// A forward fails whose time is over.
+    fn look_at_forward(&mut self, forward: u64, patience: Patience)
+        ensures tells { (bounds : Bounds) (log : List Move) → ArePeers W.Stream.has_given W.Stream.has_got bounds self.old.peers log
+            → ArePeers W.Stream.has_given W.Stream.has_got bounds self.new.peers log }
+        ensures shown { (log : List Move) → ShowNoMore W.Stream.has_got self.old.peers log
+            → ShowNoMore W.Stream.has_got self.new.peers log }
+    {
+        let Some(progress) = self.peers.forwards.progress(forward) else {
+            return;
+        };
+        if progress.is_silent(self.tick, patience) {
+            self.give_up(forward, Failure::Silent);
+        } else if progress.is_overdue(self.tick, patience) {
+            self.give_up(forward, Failure::Unfinished);
+        } else {
+            self.watch_forward(forward, patience);
+        }
+    }
+}

@@ -1,0 +1,135 @@
+//! Links of which all that happens is noted.
+
+ghost use Rattle.hc_order.specs.declared.occurrence.Occurrence.{Occurrence};
+ghost use Rattle.hc_order.specs.Log.{Move};
+ghost use Rattle.std.specs.Prelude.{List};
+
+use hc_connection::{Awaiting, Batches, Links};
+use hc_events::{Event, Happening};
+use hc_framing::MessageText;
+use hc_order::{Occurrence, Receiver};
+use std::alloc::{AllocError, Global};
+use std::mem;
+
+/// So often it is waited for something at most.
+const MOST_WAITS: u64 = 100_000;
+
+/// Links of which all that happens is noted. They fail where they are waited for 100,000 times.
+#[derive(Drop)]
+pub struct Noted<L: Batches> {
+    alloc: Global,
+    /// The links.
+    pub links: L,
+    /// What has happened.
+    events: Vec<Event>,
+    /// Whether memory was refused for a note.
+    torn: bool,
+    /// How often something was waited for.
+    waits: u64,
+}
+
+impl<L: Batches + Drop> Noted<L> {
+    /// Nothing has happened yet.
+    pub fn new(alloc: Global, links: L) -> Self {
+        Noted {
+            alloc,
+            links,
+            events: Vec::new(alloc),
+            torn: false,
+            waits: 0,
+        }
+    }
+
+    /// What has happened, which is noted no more.
+    pub fn take_events(&mut self) -> Vec<Event> {
+        mem::replace(&mut self.events, Vec::new(self.alloc))
+    }
+
+    /// Whether memory was refused for a note, which is missing.
+    pub fn is_torn(&self) -> bool {
+        self.torn
+    }
+}
+
+/// The same event once more.
+fn copy_of(alloc: Global, event: &Event) -> Result<Event, AllocError> {
+    let of = match &event.of {
+        Happening::ClientOpened(c) => Happening::ClientOpened(*c),
+        Happening::ClientBytes(c, octets) => Happening::ClientBytes(*c, octets.copy(alloc)?),
+        Happening::ClientEnd(c) => Happening::ClientEnd(*c),
+        Happening::OriginBytes(f, octets) => Happening::OriginBytes(*f, octets.copy(alloc)?),
+        Happening::OriginEnd(f) => Happening::OriginEnd(*f),
+        Happening::OriginFailed(f) => Happening::OriginFailed(*f),
+    };
+    Ok(Event {
+        moment: event.moment,
+        of,
+    })
+}
+
+/// Notes the event behind the others.
+fn note(alloc: Global, events: &mut Vec<Event>, event: &Event) -> Result<(), AllocError> {
+    events.push(copy_of(alloc, event)?)?;
+    Ok(())
+}
+
+impl<L: Batches> Links for Noted<L> {
+    ghost tells = { λ noted. L.tells noted.links };
+
+    ghost shows = { λ noted. L.shows noted.links };
+
+    ghost rests = { λ noted. L.rests noted.links };
+
+    ghost most = { λ noted. L.most noted.links };
+
+    ghost may_tell = { λ noted. L.may_tell noted.links };
+
+    ghost heeds = { L.heeds };
+
+    fn next<A: Awaiting>(&mut self, cache: &A) -> Result<Option<Occurrence>, AllocError> {
+        let next = self.links.next(cache);
+        if let Ok(Some(occurrence)) = &next {
+            if note(self.alloc, &mut self.events, &occurrence.event).is_err() {
+                self.torn = true;
+            }
+        }
+        next
+    }
+
+    fn send(&mut self, to: Receiver, octets: &MessageText) -> Result<(), AllocError> {
+        self.links.send(to, octets)
+    }
+
+    fn close(&mut self, link: Receiver) {
+        self.links.close(link);
+    }
+}
+
+impl<L: Batches> Batches for Noted<L> {
+    ghost over = { λ noted. L.over noted.links };
+
+    ghost within = { λ noted. L.within noted.links };
+
+    fn deliver<A: Awaiting>(&mut self, cache: &A) -> Result<(), AllocError> {
+        self.links.deliver(cache)
+    }
+
+    fn wait(&mut self) -> Result<(), AllocError> {
+        self.waits = self.waits.saturating_add(1);
+        self.links.wait()?;
+        if self.waits > MOST_WAITS {
+            return Err(AllocError);
+        }
+        Ok(())
+    }
+
+    fn is_over(&self) -> bool {
+        self.links.is_over()
+    }
+
+    ghost in_time = { λ noted. L.in_time noted.links };
+
+    ghost few = { λ noted. L.few noted.links };
+
+    ghost all_closed = { λ noted. L.all_closed noted.links };
+}

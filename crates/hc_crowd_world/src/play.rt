@@ -1,0 +1,340 @@
+//! A world in memory, which plays a script.
+
+ghost use Rattle.hc_flow.specs.Reads.{FitsBuffer};
+ghost use Rattle.hc_crowd_world.specs.Taking.{FitsText};
+ghost use Rattle.std.specs.Prelude.{◌++◌};
+
+use crate::deeds::{Act, Deed};
+use crate::peer::Peer;
+use crate::script::Script;
+use crate::tally::Tally;
+use hc_crowd::Ready;
+use hc_flow::{Arrival, Uptake};
+use hc_order::Receiver;
+use std::alloc::{AllocError, Global};
+use std::collections::{BTreeMap, VecDeque};
+use std::fmt::Write;
+
+/// The milliseconds of a second.
+const SECOND: u64 = 1_000;
+
+/// A world in memory.
+pub struct Play {
+    pub(crate) alloc: Global,
+    pub(crate) script: Script,
+    pub(crate) tick: u64,
+    /// The wall clock's second at millisecond 0, as it is set now.
+    wall: Option<u64>,
+    pub(crate) peers: BTreeMap<u64, Peer>,
+    ready: VecDeque<Ready>,
+    /// For so many links at once the system has places.
+    places: usize,
+    stops: bool,
+    listens: bool,
+    tally: Tally,
+    /// When links to the origin began to be made.
+    notes: String,
+}
+
+impl Drop for Play {
+    fn drop(self) {
+        let Play {
+            alloc: _,
+            script,
+            tick: _,
+            wall: _,
+            peers,
+            ready,
+            places: _,
+            stops: _,
+            listens: _,
+            tally: _,
+            notes,
+        } = self;
+        drop(script);
+        drop(peers);
+        drop(ready);
+        drop(notes);
+    }
+}
+
+/// The key of the other side of that link.
+pub fn key_of(link: Receiver) -> u64 {
+    match link {
+        Receiver::Client(number) => number.saturating_mul(2),
+        Receiver::Origin(forward) => forward.saturating_mul(2).saturating_add(1),
+    }
+}
+
+/// Whether that is the key of a client.
+pub fn is_client(key: u64) -> bool {
+    key % 2 == 0
+}
+
+impl Play {
+    /// A world in which nothing has happened yet.
+    pub fn new(alloc: Global, script: Script) -> Self {
+        Play {
+            alloc,
+            tick: 0,
+            wall: script.wall,
+            script,
+            peers: BTreeMap::new(alloc),
+            ready: VecDeque::new(alloc),
+            places: usize::MAX,
+            stops: false,
+            listens: true,
+            tally: Tally::new(),
+            notes: String::new(alloc),
+        }
+    }
+
+    /// The milliseconds that have passed.
+    pub fn tick(&self) -> u64 {
+        self.tick
+    }
+
+    /// The other sides of all links that there were, by key.
+    pub fn peers(&self) -> &BTreeMap<u64, Peer> {
+        &self.peers
+    }
+
+    /// The other side of that link.
+    pub fn peer(&self, link: Receiver) -> Option<&Peer> {
+        self.peers.get(&key_of(link))
+    }
+
+    /// What was counted.
+    pub fn tally(&self) -> Tally {
+        self.tally
+    }
+
+    /// When links to the origin began to be made, as text.
+    pub fn notes(&self) -> &str {
+        self.notes.as_str()
+    }
+
+    /// Whether all clients are to be served to their ends.
+    pub fn is_calm(&self) -> bool {
+        self.script.calm
+    }
+
+    /// Time passes, until something is ready or so many milliseconds are over.
+    pub(crate) fn wait(&mut self, most: u64) {
+        if self.pass(self.tick.saturating_add(most)).is_err() {
+            self.tally.broken = true;
+        }
+    }
+
+    /// All is done that is to be done by that millisecond, or until something is ready.
+    fn pass(&mut self, until: u64) -> Result<(), AllocError> {
+        'ticks: for _ in 0..u64::MAX {
+            let due = self.script.cues.first().unwrap_or(until).min(until);
+            self.tick = self.tick.max(due);
+            self.perform()?;
+            if self.tick >= until || !self.ready.is_empty() || self.stops {
+                return Ok(());
+            }
+        }
+        Ok(())
+    }
+
+    /// All is done that is to be done by now.
+    fn perform(&mut self) -> Result<(), AllocError> {
+        'deeds: for _ in 0..u64::MAX {
+            let Some(deed) = self.script.cues.next(self.tick) else {
+                return Ok(());
+            };
+            self.act(&deed)?;
+        }
+        Ok(())
+    }
+
+    fn act(&mut self, deed: &Deed) -> Result<(), AllocError> {
+        match deed {
+            Deed::Connects => self.connects(),
+            Deed::Does(link, act) => self.does(*link, act),
+            Deed::Answers(forward) => self.answers(*forward),
+            Deed::Wall(second) => {
+                self.set_wall(*second);
+                Ok(())
+            }
+            Deed::Sleeps(most) => {
+                self.tick = self.tick.saturating_add(*most);
+                Ok(())
+            }
+            Deed::Places(places) => {
+                self.places = *places;
+                Ok(())
+            }
+            Deed::Stops => {
+                self.stops = true;
+                Ok(())
+            }
+        }
+    }
+
+    /// The wall clock is set.
+    fn set_wall(&mut self, second: Option<u64>) {
+        self.wall = match second {
+            Some(second) => Some(second.saturating_sub(self.tick / SECOND)),
+            None => None,
+        };
+    }
+
+    /// A client connects, as long as one can.
+    fn connects(&mut self) -> Result<(), AllocError> {
+        if !self.listens {
+            return Ok(());
+        }
+        self.tally.connected = self.tally.connected.saturating_add(1);
+        let peer = Peer::new(self.alloc, true, self.script.room, usize::MAX);
+        let key = key_of(Receiver::Client(self.tally.connected));
+        self.peers.insert(key, peer)?;
+        self.ready.push_back(Ready::Clients)?;
+        Ok(())
+    }
+
+    fn does(&mut self, link: Receiver, act: &Act) -> Result<(), AllocError> {
+        let Some(peer) = self.peers.get_mut(&key_of(link)) else {
+            self.tally.missed = self.tally.missed.saturating_add(1);
+            return Ok(());
+        };
+        let readiness = peer.acts(act)?;
+        if self.is_known(link) {
+            self.ready.push_back(Ready::Link(link, readiness))?;
+        }
+        Ok(())
+    }
+
+    /// Whether what becomes ready at a link is told.
+    fn is_known(&self, link: Receiver) -> bool {
+        match link {
+            Receiver::Client(number) => number <= self.tally.accepted,
+            Receiver::Origin(_) => true,
+        }
+    }
+
+    /// What became ready.
+    pub(crate) fn ready(&mut self) -> Option<Ready> {
+        self.ready.pop_front()
+    }
+
+    /// Whether the system has a place for a further link.
+    pub(crate) fn has_place(&self) -> bool {
+        self.tally.clients.saturating_add(self.tally.origins) < self.places
+    }
+
+    /// A client is accepted, if one has connected.
+    pub(crate) fn accept(&mut self) -> bool {
+        if self.tally.accepted >= self.tally.connected {
+            return false;
+        }
+        self.tally.accepted = self.tally.accepted.saturating_add(1);
+        self.tally.clients = self.tally.clients.saturating_add(1);
+        self.link(Receiver::Client(self.tally.accepted));
+        self.check_limits();
+        // What is so already is told, too.
+        let stirs = Deed::Does(Receiver::Client(self.tally.accepted), Act::Stirs);
+        if self.script.cues.put(self.tick, stirs).is_err() {
+            self.tally.broken = true;
+        }
+        true
+    }
+
+    /// A link to the origin begins to be made, if it has so many addresses, and the system has a place.
+    pub(crate) fn connect(&mut self, forward: u64, attempt: u32) -> bool {
+        if attempt >= self.script.addresses || !self.has_place() {
+            return false;
+        }
+        if self.reach(forward, attempt).is_err() {
+            self.tally.broken = true;
+            return false;
+        }
+        self.tally.origins = self.tally.origins.saturating_add(1);
+        self.link(Receiver::Origin(forward));
+        self.check_limits();
+        true
+    }
+
+    /// Somebody has that link.
+    fn link(&mut self, link: Receiver) {
+        if let Some(peer) = self.peers.get_mut(&key_of(link)) {
+            peer.link();
+        }
+    }
+
+    fn reach(&mut self, forward: u64, attempt: u32) -> Result<(), AllocError> {
+        let tick = self.tick;
+        write!(self.notes, "; forward {forward} at {tick}")?;
+        let (room, most) = self.room_at_origin();
+        let peer = Peer::new(self.alloc, false, room, most);
+        self.peers.insert(key_of(Receiver::Origin(forward)), peer)?;
+        self.plan(forward, attempt)
+    }
+
+    fn check_limits(&mut self) {
+        if self.tally.clients > self.script.limits.connections {
+            self.tally.beyond = true;
+        }
+        if self.tally.origins > self.script.limits.origin_connections {
+            self.tally.beyond = true;
+        }
+    }
+
+    /// A link is let go.
+    pub(crate) fn let_go(&mut self, link: Receiver) {
+        match link {
+            Receiver::Client(_) => self.tally.clients = self.tally.clients.saturating_sub(1),
+            Receiver::Origin(_) => self.tally.origins = self.tally.origins.saturating_sub(1),
+        }
+        if let Some(peer) = self.peers.get_mut(&key_of(link)) {
+            peer.let_go();
+        }
+    }
+
+    /// What is written to the other side of a link is ended.
+    pub(crate) fn end(&mut self, link: Receiver) {
+        if let Some(peer) = self.peers.get_mut(&key_of(link)) {
+            peer.end();
+        }
+    }
+
+    /// A read of a link.
+    pub(crate) fn read(&mut self, link: Receiver, buffer: &mut [u8]) -> Arrival
+        ensures { FitsBuffer result buffer.new }
+    {
+        match self.peers.get_mut(&key_of(link)) {
+            Some(peer) => peer.read(buffer),
+            None => Arrival::Failed,
+        }
+    }
+
+    /// A write to a link.
+    pub(crate) fn write(&mut self, link: Receiver, front: &[u8], rest: &[u8]) -> Uptake
+        ensures { FitsText result (front.now ++ rest.now) }
+    {
+        match self.peers.get_mut(&key_of(link)) {
+            Some(peer) => peer.write(front, rest),
+            None => Uptake::Failed,
+        }
+    }
+
+    /// The wall clock's second.
+    pub(crate) fn wall(&self) -> Option<u64> {
+        match self.wall {
+            Some(wall) => Some(wall.saturating_add(self.tick / SECOND)),
+            None => None,
+        }
+    }
+
+    /// Whether the program was asked to stop.
+    pub(crate) fn stops(&self) -> bool {
+        self.stops
+    }
+
+    /// No further client can connect.
+    pub(crate) fn stop_listening(&mut self) {
+        self.listens = false;
+    }
+}

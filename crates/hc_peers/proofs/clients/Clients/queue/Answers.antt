@@ -1,0 +1,13 @@
+use Rattle.std.proofs.Common.{arith}
+use Rattle.hc_order.specs.declared.receiver.Receiver.TheVariants.{Client}
+use Rattle.hc_peers.specs.Links.{IsClientAt}
+use Rattle.hc_peers.proofs.TableLemmas.{lent_stays}
+use Rattle.hc_peers.proofs.clients.Clients.queue.Goals as goal
+
+pub returns-in-Some-clause-kept : goal.returns-in-Some-clause-kept
+returns-in-Some-clause-kept g c =
+    lent_stays (IsClientAt g.S.Stream.has_given g.S.Stream.has_got) c.args.self.now.table (c.get_mut.follows.lender c.queue.new.self) c.args.number c.in-Some.client.now c.queue.new.self
+    c.in-Some.ensures.value (c.get_mut.follows.holds c.queue.new.self) Client c.queue.ensures.kept
+
+pub returns-in-Some-clause-many : goal.returns-in-Some-clause-many
+returns-in-Some-clause-many g c = omega (arith, (c.get_mut.follows.holds c.queue.new.self).2)

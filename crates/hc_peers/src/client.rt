@@ -1,0 +1,293 @@
+//! One client's link.
+
+ghost use Rattle.std.specs.Prelude.{◌≡◌, ◌&&◌, ◌||◌, not, Bool, true, false, [], length, Some, nat_lt};
+
+use crate::heard::{Heard, hear_flow, wants_turn};
+use crate::pace::Pace;
+use crate::patience::Patience;
+use hc_flow::{Arrival, Emptying, Flow, Readiness, Stream};
+use hc_framing::MessageText;
+use hc_order::Reason;
+use std::alloc::{AllocError, Global};
+
+/// What decides how a client is heard.
+#[derive(Clone, Copy)]
+pub struct Hearing {
+    /// Whether a request of the client awaits its reply.
+    pub awaited: bool,
+    /// Whether a stop ends the client.
+    pub stops: bool,
+    /// Whether its time is over.
+    pub late: bool,
+    /// When it is heard.
+    pub tick: u64,
+}
+
+/// One client's link, and what the cache was told of it.
+#[derive(Drop)]
+pub(crate) struct Client<S: Stream> {
+    flow: Flow<S>,
+    /// Whether the cache was told that the client sends no more.
+    ended: bool,
+    /// Whether the cache has closed the connection.
+    closed: bool,
+    /// Whether it stands among the turns.
+    queued: bool,
+    /// Whether it wasn't read yet.
+    fresh: bool,
+    /// How it is getting on.
+    pace: Pace,
+}
+
+impl<S: Stream> Client<S> {
+    ghost use Rattle.hc_order.specs.Passages.{Passage, closing, ending, opened_with};
+    ghost use Rattle.hc_peers.specs.Hearings.{IsHeardFor, IsHeardInTurn, IsHeardOpen, KeepsHeard, KeepsSent, wants_turn};
+    ghost use Rattle.hc_peers.specs.Links.{IsClient, TellsOwed, is_owed, may_go};
+    ghost use Rattle.hc_peers.specs.Paces.{due, owing, pace_behind, written};
+    ghost use Rattle.hc_flow.specs.Passing.{Stays};
+
+    /// One who has just connected, and has a turn.
+    pub(crate) fn new(alloc: Global, stream: S, tick: u64) -> Self
+        ensures kept { S.has_given stream [] → S.has_got stream [] → IsClient S.has_given S.has_got result (opened_with []) }
+        ensures queued { result.queued ≡ true }
+        ensures stream { result.flow.stream ≡ stream }
+        ensures pace { result.pace ≡ Pace.Idle tick }
+    {
+        Client {
+            flow: Flow::new(alloc, stream),
+            ended: false,
+            closed: false,
+            queued: true,
+            fresh: true,
+            pace: Pace::Idle(tick),
+        }
+    }
+
+    /// What is heard of the client now. That its time is over is told at once, and what is owed to it is lost; so it is told
+    /// that its link has failed. Else nothing is read while a reply is awaited, or octets wait to be written.
+    pub(crate) fn hear(
+        &mut self,
+        alloc: Global,
+        buffer: &mut [u8],
+        hearing: Hearing,
+    ) -> Result<Heard, AllocError>
+        ensures kept { (passage : Passage) → IsClient S.has_given S.has_got self.old passage
+            → KeepsHeard (IsClient S.has_given S.has_got self.new) result passage }
+        ensures told { (passage : Passage) → IsClient S.has_given S.has_got self.old passage
+            → IsHeardOpen passage.is_open passage.is_ended result }
+        ensures in_turn { IsHeardInTurn hearing.awaited result }
+        ensures owed { IsHeardInTurn (is_owed self.old.flow) result }
+        ensures reason { IsHeardFor hearing.stops hearing.late result }
+        ensures pace { self.new.pace ≡ pace_behind result hearing.tick self.old.pace }
+        ensures got { Stays (S.has_got self.old.flow.stream) (S.has_got self.new.flow.stream) }
+    {
+        if self.ended {
+            return Ok(Heard::Nothing);
+        }
+        if self.closed {
+            return Ok(Heard::Nothing);
+        }
+        if hearing.late {
+            self.lose();
+            return Ok(self.end(Reason::Late));
+        }
+        if self.flow.has_failed() {
+            return Ok(self.end(Reason::Reset));
+        }
+        if self.is_held_back(hearing.awaited) {
+            return Ok(Heard::Nothing);
+        }
+        if hearing.stops {
+            return Ok(self.end(Reason::Stop));
+        }
+        self.read(alloc, buffer, hearing.tick)
+    }
+
+    /// Whether a reply is awaited, or octets wait to be written.
+    fn is_held_back(&self, awaited: bool) -> bool
+        ensures { result ≡ (awaited || is_owed self.now.flow) }
+    {
+        awaited || self.flow.is_owed()
+    }
+
+    /// The cache is told that the client sends no more.
+    fn end(&mut self, reason: Reason) -> Heard
+        ensures heard { result ≡ Heard.End reason }
+        ensures pace { self.new.pace ≡ self.old.pace }
+        ensures kept { (passage : Passage) → IsClient S.has_given S.has_got self.old passage
+            → IsClient S.has_given S.has_got self.new (ending passage) }
+        ensures got { Stays (S.has_got self.old.flow.stream) (S.has_got self.new.flow.stream) }
+    {
+        self.ended = true;
+        Heard::End(reason)
+    }
+
+    /// What a read brings. A link that fails at it ends the client, too.
+    fn read(&mut self, alloc: Global, buffer: &mut [u8], tick: u64) -> Result<Heard, AllocError>
+        ensures kept { self.old.closed ≡ false → (passage : Passage) → IsClient S.has_given S.has_got self.old passage
+            → KeepsHeard (IsClient S.has_given S.has_got self.new) result passage }
+        ensures reason { (late : Bool) → IsHeardFor false late result }
+        ensures pace { self.new.pace ≡ pace_behind result tick self.old.pace }
+        ensures got { Stays (S.has_got self.old.flow.stream) (S.has_got self.new.flow.stream) }
+    {
+        self.fresh = false;
+        match hear_flow(alloc, &mut self.flow, buffer)? {
+            Heard::Octets(octets) => {
+                self.pace = self.pace.asking(octets.len() as u64, tick);
+                Ok(Heard::Octets(octets))
+            }
+            Heard::End(reason) => Ok(self.end(reason)),
+            Heard::Lost(reason) => Ok(self.end(reason)),
+            Heard::Nothing => Ok(Heard::Nothing),
+        }
+    }
+
+    /// Octets are owed to the client. Where memory is refused, they aren't.
+    pub(crate) fn send(&mut self, text: &MessageText, tick: u64) -> Result<(), AllocError>
+        ensures kept { (passage : Passage) → IsClient S.has_given S.has_got self.old passage
+            → KeepsSent (IsClient S.has_given S.has_got self.new) result text.now passage }
+        ensures pace { self.new.pace ≡ owing (is_owed self.new.flow) tick self.old.pace }
+        ensures got { Stays (S.has_got self.old.flow.stream) (S.has_got self.new.flow.stream) }
+    {
+        let sent = self.flow.send(text);
+        self.pace = self.pace.owing(self.flow.is_owed(), tick);
+        sent
+    }
+
+    /// The cache has closed the connection: behind what is owed the client finds an end. Answers whether it was open.
+    pub(crate) fn close(&mut self) -> bool
+        ensures kept { (passage : Passage) → IsClient S.has_given S.has_got self.old passage
+            → IsClient S.has_given S.has_got self.new (closing passage) }
+        ensures was { result ≡ not self.old.closed }
+        ensures ends { (self.new.closed ≡ true) × (self.new.flow.ends ≡ true) }
+        ensures got { Stays (S.has_got self.old.flow.stream) (S.has_got self.new.flow.stream) }
+    {
+        let was_open = !self.closed;
+        self.closed = true;
+        self.flow.end_behind();
+        was_open
+    }
+
+    /// Writes what is owed, as far as it is taken now.
+    pub(crate) fn write(&mut self, tick: u64) -> Emptying
+        ensures kept { (passage : Passage) → IsClient S.has_given S.has_got self.old passage → IsClient S.has_given S.has_got self.new passage }
+        ensures owed { TellsOwed (Some result) (is_owed self.new.flow) }
+        ensures pace { self.new.pace ≡ written result (length self.old.flow.outbox) (length self.new.flow.outbox) tick self.old.pace }
+    {
+        let before = self.flow.held();
+        let emptying = self.flow.write();
+        let still = self.flow.held();
+        self.pace = self.pace.written(emptying, before, still, tick);
+        emptying
+    }
+
+    /// What the system tells of the link. Answers whether it has to get a turn for that now.
+    pub(crate) fn learn(&mut self, readiness: Readiness) -> bool
+        ensures kept { (passage : Passage) → IsClient S.has_given S.has_got self.old passage → IsClient S.has_given S.has_got self.new passage }
+        ensures first { result ≡ (wants_turn readiness && not self.old.queued) }
+        ensures queued { self.new.queued ≡ (wants_turn readiness || self.old.queued) }
+        ensures got { Stays (S.has_got self.old.flow.stream) (S.has_got self.new.flow.stream) }
+    {
+        self.flow.learn(readiness);
+        if !wants_turn(readiness) {
+            return false;
+        }
+        self.queue()
+    }
+
+    /// Its time is over: what is owed is lost.
+    pub(crate) fn lose(&mut self)
+        ensures kept { (passage : Passage) → IsClient S.has_given S.has_got self.old passage → IsClient S.has_given S.has_got self.new passage }
+        ensures lost { self.new.flow.failed ≡ true }
+        ensures pace { self.new.pace ≡ self.old.pace }
+        ensures got { Stays (S.has_got self.old.flow.stream) (S.has_got self.new.flow.stream) }
+    {
+        self.flow.lose();
+    }
+
+    /// Reads what a client whose connection is closed still sends, and drops it. Answers whether nothing more comes.
+    pub(crate) fn discard(&mut self, buffer: &mut [u8]) -> bool
+        ensures kept { (passage : Passage) → IsClient S.has_given S.has_got self.old passage → IsClient S.has_given S.has_got self.new passage }
+        ensures got { Stays (S.has_got self.old.flow.stream) (S.has_got self.new.flow.stream) }
+    {
+        if !self.closed {
+            return false;
+        }
+        match self.flow.read(buffer) {
+            Arrival::Octets(_) => false,
+            Arrival::End => true,
+            Arrival::Later => false,
+            Arrival::Failed => true,
+        }
+    }
+
+    /// Whether the cache has closed the connection, and all that was owed was written, or is lost.
+    pub(crate) fn may_go(&self) -> bool
+        ensures { result ≡ may_go self.now }
+    {
+        self.closed && (self.flow.has_failed() || !self.flow.is_owed())
+    }
+
+    /// Whether the cache has closed the connection.
+    pub(crate) fn is_closed(&self) -> bool
+        ensures { result ≡ self.now.closed }
+    {
+        self.closed
+    }
+
+    /// How it is getting on.
+    pub(crate) fn pace(&self) -> Pace
+        ensures { result ≡ self.now.pace }
+    {
+        self.pace
+    }
+
+    /// Whether its time is over by that millisecond, unless a request of it awaits its reply.
+    pub(crate) fn is_overdue(&self, tick: u64, patience: Patience) -> bool
+        ensures { result ≡ nat_lt (due self.now.pace patience) tick }
+    {
+        self.pace.is_overdue(tick, patience)
+    }
+
+    /// Whether it wasn't read yet.
+    pub(crate) fn is_fresh(&self) -> bool
+        ensures { result ≡ self.now.fresh }
+    {
+        self.fresh
+    }
+
+    /// Whether octets wait to be written.
+    pub(crate) fn is_owed(&self) -> bool
+        ensures { result ≡ is_owed self.now.flow }
+    {
+        self.flow.is_owed()
+    }
+
+    /// Whether a read may bring something now.
+    pub(crate) fn is_readable(&self) -> bool
+        ensures { result ≡ self.now.flow.readable }
+    {
+        self.flow.is_readable()
+    }
+
+    /// It stands among the turns. Answers whether it didn't before.
+    pub(crate) fn queue(&mut self) -> bool
+        ensures kept { (passage : Passage) → IsClient S.has_given S.has_got self.old passage → IsClient S.has_given S.has_got self.new passage }
+        ensures first { result ≡ not self.old.queued }
+        ensures queued { self.new.queued ≡ true }
+        ensures got { Stays (S.has_got self.old.flow.stream) (S.has_got self.new.flow.stream) }
+    {
+        let is_first = !self.queued;
+        self.queued = true;
+        is_first
+    }
+
+    /// It stands among the turns no more.
+    pub(crate) fn unqueue(&mut self)
+        ensures kept { (passage : Passage) → IsClient S.has_given S.has_got self.old passage → IsClient S.has_given S.has_got self.new passage }
+        ensures queued { self.new.queued ≡ false }
+        ensures got { Stays (S.has_got self.old.flow.stream) (S.has_got self.new.flow.stream) }
+    {
+        self.queued = false;
+    }
+}

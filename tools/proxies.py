@@ -1,0 +1,186 @@
+"""A running `hcache proxy` for tools that try it, what its recording tells, and origins of processes of their own."""
+
+import collections
+import contextlib
+import os
+import pathlib
+import re
+import resource
+import signal
+import socket
+import subprocess
+import sys
+import threading
+import time
+
+import programs
+from clients import Scale, Wrong, want
+from small_origin import HOST
+
+HCACHE = []  # the words by which it is run
+TOOLS = pathlib.Path(__file__).resolve().parent
+AT_ONCE = 0.5  # seconds within which a reply that waits for nothing comes
+LINGERS = 3  # seconds that may pass behind a stop beside its drain
+DRAIN = 8  # seconds of a drain, where none are said
+
+LISTENING = re.compile(r"hcache: listening at (.+), before (.+), with a store of (\d+) keys and (\d+) bytes")
+FAILED = re.compile(r"hcache: (.+): (\d+) forwards?")
+
+Record = collections.namedtuple("Record", "kind number octets")
+
+
+def words_of(origin, record=None, *words, listen=f"{HOST}:0"):
+    recorded = ["--record", record] if record else []
+    words = [*HCACHE, "proxy", "--listen", listen, "--origin", origin, *recorded, *words]
+    return list(map(str, words))
+
+
+def limited(files):
+    """What has a process open at most so many files, before it starts."""
+    return lambda: resource.setrlimit(resource.RLIMIT_NOFILE, (files, files))
+
+
+class ListensNot(Wrong):
+    """A proxy that doesn't say that it listens."""
+
+
+class Proxy:
+    """A running `hcache proxy`."""
+
+    def __init__(self, origin, record=None, *words, listen=f"{HOST}:0", by=programs.as_launched, before=None):
+        self.words, self.record, self.before = by(words_of(origin, record, *words, listen=listen)), record, before
+        self.said, self.is_told = [], threading.Event()
+
+    def __enter__(self):
+        how = {"stdin": subprocess.DEVNULL, "stdout": subprocess.PIPE, "stderr": subprocess.PIPE}
+        how |= {"text": True, "errors": "replace", "preexec_fn": self.before}
+        self.ran = subprocess.Popen(self.words, **how)
+        self.hears = threading.Thread(target=self.hear, daemon=True)
+        self.hears.start()
+        self.is_told.wait(Scale.limit())
+        found = [found for line in self.said if (found := LISTENING.fullmatch(line))]
+        if not found:
+            with contextlib.suppress(subprocess.TimeoutExpired):
+                self.ran.wait(1)
+            self.__exit__()
+            raise ListensNot(f"the line that it listens: {self.said}")
+        self.listens = found[0][1]
+        self.port = int(self.listens.rsplit(":", 1)[1])
+        return self
+
+    def hear(self):
+        """Keeps what it says."""
+        for line in self.ran.stderr:
+            self.said.append(line.rstrip("\n"))
+            if LISTENING.fullmatch(self.said[-1]):
+                self.is_told.set()
+        self.is_told.set()
+
+    def __exit__(self, *_):
+        self.ran.kill()
+        self.ran.wait()
+        self.hears.join(Scale.limit())
+        self.ran.stdout.close()
+        self.ran.stderr.close()
+
+    def failures(self):
+        """What it said of forwards that failed: kinds and how many."""
+        lines = [line for line in self.said if not LISTENING.fullmatch(line)]
+        found = [FAILED.fullmatch(line) for line in lines]
+        want(f"lines that are known: {lines}", all(found))
+        return [(it[1], int(it[2])) for it in found]
+
+    def resident(self):
+        """Its resident memory, in KiB."""
+        status = pathlib.Path(f"/proc/{self.ran.pid}/status").read_text(encoding="utf-8")
+        return int(re.search(r"VmRSS:\s+(\d+)", status)[1])
+
+    def descriptors(self):
+        """Those that it has open."""
+        return sorted(map(int, os.listdir(f"/proc/{self.ran.pid}/fd")))
+
+    def cpu_seconds(self):
+        """Those that it took so far."""
+        fields = pathlib.Path(f"/proc/{self.ran.pid}/stat").read_text(encoding="utf-8").rsplit(")", 1)[1].split()
+        return (int(fields[11]) + int(fields[12])) / os.sysconf("SC_CLK_TCK")
+
+    def stop(self, which=signal.SIGTERM):
+        self.ran.send_signal(which)
+
+    def ends_well(self, drain=DRAIN):
+        """Ends with 0 within the time, and its recording is right. Answers what the audit says."""
+        begun, seconds = time.monotonic(), drain + LINGERS * Scale.patience
+        try:
+            status = self.ran.wait(seconds)
+        except subprocess.TimeoutExpired:
+            raise Wrong(f"an end within {seconds} seconds") from None
+        self.took = time.monotonic() - begun
+        self.hears.join(Scale.limit())
+        want(f"status 0: {status} {self.said}", status == 0)
+        want("nothing on standard output", not self.ran.stdout.read())
+        return audited(self.record) if self.record else ""
+
+    def stops_well(self, drain=DRAIN):
+        self.stop()
+        return self.ends_well(drain)
+
+
+def audited(record):
+    """The line of the audit, where it is yes and each request has its reply."""
+    line, faults = judged(record)
+    want(f"yes: {line} {faults}", line.startswith("yes "))
+    count = collections.Counter(it.kind for it in records(record.read_bytes()))
+    want(f"each request has its reply: {count}", count["q"] == count["a"])
+    return line
+
+
+def judged(record):
+    """The line of the audit, and what it says of faults."""
+    words = [*HCACHE, "audit", "--errors-only", record]
+    ran = subprocess.run(words, capture_output=True, text=True, check=False)
+    line = ran.stdout.strip()
+    want(f"the status of its line: {ran.returncode} {line}", (ran.returncode == 0) == line.startswith("yes "))
+    return line, ran.stderr
+
+
+def records(octets):
+    """The records that are whole."""
+    place = octets.find(b"\n") + 1
+    while place > 0 and (end := octets.find(b"\n", place)) >= 0:
+        kind, number, _, length, *_ = octets[place:end].split(b" ")
+        place = end + int(length) + 2
+        if place > len(octets):
+            return
+        yield Record(kind.decode(), int(number), octets[end + 1 : place - 1])
+
+
+# -- Origins
+
+
+@contextlib.contextmanager
+def quick_origin():
+    """An origin in a process of its own: its address."""
+    words = [sys.executable, TOOLS / "small_origin.py"]
+    with subprocess.Popen(words, stdout=subprocess.PIPE, text=True) as ran:
+        try:
+            yield f"{HOST}:{int(ran.stdout.readline())}"
+        finally:
+            ran.kill()
+
+
+@contextlib.contextmanager
+def full_queue():
+    """The address of what accepts no connection, and has no room for one."""
+    with contextlib.ExitStack() as stack:
+        listener = stack.enter_context(socket.create_server((HOST, 0), backlog=0))
+        for _ in range(4):
+            link = stack.enter_context(socket.socket())
+            link.setblocking(False)
+            link.connect_ex(listener.getsockname())
+        yield f"{HOST}:{listener.getsockname()[1]}"
+
+
+def timed(ask):
+    begun = time.monotonic()
+    reply = ask()
+    return reply, time.monotonic() - begun
