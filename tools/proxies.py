@@ -24,7 +24,7 @@ LINGERS = 3  # seconds that may pass behind a stop beside its drain
 DRAIN = 8  # seconds of a drain, where none are said
 
 LISTENING = re.compile(r"hcache: listening at (.+), before (.+), with a store of (\d+) keys and (\d+) bytes")
-FAILED = re.compile(r"hcache: (.+): (\d+) forwards?")
+FAILED = re.compile(r"hcache: (.+): (\d+) (?:forwards?|links?)")
 
 Record = collections.namedtuple("Record", "kind number octets")
 
@@ -84,7 +84,7 @@ class Proxy:
         self.ran.stderr.close()
 
     def failures(self):
-        """What it said of forwards that failed: kinds and how many."""
+        """What it said of links that failed: kinds and how many."""
         lines = [line for line in self.said if not LISTENING.fullmatch(line)]
         found = [FAILED.fullmatch(line) for line in lines]
         want(f"lines that are known: {lines}", all(found))

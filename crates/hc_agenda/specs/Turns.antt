@@ -11,6 +11,10 @@ pub record Waiting : Type 0 where
 abbrev pub pushed : Waiting → Receiver → Waiting
 pushed waiting link = record { batch = waiting.batch; behind = waiting.behind ++ link ∷ [] }
 
+-- a link comes before all others
+abbrev pub before_all : Waiting → Receiver → Waiting
+before_all waiting link = record { batch = link ∷ waiting.batch; behind = waiting.behind }
+
 -- all that wait are of a new batch
 abbrev pub batch_of : Waiting → Waiting
 batch_of waiting = record { batch = waiting.batch ++ waiting.behind; behind = [] }

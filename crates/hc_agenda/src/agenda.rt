@@ -40,6 +40,13 @@ impl Agenda {
         }
     }
 
+    /// A link is to be heard before all others, in this batch.
+    pub fn give_turn_now(&mut self, link: Receiver) {
+        if self.turns.put_first(link).is_err() {
+            self.refused = true;
+        }
+    }
+
     /// Something may have to be written to a link.
     pub fn owe(&mut self, link: Receiver) -> Result<(), AllocError> {
         self.owed.push_back(link)?;
@@ -95,6 +102,12 @@ impl Agenda {
         }
     }
 
+    /// A guest's link has gone, or that of one who was turned away.
+    pub fn forget_guest(&mut self, number: u64) {
+        self.deadlines.remove(Timeout::Guest, number);
+        self.deadlines.remove(Timeout::TurnedAway, number);
+    }
+
     /// A client's link has gone.
     pub fn forget_client(&mut self, number: u64) {
         self.deadlines.remove(Timeout::Client, number);
@@ -112,6 +125,11 @@ impl Agenda {
     /// The millisecond at which the first deadline of all is due.
     pub fn first(&self) -> Option<u64> {
         self.deadlines.first()
+    }
+
+    /// Memory was refused for a note of what is to be done that is kept elsewhere.
+    pub fn note_refusal(&mut self) {
+        self.refused = true;
     }
 
     /// Whether memory was refused for a note since that was asked last.

@@ -8,6 +8,10 @@ use std::collections::{BTreeMap, BTreeSet};
 /// Which time-out a deadline has.
 #[derive(Clone, Copy, PartialEq, Eq, PartialOrd, Ord)]
 pub enum Timeout {
+    /// That of a guest, of whom no octet has come.
+    Guest,
+    /// That of a link of one who was turned away, by the number of a guest.
+    TurnedAway,
     /// That of a client, of whom something is wanted.
     Client,
     /// That of a client's link that lingers.
@@ -23,7 +27,9 @@ pub enum Timeout {
 }
 
 /// All of them.
-const TIMEOUTS: [Timeout; 6] = [
+const TIMEOUTS: [Timeout; 8] = [
+    Timeout::Guest,
+    Timeout::TurnedAway,
     Timeout::Client,
     Timeout::ClientLingering,
     Timeout::Place,

@@ -161,6 +161,8 @@ impl Places {
         ensures all { places_in_all self.new ≡ places_in_all self.old }
         ensures fewer { places_given self.new ≤ places_given self.old }
         ensures others { (f : ℕ) → is_at (nat_cmp forward) f ≡ false → has_place f self.new ≡ has_place f self.old }
+        ensures freed { has_place forward self.new ≡ false }
+        ensures had { result ≡ has_place forward self.old }
     {
         let Some(background) = self.given.remove(&forward) else {
             return false;

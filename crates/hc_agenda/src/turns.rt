@@ -1,7 +1,7 @@
 //! Whose turn it is.
 
 ghost use Rattle.std.specs.Prelude.{◌≡◌, ◌+◌, ◌↔◌, [], IsTrue, OnErr, OnOk, length};
-ghost use Rattle.hc_agenda.specs.Turns.{GivesTurn, batch_of, pushed};
+ghost use Rattle.hc_agenda.specs.Turns.{GivesTurn, batch_of, before_all, pushed};
 
 use hc_order::Receiver;
 use std::alloc::{AllocError, Global};
@@ -47,6 +47,16 @@ impl Turns {
         ensures err { OnErr result (self.new ≡ self.old) }
     {
         self.waiting.push_back(link)?;
+        Ok(())
+    }
+
+    /// Puts a link before all others: its turn is the next one, of this batch.
+    pub fn put_first(&mut self, link: Receiver) -> Result<(), AllocError>
+        ensures ok { OnOk result (self.new ≡ before_all self.old link) }
+        ensures err { OnErr result (self.new ≡ self.old) }
+    {
+        self.waiting.push_front(link)?;
+        self.left += 1;
         Ok(())
     }
 

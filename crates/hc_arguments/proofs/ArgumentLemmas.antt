@@ -31,13 +31,13 @@ use Rattle.hc_arguments.specs.declared.order.ProxyPatience.{ProxyPatience}
 use Rattle.hc_arguments.specs.declared.order.RecordTerms.{RecordTerms}
 use Rattle.hc_arguments.specs.declared.refusal.Refusal.{Refusal}
 use Rattle.hc_arguments.specs.declared.refusal.Refusal.TheVariants.{Memory, Missing, Slack, Ignore, Position, StandardInput, Connections, Keys, Bytes, Name}
-use Rattle.hc_arguments.specs.declared.refusal.Refusal.TheVariants.{RecordLimit, OutOfRange}
+use Rattle.hc_arguments.specs.declared.refusal.Refusal.TheVariants.{RecordLimit, Held, OutOfRange}
 use Rattle.hc_arguments.specs.Command.{Asks, AsksBy, AsksCache, AsksIn, AsksLimits, AsksPatience, AsksSettings, AsksTerms, CanBeDone, Command, IsFileName}
 use Rattle.hc_arguments.specs.Command.{IsMade, IsRefused, IsWord, RefusesBy, RefusesIn, Task, ValuesAsk, command_in, command_named, command_of, hcache, judges, lacks, limit_in}
 use Rattle.hc_arguments.specs.Command.{proxy_words, refused_kind, serves, service_words, task_of, value_in}
 use Rattle.hc_arguments.specs.Command.Command.{Audits, Reports, Explains, Replays, Converts, Serves, Proxies}
 use Rattle.hc_arguments.specs.Command.Task.{ToAudit, ToReport, ToExplain, ToReplay, ToConvert, ToServe, ToProxy}
-use Rattle.hc_arguments.specs.Values.{bytes_by, clients_by, connections_of, flag_by, ignored_by, keys_by, name_by}
+use Rattle.hc_arguments.specs.Values.{bytes_by, clients_by, connections_of, flag_by, held_by, ignored_by, keys_by, name_by}
 use Rattle.hc_arguments.specs.Values.{plain, plain_cache, plain_limits, plain_patience, plain_terms, position_by, positive_of, record_limit_by, slack_by, unmarked_by}
 
 -- ---- the command
@@ -142,13 +142,14 @@ patience_from value = option_map (λ p. record {
 abbrev limits_from : (Text → Option Text) → Option ProxyLimits
 limits_from value = option_map (λ p. record {
   connections = p.0.0;
-  origin_connections = p.0.1;
+  origin_connections = p.0.1.0;
+  held = p.0.1.1;
   connect_timeout = p.1.0.0;
   drain_timeout = p.1.0.1;
   patience = p.1.1.0;
   clients = p.1.1.1;
 })
-    (both (both (limit_in value MaxConnections) (limit_in value OriginConnections))
+    (both (both (limit_in value MaxConnections) (both (limit_in value OriginConnections) (held_by (value (codes "held")))))
     (both (both (limit_in value ConnectTimeout) (limit_in value DrainTimeout)) (both (patience_from value) (clients_by (value (codes "connections"))))))
 
 -- a file that isn't standard input
@@ -201,13 +202,14 @@ limits_given value limits a =
     let patient = patience_given value limits.patience a.patience_is in
     λ i. option_map (λ p. record {
       connections = p.0.0;
-      origin_connections = p.0.1;
+      origin_connections = p.0.1.0;
+      held = p.0.1.1;
       connect_timeout = p.1.0.0;
       drain_timeout = p.1.0.1;
       patience = p.1.1.0;
       clients = p.1.1.1;
     })
-    (both (both (a.connections_are i) (a.origin_connections_are i))
+    (both (both (a.connections_are i) (both (a.origin_connections_are i) (a.held_is i)))
     (both (both (a.connect_timeout_is i) (a.drain_timeout_is i)) (both (patient i) (a.clients_are i))))
 
 -- what is asked is that task
@@ -308,7 +310,7 @@ impatient value none = nothing_mapped _ _ (second_lacks _ _ (second_lacks _ _ (f
 
 limit_lacks : (limit : Limit) (value : Text → Option Text) → limit_in value limit ≡ None → limits_from value ≡ None
 limit_lacks MaxConnections value none = nothing_mapped _ _ (first_lacks _ _ (first_lacks _ _ none))
-limit_lacks OriginConnections value none = nothing_mapped _ _ (first_lacks _ _ (second_lacks _ _ none))
+limit_lacks OriginConnections value none = nothing_mapped _ _ (first_lacks _ _ (second_lacks _ _ (first_lacks _ _ none)))
 limit_lacks ConnectTimeout value none = nothing_mapped _ _ (second_lacks _ _ (first_lacks _ _ (first_lacks _ _ none)))
 limit_lacks DrainTimeout value none = nothing_mapped _ _ (second_lacks _ _ (first_lacks _ _ (second_lacks _ _ none)))
 limit_lacks IdleTimeout value none = impatient value (nothing_mapped _ _ (first_lacks _ _ (first_lacks _ _ none)))
@@ -317,6 +319,9 @@ limit_lacks SendTimeout value none = impatient value (nothing_mapped _ _ (first_
 limit_lacks QueueTimeout value none = impatient value (nothing_mapped _ _ (second_lacks _ _ (first_lacks _ _ none)))
 limit_lacks OriginTimeout value none = impatient value (nothing_mapped _ _ (second_lacks _ _ (second_lacks _ _ (first_lacks _ _ none))))
 limit_lacks OriginTotal value none = impatient value (nothing_mapped _ _ (second_lacks _ _ (second_lacks _ _ (second_lacks _ _ none))))
+
+held_lacks : (value : Text → Option Text) → held_by (value (codes "held")) ≡ None → limits_from value ≡ None
+held_lacks value none = nothing_mapped _ _ (first_lacks _ _ (second_lacks _ _ (second_lacks _ _ none)))
 
 -- of a command that is of a kind
 kind_lacks : (kind : Command → Bool) (value : Text → Option Text) → ((c : Command) → kind c ≡ true → task_from c value ≡ None)
@@ -354,6 +359,7 @@ module _ (command : Option Command) (value : Text → Option Text) (task : Task)
   none_outside Connections refuses kind =
       is_given (kind_lacks serves value (λ c. λ serving. number_lacks c value serving refuses.1) command refuses.0)
   none_outside RecordLimit refuses kind = is_given (fault_lacks _ _ Proxies refuses.0 (terms_lack value (nothing_mapped _ _ refuses.1)))
+  none_outside Held refuses kind = unlimited refuses.0 (held_lacks value refuses.1)
   none_outside (OutOfRange limit) refuses kind = unlimited refuses.0 (limit_lacks limit value refuses.1)
   none_outside Keys refuses kind = unserved refuses.0 (nothing_mapped _ _ (first_lacks _ _ refuses.1))
   none_outside Bytes refuses kind = unserved refuses.0 (nothing_mapped _ _ (second_lacks _ _ (first_lacks _ _ refuses.1)))
@@ -793,6 +799,7 @@ module _ (name listen origin : Text) where
   no_limits = record {
     connections_are = refl;
     origin_connections_are = refl;
+    held_is = refl;
     connect_timeout_is = refl;
     drain_timeout_is = refl;
     patience_is = no_patience;

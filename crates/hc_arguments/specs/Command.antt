@@ -27,8 +27,8 @@ use Rattle.hc_arguments.specs.declared.order.RecordTerms.{RecordTerms}
 use Rattle.hc_arguments.specs.declared.options.Wanted.{Wanted}
 use Rattle.hc_arguments.specs.declared.refusal.Refusal.{Refusal}
 use Rattle.hc_arguments.specs.declared.refusal.Refusal.TheVariants.{Memory, Missing, Slack, Ignore, Position, StandardInput, Connections, Keys, Bytes, Name}
-use Rattle.hc_arguments.specs.declared.refusal.Refusal.TheVariants.{RecordLimit, OutOfRange}
-use Rattle.hc_arguments.specs.Values.{bytes_by, clients_by, connections_of, flag_by, ignored_by, keys_by, name_by, position_by, slack_by, unmarked_by}
+use Rattle.hc_arguments.specs.declared.refusal.Refusal.TheVariants.{RecordLimit, Held, OutOfRange}
+use Rattle.hc_arguments.specs.Values.{bytes_by, clients_by, connections_of, flag_by, held_by, ignored_by, keys_by, name_by, position_by, slack_by, unmarked_by}
 use Rattle.hc_arguments.specs.Values.{limit_by, option_of, record_limit_by}
 
 -- ---- what the command takes
@@ -90,10 +90,10 @@ serve = with_cache (with_service (new_app (codes "serve")))
 abbrev pub with_proxy : App → App
 with_proxy app = with_rules app (required_rule (codes "listen") ∷ required_rule (codes "origin") ∷ option_rule (codes "record")
     ∷ option_rule (codes "record-limit") ∷ flag_rule (codes "record-strict")
-    ∷ option_rule (codes "max-connections") ∷ option_rule (codes "origin-connections") ∷ option_rule (codes "idle-timeout")
-    ∷ option_rule (codes "request-timeout") ∷ option_rule (codes "send-timeout") ∷ option_rule (codes "queue-timeout")
-    ∷ option_rule (codes "connect-timeout") ∷ option_rule (codes "origin-timeout") ∷ option_rule (codes "origin-total")
-    ∷ option_rule (codes "drain-timeout") ∷ option_rule (codes "connections") ∷ [])
+    ∷ option_rule (codes "max-connections") ∷ option_rule (codes "origin-connections") ∷ option_rule (codes "held")
+    ∷ option_rule (codes "idle-timeout") ∷ option_rule (codes "request-timeout") ∷ option_rule (codes "send-timeout")
+    ∷ option_rule (codes "queue-timeout") ∷ option_rule (codes "connect-timeout") ∷ option_rule (codes "origin-timeout")
+    ∷ option_rule (codes "origin-total") ∷ option_rule (codes "drain-timeout") ∷ option_rule (codes "connections") ∷ [])
 
 abbrev pub proxy : App
 proxy = with_cache (with_proxy (new_app (codes "proxy")))
@@ -226,6 +226,7 @@ pub record AsksPatience (value : Text → Option Text) (patience : ProxyPatience
 pub record AsksLimits (value : Text → Option Text) (limits : ProxyLimits) : Type 0 where
   pub connections_are : limit_in value MaxConnections ≡ Some limits.connections
   pub origin_connections_are : limit_in value OriginConnections ≡ Some limits.origin_connections
+  pub held_is : held_by (value (codes "held")) ≡ Some limits.held
   pub connect_timeout_is : limit_in value ConnectTimeout ≡ Some limits.connect_timeout
   pub drain_timeout_is : limit_in value DrainTimeout ≡ Some limits.drain_timeout
   pub patience_is : AsksPatience value limits.patience
@@ -337,6 +338,7 @@ RefusesBy command value Position = (command ≡ Some Explains) × (position_by (
 RefusesBy command value StandardInput = (command ≡ Some Explains) × (value (codes "FILE") ≡ Some (codes "-"))
 RefusesBy command value Connections = (option_map serves command ≡ Some true) × (clients_by (value (codes "connections")) ≡ None)
 RefusesBy command value RecordLimit = (command ≡ Some Proxies) × (record_limit_by (value (codes "record-limit")) ≡ None)
+RefusesBy command value Held = (command ≡ Some Proxies) × (held_by (value (codes "held")) ≡ None)
 RefusesBy command value (OutOfRange limit) = (command ≡ Some Proxies) × (limit_in value limit ≡ None)
 RefusesBy command value Keys = (option_map serves command ≡ Some true) × (keys_by (value (codes "keys")) ≡ None)
 RefusesBy command value Bytes = (option_map serves command ≡ Some true) × (bytes_by (value (codes "bytes")) ≡ None)
@@ -355,6 +357,7 @@ refused_kind Position = Some kind.ValueValidation
 refused_kind StandardInput = Some kind.ValueValidation
 refused_kind Connections = Some kind.ValueValidation
 refused_kind RecordLimit = Some kind.ValueValidation
+refused_kind Held = Some kind.ValueValidation
 refused_kind (OutOfRange limit) = Some kind.ValueValidation
 refused_kind Keys = Some kind.ValueValidation
 refused_kind Bytes = Some kind.ValueValidation

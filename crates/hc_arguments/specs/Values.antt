@@ -159,6 +159,15 @@ abbrev pub bytes_by : Option Text → Option ℕ
 bytes_by None = Some 67108864
 bytes_by (Some text) = bytes_of text
 
+-- and where that is at least 1048576
+abbrev pub held_of : Text → Option ℕ
+held_of text = option_and_then (λ octets. if nat_le 1048576 octets then Some octets else None) (bytes_of text)
+
+-- `--held`: 268435456 where it isn't given
+abbrev pub held_by : Option Text → Option ℕ
+held_by None = Some 268435456
+held_by (Some text) = held_of text
+
 -- `--record-limit`, which a proxy may go without
 abbrev pub record_limit_by : Option Text → Option (Option ℕ)
 record_limit_by None = Some None
@@ -199,6 +208,7 @@ abbrev pub plain_limits : ProxyLimits
 plain_limits = record {
   connections = 1024;
   origin_connections = 100;
+  held = 268435456;
   connect_timeout = 5;
   drain_timeout = 8;
   patience = plain_patience;

@@ -5,7 +5,7 @@ ghost use Rattle.clap.specs.Words.{HasKind, Text, fault_of, first_value, found_o
 ghost use Rattle.hc_arguments.specs.Command.{Asks, AsksBy, AsksCache, AsksIn, AsksLimits, AsksPatience, AsksSettings, AsksTerms, CanBeDone, Command, IsFileName, IsRefused, IsRefusedIn, IsWord, RefusesBy, RefusesIn, hcache, judges, limit_in, proxy_words, serves, service_words, task_of};
 ghost use Rattle.hc_arguments.specs.Command.Command.{Audits, Converts, Explains, Proxies, Replays, Reports, Serves};
 ghost use Rattle.hc_arguments.specs.Command.Task.{ToAudit, ToConvert, ToExplain, ToProxy, ToReplay, ToReport, ToServe};
-ghost use Rattle.hc_arguments.specs.Values.{clients_by, connections_of, plain, plain_cache, plain_limits, plain_terms, position_by, positive_of};
+ghost use Rattle.hc_arguments.specs.Values.{clients_by, connections_of, held_by, plain, plain_cache, plain_limits, plain_terms, position_by, positive_of};
 ghost use Rattle.hc_arguments.specs.declared.refusal.Refusal.TheVariants.{Missing};
 
 use crate::command::command;
@@ -13,7 +13,7 @@ use crate::limit::Limit;
 use crate::order::{Order, ProxyLimits, ProxyPatience, Proxying, RecordTerms};
 use crate::refusal::{Refusal, usage_error};
 use crate::values::{
-    bytes_by, clients_by, flag_by, ignored_by, keys_by, limit_by, name_by, positive_of,
+    bytes_by, clients_by, flag_by, held_by, ignored_by, keys_by, limit_by, name_by, positive_of,
     record_limit_by, slack_by, unmarked_by,
 };
 use clap::error::ErrorKind;
@@ -282,6 +282,7 @@ fn limits_in(found: &ArgMatches<'_>) -> Result<ProxyLimits, Refusal>
     Ok(ProxyLimits {
         connections: limit_in(found, Limit::MaxConnections)?,
         origin_connections: limit_in(found, Limit::OriginConnections)?,
+        held: held_in(found)?,
         connect_timeout: limit_in(found, Limit::ConnectTimeout)?,
         drain_timeout: limit_in(found, Limit::DrainTimeout)?,
         patience: patience_in(found)?,
@@ -312,6 +313,17 @@ fn limit_in(found: &ArgMatches<'_>, limit: Limit) -> Result<u64, Refusal>
     match limit_by(limit, found.get_str(limit.option())) {
         Some(number) => Ok(number),
         None => Err(Refusal::OutOfRange(limit)),
+    }
+}
+
+// How many octets a proxy holds beside the store at most.
+fn held_in(found: &ArgMatches<'_>) -> Result<u64, Refusal>
+    ensures ok { IfOk result (λ held. held_by (first_value (found_of found.now) (codes "held")) ≡ Some held) }
+    ensures err { IfErr result (RefusesBy (Some Proxies) (first_value (found_of found.now))) }
+{
+    match held_by(found.get_str("held")) {
+        Some(held) => Ok(held),
+        None => Err(Refusal::Held),
     }
 }
 

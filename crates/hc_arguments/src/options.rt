@@ -76,7 +76,7 @@ pub(crate) const SERVING: [Wanted; 4] = [
 ];
 
 /// Between whom a proxy stands, where and how far that is recorded, and within which limits.
-pub(crate) const PROXYING: [Wanted; 16] = [
+pub(crate) const PROXYING: [Wanted; 17] = [
     LISTEN,
     ORIGIN,
     Wanted {
@@ -110,6 +110,13 @@ pub(crate) const PROXYING: [Wanted; 16] = [
         name: "origin-connections",
         value: Some("N"),
         help: "The most connections to the origin at once: a decimal from 1 to 60000, and 100 without the option",
+        required: false,
+    },
+    Wanted {
+        name: "held",
+        value: Some("BYTES"),
+        help: "The most octets that connections hold beside the store, near which those that hold most are cut off: \
+            a decimal, as --bytes takes it, from 1m to 999999999999, and 256m without the option",
         required: false,
     },
     Wanted {

@@ -91,6 +91,8 @@ pub struct ProxyLimits {
     pub connections: u64,
     /// How many connections to the origin there are at most, from 1 to 60,000.
     pub origin_connections: u64,
+    /// How many octets are held beside the store at most, from 1,048,576 to 999,999,999,999.
+    pub held: u64,
     /// After how many seconds a connection to the origin that isn't made has failed, from 1 to 3,600.
     pub connect_timeout: u64,
     /// For how many seconds what is open goes on once the proxy is stopped, from 0 to 86,400.

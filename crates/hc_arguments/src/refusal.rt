@@ -29,6 +29,8 @@ pub(crate) enum Refusal {
     Connections,
     /// The value of `--record-limit` is no number of octets, or too great.
     RecordLimit,
+    /// The value of `--held` is no number of octets, too small, or too great.
+    Held,
     /// The value of the option of that limit is no number, or out of its range.
     OutOfRange(Limit),
     /// The value of `--keys` is no number of targets of which a cache may keep responses.
@@ -89,6 +91,10 @@ impl Refusal {
             Refusal::RecordLimit => {
                 "invalid value for '--record-limit <SIZE>': not a decimal, by itself or with k, m or g behind it, \
                 from 0 to 999999999999"
+            }
+            Refusal::Held => {
+                "invalid value for '--held <BYTES>': not a decimal, by itself or with k, m or g behind it, \
+                from 1m to 999999999999"
             }
             Refusal::Keys => "invalid value for '--keys <N>': not a decimal from 1 to 65536",
             Refusal::Bytes => {

@@ -1,7 +1,7 @@
 //! What the values of options say.
 
 ghost use Rattle.std.specs.Prelude.{◌≡◌, IfOk, option_map};
-ghost use Rattle.hc_arguments.specs.Values.{bytes_by, bytes_in, bytes_of, clients_by, flag_by, ignored_by, keys_by, keys_of, limit_by, name_by, name_of, number_within, positive_of, record_limit_by, seconds_of, slack_by, unit_of, unmarked_by};
+ghost use Rattle.hc_arguments.specs.Values.{bytes_by, bytes_in, bytes_of, clients_by, flag_by, held_by, held_of, ignored_by, keys_by, keys_of, limit_by, name_by, name_of, number_within, positive_of, record_limit_by, seconds_of, slack_by, unit_of, unmarked_by};
 
 use crate::limit::{Limit, NumberRange};
 use crate::names::names_of;
@@ -16,6 +16,12 @@ const KEYS: usize = 1_024;
 
 /// The most octets that are kept, without `--bytes`.
 const BYTES: u64 = 67_108_864;
+
+/// The most octets that are held beside the store, without `--held`.
+const HELD: u64 = 268_435_456;
+
+/// The least that `--held` takes.
+const LEAST_HELD: u64 = 1_048_576;
 
 /// The name of the cache, without `--name`.
 const NAME: &[u8] = b"hcache";
@@ -122,6 +128,27 @@ pub(crate) fn clients_by(value: Option<&str>) -> Option<Option<u64>>
         Some(text) => Some(Some(positive_of(text.as_bytes())?)),
         None => Some(None),
     }
+}
+
+/// The octets of `--held`, where they are in their range.
+pub(crate) fn held_by(value: Option<&str>) -> Option<u64>
+    ensures { result ≡ held_by (option_map (λ text. text.now) value.entry) }
+{
+    match value {
+        Some(text) => held_of(text.as_bytes()),
+        None => Some(HELD),
+    }
+}
+
+// The octets that are said as those of `--bytes` are, where they are enough.
+fn held_of(text: &[u8]) -> Option<u64>
+    ensures { result ≡ held_of text.now }
+{
+    let octets = bytes_of(text)?;
+    if octets < LEAST_HELD {
+        return None;
+    }
+    Some(octets)
 }
 
 /// The number of `--keys`, where a cache may keep responses of so many targets.

@@ -7,7 +7,7 @@ use Rattle.hc_command.specs.Audit.{Answers}
 use Rattle.hc_command.specs.Convert.{Converted}
 use Rattle.hc_command.specs.Replay.{Played}
 use Rattle.hc_command.specs.Report.{Explained, Reported}
-use Rattle.hc_sockets.specs.Notices.{SaysSome}
+use Rattle.hc_notices.specs.Notices.{SaysSome}
 
 -- nothing was written on the output; all clients were served and nothing was said, or the status is 3
 abbrev pub Served : ℕ → Option (List ℕ) → Option (List ℕ) → Option (List ℕ) → Option (List ℕ) → Type 0

@@ -10,7 +10,7 @@ ghost use Rattle.hc_command.specs.Ends.{Does, Ends, Proxied, Served};
 ghost use Rattle.hc_command.specs.Replay.{Played};
 ghost use Rattle.hc_command.specs.Report.{Explained, Reported};
 ghost use Rattle.hc_service.specs.Settings.{AreGood};
-ghost use Rattle.hc_sockets.specs.Notices.{SaysSome};
+ghost use Rattle.hc_notices.specs.Notices.{SaysSome};
 
 use crate::auditing::audit;
 use crate::converting::convert;
@@ -362,6 +362,7 @@ fn in_milliseconds(limits: ProxyLimits) -> Limits {
     Limits {
         connections: limits.connections as usize,
         origin_connections: limits.origin_connections as usize,
+        held: limits.held,
         patience: patience_of(limits.patience),
         queue_timeout: milliseconds(limits.patience.queue_timeout),
         connect_timeout: milliseconds(limits.connect_timeout),

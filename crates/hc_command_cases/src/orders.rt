@@ -92,9 +92,10 @@ fn write_terms(terms: &RecordTerms, out: &mut String) -> Result<(), AllocError> 
 fn write_limits(limits: &ProxyLimits, out: &mut String) -> Result<(), AllocError> {
     let connections = limits.connections;
     let origin = limits.origin_connections;
+    let held = limits.held;
     write!(
         out,
-        ", with at most {connections} clients and {origin} connections to the origin"
+        ", with at most {connections} clients, {origin} connections to the origin and {held} octets held"
     )?;
     let connect = limits.connect_timeout;
     let drain = limits.drain_timeout;

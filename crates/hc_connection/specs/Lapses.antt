@@ -1,5 +1,5 @@
 -- Recorders that may fall silent, over another beneath.
-use Rattle.std.specs.Prelude.{◌≡◌, ℕ, ◌≤◌, Bool, false, true, nat_le, List, Option, Some, None, if◌then◌else◌}
+use Rattle.std.specs.Prelude.{◌≡◌, ◌⊎◌, ℕ, ◌≤◌, Bool, false, true, nat_le, List, Option, Some, None, if◌then◌else◌}
 use Rattle.hc_connection.specs.declared.lapsing.Lapse.{Lapse}
 use Rattle.hc_connection.specs.declared.lapsing.Silence.{Silence}
 use Rattle.hc_connection.specs.declared.lapsing.Silence.TheVariants.{Failed, Full}
@@ -7,15 +7,21 @@ use Rattle.hc_connection.specs.Links.{IsBeginning}
 
 -- ---- what it tells
 
--- these octets were written to it: the one beneath got them all, or once it is silent a beginning of them
-abbrev pub GotBeneath : {R : Type 0} → (R → List ℕ → Type 0) → Option Lapse → R → List ℕ → Type 0
-GotBeneath has_got None recorder octets = has_got recorder octets
-GotBeneath has_got (Some lapse) recorder octets = (front : List ℕ) × has_got recorder front × IsBeginning front octets
+-- where it is silent as it is full, that stands for good
+abbrev pub StandsIfFull : Silence → Type 0 → Type 0
+StandsIfFull Failed stands = Unit {0}
+StandsIfFull Full stands = stands
 
--- these stand for good at the front of what was written to it, as the one beneath tells; once it is silent any may be told
-abbrev pub KeptBeneath : {R : Type 0} → (R → List ℕ → Type 0) → Option Lapse → R → List ℕ → Type 0
-KeptBeneath has_kept None recorder octets = has_kept recorder octets
-KeptBeneath has_kept (Some lapse) recorder octets = Unit {0}
+-- these octets were written to it: the one beneath got them all, or once it is silent a beginning of them, all of which stands for good where it is full
+abbrev pub GotBeneath : {R : Type 0} → (has_got has_kept : R → List ℕ → Type 0) → Option Lapse → R → List ℕ → Type 0
+GotBeneath has_got has_kept None recorder octets = has_got recorder octets
+GotBeneath has_got has_kept (Some lapse) recorder octets =
+    (front : List ℕ) × has_got recorder front × IsBeginning front octets × StandsIfFull lapse.why (has_kept recorder front)
+
+-- these stand for good at the front of what was written to it, as the one beneath tells; once it is silent they do, or were written to it, as above
+abbrev pub KeptBeneath : {R : Type 0} → (has_got has_kept : R → List ℕ → Type 0) → Option Lapse → R → List ℕ → Type 0
+KeptBeneath has_got has_kept None recorder octets = has_kept recorder octets
+KeptBeneath has_got has_kept (Some lapse) recorder octets = has_kept recorder octets ⊎ GotBeneath has_got has_kept (Some lapse) recorder octets
 
 -- it was read so often, and so was the one beneath; once it is silent that was read no oftener
 abbrev pub ReadBeneath : {R : Type 0} → (R → ℕ → Type 0) → Option Lapse → R → ℕ → Type 0
@@ -28,6 +34,11 @@ failures_beneath count None recorder = count recorder
 failures_beneath count (Some lapse) recorder = lapse.failures
 
 -- ---- why it falls silent
+
+-- it is silent since it is full
+abbrev pub IsFull : Option Lapse → Type 0
+IsFull None = ⊥
+IsFull (Some lapse) = lapse.why ≡ Full
 
 -- as many octets were written as may be
 abbrev pub is_full : Option ℕ → ℕ → Bool

@@ -4,7 +4,7 @@ use Rattle.hc_events.specs.declared.Happening.{Happening}
 use Rattle.hc_events.specs.declared.Happening.TheVariants.{ClientOpened, ClientBytes, ClientEnd, OriginBytes, OriginEnd, OriginFailed}
 use Rattle.hc_order.specs.declared.occurrence.Occurrence.{Occurrence}
 use Rattle.hc_order.specs.declared.occurrence.Reason.{Reason}
-use Rattle.hc_order.specs.declared.occurrence.Reason.TheVariants.{Peer, Replies, Reads, Stop, Late, Reset}
+use Rattle.hc_order.specs.declared.occurrence.Reason.TheVariants.{Peer, Replies, Reads, Stop, Late, Reset, Held}
 use Rattle.hc_order.specs.declared.receiver.Receiver.{Receiver}
 use Rattle.hc_order.specs.declared.receiver.Receiver.TheVariants.{Client, Origin}
 use Rattle.hc_order.specs.Log.{Move}
@@ -180,6 +180,7 @@ is_of_reads Reads = true
 is_of_reads Stop = false
 is_of_reads Late = false
 is_of_reads Reset = false
+is_of_reads Held = false
 
 -- something was told for that
 abbrev pub is_spent_in : List Move → Bool
@@ -201,6 +202,7 @@ EndsFor c Reads log = replies_in c log < most_replies
 EndsFor c Stop log = ⊥
 EndsFor c Late log = ⊥
 EndsFor c Reset log = ⊥
+EndsFor c Held log = ⊥
 
 -- a forward's failure is told for the reads, or because it failed, while links are read still
 abbrev pub FailsFor : Reason → List Move → Type 0
@@ -210,6 +212,7 @@ FailsFor Reads log = Unit {0}
 FailsFor Stop log = ⊥
 FailsFor Late log = ⊥
 FailsFor Reset log = ⊥
+FailsFor Held log = ⊥
 
 -- all else is told because the other side did it: it opens a connection, or is read
 abbrev pub HappensFor : ℕ → Happening → Reason → List Move → Type 0

@@ -16,15 +16,13 @@ pub trait Batches: Links {
     /// No further client is served, and no link is left.
     ghost over: { Self → Type 0 };
 
-    /// There are no more links than there may be.
-    ghost within: { Self → Type 0 };
-
     /// Writes what was sent, as far as links take it now, and may ask the cache what it awaits. It fails only where
     /// memory is refused.
     fn deliver<A: Awaiting>(&mut self, cache: &A) -> Result<(), AllocError>
         ensures tells { (log : List Move) → Self.tells self.old log → Self.tells self.new log }
         ensures shown { (log : List Move) → Self.tells self.old log → Self.shows self.new log }
         ensures as_many { Self.most self.new ≡ Self.most self.old }
+        ensures bounds { Self.bounds self.new ≡ Self.bounds self.old }
         ensures moments { (moment : ℕ) → Self.may_tell self.new moment → Self.may_tell self.old moment };
 
     /// Waits until something is ready or due, and begins a new batch with that. It fails only where memory is refused.
@@ -32,6 +30,7 @@ pub trait Batches: Links {
         ensures tells { (log : List Move) → Self.tells self.old log → Self.tells self.new log }
         ensures shown { (log : List Move) → Self.shows self.old log → Self.shows self.new log }
         ensures as_many { Self.most self.new ≡ Self.most self.old }
+        ensures bounds { Self.bounds self.new ≡ Self.bounds self.old }
         ensures moments { (moment : ℕ) → Self.may_tell self.new moment → Self.may_tell self.old moment };
 
     /// Whether no further client is served, and no link is left.
@@ -43,7 +42,7 @@ pub trait Batches: Links {
         → occurrence.event.moment ≤ greatest_moment };
 
     // Wherever something is told, links are within their bounds.
-    ghost few: { (links : Self) (log : List Move) → Self.tells links log → within links };
+    ghost few: { (links : Self) (log : List Move) → Self.tells links log → Self.within (Self.bounds links) links };
 
     // Where no link is left, nothing is open.
     ghost all_closed: { (links : Self) (log : List Move) → over links → Self.tells links log → NothingIsOpen log };

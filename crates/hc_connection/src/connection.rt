@@ -93,6 +93,13 @@ impl<'a, C: Link, O: Origins, K: Clock> Links for Connection<'a, C, O, K> {
 
     ghost most = { λ _. 1 };
 
+    // The links of one connection have no bounds of their own.
+    ghost Bounds = { Unit {0} };
+
+    ghost bounds = { λ _. tt };
+
+    ghost within = { λ _ _. Unit {0} };
+
     ghost may_tell = { λ connection. K.may_tell connection.clock.now };
 
     ghost rests = { λ connection. Rests connection.opened (length connection.peers.forwards.links.entries) connection.peers.client };

@@ -3,6 +3,7 @@
 ghost use Rattle.std.specs.Prelude.{◌≡◌, ℕ, Bool, List, ◌∷◌, Option, Result, Ok, None};
 ghost use Rattle.std.specs.declared.alloc.AllocError.{AllocError};
 ghost use Rattle.hc_order.specs.declared.occurrence.Occurrence.{Occurrence};
+ghost use Rattle.hc_order.specs.declared.receiver.Receiver.{Receiver};
 ghost use Rattle.hc_order.specs.Log.{Move};
 ghost use Rattle.hc_order.specs.Log.Move.{Closed};
 ghost use Rattle.hc_connection.specs.Telling.{MayBeNext, TellsNext, TellsSent};
@@ -19,6 +20,9 @@ pub trait Awaiting {
     /// That may be its answer about a forward.
     ghost background: { Self → ℕ → Bool → Type 0 };
 
+    /// That may be its answer about what it holds of a link.
+    ghost holds: { Self → Receiver → ℕ → Type 0 };
+
     /// Whether a request of that connection awaits its reply.
     fn awaits(&self, connection: u64) -> bool
         ensures { awaited self.now connection result };
@@ -27,6 +31,10 @@ pub trait Awaiting {
     /// out stale.
     fn is_background(&self, forward: u64) -> bool
         ensures { background self.now forward result };
+
+    /// How many octets the cache holds of what came on that link and isn't whole.
+    fn held(&self, link: Receiver) -> usize
+        ensures { holds self.now link result };
 }
 
 /// The links of a cache, all together.
@@ -43,6 +51,15 @@ pub trait Links {
     /// How many connections are open at once at most.
     ghost most: { Self → ℕ };
 
+    /// What bounds their number.
+    ghost Bounds: { Type 0 };
+
+    /// The bounds within which they stay, as they were made.
+    ghost bounds: { Self → Bounds };
+
+    /// There are no more of them than there may be within those bounds.
+    ghost within: { Bounds → Self → Type 0 };
+
     /// The moments at which things may happen.
     ghost may_tell: { Self → ℕ → Type 0 };
 
@@ -57,6 +74,7 @@ pub trait Links {
         ensures orderly { (log : List Move) → tells self.old log → MayBeNext (most self.old) result log }
         ensures shown { (log : List Move) → shows self.old log → shows self.new log }
         ensures as_many { most self.new ≡ most self.old }
+        ensures bounds { bounds self.new ≡ bounds self.old }
         ensures rests { result ≡ Ok None → rests self.new }
         ensures moments { (moment : ℕ) → may_tell self.new moment → may_tell self.old moment }
         ensures in_turn { heeds (A.awaited cache.now) result };
@@ -68,6 +86,7 @@ pub trait Links {
         ensures sent { (log : List Move) → tells self.old log → TellsSent (tells self.new) result to octets.now log }
         ensures shown { (log : List Move) → shows self.old log → shows self.new log }
         ensures as_many { most self.new ≡ most self.old }
+        ensures bounds { bounds self.new ≡ bounds self.old }
         ensures moments { (moment : ℕ) → may_tell self.new moment → may_tell self.old moment };
 
     /// Closes a client's connection, or a forward.
@@ -75,5 +94,6 @@ pub trait Links {
         ensures closed { (log : List Move) → tells self.old log → tells self.new (Closed link ∷ log) }
         ensures shown { (log : List Move) → shows self.old log → shows self.new log }
         ensures as_many { most self.new ≡ most self.old }
+        ensures bounds { bounds self.new ≡ bounds self.old }
         ensures moments { (moment : ℕ) → may_tell self.new moment → may_tell self.old moment };
 }

@@ -1,1 +1,2 @@
 pub mod CrowdLemmas
+pub mod KeepingLemmas

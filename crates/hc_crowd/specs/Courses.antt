@@ -1,7 +1,15 @@
 -- How far a crowd has come, and when it serves no further client.
-use Rattle.std.specs.Prelude.{◌≡◌, ◌⊎◌, ◌≤◌, ℕ, ◌&&◌, ◌||◌, not, Bool, true, false, Option, Some, None}
-use Rattle.hc_peers.specs.declared.patience.Patience.{Patience}
+use Rattle.std.specs.Prelude.{◌≡◌, ◌⊎◌, ◌≤◌, ℕ, ◌&&◌, ◌||◌, not, Bool, true, false, Option, Some, None, is_some, nat_lt, option_and_then}
+use Rattle.std.specs.BTreeMap.{get}
+use Rattle.std.specs.Ordering.{nat_cmp}
+use Rattle.hc_pace.specs.Paces.{forward_due}
+use Rattle.hc_pace.specs.declared.pace.Pace.{Pace}
+use Rattle.hc_pace.specs.declared.pace.Pace.TheVariants.{Idle, Asking, Taking}
+use Rattle.hc_pace.specs.declared.patience.Patience.{Patience}
 use Rattle.hc_peers.specs.declared.peers.Peers.{Peers}
+use Rattle.hc_guests.specs.Tables.{is_there_and}
+use Rattle.hc_peers.specs.Known.{known_at}
+use Rattle.hc_forwards.specs.Links.{is_linked_and, is_waiting, progress_at}
 use Rattle.hc_peers.specs.Peers.{is_client_overdue}
 use Rattle.hc_crowd.specs.declared.course.Course.{Course}
 use Rattle.hc_crowd.specs.declared.course.Course.TheVariants.{Serving, Stopping, Late}
@@ -18,9 +26,23 @@ is_late Serving = false
 is_late (Stopping tick) = false
 is_late Late = true
 
+-- whether a client is idle
+abbrev pub is_idle_pace : Pace → Bool
+is_idle_pace (Idle since) = true
+is_idle_pace (Asking since octets) = false
+is_idle_pace (Taking since) = false
+
+-- whether a client is there, and is idle
+abbrev pub is_idle : {S : Type 0} → Peers S → ℕ → Bool
+is_idle peers number = is_there_and (known_at number peers.clients.table) (λ client. is_idle_pace client.pace)
+
 -- whether the time of a client is over by that tick: behind a stop, or, where no request of it awaits its reply, by how it is getting on
 abbrev pub is_over_for : {S : Type 0} → Course → Peers S → (number : ℕ) → (awaited : Bool) → (tick : ℕ) → Patience → Bool
 is_over_for course peers number awaited tick patience = is_late course || (not awaited && is_client_overdue peers number tick patience)
+
+-- whether it is whatever has come of it: an idle client may be read still, where octets of it have come
+abbrev pub is_over_in_any_case : {S : Type 0} → Course → Peers S → (number : ℕ) → (awaited : Bool) → (tick : ℕ) → Patience → Bool
+is_over_in_any_case course peers number awaited tick patience = is_late course || (not awaited && (is_client_overdue peers number tick patience && not (is_idle peers number)))
 
 -- as many clients have come as are served
 abbrev pub HaveAllCome : Option ℕ → ℕ → Type 0
@@ -30,3 +52,18 @@ HaveAllCome (Some most) last = most ≤ last
 -- no further client is served
 abbrev pub ServesNoMore : Option ℕ → Course → ℕ → Type 0
 ServesNoMore most course last = (stops course ≡ true) ⊎ HaveAllCome most last
+
+-- ---- forwards
+
+-- whether a forward is there whose request waits for a link
+abbrev pub is_waiting_at : {S : Type 0} → (f : ℕ) → Peers S → Bool
+is_waiting_at f peers = is_there_and (get nat_cmp peers.forwards.table f) (λ forward. is_waiting forward.reaching)
+
+-- whether a forward is there whose link isn't known to work yet
+abbrev pub is_opening_at : {S : Type 0} → (f : ℕ) → Peers S → Bool
+is_opening_at f peers = is_there_and (get nat_cmp peers.forwards.table f) (λ forward. is_linked_and forward.reaching (λ link. is_some link.spare))
+
+-- whether a forward has a link, and its time is over by that tick
+abbrev pub is_forward_overdue : {S : Type 0} → (f : ℕ) → Peers S → (tick : ℕ) → Patience → Bool
+is_forward_overdue f peers tick patience =
+    is_there_and (option_and_then (λ forward. progress_at forward.reaching) (get nat_cmp peers.forwards.table f)) (λ progress. nat_lt (forward_due progress patience) tick)

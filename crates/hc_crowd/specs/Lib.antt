@@ -1,5 +1,5 @@
 pub mod Courses
 pub mod CrowdLaws
 pub mod Crowds
-pub mod Failures
+pub mod Keeping
 pub mod Worlds

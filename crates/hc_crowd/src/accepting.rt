@@ -1,26 +1,20 @@
-//! Clients are accepted.
+//! Clients who connect are accepted, as guests at first.
 
-ghost use Rattle.std.specs.Prelude.{◌≡◌, true, ℕ, List, [], ◌∷◌};
+ghost use Rattle.std.specs.Prelude.{◌≡◌, IfSome, [], false, true};
 
 use crate::limits::Limits;
 use crate::traffic::Traffic;
 use crate::world::{Accepted, World};
-use hc_connection::Happened;
-use hc_events::Happening;
-use hc_order::{Reason, Receiver};
+use hc_agenda::Timeout;
 use std::alloc::AllocError;
 
 impl<W: World> Traffic<W> {
-    ghost use Rattle.std.specs.Prelude.{false};
-    ghost use Rattle.hc_connection.specs.Sides.{TellsIfOk};
     ghost use Rattle.hc_crowd.specs.Courses.{ServesNoMore};
-    ghost use Rattle.hc_order.specs.Log.{Move};
-    ghost use Rattle.hc_peers.specs.Peers.{ArePeers, Bounds, HasRoom, HeardInTurn, IsNext, MayBeHeard, NoAnswer, last_given};
-    ghost use Rattle.hc_peers.specs.Peers.Bounds.{AtMost};
-    ghost use Rattle.hc_peers.specs.Shown.{ShowNoMore};
+    ghost use Rattle.hc_crowd.specs.Keeping.{KeepsPeers, KeepsWithin};
+    ghost use Rattle.hc_peers.specs.Peers.{HasRoom, last_given};
 
-    /// Whether further clients may be accepted: not all of those have come that are served, and no stop was asked, or some
-    /// had connected by then.
+    /// Whether further clients may be served: not all of those have been opened that are served, and no stop was asked, or
+    /// some had connected by then.
     pub(crate) fn serves_more(&self, limits: Limits) -> bool
         ensures { result ≡ false → ServesNoMore limits.clients self.now.course (last_given self.now.peers) }
     {
@@ -36,14 +30,29 @@ impl<W: World> Traffic<W> {
         }
     }
 
-    /// Whether a client may have connected for whom there is room, or would be if the client that lingers gave way.
-    pub(crate) fn has_arrivals(&self, limits: Limits) -> bool {
-        self.listening.is_ready()
-            && self.serves_more(limits)
-            && self.may_make_room(limits.connections)
+    /// Whether a further guest may be accepted: no more than may be served.
+    fn accepts_more(&self, limits: Limits) -> bool {
+        self.serves_more(limits) && self.may_serve_guest(limits.clients)
     }
 
-    /// Whether there is room for a further client, or a client lingers that can give way.
+    /// Whether a guest more could be served.
+    fn may_serve_guest(&self, clients: Option<u64>) -> bool {
+        match clients {
+            Some(most) => {
+                (self.peers.guests.len() as u64) < most.saturating_sub(self.peers.last())
+            }
+            None => true,
+        }
+    }
+
+    /// Whether a client may have connected who is accepted now, or turned away.
+    pub(crate) fn has_arrivals(&self, limits: Limits) -> bool {
+        self.listening.is_ready()
+            && self.accepts_more(limits)
+            && (self.may_make_room(limits.connections) || self.peers.turned_away.has_room())
+    }
+
+    /// Whether there is room for a further guest, or a client lingers that can give way.
     fn may_make_room(&self, most: usize) -> bool {
         self.peers.has_room(most)
             || (self.peers.has_fewer_open(most) && self.agenda.longest_lingering().is_some())
@@ -52,10 +61,7 @@ impl<W: World> Traffic<W> {
     /// Makes room for a client who may have connected: where there are as many links as there may be, that of the client
     /// goes that has lingered for longest. Answers whether there is room.
     fn make_room(&mut self, most: usize) -> bool
-        ensures tells { (bounds : Bounds) (log : List Move) → ArePeers W.Stream.has_given W.Stream.has_got bounds self.old.peers log
-            → ArePeers W.Stream.has_given W.Stream.has_got bounds self.new.peers log }
-        ensures shown { (log : List Move) → ShowNoMore W.Stream.has_got self.old.peers log
-            → ShowNoMore W.Stream.has_got self.new.peers log }
+        ensures kept { KeepsPeers W.Stream.has_given W.Stream.has_got self.old.peers self.new.peers }
         ensures room { result ≡ true → HasRoom self.new.peers most }
     {
         if self.peers.has_room(most) {
@@ -70,71 +76,76 @@ impl<W: World> Traffic<W> {
 
     /// The client's link goes that has lingered for longest, if one does.
     fn give_way(&mut self)
-        ensures tells { (bounds : Bounds) (log : List Move) → ArePeers W.Stream.has_given W.Stream.has_got bounds self.old.peers log
-            → ArePeers W.Stream.has_given W.Stream.has_got bounds self.new.peers log }
-        ensures shown { (log : List Move) → ShowNoMore W.Stream.has_got self.old.peers log
-            → ShowNoMore W.Stream.has_got self.new.peers log }
+        ensures kept { KeepsPeers W.Stream.has_given W.Stream.has_got self.old.peers self.new.peers }
     {
         if let Some(number) = self.agenda.longest_lingering() {
             self.let_go(number);
         }
     }
 
-    /// A client who has connected, as far as there is room, and one is accepted in this batch still.
-    pub(crate) fn accept(&mut self, limits: Limits) -> Result<Option<Happened>, AllocError>
-        ensures tells { (origin : ℕ) (log : List Move) → ArePeers W.Stream.has_given W.Stream.has_got (AtMost limits.connections origin) self.old.peers log
-            → TellsIfOk (ArePeers W.Stream.has_given W.Stream.has_got (AtMost limits.connections origin) self.new.peers) result log }
-        ensures may { (bounds : Bounds) (log : List Move) → ArePeers W.Stream.has_given W.Stream.has_got bounds self.old.peers log
-            → MayBeHeard limits.connections result log }
-        ensures in_turn { HeardInTurn NoAnswer result }
-        ensures shown { (log : List Move) → ShowNoMore W.Stream.has_got self.old.peers log
-            → ShowNoMore W.Stream.has_got self.new.peers log }
+    /// Accepts all who have connected and for whom there is room, as many as are accepted in a batch. Others are turned away.
+    pub(crate) fn accept_all(&mut self, limits: Limits) -> Result<(), AllocError>
+        ensures kept { KeepsWithin W.Stream.has_given W.Stream.has_got limits.connections self.old.peers self.new.peers }
     {
-        if !self.listening.may_accept() {
-            return Ok(None);
+        'arrivals: for _ in 0..u64::MAX {
+            if !self.accept(limits)? {
+                return Ok(());
+            }
         }
-        if !self.serves_more(limits) {
-            return Ok(None);
-        }
-        if !self.make_room(limits.connections) {
-            return Ok(None);
-        }
-        let Some(number) = self.peers.next_number() else {
-            return Ok(None);
-        };
-        self.accept_as(number, limits)
+        Ok(())
     }
 
-    /// The same: there is room, and the client gets that number.
-    fn accept_as(&mut self, number: u64, limits: Limits) -> Result<Option<Happened>, AllocError>
-        requires next { IsNext self.old.peers number }
-        requires room { HasRoom self.old.peers limits.connections }
-        ensures tells { (origin : ℕ) (log : List Move) → ArePeers W.Stream.has_given W.Stream.has_got (AtMost limits.connections origin) self.old.peers log
-            → TellsIfOk (ArePeers W.Stream.has_given W.Stream.has_got (AtMost limits.connections origin) self.new.peers) result log }
-        ensures may { (bounds : Bounds) (log : List Move) → ArePeers W.Stream.has_given W.Stream.has_got bounds self.old.peers log → MayBeHeard limits.connections result log }
-        ensures in_turn { HeardInTurn NoAnswer result }
-        ensures shown { (log : List Move) → ShowNoMore W.Stream.has_got self.old.peers log
-            → ShowNoMore W.Stream.has_got self.new.peers log }
+    /// Accepts a client who has connected, if one is accepted in this batch still. Answers whether one was.
+    fn accept(&mut self, limits: Limits) -> Result<bool, AllocError>
+        ensures kept { KeepsWithin W.Stream.has_given W.Stream.has_got limits.connections self.old.peers self.new.peers }
     {
-        match self.world.accept(number) {
+        if !self.listening.may_accept() {
+            return Ok(false);
+        }
+        if !self.accepts_more(limits) {
+            return Ok(false);
+        }
+        let Some(guest) = self.peers.next_guest() else {
+            return Ok(false);
+        };
+        if self.make_room(limits.connections) {
+            return self.invite(guest, limits);
+        }
+        Ok(self.turn_away(guest))
+    }
+
+    /// Accepts a client who has connected as a guest of that number: there is room.
+    fn invite(&mut self, guest: u64, limits: Limits) -> Result<bool, AllocError>
+        requires room { HasRoom self.old.peers limits.connections }
+        ensures kept { KeepsWithin W.Stream.has_given W.Stream.has_got limits.connections self.old.peers self.new.peers }
+    {
+        let Some(stream) = self.arrival(guest) else {
+            return Ok(false);
+        };
+        self.peers.invite(guest, stream, limits.connections)?;
+        let due = self.due_behind(limits.patience.idle_timeout);
+        self.agenda.note(Timeout::Guest, due, guest);
+        Ok(true)
+    }
+
+    /// The link of a client who has connected, if one has. What becomes ready there is told with that number.
+    pub(crate) fn arrival(&mut self, guest: u64) -> Option<W::Stream>
+        ensures kept { KeepsPeers W.Stream.has_given W.Stream.has_got self.old.peers self.new.peers }
+        ensures peers { self.new.peers ≡ self.old.peers }
+        ensures fresh { IfSome result (λ stream. W.Stream.has_given stream [] × W.Stream.has_got stream []) }
+    {
+        match self.world.accept(guest) {
             Accepted::Client(stream) => {
                 self.listening.accepted();
-                self.peers
-                    .open(number, stream, limits.connections, self.tick)?;
-                self.agenda.give_turn(Receiver::Client(number));
-                self.watch_client(number, limits.patience);
-                Ok(Some(Happened {
-                    of: Happening::ClientOpened(number),
-                    reason: Reason::Peer,
-                }))
+                Some(stream)
             }
             Accepted::Later => {
                 self.listening.rest();
-                Ok(None)
+                None
             }
             Accepted::Full => {
                 self.listening.fill();
-                Ok(None)
+                None
             }
         }
     }

@@ -2,13 +2,13 @@
 
 ghost use Rattle.std.specs.Prelude.{◌≡◌, ℕ, List, [], ◌∷◌, IfOk};
 
-use crate::failures::Failures;
 use crate::limits::Limits;
 use crate::traffic::Traffic;
 use crate::world::World;
 use hc_agenda::Moments;
 use hc_connection::{Awaiting, Batches, Happened, Links};
-use hc_events::Event;
+use hc_counts::Failures;
+use hc_events::{Event, Happening};
 use hc_framing::MessageText;
 use hc_order::{Occurrence, Receiver};
 use std::alloc::{AllocError, Global};
@@ -100,7 +100,9 @@ impl<W: World> Crowd<W> {
 
 impl<W: World> Links for Crowd<W> {
     ghost use Rattle.hc_connection.specs.Telling.{IsInTurn};
-    ghost use Rattle.hc_crowd.specs.Crowds.{CrowdTells, MayTell};
+    ghost use Rattle.hc_crowd.specs.Crowds.{CrowdTells, MayTell, bounds_of};
+    ghost use Rattle.hc_crowd.specs.declared.limits.Limits.{Limits};
+    ghost use Rattle.hc_peers.specs.Peers.{HasFewLinks};
     ghost use Rattle.hc_peers.specs.Shown.{ShowNoMore};
 
     ghost tells = { λ crowd. CrowdTells W.Stream.has_given W.Stream.has_got crowd.limits crowd.traffic.peers crowd.clock };
@@ -112,13 +114,23 @@ impl<W: World> Links for Crowd<W> {
 
     ghost most = { λ crowd. crowd.limits.connections };
 
+    ghost Bounds = { Limits };
+
+    ghost bounds = { λ crowd. crowd.limits };
+
+    // As many as its limits say, those that linger among them.
+    ghost within = { λ limits crowd. HasFewLinks (bounds_of limits) crowd.traffic.peers };
+
     ghost may_tell = { λ crowd. MayTell crowd.clock };
 
     ghost heeds = { IsInTurn };
 
     fn next<A: Awaiting>(&mut self, cache: &A) -> Result<Option<Occurrence>, AllocError> {
         match self.traffic.happening(cache, self.limits)? {
-            Some(happened) => Ok(Some(self.now(happened))),
+            Some(happened) => {
+                self.traffic.holding.grow(octets_of(&happened.of));
+                Ok(Some(self.now(happened)))
+            }
             None => Ok(None),
         }
     }
@@ -135,13 +147,9 @@ impl<W: World> Links for Crowd<W> {
 impl<W: World> Batches for Crowd<W> {
     ghost use Rattle.hc_crowd.specs.Courses.{ServesNoMore};
     ghost use Rattle.hc_crowd.specs.CrowdLaws.{links_are_few, none_is_open, told_in_time};
-    ghost use Rattle.hc_crowd.specs.Crowds.{bounds_of};
-    ghost use Rattle.hc_peers.specs.Peers.{HasFewLinks, NoLinkIsLeft, last_given};
+    ghost use Rattle.hc_peers.specs.Peers.{NoLinkIsLeft, last_given};
 
     ghost over = { λ crowd. NoLinkIsLeft crowd.traffic.peers × ServesNoMore crowd.limits.clients crowd.traffic.course (last_given crowd.traffic.peers) };
-
-    // As many as its limits say, those that linger among them.
-    ghost within = { λ crowd. HasFewLinks (bounds_of crowd.limits) crowd.traffic.peers };
 
     /// It begins to connect for forwards that wait, as far as there are places. Where memory is refused for a note of what
     /// is to be done, links may wait for ever, so whoever drives the crowd should end then.
@@ -171,4 +179,16 @@ impl<W: World> Batches for Crowd<W> {
     ghost few = { λ crowd. links_are_few W.Stream.has_given W.Stream.has_got crowd.limits crowd.traffic.peers crowd.clock };
 
     ghost all_closed = { λ crowd log over. none_is_open W.Stream.has_given W.Stream.has_got crowd.limits crowd.traffic.peers crowd.clock log over.0 };
+}
+
+/// How many octets came by that.
+fn octets_of(happening: &Happening) -> usize {
+    match happening {
+        Happening::ClientOpened(_) => 0,
+        Happening::ClientBytes(_, octets) => octets.len(),
+        Happening::ClientEnd(_) => 0,
+        Happening::OriginBytes(_, octets) => octets.len(),
+        Happening::OriginEnd(_) => 0,
+        Happening::OriginFailed(_) => 0,
+    }
 }

@@ -1,6 +1,6 @@
 //! What the cache gives out is taken in, and written.
 
-ghost use Rattle.std.specs.Prelude.{◌≡◌, ℕ, List, ◌∷◌};
+ghost use Rattle.std.specs.Prelude.{◌∷◌, List};
 
 use crate::traffic::Traffic;
 use crate::world::World;
@@ -18,9 +18,10 @@ const ORIGIN_LINGERS: u64 = 1_000;
 
 impl<W: World> Traffic<W> {
     ghost use Rattle.hc_connection.specs.Telling.{TellsSent};
+    ghost use Rattle.hc_crowd.specs.Keeping.{KeepsPeers};
     ghost use Rattle.hc_order.specs.Log.{Move};
     ghost use Rattle.hc_order.specs.Log.Move.{Closed};
-    ghost use Rattle.hc_order.specs.declared.receiver.Receiver.TheVariants.{Client, Origin};
+    ghost use Rattle.hc_order.specs.declared.receiver.Receiver.TheVariants.{Origin};
     ghost use Rattle.hc_peers.specs.Peers.{ArePeers, Bounds};
     ghost use Rattle.hc_peers.specs.Shown.{ShowNoMore};
 
@@ -33,10 +34,19 @@ impl<W: World> Traffic<W> {
             → ShowNoMore W.Stream.has_got self.new.peers log }
     {
         // What is to be done has its place before anything is sent.
-        if let Receiver::Client(_) = to {
-            self.agenda.owe(to)?;
-        }
+        self.owe(to)?;
+        self.holding.grow(octets.len());
         self.peers.send(to, octets, self.tick)
+    }
+
+    /// Something may have to be written to a client.
+    fn owe(&mut self, to: Receiver) -> Result<(), AllocError>
+        ensures kept { KeepsPeers W.Stream.has_given W.Stream.has_got self.old.peers self.new.peers }
+    {
+        match to {
+            Receiver::Client(_) => self.agenda.owe(to),
+            Receiver::Origin(_) => Ok(()),
+        }
     }
 
     /// The cache has closed a client's connection, or a forward.
@@ -70,10 +80,7 @@ impl<W: World> Traffic<W> {
 
     /// A link to the origin lingers, as long as there is time for that.
     fn linger(&mut self, forward: u64, stream: W::Stream)
-        ensures tells { (bounds : Bounds) (log : List Move) → ArePeers W.Stream.has_given W.Stream.has_got bounds self.old.peers log
-            → ArePeers W.Stream.has_given W.Stream.has_got bounds self.new.peers log }
-        ensures shown { (log : List Move) → ShowNoMore W.Stream.has_got self.old.peers log
-            → ShowNoMore W.Stream.has_got self.new.peers log }
+        ensures kept { KeepsPeers W.Stream.has_given W.Stream.has_got self.old.peers self.new.peers }
     {
         if !self.keep_lingering(forward, stream) {
             self.free_place(forward);
@@ -86,10 +93,7 @@ impl<W: World> Traffic<W> {
 
     /// A link to the origin lingers, if there is time for that, and memory. Answers whether it does; else it is dropped.
     fn keep_lingering(&mut self, forward: u64, stream: W::Stream) -> bool
-        ensures tells { (bounds : Bounds) (log : List Move) → ArePeers W.Stream.has_given W.Stream.has_got bounds self.old.peers log
-            → ArePeers W.Stream.has_given W.Stream.has_got bounds self.new.peers log }
-        ensures shown { (log : List Move) → ShowNoMore W.Stream.has_got self.old.peers log
-            → ShowNoMore W.Stream.has_got self.new.peers log }
+        ensures kept { KeepsPeers W.Stream.has_given W.Stream.has_got self.old.peers self.new.peers }
     {
         if self.course.is_late() {
             return false;
@@ -140,8 +144,7 @@ impl<W: World> Traffic<W> {
 
     /// A client lingers from now on, where its connection is closed.
     fn time_client(&mut self, number: u64)
-        ensures tells { (bounds : Bounds) (log : List Move) → ArePeers W.Stream.has_given W.Stream.has_got bounds self.old.peers log
-            → ArePeers W.Stream.has_given W.Stream.has_got bounds self.new.peers log }
+        ensures kept { KeepsPeers W.Stream.has_given W.Stream.has_got self.old.peers self.new.peers }
     {
         if self.peers.clients.is_closed(number) {
             let due = self.due_behind(CLIENT_LINGERS);

@@ -1,6 +1,6 @@
 //! What bounds a crowd.
 
-use hc_peers::Patience;
+use hc_pace::Patience;
 
 /// What bounds a crowd.
 #[derive(Clone, Copy)]
@@ -11,6 +11,9 @@ pub struct Limits {
     /// The most links to the origin at once. Those that are closed and still have a link count, too. Without any no forward
     /// gets one.
     pub origin_connections: usize,
+    /// The most octets that may be held of what came and of what waits to be written, beside the store. Where there are
+    /// more, the links that hold most of them are cut off.
+    pub held: u64,
     /// How long clients and the origin may take.
     pub patience: Patience,
     /// So many milliseconds a forward may wait for a place at the origin.

@@ -1,25 +1,20 @@
 //! Forwards get links to the origin.
 
-ghost use Rattle.std.specs.Prelude.{◌≡◌, ℕ, List, [], ◌∷◌};
-
-use crate::failures::Failure;
 use crate::limits::Limits;
 use crate::traffic::Traffic;
 use crate::world::World;
 use hc_agenda::{Candidate, Timeout};
 use hc_connection::Awaiting;
+use hc_counts::Failure;
 use hc_order::{Reason, Receiver};
 
 impl<W: World> Traffic<W> {
     ghost use Rattle.hc_agenda.specs.Places.{HasPlaceLeft};
-    ghost use Rattle.hc_order.specs.Log.{Move};
-    ghost use Rattle.hc_peers.specs.Peers.{ArePeers, Bounds};
-    ghost use Rattle.hc_peers.specs.Shown.{ShowNoMore};
+    ghost use Rattle.hc_crowd.specs.Keeping.{KeepsPeers};
 
     /// Forwards that were opened wait for places: behind all others those that nobody awaits.
     pub(crate) fn sort_opened<A: Awaiting>(&mut self, cache: &A, limits: Limits)
-        ensures tells { (bounds : Bounds) (log : List Move) → ArePeers W.Stream.has_given W.Stream.has_got bounds self.old.peers log
-            → ArePeers W.Stream.has_given W.Stream.has_got bounds self.new.peers log }
+        ensures kept { KeepsPeers W.Stream.has_given W.Stream.has_got self.old.peers self.new.peers }
     {
         'opened: for _ in 0..self.peers.places.opened() {
             let Some(forward) = self.peers.next_opened() else {
@@ -31,8 +26,7 @@ impl<W: World> Traffic<W> {
 
     /// A forward waits for a place, so many milliseconds at most. Where there is no time for that, or no memory, it fails.
     fn sort(&mut self, forward: u64, background: bool, timeout: u64)
-        ensures tells { (bounds : Bounds) (log : List Move) → ArePeers W.Stream.has_given W.Stream.has_got bounds self.old.peers log
-            → ArePeers W.Stream.has_given W.Stream.has_got bounds self.new.peers log }
+        ensures kept { KeepsPeers W.Stream.has_given W.Stream.has_got self.old.peers self.new.peers }
     {
         if self.course.is_late() {
             self.lose_origin(forward, Reason::Late);
@@ -46,8 +40,7 @@ impl<W: World> Traffic<W> {
 
     /// Begins to connect for forwards that wait, as far as there are places.
     pub(crate) fn give_places(&mut self, limits: Limits)
-        ensures tells { (bounds : Bounds) (log : List Move) → ArePeers W.Stream.has_given W.Stream.has_got bounds self.old.peers log
-            → ArePeers W.Stream.has_given W.Stream.has_got bounds self.new.peers log }
+        ensures kept { KeepsPeers W.Stream.has_given W.Stream.has_got self.old.peers self.new.peers }
     {
         'places: for _ in 0..self.peers.places.waiting() {
             let Some(candidate) = self.peers.next_candidate() else {
@@ -60,8 +53,7 @@ impl<W: World> Traffic<W> {
     /// Begins to connect for a forward, for the first time. One that was closed meanwhile gets no place.
     fn reach(&mut self, candidate: Candidate, limits: Limits)
         requires left { HasPlaceLeft self.old.peers.places }
-        ensures tells { (bounds : Bounds) (log : List Move) → ArePeers W.Stream.has_given W.Stream.has_got bounds self.old.peers log
-            → ArePeers W.Stream.has_given W.Stream.has_got bounds self.new.peers log }
+        ensures kept { KeepsPeers W.Stream.has_given W.Stream.has_got self.old.peers self.new.peers }
     {
         let forward = candidate.forward;
         if !self.peers.forwards.is_there(forward) {
@@ -76,10 +68,7 @@ impl<W: World> Traffic<W> {
 
     /// Begins to connect for a forward that has a place: for the first time, or behind a link that has failed.
     pub(crate) fn connect(&mut self, forward: u64, limits: Limits)
-        ensures tells { (bounds : Bounds) (log : List Move) → ArePeers W.Stream.has_given W.Stream.has_got bounds self.old.peers log
-            → ArePeers W.Stream.has_given W.Stream.has_got bounds self.new.peers log }
-        ensures shown { (log : List Move) → ShowNoMore W.Stream.has_got self.old.peers log
-            → ShowNoMore W.Stream.has_got self.new.peers log }
+        ensures kept { KeepsPeers W.Stream.has_given W.Stream.has_got self.old.peers self.new.peers }
     {
         let attempt = self.peers.forwards.attempts(forward);
         let Some(stream) = self.world.connect(forward, attempt) else {
@@ -95,10 +84,7 @@ impl<W: World> Traffic<W> {
 
     /// A forward fails, which is told in its turn.
     pub(crate) fn give_up(&mut self, forward: u64, failure: Failure)
-        ensures tells { (bounds : Bounds) (log : List Move) → ArePeers W.Stream.has_given W.Stream.has_got bounds self.old.peers log
-            → ArePeers W.Stream.has_given W.Stream.has_got bounds self.new.peers log }
-        ensures shown { (log : List Move) → ShowNoMore W.Stream.has_got self.old.peers log
-            → ShowNoMore W.Stream.has_got self.new.peers log }
+        ensures kept { KeepsPeers W.Stream.has_given W.Stream.has_got self.old.peers self.new.peers }
     {
         self.failures.count(failure);
         self.lose_origin(forward, failure.reason());
@@ -106,10 +92,7 @@ impl<W: World> Traffic<W> {
 
     /// A forward has no link any more, which is told in its turn.
     pub(crate) fn lose_origin(&mut self, forward: u64, reason: Reason)
-        ensures tells { (bounds : Bounds) (log : List Move) → ArePeers W.Stream.has_given W.Stream.has_got bounds self.old.peers log
-            → ArePeers W.Stream.has_given W.Stream.has_got bounds self.new.peers log }
-        ensures shown { (log : List Move) → ShowNoMore W.Stream.has_got self.old.peers log
-            → ShowNoMore W.Stream.has_got self.new.peers log }
+        ensures kept { KeepsPeers W.Stream.has_given W.Stream.has_got self.old.peers self.new.peers }
     {
         self.peers.lose_origin(forward, reason);
         self.give_turn(Receiver::Origin(forward));

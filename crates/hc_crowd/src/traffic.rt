@@ -1,13 +1,12 @@
 //! The links of a crowd, and what is to be done with them.
 
-ghost use Rattle.std.specs.Prelude.{◌≡◌, ℕ, List, [], ◌∷◌, IfOk};
+ghost use Rattle.std.specs.Prelude.{◌≡◌, IfOk, [], true, ℕ};
 
 use crate::course::Course;
-use crate::failures::Failures;
 use crate::limits::Limits;
-use crate::listening::Listening;
 use crate::world::World;
 use hc_agenda::Agenda;
+use hc_counts::{Failures, Holding, Listening};
 use hc_order::Receiver;
 use hc_peers::Peers;
 use std::alloc::{AllocError, Global};
@@ -18,6 +17,7 @@ const MOST_OCTETS: usize = 65_536;
 /// The links of a crowd, and what is to be done with them.
 #[derive(Drop)]
 pub(crate) struct Traffic<W: World> {
+    pub(crate) alloc: Global,
     pub(crate) world: W,
     pub(crate) peers: Peers<W::Stream>,
     /// What is read goes through it.
@@ -25,6 +25,7 @@ pub(crate) struct Traffic<W: World> {
     pub(crate) agenda: Agenda,
     pub(crate) listening: Listening,
     pub(crate) course: Course,
+    pub(crate) holding: Holding,
     pub(crate) failures: Failures,
     /// The millisecond of this batch. Its links are heard, sent to and written to then.
     pub(crate) tick: u64,
@@ -41,12 +42,14 @@ impl<W: World + Drop> Traffic<W> {
         let buffer = Vec::from_elem(alloc, 0, MOST_OCTETS)?;
         let tick = world.tick();
         Ok(Traffic {
+            alloc,
             world,
             peers: Peers::new(alloc, places),
             buffer,
             agenda: Agenda::new(alloc),
             listening: Listening::new(),
             course: Course::Serving,
+            holding: Holding::new(),
             failures: Failures::new(),
             tick,
         })
@@ -54,32 +57,34 @@ impl<W: World + Drop> Traffic<W> {
 }
 
 impl<W: World> Traffic<W> {
-    ghost use Rattle.std.specs.Prelude.{true};
     ghost use Rattle.hc_crowd.specs.Courses.{ServesNoMore};
-    ghost use Rattle.hc_order.specs.Log.{Move};
-    ghost use Rattle.hc_peers.specs.Peers.{ArePeers, Bounds, NoLinkIsLeft, last_given};
-    ghost use Rattle.hc_peers.specs.Shown.{ShowNoMore};
+    ghost use Rattle.hc_crowd.specs.Keeping.{KeepsPeers};
+    ghost use Rattle.hc_peers.specs.Known.{KeepsKnown};
+    ghost use Rattle.hc_peers.specs.Peers.{NoLinkIsLeft, last_given};
 
     /// It is so late now, by the clock that is never set.
     pub(crate) fn look_at_clock(&mut self)
-        ensures tells { (bounds : Bounds) (log : List Move) → ArePeers W.Stream.has_given W.Stream.has_got bounds self.old.peers log
-            → ArePeers W.Stream.has_given W.Stream.has_got bounds self.new.peers log }
-        ensures shown { (log : List Move) → ShowNoMore W.Stream.has_got self.old.peers log
-            → ShowNoMore W.Stream.has_got self.new.peers log }
+        ensures kept { KeepsPeers W.Stream.has_given W.Stream.has_got self.old.peers self.new.peers }
     {
         self.tick = self.world.tick();
     }
 
     /// A link is to be heard, if it is there and isn't to be heard already.
     pub(crate) fn give_turn(&mut self, link: Receiver)
-        ensures tells { (bounds : Bounds) (log : List Move) → ArePeers W.Stream.has_given W.Stream.has_got bounds self.old.peers log
-            → ArePeers W.Stream.has_given W.Stream.has_got bounds self.new.peers log }
-        ensures shown { (log : List Move) → ShowNoMore W.Stream.has_got self.old.peers log
-            → ShowNoMore W.Stream.has_got self.new.peers log }
+        ensures kept { KeepsPeers W.Stream.has_given W.Stream.has_got self.old.peers self.new.peers }
+        ensures known { KeepsKnown self.old.peers.clients.table self.new.peers.clients.table }
     {
         if self.peers.queue(link) {
             self.agenda.give_turn(link);
         }
+    }
+
+    /// A link is to be heard before all others, in this batch.
+    pub(crate) fn give_turn_now(&mut self, link: Receiver)
+        ensures kept { KeepsPeers W.Stream.has_given W.Stream.has_got self.old.peers self.new.peers }
+    {
+        self.peers.queue(link);
+        self.agenda.give_turn_now(link);
     }
 
     /// Whether no further client is served, and no link is left.
@@ -92,10 +97,7 @@ impl<W: World> Traffic<W> {
 
     /// That memory was refused for a note of what is to be done, since that was asked last.
     pub(crate) fn refusal(&mut self) -> Result<(), AllocError>
-        ensures tells { (bounds : Bounds) (log : List Move) → ArePeers W.Stream.has_given W.Stream.has_got bounds self.old.peers log
-            → ArePeers W.Stream.has_given W.Stream.has_got bounds self.new.peers log }
-        ensures shown { (log : List Move) → ShowNoMore W.Stream.has_got self.old.peers log
-            → ShowNoMore W.Stream.has_got self.new.peers log }
+        ensures kept { KeepsPeers W.Stream.has_given W.Stream.has_got self.old.peers self.new.peers }
     {
         if self.agenda.was_refused() {
             return Err(AllocError);
@@ -105,10 +107,7 @@ impl<W: World> Traffic<W> {
 
     /// A forward has gone, and its link: it needs its place no more.
     pub(crate) fn free_place(&mut self, forward: u64)
-        ensures tells { (bounds : Bounds) (log : List Move) → ArePeers W.Stream.has_given W.Stream.has_got bounds self.old.peers log
-            → ArePeers W.Stream.has_given W.Stream.has_got bounds self.new.peers log }
-        ensures shown { (log : List Move) → ShowNoMore W.Stream.has_got self.old.peers log
-            → ShowNoMore W.Stream.has_got self.new.peers log }
+        ensures kept { KeepsPeers W.Stream.has_given W.Stream.has_got self.old.peers self.new.peers }
     {
         self.peers.free_place(forward);
         self.agenda.forget_forward(forward);

@@ -1,41 +1,51 @@
 //! Links have their turns.
 
-ghost use Rattle.std.specs.Prelude.{◌≡◌, ℕ, List, ◌∷◌};
+ghost use Rattle.std.specs.Prelude.{◌≡◌, true};
 
 use crate::limits::Limits;
 use crate::traffic::Traffic;
 use crate::world::World;
 use hc_connection::{Awaiting, Happened};
 use hc_events::Happening;
+use hc_guests::Remainder;
 use hc_order::Receiver;
-use hc_peers::{Hearing, Patience, Remainder};
+use hc_pace::{Pace, Patience};
+use hc_peers::Hearing;
 use std::alloc::AllocError;
 
 impl<W: World> Traffic<W> {
-    ghost use Rattle.hc_connection.specs.Sides.{TellsIfOk};
-    ghost use Rattle.hc_order.specs.Log.{Move};
-    ghost use Rattle.hc_crowd.specs.Courses.{is_over_for, stops};
-    ghost use Rattle.hc_peers.specs.Peers.{ArePeers, Bounds, HeardFor, HeardInTurn, IsAnswerOf, MayBeHeard, NoAnswer};
-    ghost use Rattle.hc_peers.specs.Peers.Bounds.{AtMost};
-    ghost use Rattle.hc_peers.specs.Shown.{ShowNoMore};
+    ghost use Rattle.hc_crowd.specs.Courses.{is_idle, is_over_for, is_over_in_any_case, stops};
+    ghost use Rattle.hc_crowd.specs.Keeping.{FailsAt, Hears, HearsWithin, KeepsPeers};
+    ghost use Rattle.hc_peers.specs.Heard.{HeardAtOnce, HeardFor, HeardOn, IsAnswerOf, NoAnswer};
+    ghost use Rattle.hc_peers.specs.Known.{KeepsKnown, is_cut_at, is_open_at};
+    ghost use Rattle.std.specs.BTreeMap.{get};
+    ghost use Rattle.std.specs.Ordering.{nat_cmp};
 
-    /// What happens next: a client connects, or something is heard of a link that has its turn in this batch.
+    /// What happens next: something is heard of a link that has its turn in this batch, or octets of a guest have come. Before
+    /// that who has connected is accepted, and what holds too much is cut off.
     pub(crate) fn happening<A: Awaiting>(
         &mut self,
         cache: &A,
         limits: Limits,
     ) -> Result<Option<Happened>, AllocError>
-        ensures tells { (origin : ℕ) (log : List Move) → ArePeers W.Stream.has_given W.Stream.has_got (AtMost limits.connections origin) self.old.peers log
-            → TellsIfOk (ArePeers W.Stream.has_given W.Stream.has_got (AtMost limits.connections origin) self.new.peers) result log }
-        ensures may { (origin : ℕ) (log : List Move) → ArePeers W.Stream.has_given W.Stream.has_got (AtMost limits.connections origin) self.old.peers log
-            → MayBeHeard limits.connections result log }
-        ensures in_turn { HeardInTurn (A.awaited cache.now) result }
-        ensures shown { (log : List Move) → ShowNoMore W.Stream.has_got self.old.peers log
-            → ShowNoMore W.Stream.has_got self.new.peers log }
+        ensures heard { HearsWithin W.Stream.has_given W.Stream.has_got limits.connections (A.awaited cache.now) result self.old.peers self.new.peers }
     {
-        if let Some(happened) = self.accept(limits)? {
+        self.accept_all(limits)?;
+        self.bound_held(cache, limits.held)?;
+        if let Some(happened) = self.take_turns(cache, limits)? {
             return Ok(Some(happened));
         }
+        self.welcome(limits)
+    }
+
+    /// What is heard of the next link that has its turn in this batch, and of which something is heard.
+    fn take_turns<A: Awaiting>(
+        &mut self,
+        cache: &A,
+        limits: Limits,
+    ) -> Result<Option<Happened>, AllocError>
+        ensures heard { Hears W.Stream.has_given W.Stream.has_got (A.awaited cache.now) result self.old.peers self.new.peers }
+    {
         'turns: for _ in 0..u64::MAX {
             let Some(link) = self.agenda.turns.next() else {
                 return Ok(None);
@@ -54,12 +64,7 @@ impl<W: World> Traffic<W> {
         cache: &A,
         limits: Limits,
     ) -> Result<Option<Happened>, AllocError>
-        ensures tells { (bounds : Bounds) (log : List Move) → ArePeers W.Stream.has_given W.Stream.has_got bounds self.old.peers log
-            → TellsIfOk (ArePeers W.Stream.has_given W.Stream.has_got bounds self.new.peers) result log }
-        ensures may { (most : ℕ) (bounds : Bounds) (log : List Move) → ArePeers W.Stream.has_given W.Stream.has_got bounds self.old.peers log → MayBeHeard most result log }
-        ensures in_turn { HeardInTurn (A.awaited cache.now) result }
-        ensures shown { (log : List Move) → ShowNoMore W.Stream.has_got self.old.peers log
-            → ShowNoMore W.Stream.has_got self.new.peers log }
+        ensures heard { Hears W.Stream.has_given W.Stream.has_got (A.awaited cache.now) result self.old.peers self.new.peers }
     {
         match link {
             Receiver::Client(number) => {
@@ -76,13 +81,11 @@ impl<W: World> Traffic<W> {
         awaited: bool,
         patience: Patience,
     ) -> Result<Option<Happened>, AllocError>
-        ensures tells { (bounds : Bounds) (log : List Move) → ArePeers W.Stream.has_given W.Stream.has_got bounds self.old.peers log
-            → TellsIfOk (ArePeers W.Stream.has_given W.Stream.has_got bounds self.new.peers) result log }
-        ensures may { (most : ℕ) (bounds : Bounds) (log : List Move) → ArePeers W.Stream.has_given W.Stream.has_got bounds self.old.peers log → MayBeHeard most result log }
-        ensures in_turn { HeardInTurn (IsAnswerOf number awaited) result }
-        ensures reason { HeardFor (stops self.old.course) (is_over_for self.old.course self.old.peers number awaited self.old.tick patience) result }
-        ensures shown { (log : List Move) → ShowNoMore W.Stream.has_got self.old.peers log
-            → ShowNoMore W.Stream.has_got self.new.peers log }
+        ensures heard { Hears W.Stream.has_given W.Stream.has_got (IsAnswerOf number awaited) result self.old.peers self.new.peers }
+        ensures reason { HeardFor number (stops self.old.course) (is_over_for self.old.course self.old.peers number awaited self.old.tick patience)
+            (is_cut_at number self.old.peers.clients.table) (FailsAt W.Stream.has_failed number self.old.peers self.new.peers) result }
+        ensures at_once { is_open_at number self.old.peers.clients.table ≡ true → HeardAtOnce number (is_cut_at number self.old.peers.clients.table)
+            (is_over_in_any_case self.old.course self.old.peers number awaited self.old.tick patience) result }
     {
         let late = self.is_over_for(number, awaited, patience);
         self.peers.unqueue(Receiver::Client(number));
@@ -94,14 +97,27 @@ impl<W: World> Traffic<W> {
     }
 
     /// Whether there is no more time for a client: behind a stop, or, where no request of it awaits its reply, by how it is
-    /// getting on.
+    /// getting on. Of one that was idle for too long octets may have come already: these are read.
     fn is_over_for(&self, number: u64, awaited: bool, patience: Patience) -> bool
-        ensures { result ≡ is_over_for self.now.course self.now.peers number awaited self.now.tick patience }
+        ensures only { result ≡ true → is_over_for self.now.course self.now.peers number awaited self.now.tick patience ≡ true }
+        ensures always { is_over_in_any_case self.now.course self.now.peers number awaited self.now.tick patience ≡ true → result ≡ true }
     {
         if self.course.is_late() {
             return true;
         }
-        !awaited && self.peers.is_overdue(number, self.tick, patience)
+        !awaited && self.peers.is_overdue(number, self.tick, patience) && !self.is_back(number)
+    }
+
+    /// Whether a client was idle, and octets of it have come.
+    fn is_back(&self, number: u64) -> bool
+        ensures { result ≡ true → is_idle self.now.peers number ≡ true }
+    {
+        match self.peers.clients.pace(number) {
+            Some(Pace::Idle(_)) => self.peers.clients.has_octets(number),
+            Some(Pace::Asking(_, _)) => false,
+            Some(Pace::Taking(_)) => false,
+            None => false,
+        }
     }
 
     /// What is heard of a client. Behind a stop, too, one that wasn't read yet is read once.
@@ -111,13 +127,9 @@ impl<W: World> Traffic<W> {
         awaited: bool,
         late: bool,
     ) -> Result<Option<Happened>, AllocError>
-        ensures tells { (bounds : Bounds) (log : List Move) → ArePeers W.Stream.has_given W.Stream.has_got bounds self.old.peers log
-            → TellsIfOk (ArePeers W.Stream.has_given W.Stream.has_got bounds self.new.peers) result log }
-        ensures may { (most : ℕ) (bounds : Bounds) (log : List Move) → ArePeers W.Stream.has_given W.Stream.has_got bounds self.old.peers log → MayBeHeard most result log }
-        ensures in_turn { HeardInTurn (IsAnswerOf number awaited) result }
-        ensures reason { HeardFor (stops self.old.course) late result }
-        ensures shown { (log : List Move) → ShowNoMore W.Stream.has_got self.old.peers log
-            → ShowNoMore W.Stream.has_got self.new.peers log }
+        ensures heard { Hears W.Stream.has_given W.Stream.has_got (IsAnswerOf number awaited) result self.old.peers self.new.peers }
+        ensures reason { HeardFor number (stops self.old.course) late (is_cut_at number self.old.peers.clients.table) (FailsAt W.Stream.has_failed number self.old.peers self.new.peers) result }
+        ensures at_once { is_open_at number self.old.peers.clients.table ≡ true → HeardAtOnce number (is_cut_at number self.old.peers.clients.table) late result }
     {
         let stops = self.course.stops();
         let is_fresh = self.peers.clients.is_fresh(number);
@@ -143,10 +155,8 @@ impl<W: World> Traffic<W> {
         heard: &Result<Option<Happened>, AllocError>,
         in_any_case: bool,
     )
-        ensures tells { (bounds : Bounds) (log : List Move) → ArePeers W.Stream.has_given W.Stream.has_got bounds self.old.peers log
-            → ArePeers W.Stream.has_given W.Stream.has_got bounds self.new.peers log }
-        ensures shown { (log : List Move) → ShowNoMore W.Stream.has_got self.old.peers log
-            → ShowNoMore W.Stream.has_got self.new.peers log }
+        ensures kept { KeepsPeers W.Stream.has_given W.Stream.has_got self.old.peers self.new.peers }
+        ensures known { KeepsKnown self.old.peers.clients.table self.new.peers.clients.table }
     {
         let goes_on = match heard {
             Ok(Some(_)) => self.peers.is_readable(link),
@@ -161,10 +171,7 @@ impl<W: World> Traffic<W> {
     /// Drops what a client whose connection is closed still sends, and then its link, once nothing more comes and all that
     /// was owed to it was written or is lost. Where its time is over, that is lost.
     fn drop_rest_of_client(&mut self, number: u64, late: bool)
-        ensures tells { (bounds : Bounds) (log : List Move) → ArePeers W.Stream.has_given W.Stream.has_got bounds self.old.peers log
-            → ArePeers W.Stream.has_given W.Stream.has_got bounds self.new.peers log }
-        ensures shown { (log : List Move) → ShowNoMore W.Stream.has_got self.old.peers log
-            → ShowNoMore W.Stream.has_got self.new.peers log }
+        ensures kept { KeepsPeers W.Stream.has_given W.Stream.has_got self.old.peers self.new.peers }
     {
         self.lose_late(number, late);
         if self.peers.discard(number, self.buffer.as_mut_slice()) {
@@ -176,10 +183,7 @@ impl<W: World> Traffic<W> {
 
     /// Where a client's time is over, what is owed to it is lost.
     fn lose_late(&mut self, number: u64, late: bool)
-        ensures tells { (bounds : Bounds) (log : List Move) → ArePeers W.Stream.has_given W.Stream.has_got bounds self.old.peers log
-            → ArePeers W.Stream.has_given W.Stream.has_got bounds self.new.peers log }
-        ensures shown { (log : List Move) → ShowNoMore W.Stream.has_got self.old.peers log
-            → ShowNoMore W.Stream.has_got self.new.peers log }
+        ensures kept { KeepsPeers W.Stream.has_given W.Stream.has_got self.old.peers self.new.peers }
     {
         if late {
             self.peers.lose_client(number);
@@ -188,10 +192,7 @@ impl<W: World> Traffic<W> {
 
     /// Drops a client's link, where the cache has closed the connection, and all that was owed was written, or is lost.
     pub(crate) fn let_go(&mut self, number: u64)
-        ensures tells { (bounds : Bounds) (log : List Move) → ArePeers W.Stream.has_given W.Stream.has_got bounds self.old.peers log
-            → ArePeers W.Stream.has_given W.Stream.has_got bounds self.new.peers log }
-        ensures shown { (log : List Move) → ShowNoMore W.Stream.has_got self.old.peers log
-            → ShowNoMore W.Stream.has_got self.new.peers log }
+        ensures kept { KeepsPeers W.Stream.has_given W.Stream.has_got self.old.peers self.new.peers }
     {
         if self.peers.let_go(number) {
             self.agenda.forget_client(number);
@@ -203,12 +204,7 @@ impl<W: World> Traffic<W> {
     /// What is heard in the turn of a forward. Behind a link that has failed before it was known to work, another one is
     /// tried.
     fn origin_turn(&mut self, forward: u64, limits: Limits) -> Result<Option<Happened>, AllocError>
-        ensures tells { (bounds : Bounds) (log : List Move) → ArePeers W.Stream.has_given W.Stream.has_got bounds self.old.peers log
-            → TellsIfOk (ArePeers W.Stream.has_given W.Stream.has_got bounds self.new.peers) result log }
-        ensures may { (most : ℕ) (bounds : Bounds) (log : List Move) → ArePeers W.Stream.has_given W.Stream.has_got bounds self.old.peers log → MayBeHeard most result log }
-        ensures in_turn { HeardInTurn NoAnswer result }
-        ensures shown { (log : List Move) → ShowNoMore W.Stream.has_got self.old.peers log
-            → ShowNoMore W.Stream.has_got self.new.peers log }
+        ensures heard { Hears W.Stream.has_given W.Stream.has_got NoAnswer result self.old.peers self.new.peers }
     {
         if self.peers.lingering.has(forward) {
             self.drop_rest_of_origin(forward);
@@ -224,12 +220,8 @@ impl<W: World> Traffic<W> {
 
     /// What is heard of a forward. One that has failed needs its place no more.
     fn hear_origin(&mut self, forward: u64) -> Result<Option<Happened>, AllocError>
-        ensures tells { (bounds : Bounds) (log : List Move) → ArePeers W.Stream.has_given W.Stream.has_got bounds self.old.peers log
-            → TellsIfOk (ArePeers W.Stream.has_given W.Stream.has_got bounds self.new.peers) result log }
-        ensures may { (most : ℕ) (bounds : Bounds) (log : List Move) → ArePeers W.Stream.has_given W.Stream.has_got bounds self.old.peers log → MayBeHeard most result log }
-        ensures in_turn { HeardInTurn NoAnswer result }
-        ensures shown { (log : List Move) → ShowNoMore W.Stream.has_got self.old.peers log
-            → ShowNoMore W.Stream.has_got self.new.peers log }
+        ensures heard { Hears W.Stream.has_given W.Stream.has_got NoAnswer result self.old.peers self.new.peers }
+        ensures reason { HeardOn forward (get nat_cmp self.old.peers.forwards.table forward) result }
     {
         let was_linked = self.peers.forwards.has_link(forward);
         let heard = self
@@ -245,10 +237,7 @@ impl<W: World> Traffic<W> {
 
     /// Drops what comes on a link to the origin that lingers, and then the link, once nothing more does.
     fn drop_rest_of_origin(&mut self, forward: u64)
-        ensures tells { (bounds : Bounds) (log : List Move) → ArePeers W.Stream.has_given W.Stream.has_got bounds self.old.peers log
-            → ArePeers W.Stream.has_given W.Stream.has_got bounds self.new.peers log }
-        ensures shown { (log : List Move) → ShowNoMore W.Stream.has_got self.old.peers log
-            → ShowNoMore W.Stream.has_got self.new.peers log }
+        ensures kept { KeepsPeers W.Stream.has_given W.Stream.has_got self.old.peers self.new.peers }
     {
         match self
             .peers
@@ -262,10 +251,7 @@ impl<W: World> Traffic<W> {
 
     /// A link to the origin that lingers is to be heard.
     pub(crate) fn give_lingering_turn(&mut self, forward: u64)
-        ensures tells { (bounds : Bounds) (log : List Move) → ArePeers W.Stream.has_given W.Stream.has_got bounds self.old.peers log
-            → ArePeers W.Stream.has_given W.Stream.has_got bounds self.new.peers log }
-        ensures shown { (log : List Move) → ShowNoMore W.Stream.has_got self.old.peers log
-            → ShowNoMore W.Stream.has_got self.new.peers log }
+        ensures kept { KeepsPeers W.Stream.has_given W.Stream.has_got self.old.peers self.new.peers }
     {
         if self.peers.queue_lingering(forward) {
             self.agenda.give_turn(Receiver::Origin(forward));
@@ -274,10 +260,7 @@ impl<W: World> Traffic<W> {
 
     /// Drops a link to the origin, if it lingers.
     pub(crate) fn drop_lingering(&mut self, forward: u64)
-        ensures tells { (bounds : Bounds) (log : List Move) → ArePeers W.Stream.has_given W.Stream.has_got bounds self.old.peers log
-            → ArePeers W.Stream.has_given W.Stream.has_got bounds self.new.peers log }
-        ensures shown { (log : List Move) → ShowNoMore W.Stream.has_got self.old.peers log
-            → ShowNoMore W.Stream.has_got self.new.peers log }
+        ensures kept { KeepsPeers W.Stream.has_given W.Stream.has_got self.old.peers self.new.peers }
     {
         if self.peers.drop_lingering(forward) {
             self.free_place(forward);

@@ -1,7 +1,5 @@
 //! Something is waited for, and what is ready or due is taken in.
 
-ghost use Rattle.std.specs.Prelude.{◌≡◌, ℕ, List, ◌∷◌};
-
 use crate::course::Course;
 use crate::limits::Limits;
 use crate::traffic::Traffic;
@@ -14,16 +12,11 @@ use hc_order::{Reason, Receiver};
 const LONGEST_WAIT: u64 = 1_000;
 
 impl<W: World> Traffic<W> {
-    ghost use Rattle.hc_order.specs.Log.{Move};
-    ghost use Rattle.hc_peers.specs.Peers.{ArePeers, Bounds};
-    ghost use Rattle.hc_peers.specs.Shown.{ShowNoMore};
+    ghost use Rattle.hc_crowd.specs.Keeping.{KeepsPeers};
 
     /// Waits until something is ready or due, and takes in what is. Then a new batch begins.
     pub(crate) fn wait(&mut self, limits: Limits)
-        ensures tells { (bounds : Bounds) (log : List Move) → ArePeers W.Stream.has_given W.Stream.has_got bounds self.old.peers log
-            → ArePeers W.Stream.has_given W.Stream.has_got bounds self.new.peers log }
-        ensures shown { (log : List Move) → ShowNoMore W.Stream.has_got self.old.peers log
-            → ShowNoMore W.Stream.has_got self.new.peers log }
+        ensures kept { KeepsPeers W.Stream.has_given W.Stream.has_got self.old.peers self.new.peers }
     {
         let most = self.longest_wait(limits);
         self.world.wait(most);
@@ -42,7 +35,7 @@ impl<W: World> Traffic<W> {
         if !self.agenda.turns.is_empty() {
             return 0;
         }
-        if self.has_arrivals(limits) {
+        if self.has_arrivals(limits) || self.listens_in_vain(limits) {
             return 0;
         }
         match earlier(self.agenda.first(), self.course.until()) {
@@ -53,10 +46,7 @@ impl<W: World> Traffic<W> {
 
     /// Takes in all that became ready.
     fn learn_all(&mut self)
-        ensures tells { (bounds : Bounds) (log : List Move) → ArePeers W.Stream.has_given W.Stream.has_got bounds self.old.peers log
-            → ArePeers W.Stream.has_given W.Stream.has_got bounds self.new.peers log }
-        ensures shown { (log : List Move) → ShowNoMore W.Stream.has_got self.old.peers log
-            → ShowNoMore W.Stream.has_got self.new.peers log }
+        ensures kept { KeepsPeers W.Stream.has_given W.Stream.has_got self.old.peers self.new.peers }
     {
         'ready: for _ in 0..u64::MAX {
             let Some(ready) = self.world.ready() else {
@@ -68,35 +58,35 @@ impl<W: World> Traffic<W> {
 
     /// Takes in that this became ready.
     fn take_in(&mut self, ready: Ready)
-        ensures tells { (bounds : Bounds) (log : List Move) → ArePeers W.Stream.has_given W.Stream.has_got bounds self.old.peers log
-            → ArePeers W.Stream.has_given W.Stream.has_got bounds self.new.peers log }
-        ensures shown { (log : List Move) → ShowNoMore W.Stream.has_got self.old.peers log
-            → ShowNoMore W.Stream.has_got self.new.peers log }
+        ensures kept { KeepsPeers W.Stream.has_given W.Stream.has_got self.old.peers self.new.peers }
     {
         match ready {
             Ready::Clients => self.wake_listening(),
+            Ready::Guest(guest, _) => self.learn_of_guest(guest),
             Ready::Link(link, readiness) => self.learn(link, readiness),
         }
     }
 
     /// Clients may have connected. Behind a stop no further ones are accepted.
     fn wake_listening(&mut self)
-        ensures tells { (bounds : Bounds) (log : List Move) → ArePeers W.Stream.has_given W.Stream.has_got bounds self.old.peers log
-            → ArePeers W.Stream.has_given W.Stream.has_got bounds self.new.peers log }
-        ensures shown { (log : List Move) → ShowNoMore W.Stream.has_got self.old.peers log
-            → ShowNoMore W.Stream.has_got self.new.peers log }
+        ensures kept { KeepsPeers W.Stream.has_given W.Stream.has_got self.old.peers self.new.peers }
     {
         if !self.course.stops() {
             self.listening.wake();
         }
     }
 
+    /// What is told of a guest's link lets it knock, whatever it is. Of one who was turned away what came is dropped.
+    fn learn_of_guest(&mut self, guest: u64)
+        ensures kept { KeepsPeers W.Stream.has_given W.Stream.has_got self.old.peers self.new.peers }
+    {
+        self.knock(guest);
+        self.drop_rest_of_guest(guest);
+    }
+
     /// Takes in what the system tells of a link.
     fn learn(&mut self, link: Receiver, readiness: Readiness)
-        ensures tells { (bounds : Bounds) (log : List Move) → ArePeers W.Stream.has_given W.Stream.has_got bounds self.old.peers log
-            → ArePeers W.Stream.has_given W.Stream.has_got bounds self.new.peers log }
-        ensures shown { (log : List Move) → ShowNoMore W.Stream.has_got self.old.peers log
-            → ShowNoMore W.Stream.has_got self.new.peers log }
+        ensures kept { KeepsPeers W.Stream.has_given W.Stream.has_got self.old.peers self.new.peers }
     {
         self.wake_lingering(link);
         self.wake(link, readiness);
@@ -107,10 +97,7 @@ impl<W: World> Traffic<W> {
 
     /// A link that doesn't linger gets a turn, where what is told of it asks for one.
     fn wake(&mut self, link: Receiver, readiness: Readiness)
-        ensures tells { (bounds : Bounds) (log : List Move) → ArePeers W.Stream.has_given W.Stream.has_got bounds self.old.peers log
-            → ArePeers W.Stream.has_given W.Stream.has_got bounds self.new.peers log }
-        ensures shown { (log : List Move) → ShowNoMore W.Stream.has_got self.old.peers log
-            → ShowNoMore W.Stream.has_got self.new.peers log }
+        ensures kept { KeepsPeers W.Stream.has_given W.Stream.has_got self.old.peers self.new.peers }
     {
         if self.peers.learn(link, readiness) {
             self.agenda.give_turn(link);
@@ -119,10 +106,7 @@ impl<W: World> Traffic<W> {
 
     /// What is told of a link that lingers asks for a turn, whatever it is.
     fn wake_lingering(&mut self, link: Receiver)
-        ensures tells { (bounds : Bounds) (log : List Move) → ArePeers W.Stream.has_given W.Stream.has_got bounds self.old.peers log
-            → ArePeers W.Stream.has_given W.Stream.has_got bounds self.new.peers log }
-        ensures shown { (log : List Move) → ShowNoMore W.Stream.has_got self.old.peers log
-            → ShowNoMore W.Stream.has_got self.new.peers log }
+        ensures kept { KeepsPeers W.Stream.has_given W.Stream.has_got self.old.peers self.new.peers }
     {
         if let Receiver::Origin(forward) = link {
             self.give_lingering_turn(forward);
@@ -131,24 +115,23 @@ impl<W: World> Traffic<W> {
 
     /// Heeds a stop, and that the time behind it is over. Where no further clients are served, none can connect.
     fn heed_stop(&mut self, limits: Limits)
-        ensures tells { (bounds : Bounds) (log : List Move) → ArePeers W.Stream.has_given W.Stream.has_got bounds self.old.peers log
-            → ArePeers W.Stream.has_given W.Stream.has_got bounds self.new.peers log }
-        ensures shown { (log : List Move) → ShowNoMore W.Stream.has_got self.old.peers log
-            → ShowNoMore W.Stream.has_got self.new.peers log }
+        ensures kept { KeepsPeers W.Stream.has_given W.Stream.has_got self.old.peers self.new.peers }
     {
         self.heed_course(limits);
-        if !self.serves_more(limits) && !self.listening.is_over() {
+        if self.listens_in_vain(limits) {
             self.world.stop_listening();
             self.listening.end();
         }
     }
 
+    /// Whether clients can connect still, though no further ones are served.
+    fn listens_in_vain(&self, limits: Limits) -> bool {
+        !self.serves_more(limits) && !self.listening.is_over()
+    }
+
     /// Heeds a stop, or that the time behind it is over.
     fn heed_course(&mut self, limits: Limits)
-        ensures tells { (bounds : Bounds) (log : List Move) → ArePeers W.Stream.has_given W.Stream.has_got bounds self.old.peers log
-            → ArePeers W.Stream.has_given W.Stream.has_got bounds self.new.peers log }
-        ensures shown { (log : List Move) → ShowNoMore W.Stream.has_got self.old.peers log
-            → ShowNoMore W.Stream.has_got self.new.peers log }
+        ensures kept { KeepsPeers W.Stream.has_given W.Stream.has_got self.old.peers self.new.peers }
     {
         match self.course {
             Course::Serving => self.heed_world(limits),
@@ -159,28 +142,25 @@ impl<W: World> Traffic<W> {
 
     /// Where the program was asked to stop, all clients are to be heard: those that nobody has to serve any more end.
     fn heed_world(&mut self, limits: Limits)
-        ensures tells { (bounds : Bounds) (log : List Move) → ArePeers W.Stream.has_given W.Stream.has_got bounds self.old.peers log
-            → ArePeers W.Stream.has_given W.Stream.has_got bounds self.new.peers log }
-        ensures shown { (log : List Move) → ShowNoMore W.Stream.has_got self.old.peers log
-            → ShowNoMore W.Stream.has_got self.new.peers log }
+        ensures kept { KeepsPeers W.Stream.has_given W.Stream.has_got self.old.peers self.new.peers }
     {
         if self.world.stops() {
             // Who has connected by now is accepted still.
             self.listening.wake();
             self.course = Course::Stopping(self.due_behind(limits.drain_timeout));
+            self.let_all_knock();
             self.hear_clients();
         }
     }
 
     /// Where the time behind a stop is over, all links are lost.
     fn heed_time(&mut self, until: u64)
-        ensures tells { (bounds : Bounds) (log : List Move) → ArePeers W.Stream.has_given W.Stream.has_got bounds self.old.peers log
-            → ArePeers W.Stream.has_given W.Stream.has_got bounds self.new.peers log }
-        ensures shown { (log : List Move) → ShowNoMore W.Stream.has_got self.old.peers log
-            → ShowNoMore W.Stream.has_got self.new.peers log }
+        ensures kept { KeepsPeers W.Stream.has_given W.Stream.has_got self.old.peers self.new.peers }
     {
         if self.tick >= until {
             self.course = Course::Late;
+            self.let_all_guests_go();
+            self.drop_all_turned_away();
             self.drop_all_lingering();
             self.lose_origins();
             self.hear_clients();
@@ -189,10 +169,7 @@ impl<W: World> Traffic<W> {
 
     /// All clients are to be heard.
     fn hear_clients(&mut self)
-        ensures tells { (bounds : Bounds) (log : List Move) → ArePeers W.Stream.has_given W.Stream.has_got bounds self.old.peers log
-            → ArePeers W.Stream.has_given W.Stream.has_got bounds self.new.peers log }
-        ensures shown { (log : List Move) → ShowNoMore W.Stream.has_got self.old.peers log
-            → ShowNoMore W.Stream.has_got self.new.peers log }
+        ensures kept { KeepsPeers W.Stream.has_given W.Stream.has_got self.old.peers self.new.peers }
     {
         let mut least = 0;
         'clients: for _ in 0..self.peers.clients.len() {
@@ -206,10 +183,7 @@ impl<W: World> Traffic<W> {
 
     /// All forwards fail, since their time is over.
     fn lose_origins(&mut self)
-        ensures tells { (bounds : Bounds) (log : List Move) → ArePeers W.Stream.has_given W.Stream.has_got bounds self.old.peers log
-            → ArePeers W.Stream.has_given W.Stream.has_got bounds self.new.peers log }
-        ensures shown { (log : List Move) → ShowNoMore W.Stream.has_got self.old.peers log
-            → ShowNoMore W.Stream.has_got self.new.peers log }
+        ensures kept { KeepsPeers W.Stream.has_given W.Stream.has_got self.old.peers self.new.peers }
     {
         let mut least = 0;
         'forwards: for _ in 0..self.peers.forwards.len() {
@@ -223,10 +197,7 @@ impl<W: World> Traffic<W> {
 
     /// Drops all links to the origin that linger.
     fn drop_all_lingering(&mut self)
-        ensures tells { (bounds : Bounds) (log : List Move) → ArePeers W.Stream.has_given W.Stream.has_got bounds self.old.peers log
-            → ArePeers W.Stream.has_given W.Stream.has_got bounds self.new.peers log }
-        ensures shown { (log : List Move) → ShowNoMore W.Stream.has_got self.old.peers log
-            → ShowNoMore W.Stream.has_got self.new.peers log }
+        ensures kept { KeepsPeers W.Stream.has_given W.Stream.has_got self.old.peers self.new.peers }
     {
         'lingering: for _ in 0..self.peers.lingering.len() {
             let Some(forward) = self.peers.drop_least_lingering() else {

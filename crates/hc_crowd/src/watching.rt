@@ -1,30 +1,26 @@
 //! Deadlines: who is looked at, and when.
 
-ghost use Rattle.std.specs.Prelude.{◌≡◌, ℕ, List, ◌∷◌};
+ghost use Rattle.std.specs.Prelude.{◌≡◌, ◌⊎◌, true};
 
-use crate::failures::Failure;
 use crate::limits::Limits;
 use crate::traffic::Traffic;
 use crate::world::World;
 use hc_agenda::{Deadline, Timeout};
+use hc_counts::Failure;
 use hc_order::Receiver;
-use hc_peers::Patience;
+use hc_pace::Patience;
 
 /// So many milliseconds later a client whose time is over is looked at again: a request of it may await its reply.
 const LOOKS_AGAIN: u64 = 1_000;
 
 impl<W: World> Traffic<W> {
-    ghost use Rattle.hc_order.specs.Log.{Move};
-    ghost use Rattle.hc_peers.specs.Peers.{ArePeers, Bounds};
-    ghost use Rattle.hc_peers.specs.Shown.{ShowNoMore};
+    ghost use Rattle.hc_crowd.specs.Courses.{is_forward_overdue, is_opening_at, is_waiting_at};
+    ghost use Rattle.hc_crowd.specs.Keeping.{KeepsPeers};
 
     /// A client is looked at once its time may be over. What passes at its link moves no deadline: that is moved, where the
     /// time isn't over, once it has come.
     pub(crate) fn watch_client(&mut self, number: u64, patience: Patience)
-        ensures tells { (bounds : Bounds) (log : List Move) → ArePeers W.Stream.has_given W.Stream.has_got bounds self.old.peers log
-            → ArePeers W.Stream.has_given W.Stream.has_got bounds self.new.peers log }
-        ensures shown { (log : List Move) → ShowNoMore W.Stream.has_got self.old.peers log
-            → ShowNoMore W.Stream.has_got self.new.peers log }
+        ensures kept { KeepsPeers W.Stream.has_given W.Stream.has_got self.old.peers self.new.peers }
     {
         if let Some(pace) = self.peers.clients.pace(number) {
             let look = pace.next_look(self.tick, patience);
@@ -34,10 +30,8 @@ impl<W: World> Traffic<W> {
 
     /// A forward that has a link is looked at once its time may be over: so it is with that of a client.
     fn watch_forward(&mut self, forward: u64, patience: Patience)
-        ensures tells { (bounds : Bounds) (log : List Move) → ArePeers W.Stream.has_given W.Stream.has_got bounds self.old.peers log
-            → ArePeers W.Stream.has_given W.Stream.has_got bounds self.new.peers log }
-        ensures shown { (log : List Move) → ShowNoMore W.Stream.has_got self.old.peers log
-            → ShowNoMore W.Stream.has_got self.new.peers log }
+        ensures kept { KeepsPeers W.Stream.has_given W.Stream.has_got self.old.peers self.new.peers }
+        ensures peers { self.new.peers ≡ self.old.peers }
     {
         if let Some(progress) = self.peers.forwards.progress(forward) {
             let look = progress.next_look(patience);
@@ -47,10 +41,7 @@ impl<W: World> Traffic<W> {
 
     /// A link for a forward begins to be made.
     pub(crate) fn watch_link(&mut self, forward: u64, limits: Limits)
-        ensures tells { (bounds : Bounds) (log : List Move) → ArePeers W.Stream.has_given W.Stream.has_got bounds self.old.peers log
-            → ArePeers W.Stream.has_given W.Stream.has_got bounds self.new.peers log }
-        ensures shown { (log : List Move) → ShowNoMore W.Stream.has_got self.old.peers log
-            → ShowNoMore W.Stream.has_got self.new.peers log }
+        ensures kept { KeepsPeers W.Stream.has_given W.Stream.has_got self.old.peers self.new.peers }
     {
         let due = self.due_behind(limits.connect_timeout);
         self.agenda.note(Timeout::Connect, due, forward);
@@ -59,10 +50,7 @@ impl<W: World> Traffic<W> {
 
     /// Takes in all that is due.
     pub(crate) fn pass_all(&mut self, limits: Limits)
-        ensures tells { (bounds : Bounds) (log : List Move) → ArePeers W.Stream.has_given W.Stream.has_got bounds self.old.peers log
-            → ArePeers W.Stream.has_given W.Stream.has_got bounds self.new.peers log }
-        ensures shown { (log : List Move) → ShowNoMore W.Stream.has_got self.old.peers log
-            → ShowNoMore W.Stream.has_got self.new.peers log }
+        ensures kept { KeepsPeers W.Stream.has_given W.Stream.has_got self.old.peers self.new.peers }
     {
         self.pass(Timeout::Client, limits);
         self.pass(Timeout::ClientLingering, limits);
@@ -70,14 +58,13 @@ impl<W: World> Traffic<W> {
         self.pass(Timeout::Connect, limits);
         self.pass(Timeout::Origin, limits);
         self.pass(Timeout::OriginLingering, limits);
+        self.pass(Timeout::Guest, limits);
+        self.pass(Timeout::TurnedAway, limits);
     }
 
     /// Takes in what is due by that time-out.
     fn pass(&mut self, timeout: Timeout, limits: Limits)
-        ensures tells { (bounds : Bounds) (log : List Move) → ArePeers W.Stream.has_given W.Stream.has_got bounds self.old.peers log
-            → ArePeers W.Stream.has_given W.Stream.has_got bounds self.new.peers log }
-        ensures shown { (log : List Move) → ShowNoMore W.Stream.has_got self.old.peers log
-            → ShowNoMore W.Stream.has_got self.new.peers log }
+        ensures kept { KeepsPeers W.Stream.has_given W.Stream.has_got self.old.peers self.new.peers }
     {
         'due: for _ in 0..self.agenda.deadlines() {
             let Some(deadline) = self.agenda.pass(timeout, self.tick) else {
@@ -89,10 +76,7 @@ impl<W: World> Traffic<W> {
 
     /// A deadline has come. Nothing is done where the link has gone or moved on.
     fn end_time(&mut self, deadline: Deadline, limits: Limits)
-        ensures tells { (bounds : Bounds) (log : List Move) → ArePeers W.Stream.has_given W.Stream.has_got bounds self.old.peers log
-            → ArePeers W.Stream.has_given W.Stream.has_got bounds self.new.peers log }
-        ensures shown { (log : List Move) → ShowNoMore W.Stream.has_got self.old.peers log
-            → ShowNoMore W.Stream.has_got self.new.peers log }
+        ensures kept { KeepsPeers W.Stream.has_given W.Stream.has_got self.old.peers self.new.peers }
     {
         let number = deadline.number;
         match deadline.timeout {
@@ -102,15 +86,14 @@ impl<W: World> Traffic<W> {
             Timeout::Connect => self.end_connect(number),
             Timeout::Origin => self.look_at_forward(number, limits.patience),
             Timeout::OriginLingering => self.drop_lingering(number),
+            Timeout::Guest => self.end_guest(number),
+            Timeout::TurnedAway => self.drop_turned_away(number),
         }
     }
 
     /// A client whose time is over is to be heard: in its turn the cache is asked whether a request of it awaits its reply.
     fn look_at_client(&mut self, number: u64, patience: Patience)
-        ensures tells { (bounds : Bounds) (log : List Move) → ArePeers W.Stream.has_given W.Stream.has_got bounds self.old.peers log
-            → ArePeers W.Stream.has_given W.Stream.has_got bounds self.new.peers log }
-        ensures shown { (log : List Move) → ShowNoMore W.Stream.has_got self.old.peers log
-            → ShowNoMore W.Stream.has_got self.new.peers log }
+        ensures kept { KeepsPeers W.Stream.has_given W.Stream.has_got self.old.peers self.new.peers }
     {
         if self.peers.is_overdue(number, self.tick, patience) {
             self.give_turn(Receiver::Client(number));
@@ -123,10 +106,8 @@ impl<W: World> Traffic<W> {
 
     /// A forward fails that waits for a place still.
     fn end_waiting(&mut self, forward: u64)
-        ensures tells { (bounds : Bounds) (log : List Move) → ArePeers W.Stream.has_given W.Stream.has_got bounds self.old.peers log
-            → ArePeers W.Stream.has_given W.Stream.has_got bounds self.new.peers log }
-        ensures shown { (log : List Move) → ShowNoMore W.Stream.has_got self.old.peers log
-            → ShowNoMore W.Stream.has_got self.new.peers log }
+        ensures kept { KeepsPeers W.Stream.has_given W.Stream.has_got self.old.peers self.new.peers }
+        ensures only { (is_waiting_at forward self.old.peers ≡ true) ⊎ (self.new.peers ≡ self.old.peers) }
     {
         if self.peers.forwards.is_waiting(forward) {
             self.peers.leave_places(forward);
@@ -136,10 +117,8 @@ impl<W: World> Traffic<W> {
 
     /// A forward fails whose link isn't made.
     fn end_connect(&mut self, forward: u64)
-        ensures tells { (bounds : Bounds) (log : List Move) → ArePeers W.Stream.has_given W.Stream.has_got bounds self.old.peers log
-            → ArePeers W.Stream.has_given W.Stream.has_got bounds self.new.peers log }
-        ensures shown { (log : List Move) → ShowNoMore W.Stream.has_got self.old.peers log
-            → ShowNoMore W.Stream.has_got self.new.peers log }
+        ensures kept { KeepsPeers W.Stream.has_given W.Stream.has_got self.old.peers self.new.peers }
+        ensures only { (is_opening_at forward self.old.peers ≡ true) ⊎ (self.new.peers ≡ self.old.peers) }
     {
         if self.peers.forwards.is_opening(forward) {
             self.give_up(forward, Failure::Late);
@@ -148,10 +127,8 @@ impl<W: World> Traffic<W> {
 
     /// A forward fails whose time is over.
     fn look_at_forward(&mut self, forward: u64, patience: Patience)
-        ensures tells { (bounds : Bounds) (log : List Move) → ArePeers W.Stream.has_given W.Stream.has_got bounds self.old.peers log
-            → ArePeers W.Stream.has_given W.Stream.has_got bounds self.new.peers log }
-        ensures shown { (log : List Move) → ShowNoMore W.Stream.has_got self.old.peers log
-            → ShowNoMore W.Stream.has_got self.new.peers log }
+        ensures kept { KeepsPeers W.Stream.has_given W.Stream.has_got self.old.peers self.new.peers }
+        ensures only { (is_forward_overdue forward self.old.peers self.old.tick patience ≡ true) ⊎ (self.new.peers ≡ self.old.peers) }
     {
         let Some(progress) = self.peers.forwards.progress(forward) else {
             return;

@@ -1,6 +1,7 @@
 //! What a crowd needs of the world: clients who connect, an origin to connect to, what is ready, and clocks.
 
 ghost use Rattle.std.specs.Prelude.{ℕ, List, [], IfSome};
+ghost use Rattle.hc_flow.specs.Passing.{Stays};
 ghost use Rattle.hc_crowd.specs.Worlds.{IsFreshlyAccepted};
 
 use hc_flow::{Readiness, Stream};
@@ -11,6 +12,8 @@ use hc_order::Receiver;
 pub enum Ready {
     /// Clients may have connected.
     Clients,
+    /// The link of the guest of that number, so far.
+    Guest(u64, Readiness),
     /// The link of that client, or of that forward, so far.
     Link(Receiver, Readiness),
 }
@@ -25,7 +28,8 @@ pub enum Accepted<S> {
     Full,
 }
 
-/// What a crowd needs of the world. What is ready is told once for each change.
+/// What a crowd needs of the world. What is ready is told once for each change. A client who has connected is a guest, by a
+/// number of the guests' own, until the first octet has come.
 pub trait World {
     /// A link to a client or to the origin.
     type Stream: Stream + Drop;
@@ -36,9 +40,15 @@ pub trait World {
     /// What became ready and wasn't told yet.
     fn ready(&mut self) -> Option<Ready>;
 
-    /// A client who has connected. What becomes ready at its link is told with that number.
-    fn accept(&mut self, number: u64) -> Accepted<Self::Stream>
+    /// A client who has connected. What becomes ready at its link is told as that of the guest of that number.
+    fn accept(&mut self, guest: u64) -> Accepted<Self::Stream>
         ensures { IsFreshlyAccepted Self.Stream.has_given Self.Stream.has_got result };
+
+    /// From now on what becomes ready at a guest's link is told as that of the client of that number. Nothing is read from
+    /// it, nor written to it. Answers whether the system does that; where it doesn't, nothing more may be told of the link.
+    fn rename(&mut self, stream: &mut Self::Stream, number: u64) -> bool
+        ensures given { Stays (Self.Stream.has_given stream.old) (Self.Stream.has_given stream.new) }
+        ensures got { Stays (Self.Stream.has_got stream.old) (Self.Stream.has_got stream.new) };
 
     /// Begins to connect to the origin for the forward of that number, without waiting: for the first time where `attempt`
     /// is 0. That the link is made, or fails, is told as what is ready, with that number. There is none where it can't

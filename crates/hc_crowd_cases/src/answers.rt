@@ -4,7 +4,7 @@ use crate::comparing::{Judged, compare};
 use crate::playing::perform;
 use crate::telling::{Told, say_played};
 use hc_cases::{Ask, Case, Unanswered, unescaped};
-use hc_crowd_world::{Script, script_in, script_of};
+use hc_crowd_scripts::{Script, script_in, script_of};
 use hc_fields::decimal;
 use std::alloc::{AllocError, Global};
 use std::fmt::Write;
@@ -23,6 +23,8 @@ impl Ask for Crowds {
         match question {
             "replies" => say_schedule(alloc, Told::Replies, about, out),
             "events" => say_schedule(alloc, Told::Events, about, out),
+            "reasons" => say_schedule(alloc, Told::Reasons, about, out),
+            "visits" => say_schedule(alloc, Told::Visits, about, out),
             "seeds" => say_seeds(alloc, Seeds::of(about)?, out),
             _ => Err(Unanswered::Unknown),
         }

@@ -1,12 +1,13 @@
 //! What passed is compared with a run of what happened.
 
 use crate::by_link::ByLink;
+use crate::faults::fault_of_links;
 use crate::passed::{Sent, heard_in, sent_in};
 use crate::playing::{Played, Served, settings};
 use crate::verdict::counts_of;
 use hc_cases::Unanswered;
 use hc_core::{Run, run};
-use hc_crowd_world::{Peer, Play, is_client};
+use hc_crowd_world::Play;
 use hc_events::Event;
 use hc_serve::DriveFault;
 use std::alloc::Global;
@@ -49,8 +50,8 @@ impl Judged {
 
 /// Compares what passed with a run of what happened, and takes what happened.
 pub(crate) fn compare(alloc: Global, played: &mut Played) -> Result<Judged, Unanswered> {
-    let heard = heard_in(alloc, played.served.events.as_slice())?;
-    let events = mem::replace(&mut played.served.events, Vec::new(alloc));
+    let heard = heard_in(alloc, played.served.notes.events.as_slice())?;
+    let events = mem::replace(&mut played.served.notes.events, Vec::new(alloc));
     compare_run(alloc, events, &heard, played)
 }
 
@@ -144,60 +145,6 @@ fn fault_of_play(play: &Play) -> Option<&'static str> {
     }
     if tally.beyond {
         return Some("too many links");
-    }
-    None
-}
-
-/// What passed at a link.
-#[derive(Clone, Copy)]
-struct Link<'a> {
-    /// The other side.
-    peer: &'a Peer,
-    is_client: bool,
-    /// What was sent by the run.
-    sent: &'a [u8],
-    /// What was heard by what happened.
-    heard: &'a [u8],
-}
-
-impl<'a> Link<'a> {
-    /// What is wrong, where clients were to be served to their ends or not, and all was served or not.
-    fn fault(&self, is_calm: bool, is_served: bool) -> Option<&'static str> {
-        let peer = self.peer;
-        if !self.sent.starts_with(peer.got()) {
-            return Some("other octets were written");
-        }
-        if self.is_client && peer.is_whole() && self.sent.len() != peer.got().len() {
-            return Some("octets weren't written");
-        }
-        if !peer.was_read().starts_with(self.heard) {
-            return Some("other octets were heard");
-        }
-        if is_calm && self.is_client && !peer.is_whole() {
-            return Some("a client wasn't served to its end");
-        }
-        if is_served && peer.is_linked() {
-            return Some("a link is left");
-        }
-        None
-    }
-}
-
-/// What is wrong with what passed at links.
-fn fault_of_links(sent: &ByLink, heard: &ByLink, played: &Played) -> Option<&'static str> {
-    let is_calm = played.play.is_calm();
-    let is_served = played.served.result.is_ok();
-    'links: for (key, peer) in played.play.peers().iter() {
-        let link = Link {
-            peer,
-            is_client: is_client(*key),
-            sent: sent.at(*key),
-            heard: heard.at(*key),
-        };
-        let fault = link.fault(is_calm, is_served);
-        if fault.is_some() {
-            return fault;
-        }
     }
     None
 }

@@ -5,6 +5,7 @@
 mod answers;
 mod by_link;
 mod comparing;
+mod faults;
 mod passed;
 mod playing;
 mod replies;

@@ -4,8 +4,8 @@ use hc_cases::Unanswered;
 use hc_connection::{Batches, Buffered, Recorder};
 use hc_core::{Core, CoreFault, CoreSettings};
 use hc_crowd::{Crowd, Failures, Limits, World};
-use hc_crowd_world::{Made, Noted, Play, Script, Sheet};
-use hc_events::Event;
+use hc_crowd_scripts::Script;
+use hc_crowd_world::{Made, Noted, Notes, Play, Sheet};
 use hc_fields::Octets;
 use hc_serve::{DriveFault, Unwatched, serve_crowd};
 use std::alloc::{AllocError, Global};
@@ -30,7 +30,7 @@ impl Drop for Played {
 /// What came of serving.
 pub(crate) struct Served {
     /// What happened.
-    pub(crate) events: Vec<Event>,
+    pub(crate) notes: Notes,
     /// What was recorded for good.
     pub(crate) recording: Vec<u8>,
     pub(crate) result: Result<(), DriveFault>,
@@ -40,12 +40,12 @@ pub(crate) struct Served {
 impl Drop for Served {
     fn drop(self) {
         let Served {
-            events,
+            notes,
             recording,
             result: _,
             signs: _,
         } = self;
-        drop(events);
+        drop(notes);
         drop(recording);
     }
 }
@@ -59,7 +59,7 @@ pub(crate) struct Signs {
     pub(crate) idle: bool,
     /// Whether the wall clock is behind.
     pub(crate) behind: bool,
-    /// How many forwards failed.
+    /// How many forwards failed, and how many links were cut off.
     pub(crate) failures: Failures,
 }
 
@@ -129,7 +129,7 @@ fn serve_noted<W: World + Drop>(
         failures: noted.links.failures(),
     };
     Ok(Served {
-        events: noted.take_events(),
+        notes: noted.take_notes(),
         recording: recorder.into_link().into_got(),
         result,
         signs,

@@ -4,12 +4,15 @@ use crate::comparing::{Judged, compare};
 use crate::playing::{Played, Served};
 use crate::replies::say_replies_in;
 use hc_cases::Unanswered;
-use hc_crowd_world::{Peer, Play};
+use hc_crowd_world::{Notes, Peer, Play};
 use hc_events::{Event, Happening};
-use hc_order::Receiver;
+use hc_order::{Reason, Receiver};
 use hc_serve::DriveFault;
 use std::alloc::{AllocError, Global};
 use std::fmt::Write;
+
+/// So many clients in a row who got the same are told of at once.
+const SEVERAL: u64 = 4;
 
 /// What is told of a schedule, before how it ended.
 #[derive(Clone, Copy)]
@@ -18,6 +21,10 @@ pub(crate) enum Told {
     Replies,
     /// What happened, by moments.
     Events,
+    /// What happened that the other side didn't do, by moments, and why it was told.
+    Reasons,
+    /// When those who connected were accepted, and what came of them.
+    Visits,
 }
 
 /// Writes what came of a schedule, and how it ended, and takes what happened.
@@ -29,7 +36,9 @@ pub(crate) fn say_played(
 ) -> Result<(), Unanswered> {
     match told {
         Told::Replies => say_replies(&played.play, out)?,
-        Told::Events => say_happened(played.served.events.as_slice(), out)?,
+        Told::Events => say_happened(played.served.notes.events.as_slice(), out)?,
+        Told::Reasons => say_reasons(&played.served.notes, out)?,
+        Told::Visits => out.push_str(played.play.visits())?,
     }
     say_end(alloc, played, out)
 }
@@ -40,16 +49,68 @@ fn say_replies(play: &Play, out: &mut String) -> Result<(), AllocError> {
 }
 
 fn say_clients(play: &Play, out: &mut String) -> Result<(), AllocError> {
-    'clients: for number in 1..play.tally().connected.saturating_add(1) {
-        if number > 1 {
-            out.push_str("; ")?;
+    let last = play.tally().connected;
+    let mut number = 1;
+    'clients: for _ in 0..last {
+        if number > last {
+            return Ok(());
         }
-        write!(out, "client {number}:")?;
-        if let Some(peer) = play.peer(Receiver::Client(number)) {
-            say_client(peer, out)?;
-        }
+        let behind = behind_same(play, number, last);
+        say_clients_from(play, number, behind, out)?;
+        number = behind;
     }
     Ok(())
+}
+
+/// The number behind the clients, from the first one on, who got the same, if there are several, or else behind the first.
+fn behind_same(play: &Play, first: u64, last: u64) -> u64 {
+    let mut number = first.saturating_add(1);
+    'clients: for _ in first..last {
+        if !are_same(play, first, number) {
+            break;
+        }
+        number = number.saturating_add(1);
+    }
+    if number.saturating_sub(first) < SEVERAL {
+        return first.saturating_add(1);
+    }
+    number
+}
+
+/// Whether the same came of two clients.
+fn are_same(play: &Play, one: u64, other: u64) -> bool {
+    let one = play.peer(Receiver::Client(one));
+    let other = play.peer(Receiver::Client(other));
+    match (one, other) {
+        (Some(one), Some(other)) => {
+            one.got() == other.got()
+                && one.is_whole() == other.is_whole()
+                && one.is_gone() == other.is_gone()
+        }
+        _ => false,
+    }
+}
+
+/// Writes what came of the clients of those numbers, which is the same.
+fn say_clients_from(
+    play: &Play,
+    first: u64,
+    behind: u64,
+    out: &mut String,
+) -> Result<(), AllocError> {
+    if first > 1 {
+        out.push_str("; ")?;
+    }
+    let last = behind.saturating_sub(1);
+    if first == last {
+        write!(out, "client {first}:")?;
+    } else {
+        write!(out, "clients {first} to {last}:")?;
+    }
+    match play.peer(Receiver::Client(first)) {
+        Some(peer) => say_client(peer, out),
+        None => Ok(()),
+    }
 }
 
 fn say_client(peer: &Peer, out: &mut String) -> Result<(), AllocError> {
@@ -80,6 +141,44 @@ fn say_happened(events: &[Event], out: &mut String) -> Result<(), AllocError> {
         say_one(&event.of, out)?;
     }
     Ok(())
+}
+
+/// Writes what happened that the other side didn't do, by moments, and why it was told.
+fn say_reasons(notes: &Notes, out: &mut String) -> Result<(), AllocError> {
+    let mut is_first = true;
+    'events: for (event, reason) in notes.events.iter().zip(notes.reasons.iter()) {
+        let Some(why) = why(*reason) else {
+            continue;
+        };
+        if !is_first {
+            out.push_str("; ")?;
+        }
+        is_first = false;
+        say_told(event, why, out)?;
+    }
+    Ok(())
+}
+
+/// Writes what happened, and why it was told.
+fn say_told(event: &Event, why: &str, out: &mut String) -> Result<(), AllocError> {
+    let moment = event.moment;
+    write!(out, "{moment}:")?;
+    say_one(&event.of, out)?;
+    out.push_str(", ")?;
+    out.push_str(why)
+}
+
+/// Why something is told, unless the other side did it.
+fn why(reason: Reason) -> Option<&'static str> {
+    match reason {
+        Reason::Peer => None,
+        Reason::Replies => Some("for its replies"),
+        Reason::Reads => Some("for the reads"),
+        Reason::Stop => Some("at a stop"),
+        Reason::Late => Some("late"),
+        Reason::Reset => Some("reset"),
+        Reason::Held => Some("for what was held"),
+    }
 }
 
 fn say_one(of: &Happening, out: &mut String) -> Result<(), AllocError> {
@@ -127,7 +226,8 @@ fn say_served(served: &Served, tick: u64, out: &mut String) -> Result<(), AllocE
     say_count(failures.broken, "broken", out)?;
     say_count(failures.silent, "silent", out)?;
     say_count(failures.unfinished, "unfinished", out)?;
-    say_count(failures.unplaced, "without a place", out)
+    say_count(failures.unplaced, "without a place", out)?;
+    say_count(failures.heavy, "cut off", out)
 }
 
 fn name_of(ended: Result<(), DriveFault>) -> &'static str {

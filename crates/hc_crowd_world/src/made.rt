@@ -29,11 +29,11 @@ impl<'a> Made<'a> {
         }
     }
 
-    /// Whether a client has connected, who is accepted.
-    fn accepts(&self) -> bool {
+    /// Who has connected is accepted, as the guest of that number. Answers the link, if anybody has.
+    fn accepts(&self, guest: u64) -> Option<Receiver> {
         match self.play.try_borrow_mut() {
-            Ok(mut play) => play.accept(),
-            Err(_) => false,
+            Ok(mut play) => play.accept(guest),
+            Err(_) => None,
         }
     }
 
@@ -62,14 +62,21 @@ impl<'a> World for Made<'a> {
         }
     }
 
-    fn accept(&mut self, number: u64) -> Accepted<Strand<'a>> {
+    fn accept(&mut self, guest: u64) -> Accepted<Strand<'a>> {
         if !self.has_place() {
             return Accepted::Full;
         }
-        if !self.accepts() {
-            return Accepted::Later;
+        match self.accepts(guest) {
+            Some(link) => Accepted::Client(self.strand(link)),
+            None => Accepted::Later,
         }
-        Accepted::Client(self.strand(Receiver::Client(number)))
+    }
+
+    fn rename(&mut self, stream: &mut Strand<'a>, number: u64) -> bool {
+        match self.play.try_borrow_mut() {
+            Ok(mut play) => play.rename(stream.link, number),
+            Err(_) => false,
+        }
     }
 
     fn connect(&mut self, forward: u64, attempt: u32) -> Option<Strand<'a>> {

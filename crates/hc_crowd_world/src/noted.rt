@@ -4,8 +4,8 @@ ghost use Rattle.hc_order.specs.declared.occurrence.Occurrence.{Occurrence};
 ghost use Rattle.hc_order.specs.Log.{Move};
 ghost use Rattle.std.specs.Prelude.{List};
 
+use crate::notes::Notes;
 use hc_connection::{Awaiting, Batches, Links};
-use hc_events::{Event, Happening};
 use hc_framing::MessageText;
 use hc_order::{Occurrence, Receiver};
 use std::alloc::{AllocError, Global};
@@ -20,8 +20,7 @@ pub struct Noted<L: Batches> {
     alloc: Global,
     /// The links.
     pub links: L,
-    /// What has happened.
-    events: Vec<Event>,
+    notes: Notes,
     /// Whether memory was refused for a note.
     torn: bool,
     /// How often something was waited for.
@@ -34,43 +33,21 @@ impl<L: Batches + Drop> Noted<L> {
         Noted {
             alloc,
             links,
-            events: Vec::new(alloc),
+            notes: Notes::new(alloc),
             torn: false,
             waits: 0,
         }
     }
 
     /// What has happened, which is noted no more.
-    pub fn take_events(&mut self) -> Vec<Event> {
-        mem::replace(&mut self.events, Vec::new(self.alloc))
+    pub fn take_notes(&mut self) -> Notes {
+        mem::replace(&mut self.notes, Notes::new(self.alloc))
     }
 
     /// Whether memory was refused for a note, which is missing.
     pub fn is_torn(&self) -> bool {
         self.torn
     }
-}
-
-/// The same event once more.
-fn copy_of(alloc: Global, event: &Event) -> Result<Event, AllocError> {
-    let of = match &event.of {
-        Happening::ClientOpened(c) => Happening::ClientOpened(*c),
-        Happening::ClientBytes(c, octets) => Happening::ClientBytes(*c, octets.copy(alloc)?),
-        Happening::ClientEnd(c) => Happening::ClientEnd(*c),
-        Happening::OriginBytes(f, octets) => Happening::OriginBytes(*f, octets.copy(alloc)?),
-        Happening::OriginEnd(f) => Happening::OriginEnd(*f),
-        Happening::OriginFailed(f) => Happening::OriginFailed(*f),
-    };
-    Ok(Event {
-        moment: event.moment,
-        of,
-    })
-}
-
-/// Notes the event behind the others.
-fn note(alloc: Global, events: &mut Vec<Event>, event: &Event) -> Result<(), AllocError> {
-    events.push(copy_of(alloc, event)?)?;
-    Ok(())
 }
 
 impl<L: Batches> Links for Noted<L> {
@@ -82,6 +59,12 @@ impl<L: Batches> Links for Noted<L> {
 
     ghost most = { λ noted. L.most noted.links };
 
+    ghost Bounds = { L.Bounds };
+
+    ghost bounds = { λ noted. L.bounds noted.links };
+
+    ghost within = { λ bounds noted. L.within bounds noted.links };
+
     ghost may_tell = { λ noted. L.may_tell noted.links };
 
     ghost heeds = { L.heeds };
@@ -89,7 +72,7 @@ impl<L: Batches> Links for Noted<L> {
     fn next<A: Awaiting>(&mut self, cache: &A) -> Result<Option<Occurrence>, AllocError> {
         let next = self.links.next(cache);
         if let Ok(Some(occurrence)) = &next {
-            if note(self.alloc, &mut self.events, &occurrence.event).is_err() {
+            if self.notes.put(self.alloc, occurrence).is_err() {
                 self.torn = true;
             }
         }
@@ -107,8 +90,6 @@ impl<L: Batches> Links for Noted<L> {
 
 impl<L: Batches> Batches for Noted<L> {
     ghost over = { λ noted. L.over noted.links };
-
-    ghost within = { λ noted. L.within noted.links };
 
     fn deliver<A: Awaiting>(&mut self, cache: &A) -> Result<(), AllocError> {
         self.links.deliver(cache)

@@ -4,8 +4,9 @@ ghost use Rattle.hc_flow.specs.Reads.{FitsBuffer};
 ghost use Rattle.hc_crowd_world.specs.Taking.{FitsText};
 ghost use Rattle.std.specs.Prelude.{◌++◌, ◌≤◌, ℕ, List, length};
 
-use crate::deeds::Act;
-use hc_flow::{Arrival, Readiness, Uptake};
+use crate::standing::Standing;
+use hc_crowd_scripts::Act;
+use hc_flow::{Arrival, Presence, Readiness, Uptake};
 use std::alloc::{AllocError, Global};
 
 /// The other side of a link, in memory.
@@ -28,10 +29,11 @@ pub struct Peer {
     failed: bool,
     /// Whether what is written to it was ended.
     has_end: bool,
+    /// Whether it was ever offered more than it took.
+    pressed: bool,
     /// Whether the link was let go.
     gone: bool,
-    /// Whether somebody had a link to it.
-    linked: bool,
+    standing: Standing,
 }
 
 impl Drop for Peer {
@@ -46,8 +48,9 @@ impl Drop for Peer {
             ends: _,
             failed: _,
             has_end: _,
+            pressed: _,
             gone: _,
-            linked: _,
+            standing: _,
         } = self;
         drop(said);
         drop(got);
@@ -75,8 +78,9 @@ impl Peer {
             ends: false,
             failed: false,
             has_end: false,
+            pressed: false,
             gone: false,
-            linked: false,
+            standing: Standing::Waits,
         }
     }
 
@@ -167,6 +171,21 @@ impl Peer {
         }
     }
 
+    /// What a read would find.
+    pub(crate) fn peek(&self) -> Presence {
+        if self.failed {
+            return Presence::Over;
+        }
+        if !self.unread().is_empty() {
+            return Presence::Octets;
+        }
+        if self.ends {
+            Presence::Over
+        } else {
+            Presence::Later
+        }
+    }
+
     /// A write to the link.
     pub(crate) fn write(&mut self, front: &[u8], rest: &[u8]) -> Uptake
         ensures { FitsText result (front.now ++ rest.now) }
@@ -181,6 +200,7 @@ impl Peer {
         let first = front.len().min(room);
         let second = rest.len().min(room - first);
         let count = first + second;
+        self.pressed = self.pressed | (first < front.len()) | (second < rest.len());
         if count == 0 {
             return Uptake::Later;
         }
@@ -234,13 +254,28 @@ impl Peer {
         self.gone
     }
 
-    /// Somebody has a link to it.
-    pub(crate) fn link(&mut self) {
-        self.linked = true;
+    /// Whether it took all that it was ever offered.
+    pub fn took_all(&self) -> bool {
+        !self.pressed
+    }
+
+    /// Whether it has sent anything.
+    pub fn has_said(&self) -> bool {
+        !self.said.is_empty()
     }
 
     /// Whether somebody had a link to it, and hasn't let it go.
     pub fn is_linked(&self) -> bool {
-        self.linked && !self.gone
+        !matches!(self.standing, Standing::Waits) && !self.gone
+    }
+
+    /// How it stands.
+    pub fn standing(&self) -> Standing {
+        self.standing
+    }
+
+    /// It stands so from now on.
+    pub(crate) fn stand(&mut self, standing: Standing) {
+        self.standing = standing;
     }
 }

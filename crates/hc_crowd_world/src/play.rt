@@ -4,11 +4,11 @@ ghost use Rattle.hc_flow.specs.Reads.{FitsBuffer};
 ghost use Rattle.hc_crowd_world.specs.Taking.{FitsText};
 ghost use Rattle.std.specs.Prelude.{◌++◌};
 
-use crate::deeds::{Act, Deed};
 use crate::peer::Peer;
-use crate::script::Script;
+use crate::standing::Standing;
 use crate::tally::Tally;
 use hc_crowd::Ready;
+use hc_crowd_scripts::{Act, Deed, Script};
 use hc_flow::{Arrival, Uptake};
 use hc_order::Receiver;
 use std::alloc::{AllocError, Global};
@@ -31,9 +31,11 @@ pub struct Play {
     places: usize,
     stops: bool,
     listens: bool,
-    tally: Tally,
+    pub(crate) tally: Tally,
     /// When links to the origin began to be made.
     notes: String,
+    /// When those who connect were accepted, and what came of them.
+    pub(crate) visits: String,
 }
 
 impl Drop for Play {
@@ -50,15 +52,17 @@ impl Drop for Play {
             listens: _,
             tally: _,
             notes,
+            visits,
         } = self;
         drop(script);
         drop(peers);
         drop(ready);
         drop(notes);
+        drop(visits);
     }
 }
 
-/// The key of the other side of that link.
+/// The key of the other side of that link. Clients are numbered in the order in which they connect.
 pub fn key_of(link: Receiver) -> u64 {
     match link {
         Receiver::Client(number) => number.saturating_mul(2),
@@ -86,6 +90,7 @@ impl Play {
             listens: true,
             tally: Tally::new(),
             notes: String::new(alloc),
+            visits: String::new(alloc),
         }
     }
 
@@ -114,6 +119,11 @@ impl Play {
         self.notes.as_str()
     }
 
+    /// When those who connect were accepted, and what came of them, as text.
+    pub fn visits(&self) -> &str {
+        self.visits.as_str()
+    }
+
     /// Whether all clients are to be served to their ends.
     pub fn is_calm(&self) -> bool {
         self.script.calm
@@ -121,6 +131,7 @@ impl Play {
 
     /// Time passes, until something is ready or so many milliseconds are over.
     pub(crate) fn wait(&mut self, most: u64) {
+        self.tally.check(self.script.limits);
         if self.pass(self.tick.saturating_add(most)).is_err() {
             self.tally.broken = true;
         }
@@ -152,7 +163,7 @@ impl Play {
 
     fn act(&mut self, deed: &Deed) -> Result<(), AllocError> {
         match deed {
-            Deed::Connects => self.connects(),
+            Deed::Connects(count) => self.all_connect(*count),
             Deed::Does(link, act) => self.does(*link, act),
             Deed::Answers(forward) => self.answers(*forward),
             Deed::Wall(second) => {
@@ -183,7 +194,7 @@ impl Play {
     }
 
     /// A client connects, as long as one can.
-    fn connects(&mut self) -> Result<(), AllocError> {
+    pub(crate) fn connects(&mut self) -> Result<(), AllocError> {
         if !self.listens {
             return Ok(());
         }
@@ -201,18 +212,10 @@ impl Play {
             return Ok(());
         };
         let readiness = peer.acts(act)?;
-        if self.is_known(link) {
-            self.ready.push_back(Ready::Link(link, readiness))?;
+        if let Some(ready) = peer.standing().told(readiness) {
+            self.ready.push_back(ready)?;
         }
         Ok(())
-    }
-
-    /// Whether what becomes ready at a link is told.
-    fn is_known(&self, link: Receiver) -> bool {
-        match link {
-            Receiver::Client(number) => number <= self.tally.accepted,
-            Receiver::Origin(_) => true,
-        }
     }
 
     /// What became ready.
@@ -222,24 +225,7 @@ impl Play {
 
     /// Whether the system has a place for a further link.
     pub(crate) fn has_place(&self) -> bool {
-        self.tally.clients.saturating_add(self.tally.origins) < self.places
-    }
-
-    /// A client is accepted, if one has connected.
-    pub(crate) fn accept(&mut self) -> bool {
-        if self.tally.accepted >= self.tally.connected {
-            return false;
-        }
-        self.tally.accepted = self.tally.accepted.saturating_add(1);
-        self.tally.clients = self.tally.clients.saturating_add(1);
-        self.link(Receiver::Client(self.tally.accepted));
-        self.check_limits();
-        // What is so already is told, too.
-        let stirs = Deed::Does(Receiver::Client(self.tally.accepted), Act::Stirs);
-        if self.script.cues.put(self.tick, stirs).is_err() {
-            self.tally.broken = true;
-        }
-        true
+        self.tally.links() < self.places
     }
 
     /// A link to the origin begins to be made, if it has so many addresses, and the system has a place.
@@ -251,17 +237,10 @@ impl Play {
             self.tally.broken = true;
             return false;
         }
-        self.tally.origins = self.tally.origins.saturating_add(1);
-        self.link(Receiver::Origin(forward));
-        self.check_limits();
+        let link = Receiver::Origin(forward);
+        self.stand(link, Standing::Linked(link));
+        self.tally.check(self.script.limits);
         true
-    }
-
-    /// Somebody has that link.
-    fn link(&mut self, link: Receiver) {
-        if let Some(peer) = self.peers.get_mut(&key_of(link)) {
-            peer.link();
-        }
     }
 
     fn reach(&mut self, forward: u64, attempt: u32) -> Result<(), AllocError> {
@@ -273,28 +252,9 @@ impl Play {
         self.plan(forward, attempt)
     }
 
-    fn check_limits(&mut self) {
-        if self.tally.clients > self.script.limits.connections {
-            self.tally.beyond = true;
-        }
-        if self.tally.origins > self.script.limits.origin_connections {
-            self.tally.beyond = true;
-        }
-    }
-
-    /// A link is let go.
-    pub(crate) fn let_go(&mut self, link: Receiver) {
-        match link {
-            Receiver::Client(_) => self.tally.clients = self.tally.clients.saturating_sub(1),
-            Receiver::Origin(_) => self.tally.origins = self.tally.origins.saturating_sub(1),
-        }
-        if let Some(peer) = self.peers.get_mut(&key_of(link)) {
-            peer.let_go();
-        }
-    }
-
     /// What is written to the other side of a link is ended.
     pub(crate) fn end(&mut self, link: Receiver) {
+        self.turn_away(link);
         if let Some(peer) = self.peers.get_mut(&key_of(link)) {
             peer.end();
         }
@@ -314,6 +274,7 @@ impl Play {
     pub(crate) fn write(&mut self, link: Receiver, front: &[u8], rest: &[u8]) -> Uptake
         ensures { FitsText result (front.now ++ rest.now) }
     {
+        self.turn_away(link);
         match self.peers.get_mut(&key_of(link)) {
             Some(peer) => peer.write(front, rest),
             None => Uptake::Failed,

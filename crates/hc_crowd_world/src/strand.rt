@@ -1,11 +1,11 @@
 //! Links of a world in memory.
 
 use crate::play::Play;
-use hc_flow::{Arrival, Stream, Uptake};
+use hc_flow::{Arrival, Presence, Stream, Uptake};
 use hc_order::Receiver;
 use std::cell::RefCell;
 
-/// A link of a world in memory.
+/// A link of a world in memory. That of a client is known by when it connected, among all clients.
 pub struct Strand<'a> {
     pub(crate) link: Receiver,
     pub(crate) play: &'a RefCell<Play>,
@@ -30,6 +30,13 @@ impl<'a> Stream for Strand<'a> {
         match self.play.try_borrow_mut() {
             Ok(mut play) => play.read(self.link, buffer),
             Err(_) => Arrival::Failed,
+        }
+    }
+
+    fn peek(&self) -> Presence {
+        match self.play.try_borrow() {
+            Ok(play) => play.peek(self.link),
+            Err(_) => Presence::Over,
         }
     }
 

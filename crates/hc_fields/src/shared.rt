@@ -70,12 +70,17 @@ impl SharedOctets {
         self.as_slice().is_empty()
     }
 
+    /// How many owners the octets have at this moment, this one among them; none where there are no octets.
+    pub fn owners(&self) -> usize {
+        match &self.kept {
+            Some(kept) => Rc::strong_count(kept),
+            None => 0,
+        }
+    }
+
     /// Whether there is another owner of the octets at this moment; never where there are none.
     pub fn is_shared(&self) -> bool {
-        match &self.kept {
-            Some(kept) => Rc::strong_count(kept) > 1,
-            None => false,
-        }
+        self.owners() > 1
     }
 
     /// Another owner of the same octets. It takes no memory, and fails only where the count of owners

@@ -1,2 +1,3 @@
 pub mod MoveLemmas
 pub mod PieceLemmas
+pub mod WeightLemmas

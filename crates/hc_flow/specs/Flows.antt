@@ -1,8 +1,10 @@
 -- What has passed at a flow.
-use Rattle.std.specs.Prelude.{◌≡◌, ℕ, Bool, true, false, List, ◌++◌, Result, Ok, Err}
+use Rattle.std.specs.Prelude.{◌≡◌, ◌⊎◌, ℕ, Bool, true, false, List, ◌++◌, Result, Ok, Err}
 use Rattle.std.specs.declared.alloc.AllocError.{AllocError}
 use Rattle.hc_flow.specs.Passing.{Gave, Owes}
 use Rattle.hc_flow.specs.declared.flow.Flow.{Flow}
+use Rattle.hc_flow.specs.declared.stream.Presence.{Presence}
+use Rattle.hc_flow.specs.declared.stream.Presence.TheVariants.{Octets, Later, Over}
 
 -- it owes what was sent there
 abbrev pub FlowOwes : {S : Type 0} → (S → List ℕ → Type 0) → Flow S → List ℕ → Type 0
@@ -30,3 +32,8 @@ abbrev pub KeepsLink : {S : Type 0} → Flow S → Flow S → Type 0
 KeepsLink before after =
     (after.stream ≡ before.stream) × (after.failed ≡ before.failed) × (after.readable ≡ before.readable) × (after.writable ≡ before.writable)
     × (after.hung_up ≡ before.hung_up) × (after.ends ≡ before.ends) × (after.ended ≡ before.ended)
+
+-- octets are told of where a look at the stream may tell of some; none are where the link has failed, or a look may tell of none
+abbrev pub ShowsOctets : {S : Type 0} → (S → Presence → Type 0) → Flow S → Bool → Type 0
+ShowsOctets may_show flow true = (flow.failed ≡ false) × may_show flow.stream Octets
+ShowsOctets may_show flow false = (flow.failed ≡ true) ⊎ (may_show flow.stream Later ⊎ may_show flow.stream Over)

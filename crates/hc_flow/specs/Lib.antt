@@ -3,4 +3,5 @@ pub mod Flows
 pub mod Passing
 pub mod Pieces
 pub mod Reads
+pub mod Weights
 pub mod Writes

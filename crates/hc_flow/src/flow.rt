@@ -1,16 +1,15 @@
 //! A stream, what waits to be written there, and what is known of it.
 
-ghost use Rattle.std.specs.Prelude.{◌≡◌, ◌==◌, ◌||◌, ◌&&◌, not, Bool, true, false, ℕ, List, [], ◌++◌, length, OnOk, OnErr, if◌then◌else◌};
+ghost use Rattle.std.specs.Prelude.{◌≡◌, ◌==◌, ◌||◌, ◌&&◌, not, Bool, true, false, ℕ, List, [], ◌++◌, length, OnOk, OnErr, if◌then◌else◌, nat_lt};
 
 use crate::outbox::{Emptying, Outbox};
 use crate::readiness::Readiness;
-use crate::stream::{Arrival, Stream};
+use crate::stream::{Arrival, Presence, Stream};
 use hc_framing::MessageText;
 use std::alloc::{AllocError, Global};
 
 /// A stream, what waits to be written there, and what is known of it. What was sent is owed until it is written; once
 /// the link has failed it is lost.
-#[derive(Drop)]
 pub struct Flow<S: Stream> {
     stream: S,
     outbox: Outbox,
@@ -28,9 +27,26 @@ pub struct Flow<S: Stream> {
     ended: bool,
 }
 
+impl<S: Stream + Drop> Drop for Flow<S> {
+    fn drop(self) {
+        let Flow {
+            stream,
+            outbox,
+            failed: _,
+            readable: _,
+            writable: _,
+            hung_up: _,
+            ends: _,
+            ended: _,
+        } = self;
+        drop(stream);
+        drop(outbox);
+    }
+}
+
 impl<S: Stream> Flow<S> {
     ghost use Rattle.hc_flow.specs.Emptyings.{LeavesWaiting, is_ended_behind, is_failed_emptying, is_writable_behind};
-    ghost use Rattle.hc_flow.specs.Flows.{FailsWithStream, FlowGave, FlowOwes, KeepsEnd, KeepsLink, OwesSent};
+    ghost use Rattle.hc_flow.specs.Flows.{FailsWithStream, FlowGave, FlowOwes, KeepsEnd, KeepsLink, OwesSent, ShowsOctets};
     ghost use Rattle.hc_flow.specs.Passing.{Stays};
     ghost use Rattle.hc_flow.specs.Reads.{FitsBuffer, HearsArrival, KeepsWaiting, is_failed_read, is_readable_behind};
 
@@ -108,11 +124,43 @@ impl<S: Stream> Flow<S> {
         self.outbox.len()
     }
 
+    /// How many octets of memory are held for what waits: of what has more owners a share.
+    pub fn weight(&self) -> usize
+        ensures { nat_lt 0 result ≡ not (length self.now.outbox == 0) }
+    {
+        self.outbox.weight()
+    }
+
+    /// Whether octets of the other side wait to be read, as far as a look tells: never, once the link has failed.
+    pub fn has_octets(&self) -> bool
+        ensures { ShowsOctets S.may_show self.now result }
+    {
+        if self.failed {
+            return false;
+        }
+        match self.stream.peek() {
+            Presence::Octets => true,
+            Presence::Later => false,
+            Presence::Over => false,
+        }
+    }
+
     /// The stream. What waits is dropped.
     pub fn into_stream(self) -> S
         ensures { result ≡ self.stream }
     {
-        self.stream
+        let Flow {
+            stream,
+            outbox,
+            failed: _,
+            readable: _,
+            writable: _,
+            hung_up: _,
+            ends: _,
+            ended: _,
+        } = self;
+        drop(outbox);
+        stream
     }
 
     /// The link has failed: what waits is lost.

@@ -6,8 +6,10 @@ mod outbox;
 mod pieces;
 mod readiness;
 mod stream;
+mod weight;
 
 pub use flow::Flow;
 pub use outbox::{Emptying, Outbox};
 pub use readiness::Readiness;
-pub use stream::{Arrival, Stream, Uptake};
+pub use stream::{Arrival, Presence, Stream, Uptake};
+pub use weight::weight_of;

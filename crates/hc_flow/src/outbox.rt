@@ -1,12 +1,13 @@
 //! What waits to be written to a link.
 
-ghost use Rattle.std.specs.Prelude.{◌≡◌, ◌==◌, ◌++◌, ℕ, Bool, List, [], length, OnOk, OnErr};
+ghost use Rattle.std.specs.Prelude.{◌≡◌, ◌==◌, ◌++◌, not, ℕ, Bool, List, [], length, OnOk, OnErr, nat_lt};
 ghost use Rattle.hc_flow.specs.Emptyings.{FailsEmptying, LeavesWaiting};
 ghost use Rattle.hc_flow.specs.Passing.{Moves, Stays};
 ghost use Rattle.hc_flow.specs.Writes.{FailsWrite, TakesOff};
 
 use crate::pieces::{Piece, advance, first_parts, put_behind};
 use crate::stream::{Stream, Uptake};
+use crate::weight::weight_of_all;
 use hc_framing::MessageText;
 use std::alloc::{AllocError, Global};
 use std::collections::VecDeque;
@@ -88,6 +89,17 @@ impl Outbox {
         ensures { result ≡ (length self.now == 0) }
     {
         self.waiting == 0
+    }
+
+    /// How many octets of memory are held for what waits. A piece counts until all of it is written; of what has more
+    /// owners a share counts.
+    pub fn weight(&self) -> usize
+        ensures { nat_lt 0 result ≡ not (length self.now == 0) }
+    {
+        if self.waiting == 0 {
+            return 0;
+        }
+        weight_of_all(&self.pieces, self.tail.as_slice())
     }
 
     /// Puts a text behind all that waits. It fails where memory is refused, or more would wait than can be counted.

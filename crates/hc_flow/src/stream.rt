@@ -2,6 +2,7 @@
 
 ghost use Rattle.std.specs.Prelude.{ℕ, Bool, true, List, ◌++◌};
 ghost use Rattle.hc_flow.specs.Passing.{Stays};
+ghost use Rattle.hc_flow.specs.declared.stream.Presence.{Presence};
 ghost use Rattle.hc_flow.specs.Reads.{FailsRead, Reads};
 ghost use Rattle.hc_flow.specs.Writes.{FailsWrite, Takes};
 
@@ -29,6 +30,17 @@ pub enum Uptake {
     Failed,
 }
 
+/// What is to be read of a stream, which a look tells without reading it.
+#[derive(Clone, Copy, PartialEq, Eq)]
+pub enum Presence {
+    /// One octet at least waits to be read.
+    Octets,
+    /// None now; some may come later.
+    Later,
+    /// The other side sends no more, or the link has failed.
+    Over,
+}
+
 /// One side of a connection, from which octets are read and to which octets are written, and that is never waited for.
 /// Once it has failed it may still be asked; it fails again.
 pub trait Stream {
@@ -44,12 +56,19 @@ pub trait Stream {
     /// It has failed, likewise.
     ghost has_failed: { Self → Type 0 } = { λ _. Unit {0} };
 
+    /// That may be what a look at it tells, likewise.
+    ghost may_show: { Self → Presence → Type 0 } = { λ _ _. Unit {0} };
+
     /// Reads as many octets as there are now and as the buffer takes.
     fn read(&mut self, buffer: &mut [u8]) -> Arrival
         ensures given { Reads (has_given self.old) (has_given self.new) result buffer.new }
         ensures got { Stays (has_got self.old) (has_got self.new) }
         ensures ended { (ended : Bool) → was_ended self.old ended → was_ended self.new ended }
         ensures fails { FailsRead (has_failed self.old) (has_failed self.new) result };
+
+    /// What the next read would find, as far as a look tells. It reads nothing.
+    fn peek(&self) -> Presence
+        ensures { may_show self.now result };
 
     /// Writes a beginning of the two, one behind the other, as far as it is taken now.
     fn write(&mut self, front: &[u8], rest: &[u8]) -> Uptake

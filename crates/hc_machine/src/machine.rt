@@ -15,10 +15,16 @@ use std::hash::{BuildHasher, BuildHasherDefault};
 use std::marker::Model;
 
 /// A shared cache in front of one origin, as a step function over what happens at its links.
-#[derive(Drop)]
 pub struct Core<S: BuildHasher = DefaultHasher> {
     failed: bool,
     desk: Desk<S>,
+}
+
+impl<S: BuildHasher + Drop> Drop for Core<S> {
+    fn drop(self) {
+        let Core { failed: _, desk } = self;
+        drop(desk);
+    }
 }
 
 impl<S: BuildHasher> Model for Core<S> {

@@ -17,6 +17,8 @@ pub enum Reason {
     Late,
     /// The link failed, and the end of a client, or the failure of a forward, is told for that.
     Reset,
+    /// So much was held beside the store that the link was failed.
+    Held,
 }
 
 /// What happened, and why whoever drives a cache tells it.

@@ -1,6 +1,6 @@
 pub mod ClientLemmas
-pub mod FlowLemmas
-pub mod PaceLemmas
+pub mod GuestLemmas
+pub mod KnownLemmas
 pub mod PeerLemmas
 pub mod PlaceLemmas
 pub mod ShownLemmas

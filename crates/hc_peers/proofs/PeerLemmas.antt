@@ -9,7 +9,7 @@ use Rattle.std.specs.declared.alloc.AllocError.{AllocError}
 use Rattle.hc_events.specs.declared.Happening.{Happening}
 use Rattle.hc_events.specs.declared.Happening.TheVariants.{ClientOpened, ClientBytes, ClientEnd, OriginBytes, OriginEnd, OriginFailed}
 use Rattle.hc_order.specs.declared.occurrence.Reason.{Reason}
-use Rattle.hc_order.specs.declared.occurrence.Reason.TheVariants.{Peer, Replies, Reads, Stop, Late, Reset}
+use Rattle.hc_order.specs.declared.occurrence.Reason.TheVariants.{Peer, Replies, Reads, Stop, Late, Reset, Held}
 use Rattle.hc_service.specs.Numbers.{is_later}
 use Rattle.hc_agenda.specs.declared.places.Places.{Places}
 use Rattle.hc_connection.specs.declared.happened.Happened.{Happened}
@@ -21,12 +21,14 @@ use Rattle.hc_order.specs.Log.{Move}
 use Rattle.hc_order.specs.Passages.{passage_of}
 use Rattle.hc_order.proofs.PassageLemmas.{client_is_open, origin_is_open}
 use Rattle.hc_peers.specs.declared.clients.Clients.{Clients}
-use Rattle.hc_peers.specs.declared.forwards.Forwards.{Forwards}
-use Rattle.hc_peers.specs.declared.heard.Heard.TheVariants.{End}
+use Rattle.hc_forwards.specs.declared.forwards.Forwards.{Forwards}
+use Rattle.hc_heard.specs.declared.heard.Heard.TheVariants.{End}
 use Rattle.hc_peers.specs.declared.peers.Peers.{Peers}
 use Rattle.hc_peers.specs.Hearings.{IsHeardFor}
-use Rattle.hc_peers.specs.Links.{AreClients, AreForwards, IsClientAt, IsForwardAt}
-use Rattle.hc_peers.specs.Peers.{ArePeers, Bounds, HasFewLinks, HeardFor, HeardInTurn, IsReasonFor, NoLinkIsLeft, number_given}
+use Rattle.hc_forwards.specs.Links.{AreForwards, IsForwardAt}
+use Rattle.hc_peers.specs.Links.{AreClients, IsClientAt}
+use Rattle.hc_peers.specs.Heard.{HeardFor, HeardInTurn, IsReasonFor}
+use Rattle.hc_peers.specs.Peers.{ArePeers, Bounds, HasFewLinks, NoLinkIsLeft, number_given}
 
 -- ---- numbers
 
@@ -51,6 +53,7 @@ waited_by P Q (ClientEnd c) Replies waited leads = tt
 waited_by P Q (ClientEnd c) Reads waited leads = tt
 waited_by P Q (ClientEnd c) Late waited leads = tt
 waited_by P Q (ClientEnd c) Reset waited leads = tt
+waited_by P Q (ClientEnd c) Held waited leads = tt
 waited_by P Q (ClientOpened c) reason waited leads = tt
 waited_by P Q (OriginBytes f octets) reason waited leads = tt
 waited_by P Q (OriginEnd f) reason waited leads = tt
@@ -68,41 +71,44 @@ module _ {S : Type 0} (has_given has_got : S → List ℕ → Type 0) (bounds : 
   pub sent_to_client : (clients : Clients S) → HasFewLinks bounds (record old { clients = clients }) → (result : Result Unit AllocError) (c : ℕ)
       → TellsSent (AreClients has_given has_got clients.table) result (Client c) octets log
       → TellsSent (ArePeers has_given has_got bounds (record old { clients = clients })) result (Client c) octets log
-  sent_to_client clients few (Ok done) c told = record { clients = told; forwards = t.forwards; last = t.last; count = t.count; few = few }
-  sent_to_client clients few (Err refused) c told = record { clients = told; forwards = t.forwards; last = t.last; count = t.count; few = few }
+  sent_to_client clients few (Ok done) c told = record { clients = told; forwards = t.forwards; guests = t.guests; last = t.last; count = t.count; few = few }
+  sent_to_client clients few (Err refused) c told = record { clients = told; forwards = t.forwards; guests = t.guests; last = t.last; count = t.count; few = few }
 
   -- a forward was opened, and waits for a place
   pub sent_to_origin : (forwards : Forwards S) (places : Places) → HasFewLinks bounds (record old { forwards = forwards; places = places }) → (result : Result Unit AllocError) (f : ℕ)
       → TellsSent (AreForwards has_given has_got forwards.table) result (Origin f) octets log
       → TellsSent (ArePeers has_given has_got bounds (record old { forwards = forwards; places = places })) result (Origin f) octets log
-  sent_to_origin forwards places few (Ok done) f told = record { clients = t.clients; forwards = told; last = t.last; count = t.count; few = few }
-  sent_to_origin forwards places few (Err refused) f told = record { clients = t.clients; forwards = told; last = t.last; count = t.count; few = few }
+  sent_to_origin forwards places few (Ok done) f told = record { clients = t.clients; forwards = told; guests = t.guests; last = t.last; count = t.count; few = few }
+  sent_to_origin forwards places few (Err refused) f told = record { clients = t.clients; forwards = told; guests = t.guests; last = t.last; count = t.count; few = few }
 
 -- ---- what is heard
 
 -- why a client's end is heard is why it is told
-pub ended_for : (stops is_late : Bool) (reason : Reason) → IsHeardFor stops is_late (Ok (End reason)) → IsReasonFor stops is_late reason
-ended_for stops is_late Peer is = tt
-ended_for stops is_late Replies is = tt
-ended_for stops is_late Reads is = tt
-ended_for stops is_late Stop is = is
-ended_for stops is_late Late is = is
-ended_for stops is_late Reset is = tt
+pub ended_for : (stops is_late is_cut : Bool) (has_failed : Type 0) (reason : Reason) → IsHeardFor stops is_late is_cut has_failed (Ok (End reason)) → IsReasonFor stops is_late is_cut has_failed reason
+ended_for stops is_late is_cut has_failed Peer is = tt
+ended_for stops is_late is_cut has_failed Replies is = tt
+ended_for stops is_late is_cut has_failed Reads is = tt
+ended_for stops is_late is_cut has_failed Stop is = is
+ended_for stops is_late is_cut has_failed Late is = is
+ended_for stops is_late is_cut has_failed Reset is = is
+ended_for stops is_late is_cut has_failed Held is = is
 
 -- a stop is the reason where one ends the client and more holds, too
-pub reason_for_less : (stops more is_late : Bool) (reason : Reason) → IsReasonFor (stops && more) is_late reason → IsReasonFor stops is_late reason
-reason_for_less stops more is_late Peer is = tt
-reason_for_less stops more is_late Replies is = tt
-reason_for_less stops more is_late Reads is = tt
-reason_for_less true more is_late Stop is = refl
-reason_for_less false more is_late Stop is = is
-reason_for_less stops more is_late Late is = is
-reason_for_less stops more is_late Reset is = tt
+pub reason_for_less : (stops more is_late is_cut : Bool) (has_failed : Type 0) (reason : Reason) → IsReasonFor (stops && more) is_late is_cut has_failed reason → IsReasonFor stops is_late is_cut has_failed reason
+reason_for_less stops more is_late is_cut has_failed Peer is = tt
+reason_for_less stops more is_late is_cut has_failed Replies is = tt
+reason_for_less stops more is_late is_cut has_failed Reads is = tt
+reason_for_less true more is_late is_cut has_failed Stop is = refl
+reason_for_less false more is_late is_cut has_failed Stop is = is
+reason_for_less stops more is_late is_cut has_failed Late is = is
+reason_for_less stops more is_late is_cut has_failed Reset is = is
+reason_for_less stops more is_late is_cut has_failed Held is = is
 
-pub heard_for_less : (stops more is_late : Bool) (result : Result (Option Happened) AllocError) → HeardFor (stops && more) is_late result → HeardFor stops is_late result
-heard_for_less stops more is_late (Ok (Some happened)) is = reason_for_less stops more is_late happened.reason is
-heard_for_less stops more is_late (Ok None) is = tt
-heard_for_less stops more is_late (Err refused) is = tt
+pub heard_for_less : (n : ℕ) (stops more is_late is_cut : Bool) (has_failed : Type 0) (result : Result (Option Happened) AllocError) → HeardFor n (stops && more) is_late is_cut has_failed result
+    → HeardFor n stops is_late is_cut has_failed result
+heard_for_less n stops more is_late is_cut has_failed (Ok (Some happened)) is = (is.0, reason_for_less stops more is_late is_cut has_failed happened.reason is.1)
+heard_for_less n stops more is_late is_cut has_failed (Ok None) is = tt
+heard_for_less n stops more is_late is_cut has_failed (Err refused) is = tt
 
 -- what is told of what was heard is told still, where whatever was told is
 pub told_on : {S : Type 0} (has_given has_got : S → List ℕ → Type 0) (bounds : Bounds) (before after : Peers S)

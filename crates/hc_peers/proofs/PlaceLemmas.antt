@@ -1,64 +1,20 @@
 -- Links, and their places at the origin.
-use Rattle.std.proofs.Common.{◌≡◌, ℕ, ◌+◌, ◌==◌, ◌≤◌, Bool, true, false, ◌&&◌, ◌||◌, not, cond, Option, Some, None, IsSome, refl, sym, ap, ◌∙◌, subst, arith}
-use Rattle.std.specs.BTreeMap.{BTreeMap, Updates, WritesThrough, get, is_at}
+use Rattle.std.proofs.Common.{◌≡◌, ℕ, ◌+◌, ◌==◌, ◌≤◌, Bool, true, false, ◌&&◌, ◌||◌, not, refl, sym, ap, ◌∙◌, subst, arith}
+use Rattle.std.specs.BTreeMap.{is_at}
 use Rattle.std.specs.Cmp.{unsigned_tied}
 use Rattle.std.specs.Ordering.{nat_cmp}
 use Rattle.hc_agenda.specs.declared.places.Places.{Places}
 use Rattle.hc_agenda.specs.Places.{HasPlaceLeft, KeepsPlaces, has_place, places_given, places_in_all}
-use Rattle.hc_order.specs.declared.occurrence.Reason.{Reason}
+use Rattle.hc_guests.specs.declared.lingering.Lingering.{Lingering}
+use Rattle.hc_guests.specs.Lingering.{GainsNoLingerer, is_lingering}
+use Rattle.hc_guests.specs.Tables.{KeepsOthers}
 use Rattle.hc_peers.specs.declared.clients.Clients.{Clients}
-use Rattle.hc_peers.specs.declared.forward.Forward.{Forward}
-use Rattle.hc_peers.specs.declared.forward.Reaching.{Reaching}
-use Rattle.hc_peers.specs.declared.forward.Reaching.TheVariants.{Lost}
-use Rattle.hc_peers.specs.declared.forwards.Forwards.{Forwards}
-use Rattle.hc_peers.specs.declared.lingering.Lingering.{Lingering}
+use Rattle.hc_forwards.specs.declared.forwards.Forwards.{Forwards}
 use Rattle.hc_peers.specs.declared.peers.Peers.{Peers}
-use Rattle.hc_peers.specs.Links.{GainsNoClient, GainsNoLingerer, GainsNoLink, KeepsOthers, has_link, is_lingering, is_linked, is_linked_at}
-use Rattle.hc_peers.specs.Peers.{Bounds, HasFewLinks}
-use Rattle.hc_peers.proofs.TableLemmas.{put, same_number}
-
--- ---- which forwards have links
-
-never : {P : Type 0} (b : Bool) → b ≡ false → b ≡ true → P
-never true is other = absurd (cc)
-never false is other = absurd (cc)
-
-module _ {S : Type 0} where
-  at_one : (b : Bool) (perhaps there : Option (Forward S)) → (b ≡ true → is_linked_at perhaps ≡ true → is_linked_at there ≡ true) → is_linked_at (cond b perhaps there) ≡ true
-      → is_linked_at there ≡ true
-  at_one true perhaps there keeps linked = keeps refl linked
-  at_one false perhaps there keeps linked = linked
-
-  module _ (table table' : BTreeMap ℕ (Forward S)) (k : ℕ) where
-    -- one changes, and gains no link
-    changed : (perhaps : Option (Forward S)) → ((n : ℕ) → get nat_cmp table' n ≡ cond (k == n) perhaps (get nat_cmp table n))
-        → (is_linked_at perhaps ≡ true → is_linked_at (get nat_cmp table k) ≡ true)
-        → (f : ℕ) → is_linked_at (get nat_cmp table' f) ≡ true → is_linked_at (get nat_cmp table f) ≡ true
-    changed perhaps now keeps f linked =
-        at_one (k == f) perhaps (get nat_cmp table f)
-        (λ same its. subst (λ (n : ℕ). is_linked_at (get nat_cmp table n) ≡ true) (same_number k f same) (keeps its))
-        (subst (λ (o : Option (Forward S)). is_linked_at o ≡ true) (now f) linked)
-
-    -- one without a link is put in its place
-    pub put_unlinked : (value : Forward S) → has_link value.reaching ≡ false → Updates nat_cmp table table' k (Some value)
-        → (f : ℕ) → is_linked_at (get nat_cmp table' f) ≡ true → is_linked_at (get nat_cmp table f) ≡ true
-    put_unlinked value unlinked updates = changed (Some value) (put table table' k (Some value) updates) (never (has_link value.reaching) unlinked)
-
-    -- one is taken out
-    pub taken_out : Updates nat_cmp table table' k None → (f : ℕ) → is_linked_at (get nat_cmp table' f) ≡ true → is_linked_at (get nat_cmp table f) ≡ true
-    taken_out updates = changed None (put table table' k None updates) (never false refl)
-
-    -- one is lent, and written to
-    pub lent_unlinked : (value value' : Forward S) → Some value ≡ get nat_cmp table k → WritesThrough nat_cmp (nat_cmp k) table value' table'
-        → (has_link value'.reaching ≡ true → has_link value.reaching ≡ true)
-        → (f : ℕ) → is_linked_at (get nat_cmp table' f) ≡ true → is_linked_at (get nat_cmp table f) ≡ true
-    lent_unlinked value value' there wrote keeps =
-        changed (Some value') (put table table' k (Some value') (wrote.3 (subst IsSome there refl)))
-        (λ linked. subst (λ (o : Option (Forward S)). is_linked_at o ≡ true) there (keeps linked))
-
--- where the link is lost there is none
-pub lost_unlinked : {S : Type 0} (reaching : Reaching S) (reason : Reason) → reaching ≡ Lost reason → (before : Bool) → has_link reaching ≡ true → before ≡ true
-lost_unlinked reaching reason lost before = never (has_link reaching) (ap has_link lost)
+use Rattle.hc_forwards.specs.Links.{GainsNoLink, is_linked, is_linked_at}
+use Rattle.hc_peers.specs.Links.{GainsNoClient}
+use Rattle.hc_peers.specs.Peers.{Bounds, GainsNoGuest, HasFewLinks}
+use Rattle.hc_heard.proofs.TableLemmas.{same_number}
 
 -- ---- links stay few
 
@@ -66,15 +22,20 @@ lost_unlinked reaching reason lost before = never (has_link reaching) (ap has_li
 pub same_clients : {S : Type 0} (clients : Clients S) → GainsNoClient clients clients
 same_clients clients = omega arith
 
+-- nor more guests' links, or links of those who were turned away
+pub same_guests : {S : Type 0} (peers : Peers S) → GainsNoGuest peers peers
+same_guests peers = (omega arith, omega arith)
+
 -- nothing changes at the places
 pub same_places : (places : Places) → KeepsPlaces places places
 same_places places = record { all = refl; given = refl; same = λ f. refl }
 
 -- no link comes to those that are there
-pub few_still : {S : Type 0} (bounds : Bounds) (old new : Peers S) → GainsNoClient old.clients new.clients → GainsNoLink old.forwards new.forwards → GainsNoLingerer old.lingering new.lingering
+pub few_still : {S : Type 0} (bounds : Bounds) (old new : Peers S) → GainsNoClient old.clients new.clients → GainsNoGuest old new → GainsNoLink old.forwards new.forwards → GainsNoLingerer old.lingering new.lingering
     → KeepsPlaces old.places new.places → HasFewLinks bounds old → HasFewLinks bounds new
-few_still bounds old new clients forwards lingering places few = record {
-  clients = omega (arith, clients, few.clients);
+few_still bounds old new clients guests forwards lingering places few = record {
+  clients = omega (arith, clients, guests.0, few.clients);
+  turned_away = omega (arith, guests.1, few.turned_away);
   places = places.all ∙ few.places;
   given = omega (arith, places.given, few.given);
   linked = λ f linked. places.same f ∙ few.linked f (forwards f linked);
@@ -91,6 +52,10 @@ at_other false k f P is its others = others is
 
 everywhere : (k f : ℕ) (P : ℕ → Type 0) → P k → (is_at (nat_cmp k) f ≡ false → P f) → P f
 everywhere k f P its others = at_other (k == f) k f P refl its (λ differ. others (unsigned_tied k f ∙ differ))
+
+never : {P : Type 0} (b : Bool) → b ≡ false → b ≡ true → P
+never true is other = absurd (cc)
+never false is other = absurd (cc)
 
 both : (a b : Bool) → true ≡ (a && b) → (a ≡ true) × (b ≡ true)
 both true true is = (refl, refl)
@@ -115,6 +80,7 @@ module _ {S : Type 0} (bounds : Bounds) (old : Peers S) (few : HasFewLinks bound
       let as_before : (f : ℕ) → is_at (nat_cmp k) f ≡ false → is_linked f forwards ≡ true → is_linked f old.forwards ≡ true =
       λ f differ linked. ap is_linked_at (sym (others f differ)) ∙ linked in record {
         clients = few.clients;
+        turned_away = few.turned_away;
         places = few.places;
         given = few.given;
         linked = λ f. everywhere k f (λ (n : ℕ). is_linked n forwards ≡ true → has_place n old.places ≡ true) (λ linked. its.0)
@@ -130,6 +96,7 @@ module _ {S : Type 0} (bounds : Bounds) (old : Peers S) (few : HasFewLinks bound
   few_lingering lingering others own =
       let its = both (has_place k old.places) (not (is_linked k old.forwards)) own in record {
         clients = few.clients;
+        turned_away = few.turned_away;
         places = few.places;
         given = few.given;
         linked = few.linked;
@@ -147,6 +114,7 @@ module _ {S : Type 0} (bounds : Bounds) (old : Peers S) (few : HasFewLinks bound
   few_freed places all fewer others empty =
       let its = neither (is_linked k old.forwards) (is_lingering k old.lingering) empty in record {
         clients = few.clients;
+        turned_away = few.turned_away;
         places = all ∙ few.places;
         given = omega (arith, fewer, few.given);
         linked = λ f. everywhere k f (λ (n : ℕ). is_linked n old.forwards ≡ true → has_place n places ≡ true) (never (is_linked k old.forwards) its.0)
@@ -161,6 +129,7 @@ pub few_given : {S : Type 0} (bounds : Bounds) (old : Peers S) (places : Places)
     → HasPlaceLeft old.places → ((f : ℕ) → has_place f old.places ≡ true → has_place f places ≡ true) → HasFewLinks bounds old → HasFewLinks bounds (record old { places = places })
 few_given bounds old places all one_more left kept few = record {
   clients = few.clients;
+  turned_away = few.turned_away;
   places = all ∙ few.places;
   given = omega (arith, one_more, left, few.places);
   linked = λ f linked. kept f (few.linked f linked);

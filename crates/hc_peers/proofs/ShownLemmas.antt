@@ -21,4 +21,4 @@ told_shown has_given has_got table log are = λ n. shown_at has_given has_got (g
 
 -- and so it is with all links together
 pub peers_show : {S : Type 0} (has_given has_got : S → List ℕ → Type 0) (bounds : Bounds) (peers : Peers S) (log : List Move) → ArePeers has_given has_got bounds peers log → ShowNoMore has_got peers log
-peers_show has_given has_got bounds peers log are = told_shown has_given has_got peers.clients.table log are.clients
+peers_show has_given has_got bounds peers log are = (told_shown has_given has_got peers.clients.table log are.clients, are.guests.1)

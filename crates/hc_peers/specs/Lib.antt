@@ -1,6 +1,8 @@
+pub mod Heard
 pub mod Hearings
+pub mod Known
 pub mod Links
-pub mod Paces
 pub mod Peers
 pub mod Shown
 pub mod Telling
+pub mod Times

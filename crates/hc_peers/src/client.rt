@@ -1,13 +1,12 @@
 //! One client's link.
 
-ghost use Rattle.std.specs.Prelude.{◌≡◌, ◌&&◌, ◌||◌, not, Bool, true, false, [], length, Some, nat_lt};
+ghost use Rattle.std.specs.Prelude.{◌≡◌, ◌⊎◌, ◌&&◌, ◌||◌, not, Bool, true, false, [], length, Some, nat_lt, IsErr};
 
-use crate::heard::{Heard, hear_flow, wants_turn};
-use crate::pace::Pace;
-use crate::patience::Patience;
 use hc_flow::{Arrival, Emptying, Flow, Readiness, Stream};
 use hc_framing::MessageText;
+use hc_heard::{Heard, hear_flow, wants_turn};
 use hc_order::Reason;
+use hc_pace::{Pace, Patience};
 use std::alloc::{AllocError, Global};
 
 /// What decides how a client is heard.
@@ -24,13 +23,14 @@ pub struct Hearing {
 }
 
 /// One client's link, and what the cache was told of it.
-#[derive(Drop)]
 pub(crate) struct Client<S: Stream> {
     flow: Flow<S>,
     /// Whether the cache was told that the client sends no more.
     ended: bool,
     /// Whether the cache has closed the connection.
     closed: bool,
+    /// Whether it was cut off, since so much was held.
+    cut: bool,
     /// Whether it stands among the turns.
     queued: bool,
     /// Whether it wasn't read yet.
@@ -39,11 +39,29 @@ pub(crate) struct Client<S: Stream> {
     pace: Pace,
 }
 
+impl<S: Stream + Drop> Drop for Client<S> {
+    fn drop(self) {
+        let Client {
+            flow,
+            ended: _,
+            closed: _,
+            cut: _,
+            queued: _,
+            fresh: _,
+            pace: _,
+        } = self;
+        drop(flow);
+    }
+}
+
 impl<S: Stream> Client<S> {
     ghost use Rattle.hc_order.specs.Passages.{Passage, closing, ending, opened_with};
-    ghost use Rattle.hc_peers.specs.Hearings.{IsHeardFor, IsHeardInTurn, IsHeardOpen, KeepsHeard, KeepsSent, wants_turn};
-    ghost use Rattle.hc_peers.specs.Links.{IsClient, TellsOwed, is_owed, may_go};
-    ghost use Rattle.hc_peers.specs.Paces.{due, owing, pace_behind, written};
+    ghost use Rattle.hc_pace.specs.Paces.{due, owing, written};
+    ghost use Rattle.hc_heard.specs.Hearings.{FailsOnly, HasFailed, IsHeardInTurn, IsHeardOpen, KeepsHeard, KeepsSent, ends_by, wants_turn};
+    ghost use Rattle.hc_peers.specs.Hearings.{IsHeardFor, IsToldAtOnce, isnt_read};
+    ghost use Rattle.hc_heard.specs.Links.{TellsOwed, is_owed};
+    ghost use Rattle.hc_peers.specs.Links.{IsClient, may_go};
+    ghost use Rattle.hc_peers.specs.Times.{pace_behind};
     ghost use Rattle.hc_flow.specs.Passing.{Stays};
 
     /// One who has just connected, and has a turn.
@@ -52,19 +70,22 @@ impl<S: Stream> Client<S> {
         ensures queued { result.queued ≡ true }
         ensures stream { result.flow.stream ≡ stream }
         ensures pace { result.pace ≡ Pace.Idle tick }
+        ensures state { (result.cut ≡ false) × (result.fresh ≡ true) }
     {
         Client {
             flow: Flow::new(alloc, stream),
             ended: false,
             closed: false,
+            cut: false,
             queued: true,
             fresh: true,
             pace: Pace::Idle(tick),
         }
     }
 
-    /// What is heard of the client now. That its time is over is told at once, and what is owed to it is lost; so it is told
-    /// that its link has failed. Else nothing is read while a reply is awaited, or octets wait to be written.
+    /// What is heard of the client now. That it was cut off is told at once. So it is told that its time is over, and what is
+    /// owed to it is lost; and that its link has failed. Else nothing is read while a reply is awaited, or octets wait to be
+    /// written.
     pub(crate) fn hear(
         &mut self,
         alloc: Global,
@@ -77,8 +98,15 @@ impl<S: Stream> Client<S> {
             → IsHeardOpen passage.is_open passage.is_ended result }
         ensures in_turn { IsHeardInTurn hearing.awaited result }
         ensures owed { IsHeardInTurn (is_owed self.old.flow) result }
-        ensures reason { IsHeardFor hearing.stops hearing.late result }
-        ensures pace { self.new.pace ≡ pace_behind result hearing.tick self.old.pace }
+        ensures reason { IsHeardFor hearing.stops hearing.late self.old.cut (HasFailed S.has_failed self.old.flow self.new.flow) result }
+        ensures at_once { self.old.ended ≡ false → self.old.closed ≡ false → IsToldAtOnce self.old.cut hearing.late result }
+        ensures fails { FailsOnly S.has_failed ((hearing.late ≡ true) ⊎ IsErr result) self.old.flow self.new.flow }
+        ensures rest { self.new ≡ record self.old {
+          flow = self.new.flow;
+          ended = ends_by result self.old.ended;
+          fresh = self.old.fresh && isnt_read self.old hearing;
+          pace = pace_behind result hearing.tick self.old.pace;
+        } }
         ensures got { Stays (S.has_got self.old.flow.stream) (S.has_got self.new.flow.stream) }
     {
         if self.ended {
@@ -86,6 +114,9 @@ impl<S: Stream> Client<S> {
         }
         if self.closed {
             return Ok(Heard::Nothing);
+        }
+        if self.cut {
+            return Ok(self.end(Reason::Held));
         }
         if hearing.late {
             self.lose();
@@ -113,7 +144,7 @@ impl<S: Stream> Client<S> {
     /// The cache is told that the client sends no more.
     fn end(&mut self, reason: Reason) -> Heard
         ensures heard { result ≡ Heard.End reason }
-        ensures pace { self.new.pace ≡ self.old.pace }
+        ensures rest { self.new ≡ record self.old { ended = true } }
         ensures kept { (passage : Passage) → IsClient S.has_given S.has_got self.old passage
             → IsClient S.has_given S.has_got self.new (ending passage) }
         ensures got { Stays (S.has_got self.old.flow.stream) (S.has_got self.new.flow.stream) }
@@ -126,8 +157,9 @@ impl<S: Stream> Client<S> {
     fn read(&mut self, alloc: Global, buffer: &mut [u8], tick: u64) -> Result<Heard, AllocError>
         ensures kept { self.old.closed ≡ false → (passage : Passage) → IsClient S.has_given S.has_got self.old passage
             → KeepsHeard (IsClient S.has_given S.has_got self.new) result passage }
-        ensures reason { (late : Bool) → IsHeardFor false late result }
-        ensures pace { self.new.pace ≡ pace_behind result tick self.old.pace }
+        ensures reason { (late cut : Bool) → IsHeardFor false late cut (HasFailed S.has_failed self.old.flow self.new.flow) result }
+        ensures fails { FailsOnly S.has_failed (IsErr result) self.old.flow self.new.flow }
+        ensures rest { self.new ≡ record self.old { flow = self.new.flow; ended = ends_by result self.old.ended; fresh = false; pace = pace_behind result tick self.old.pace } }
         ensures got { Stays (S.has_got self.old.flow.stream) (S.has_got self.new.flow.stream) }
     {
         self.fresh = false;
@@ -146,7 +178,8 @@ impl<S: Stream> Client<S> {
     pub(crate) fn send(&mut self, text: &MessageText, tick: u64) -> Result<(), AllocError>
         ensures kept { (passage : Passage) → IsClient S.has_given S.has_got self.old passage
             → KeepsSent (IsClient S.has_given S.has_got self.new) result text.now passage }
-        ensures pace { self.new.pace ≡ owing (is_owed self.new.flow) tick self.old.pace }
+        ensures rest { self.new ≡ record self.old { flow = self.new.flow; pace = owing (is_owed self.new.flow) tick self.old.pace } }
+        ensures failed { self.new.flow.failed ≡ self.old.flow.failed }
         ensures got { Stays (S.has_got self.old.flow.stream) (S.has_got self.new.flow.stream) }
     {
         let sent = self.flow.send(text);
@@ -159,7 +192,9 @@ impl<S: Stream> Client<S> {
         ensures kept { (passage : Passage) → IsClient S.has_given S.has_got self.old passage
             → IsClient S.has_given S.has_got self.new (closing passage) }
         ensures was { result ≡ not self.old.closed }
-        ensures ends { (self.new.closed ≡ true) × (self.new.flow.ends ≡ true) }
+        ensures ends { self.new.flow.ends ≡ true }
+        ensures rest { self.new ≡ record self.old { flow = self.new.flow; closed = true } }
+        ensures waits { (self.new.flow.failed ≡ self.old.flow.failed) × (self.new.flow.outbox ≡ self.old.flow.outbox) }
         ensures got { Stays (S.has_got self.old.flow.stream) (S.has_got self.new.flow.stream) }
     {
         let was_open = !self.closed;
@@ -172,7 +207,8 @@ impl<S: Stream> Client<S> {
     pub(crate) fn write(&mut self, tick: u64) -> Emptying
         ensures kept { (passage : Passage) → IsClient S.has_given S.has_got self.old passage → IsClient S.has_given S.has_got self.new passage }
         ensures owed { TellsOwed (Some result) (is_owed self.new.flow) }
-        ensures pace { self.new.pace ≡ written result (length self.old.flow.outbox) (length self.new.flow.outbox) tick self.old.pace }
+        ensures fails { FailsOnly S.has_failed ⊥ self.old.flow self.new.flow }
+        ensures rest { self.new ≡ record self.old { flow = self.new.flow; pace = written result (length self.old.flow.outbox) (length self.new.flow.outbox) tick self.old.pace } }
     {
         let before = self.flow.held();
         let emptying = self.flow.write();
@@ -185,7 +221,8 @@ impl<S: Stream> Client<S> {
     pub(crate) fn learn(&mut self, readiness: Readiness) -> bool
         ensures kept { (passage : Passage) → IsClient S.has_given S.has_got self.old passage → IsClient S.has_given S.has_got self.new passage }
         ensures first { result ≡ (wants_turn readiness && not self.old.queued) }
-        ensures queued { self.new.queued ≡ (wants_turn readiness || self.old.queued) }
+        ensures rest { self.new ≡ record self.old { flow = self.new.flow; queued = wants_turn readiness || self.old.queued } }
+        ensures failed { self.new.flow.failed ≡ (self.old.flow.failed || readiness.failed) }
         ensures got { Stays (S.has_got self.old.flow.stream) (S.has_got self.new.flow.stream) }
     {
         self.flow.learn(readiness);
@@ -199,15 +236,29 @@ impl<S: Stream> Client<S> {
     pub(crate) fn lose(&mut self)
         ensures kept { (passage : Passage) → IsClient S.has_given S.has_got self.old passage → IsClient S.has_given S.has_got self.new passage }
         ensures lost { self.new.flow.failed ≡ true }
-        ensures pace { self.new.pace ≡ self.old.pace }
+        ensures rest { self.new ≡ record self.old { flow = self.new.flow } }
         ensures got { Stays (S.has_got self.old.flow.stream) (S.has_got self.new.flow.stream) }
     {
         self.flow.lose();
     }
 
+    /// It is cut off, since so much is held: what is owed is lost.
+    pub(crate) fn cut_off(&mut self)
+        ensures kept { (passage : Passage) → IsClient S.has_given S.has_got self.old passage → IsClient S.has_given S.has_got self.new passage }
+        ensures lost { self.new.flow.failed ≡ true }
+        ensures rest { self.new ≡ record self.old { flow = self.new.flow; cut = true } }
+        ensures got { Stays (S.has_got self.old.flow.stream) (S.has_got self.new.flow.stream) }
+    {
+        self.lose();
+        self.cut = true;
+    }
+
     /// Reads what a client whose connection is closed still sends, and drops it. Answers whether nothing more comes.
     pub(crate) fn discard(&mut self, buffer: &mut [u8]) -> bool
         ensures kept { (passage : Passage) → IsClient S.has_given S.has_got self.old passage → IsClient S.has_given S.has_got self.new passage }
+        ensures fails { FailsOnly S.has_failed ⊥ self.old.flow self.new.flow }
+        ensures rest { self.new ≡ record self.old { flow = self.new.flow } }
+        ensures open { self.old.closed ≡ false → (result ≡ false) × (self.new ≡ self.old) }
         ensures got { Stays (S.has_got self.old.flow.stream) (S.has_got self.new.flow.stream) }
     {
         if !self.closed {
@@ -256,11 +307,32 @@ impl<S: Stream> Client<S> {
         self.fresh
     }
 
+    /// Whether it was cut off.
+    pub(crate) fn is_cut(&self) -> bool
+        ensures { result ≡ self.now.cut }
+    {
+        self.cut
+    }
+
     /// Whether octets wait to be written.
     pub(crate) fn is_owed(&self) -> bool
         ensures { result ≡ is_owed self.now.flow }
     {
         self.flow.is_owed()
+    }
+
+    /// How many octets of memory are held for what is owed.
+    pub(crate) fn weight(&self) -> usize
+        ensures { nat_lt 0 result ≡ is_owed self.now.flow }
+    {
+        self.flow.weight()
+    }
+
+    /// Whether octets of it wait to be read, as far as a look tells.
+    pub(crate) fn has_octets(&self) -> bool
+        ensures { result ≡ true → self.now.flow.failed ≡ false }
+    {
+        self.flow.has_octets()
     }
 
     /// Whether a read may bring something now.
@@ -274,7 +346,7 @@ impl<S: Stream> Client<S> {
     pub(crate) fn queue(&mut self) -> bool
         ensures kept { (passage : Passage) → IsClient S.has_given S.has_got self.old passage → IsClient S.has_given S.has_got self.new passage }
         ensures first { result ≡ not self.old.queued }
-        ensures queued { self.new.queued ≡ true }
+        ensures rest { self.new ≡ record self.old { queued = true } }
         ensures got { Stays (S.has_got self.old.flow.stream) (S.has_got self.new.flow.stream) }
     {
         let is_first = !self.queued;
@@ -285,7 +357,7 @@ impl<S: Stream> Client<S> {
     /// It stands among the turns no more.
     pub(crate) fn unqueue(&mut self)
         ensures kept { (passage : Passage) → IsClient S.has_given S.has_got self.old passage → IsClient S.has_given S.has_got self.new passage }
-        ensures queued { self.new.queued ≡ false }
+        ensures rest { self.new ≡ record self.old { queued = false } }
         ensures got { Stays (S.has_got self.old.flow.stream) (S.has_got self.new.flow.stream) }
     {
         self.queued = false;

@@ -1,21 +1,26 @@
 //! The links of clients, by number.
 
-ghost use Rattle.std.specs.Prelude.{◌≡◌, ◌&&◌, ◌+◌, ◌≤◌, not, false, ℕ, List, [], ◌∷◌, length, None, is_some, if◌then◌else◌, nat_lt, option_map};
+ghost use Rattle.std.specs.Prelude.{◌≡◌, ◌⊎◌, ◌&&◌, ◌+◌, ◌≤◌, not, true, false, ℕ, List, [], ◌∷◌, length, Some, None, is_some, if◌then◌else◌, nat_lt, option_map, IsErr, OnOk, OnErr};
 
 use crate::client::{Client, Hearing};
-use crate::heard::Heard;
-use crate::pace::Pace;
-use crate::patience::Patience;
 use hc_flow::{Emptying, Readiness, Stream};
 use hc_framing::MessageText;
+use hc_heard::Heard;
+use hc_pace::{Pace, Patience};
 use std::alloc::{AllocError, Global};
 use std::collections::BTreeMap;
 
 /// The links of clients, by number.
-#[derive(Drop)]
 pub struct Clients<S: Stream> {
     alloc: Global,
     table: BTreeMap<u64, Client<S>>,
+}
+
+impl<S: Stream + Drop> Drop for Clients<S> {
+    fn drop(self) {
+        let Clients { alloc: _, table } = self;
+        drop(table);
+    }
 }
 
 impl<S: Stream + Drop> Clients<S> {
@@ -27,11 +32,16 @@ impl<S: Stream + Drop> Clients<S> {
     ghost use Rattle.hc_order.specs.Log.Move.{Closed};
     ghost use Rattle.hc_order.specs.Mirrors.{is_connected};
     ghost use Rattle.hc_order.specs.Passages.{passage_of};
-    ghost use Rattle.hc_peers.specs.Hearings.{IsHeardFor, IsHeardInTurn, IsHeardOpen, wants_turn};
-    ghost use Rattle.hc_peers.specs.Links.{AreClients, GainsNoClient, KeepsOthers, TellsOwed, is_owed, is_there_and, may_go};
-    ghost use Rattle.hc_peers.specs.Telling.{KeepsOfClient, KeepsOpened};
-    ghost use Rattle.hc_peers.specs.Paces.{due};
+    ghost use Rattle.hc_guests.specs.Tables.{KeepsOthers, is_there_and};
+    ghost use Rattle.hc_pace.specs.Paces.{due, owing, written};
+    ghost use Rattle.hc_heard.specs.Hearings.{IsHeardInTurn, IsHeardOpen, wants_turn};
+    ghost use Rattle.hc_peers.specs.Hearings.{FailsOnlyAt, HasFailedAt, IsHeardFor, IsToldAtOnce};
+    ghost use Rattle.hc_peers.specs.Known.{KeepsKnown, KeepsPace, PaceWritten, is_connected_at, is_cut_at, held_at, is_failed_at, is_open_at, is_owed_at, known_at, pace_at, turned};
+    ghost use Rattle.hc_heard.specs.Links.{TellsOwed, is_owed};
+    ghost use Rattle.hc_peers.specs.Links.{AreClients, GainsNoClient, may_go};
     ghost use Rattle.hc_peers.specs.Shown.{AreShown};
+    ghost use Rattle.hc_peers.specs.Telling.{KeepsOfClient, KeepsOpened};
+    ghost use Rattle.hc_peers.specs.Times.{pace_behind};
 
     /// No client has connected.
     pub(crate) fn new(alloc: Global) -> Self
@@ -58,6 +68,9 @@ impl<S: Stream + Drop> Clients<S> {
             → KeepsOpened (AreClients S.has_given S.has_got self.new.table) number result log }
         ensures others { KeepsOthers number self.old.table self.new.table }
         ensures many { length self.new.table.entries ≤ length self.old.table.entries + 1 }
+        ensures pace { OnOk result (pace_at number self.new.table ≡ Some (Pace.Idle tick)) }
+        ensures cut { OnOk result (is_cut_at number self.new.table ≡ false) }
+        ensures err { OnErr result (get nat_cmp self.new.table number ≡ get nat_cmp self.old.table number) }
         ensures shown { S.has_got stream [] → (log : List Move) → AreShown S.has_got self.old.table log → AreShown S.has_got self.new.table log }
     {
         let client = Client::new(self.alloc, stream, tick);
@@ -81,7 +94,12 @@ impl<S: Stream + Drop> Clients<S> {
             → IsHeardOpen (is_connected number log) (passage_of (to.Client number) log).is_ended result }
         ensures in_turn { IsHeardInTurn hearing.awaited result }
         ensures owed { IsHeardInTurn (is_there_and (get nat_cmp self.old.table number) (λ client. is_owed client.flow)) result }
-        ensures reason { IsHeardFor hearing.stops hearing.late result }
+        ensures reason { IsHeardFor hearing.stops hearing.late (is_cut_at number self.old.table)
+            (HasFailedAt S.has_failed (known_at number self.old.table) (known_at number self.new.table)) result }
+        ensures fails { FailsOnlyAt S.has_failed ((hearing.late ≡ true) ⊎ IsErr result) (known_at number self.old.table) (known_at number self.new.table) }
+        ensures at_once { is_open_at number self.old.table ≡ true → IsToldAtOnce (is_cut_at number self.old.table) hearing.late result }
+        ensures pace { pace_at number self.new.table ≡ option_map (pace_behind result hearing.tick) (pace_at number self.old.table) }
+        ensures cut { is_cut_at number self.new.table ≡ is_cut_at number self.old.table }
         ensures shown { (log : List Move) → AreShown S.has_got self.old.table log → AreShown S.has_got self.new.table log }
     {
         match self.table.get_mut(&number) {
@@ -99,6 +117,9 @@ impl<S: Stream + Drop> Clients<S> {
     ) -> Result<(), AllocError>
         ensures sent { (log : List Move) → AreClients S.has_given S.has_got self.old.table log
             → TellsSent (AreClients S.has_given S.has_got self.new.table) result (to.Client number) text.now log }
+        ensures pace { pace_at number self.new.table ≡ option_map (owing (is_owed_at number self.new.table) tick) (pace_at number self.old.table) }
+        ensures cut { is_cut_at number self.new.table ≡ is_cut_at number self.old.table }
+        ensures fails { FailsOnlyAt S.has_failed ⊥ (known_at number self.old.table) (known_at number self.new.table) }
         ensures others { KeepsOthers number self.old.table self.new.table }
         ensures many { GainsNoClient self.old self.new }
         ensures shown { (log : List Move) → AreShown S.has_got self.old.table log → AreShown S.has_got self.new.table log }
@@ -115,9 +136,12 @@ impl<S: Stream + Drop> Clients<S> {
             → AreClients S.has_given S.has_got self.new.table (Closed (to.Client number) ∷ log) }
         ensures others { KeepsOthers number self.old.table self.new.table }
         ensures many { GainsNoClient self.old self.new }
-        ensures was { result ≡ is_there_and (get nat_cmp self.old.table number) (λ client. not client.closed) }
+        ensures was { result ≡ is_connected_at number self.old.table }
         // Behind what is owed our half is ended.
         ensures ends { is_there_and (get nat_cmp self.new.table number) (λ client. client.closed && client.flow.ends) ≡ is_some (get nat_cmp self.old.table number) }
+        ensures pace { KeepsPace number self.old.table self.new.table }
+        ensures fails { FailsOnlyAt S.has_failed ⊥ (known_at number self.old.table) (known_at number self.new.table) }
+        ensures waits { held_at number self.new.table ≡ held_at number self.old.table }
         ensures shown { (log : List Move) → AreShown S.has_got self.old.table log → AreShown S.has_got self.new.table log }
     {
         match self.table.get_mut(&number) {
@@ -129,6 +153,10 @@ impl<S: Stream + Drop> Clients<S> {
     /// Writes what is owed to a client, as far as its link takes it now. Of one that isn't there nothing is answered.
     pub(crate) fn write(&mut self, number: u64, tick: u64) -> Option<Emptying>
         ensures kept { (log : List Move) → AreClients S.has_given S.has_got self.old.table log → AreClients S.has_given S.has_got self.new.table log }
+        ensures fails { FailsOnlyAt S.has_failed ⊥ (known_at number self.old.table) (known_at number self.new.table) }
+        ensures pace { PaceWritten result number tick self.old.table self.new.table }
+        ensures cut { is_cut_at number self.new.table ≡ is_cut_at number self.old.table }
+        ensures there { is_some result ≡ is_some (get nat_cmp self.old.table number) }
         ensures others { KeepsOthers number self.old.table self.new.table }
         ensures many { GainsNoClient self.old self.new }
         ensures owed { TellsOwed result (is_there_and (get nat_cmp self.new.table number) (λ client. is_owed client.flow)) }
@@ -145,6 +173,8 @@ impl<S: Stream + Drop> Clients<S> {
         ensures others { KeepsOthers number self.old.table self.new.table }
         ensures many { GainsNoClient self.old self.new }
         ensures first { result ≡ is_there_and (get nat_cmp self.old.table number) (λ client. wants_turn readiness && not client.queued) }
+        ensures pace { KeepsPace number self.old.table self.new.table }
+        ensures fails { FailsOnlyAt S.has_failed (readiness.failed ≡ true) (known_at number self.old.table) (known_at number self.new.table) }
         ensures shown { (log : List Move) → AreShown S.has_got self.old.table log → AreShown S.has_got self.new.table log }
     {
         match self.table.get_mut(&number) {
@@ -158,7 +188,8 @@ impl<S: Stream + Drop> Clients<S> {
         ensures kept { (log : List Move) → AreClients S.has_given S.has_got self.old.table log → AreClients S.has_given S.has_got self.new.table log }
         ensures others { KeepsOthers number self.old.table self.new.table }
         ensures many { GainsNoClient self.old self.new }
-        ensures lost { is_there_and (get nat_cmp self.new.table number) (λ client. client.flow.failed) ≡ is_some (get nat_cmp self.old.table number) }
+        ensures lost { is_failed_at number self.new.table ≡ is_some (get nat_cmp self.old.table number) }
+        ensures pace { KeepsPace number self.old.table self.new.table }
         ensures shown { (log : List Move) → AreShown S.has_got self.old.table log → AreShown S.has_got self.new.table log }
     {
         match self.table.get_mut(&number) {
@@ -167,9 +198,28 @@ impl<S: Stream + Drop> Clients<S> {
         }
     }
 
+    /// A client is cut off, since so much is held: what is owed to it is lost, and its end is heard next.
+    pub(crate) fn cut_off(&mut self, number: u64)
+        ensures kept { (log : List Move) → AreClients S.has_given S.has_got self.old.table log → AreClients S.has_given S.has_got self.new.table log }
+        ensures others { KeepsOthers number self.old.table self.new.table }
+        ensures many { GainsNoClient self.old self.new }
+        ensures cut { is_cut_at number self.new.table ≡ is_some (get nat_cmp self.old.table number) }
+        ensures lost { is_failed_at number self.new.table ≡ is_some (get nat_cmp self.old.table number) }
+        ensures pace { pace_at number self.new.table ≡ pace_at number self.old.table }
+        ensures shown { (log : List Move) → AreShown S.has_got self.old.table log → AreShown S.has_got self.new.table log }
+    {
+        match self.table.get_mut(&number) {
+            Some(client) => client.cut_off(),
+            None => {}
+        }
+    }
+
     /// Reads what a client whose connection is closed still sends, and drops it. Answers whether nothing more comes.
     pub(crate) fn discard(&mut self, number: u64, buffer: &mut [u8]) -> bool
         ensures kept { (log : List Move) → AreClients S.has_given S.has_got self.old.table log → AreClients S.has_given S.has_got self.new.table log }
+        ensures fails { FailsOnlyAt S.has_failed ⊥ (known_at number self.old.table) (known_at number self.new.table) }
+        ensures pace { KeepsPace number self.old.table self.new.table }
+        ensures open { is_open_at number self.old.table ≡ true → (result ≡ false) × (known_at number self.new.table ≡ known_at number self.old.table) }
         ensures others { KeepsOthers number self.old.table self.new.table }
         ensures many { GainsNoClient self.old self.new }
         ensures shown { (log : List Move) → AreShown S.has_got self.old.table log → AreShown S.has_got self.new.table log }
@@ -212,8 +262,9 @@ impl<S: Stream + Drop> Clients<S> {
         ensures kept { (log : List Move) → AreClients S.has_given S.has_got self.old.table log → AreClients S.has_given S.has_got self.new.table log }
         ensures others { KeepsOthers number self.old.table self.new.table }
         ensures many { GainsNoClient self.old self.new }
+        ensures known { KeepsKnown self.old.table self.new.table }
         ensures first { result ≡ is_there_and (get nat_cmp self.old.table number) (λ client. not client.queued) }
-        ensures queued { is_there_and (get nat_cmp self.new.table number) (λ client. client.queued) ≡ is_some (get nat_cmp self.old.table number) }
+        ensures queued { get nat_cmp self.new.table number ≡ option_map (turned true) (get nat_cmp self.old.table number) }
         ensures shown { (log : List Move) → AreShown S.has_got self.old.table log → AreShown S.has_got self.new.table log }
     {
         match self.table.get_mut(&number) {
@@ -227,7 +278,8 @@ impl<S: Stream + Drop> Clients<S> {
         ensures kept { (log : List Move) → AreClients S.has_given S.has_got self.old.table log → AreClients S.has_given S.has_got self.new.table log }
         ensures others { KeepsOthers number self.old.table self.new.table }
         ensures many { GainsNoClient self.old self.new }
-        ensures queued { is_there_and (get nat_cmp self.new.table number) (λ client. client.queued) ≡ false }
+        ensures known { KeepsKnown self.old.table self.new.table }
+        ensures queued { get nat_cmp self.new.table number ≡ option_map (turned false) (get nat_cmp self.old.table number) }
         ensures shown { (log : List Move) → AreShown S.has_got self.old.table log → AreShown S.has_got self.new.table log }
     {
         match self.table.get_mut(&number) {
@@ -246,6 +298,16 @@ impl<S: Stream + Drop> Clients<S> {
         }
     }
 
+    /// Whether a client is there that was cut off.
+    pub fn is_cut(&self, number: u64) -> bool
+        ensures { result ≡ is_cut_at number self.now.table }
+    {
+        match self.table.get(&number) {
+            Some(client) => client.is_cut(),
+            None => false,
+        }
+    }
+
     /// Whether a client is there who wasn't read yet.
     pub fn is_fresh(&self, number: u64) -> bool
         ensures { result ≡ is_there_and (get nat_cmp self.now.table number) (λ client. client.fresh) }
@@ -258,7 +320,7 @@ impl<S: Stream + Drop> Clients<S> {
 
     /// How a client is getting on.
     pub fn pace(&self, number: u64) -> Option<Pace>
-        ensures { result ≡ option_map (λ client. client.pace) (get nat_cmp self.now.table number) }
+        ensures { result ≡ pace_at number self.now.table }
     {
         match self.table.get(&number) {
             Some(client) => Some(client.pace()),
@@ -268,7 +330,7 @@ impl<S: Stream + Drop> Clients<S> {
 
     /// Whether a client is there whose time is over by that millisecond, unless a request of it awaits its reply.
     pub(crate) fn is_overdue(&self, number: u64, tick: u64, patience: Patience) -> bool
-        ensures { result ≡ is_there_and (get nat_cmp self.now.table number) (λ client. nat_lt (due client.pace patience) tick) }
+        ensures { result ≡ is_there_and (known_at number self.now.table) (λ client. nat_lt (due client.pace patience) tick) }
     {
         match self.table.get(&number) {
             Some(client) => client.is_overdue(tick, patience),
@@ -282,6 +344,26 @@ impl<S: Stream + Drop> Clients<S> {
     {
         match self.table.get(&number) {
             Some(client) => client.is_owed(),
+            None => false,
+        }
+    }
+
+    /// How many octets of memory are held for what is owed to a client.
+    pub fn weight(&self, number: u64) -> usize
+        ensures { nat_lt 0 result ≡ is_there_and (get nat_cmp self.now.table number) (λ client. is_owed client.flow) }
+    {
+        match self.table.get(&number) {
+            Some(client) => client.weight(),
+            None => 0,
+        }
+    }
+
+    /// Whether octets of a client wait to be read, as far as a look tells.
+    pub fn has_octets(&self, number: u64) -> bool
+        ensures { result ≡ true → is_there_and (get nat_cmp self.now.table number) (λ client. not client.flow.failed) ≡ true }
+    {
+        match self.table.get(&number) {
+            Some(client) => client.has_octets(),
             None => false,
         }
     }

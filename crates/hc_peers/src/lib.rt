@@ -3,21 +3,10 @@
 
 mod client;
 mod clients;
-mod forward;
-mod forwards;
-mod heard;
-mod lingering;
-mod origin_link;
-mod pace;
-mod patience;
+mod inviting;
 mod peers;
-mod progress;
+mod placing;
 
 pub use client::Hearing;
 pub use clients::Clients;
-pub use forwards::Forwards;
-pub use lingering::{Lingering, Remainder};
-pub use pace::{Pace, a_look_comes_in_time};
-pub use patience::Patience;
 pub use peers::Peers;
-pub use progress::Progress;

@@ -1,26 +1,30 @@
 //! The links of a crowd, their places at the origin, and what is counted of connections.
 
-ghost use Rattle.std.specs.Prelude.{◌≡◌, ◌+◌, ◌<◌, ◌^◌, ◌&&◌, ◌||◌, not, true, ℕ, Bool, List, [], ◌∷◌, IfSome, OnOk};
+ghost use Rattle.std.specs.Prelude.{◌≡◌, ◌⊎◌, ◌+◌, ◌-◌, true, false, IsErr, Some, is_some, ℕ, List, [], ◌∷◌, IfSome, OnOk, OnErr, if◌then◌else◌, option_map};
 
 use crate::client::Hearing;
 use crate::clients::Clients;
-use crate::forwards::Forwards;
-use crate::heard::Heard;
-use crate::lingering::{Lingering, Remainder};
-use crate::patience::Patience;
-use hc_agenda::{Candidate, Places};
+use hc_agenda::Places;
 use hc_connection::Happened;
 use hc_events::Happening;
 use hc_flow::{Emptying, Readiness, Stream};
+use hc_forwards::Forwards;
 use hc_framing::MessageText;
+use hc_guests::{Guests, Lingering, TurnedAway};
+use hc_heard::Heard;
 use hc_order::{Reason, Receiver};
+use hc_pace::Patience;
 use std::alloc::{AllocError, Global};
 
-/// The links of clients and of forwards, the places at the origin, and what is counted of connections.
-#[derive(Drop)]
+/// The links of clients and of forwards, those that the cache doesn't know of, the places at the origin, and what is counted
+/// of connections.
 pub struct Peers<S: Stream> {
     pub clients: Clients<S>,
     pub forwards: Forwards<S>,
+    /// Those who have connected, and of whom no octet has come.
+    pub guests: Guests<S>,
+    /// Those for whom there was no room.
+    pub turned_away: TurnedAway<S>,
     /// The places at the origin. Each link there has one.
     pub places: Places,
     /// The links of forwards that were closed.
@@ -31,20 +35,47 @@ pub struct Peers<S: Stream> {
     connected: usize,
 }
 
+impl<S: Stream + Drop> Drop for Peers<S> {
+    fn drop(self) {
+        let Peers {
+            clients,
+            forwards,
+            guests,
+            turned_away,
+            places,
+            lingering,
+            last: _,
+            connected: _,
+        } = self;
+        drop(clients);
+        drop(forwards);
+        drop(guests);
+        drop(turned_away);
+        drop(places);
+        drop(lingering);
+    }
+}
+
 impl<S: Stream + Drop> Peers<S> {
-    ghost use Rattle.hc_agenda.specs.Places.{HasPlaceLeft, has_place};
+    ghost use Rattle.std.specs.BTreeMap.{get};
+    ghost use Rattle.std.specs.Ordering.{nat_cmp};
     ghost use Rattle.hc_connection.specs.Sides.{TellsIfOk};
     ghost use Rattle.hc_connection.specs.Telling.{TellsSent};
+    ghost use Rattle.hc_events.specs.declared.Happening.TheVariants.{ClientOpened};
+    ghost use Rattle.hc_guests.specs.Tables.{KeepsOthers};
     ghost use Rattle.hc_order.specs.declared.receiver.Receiver.TheVariants.{Client, Origin};
     ghost use Rattle.hc_order.specs.Log.{Move};
     ghost use Rattle.hc_order.specs.Log.Move.{Closed};
     ghost use Rattle.hc_order.specs.Mirrors.{MayHappen};
-    ghost use Rattle.hc_peers.specs.Links.{is_lingering, is_linked};
-    ghost use Rattle.hc_peers.specs.Peers.{ArePeers, Bounds, HasRoom, HeardFor, HeardInTurn, IsAnswerOf, IsNext, MayBeHeard, NoAnswer, NoLinkIsLeft, has_fewer_open, is_client_overdue, last_given};
+    ghost use Rattle.hc_pace.specs.declared.pace.Pace.TheVariants.{Idle};
+    ghost use Rattle.hc_peers.specs.Heard.{HearsOrigin, HeardAtOnce, HeardFor, HeardInTurn, HeardOn, IsAnswerOf, MayBeHeard, NoAnswer, pace_heard};
+    ghost use Rattle.hc_peers.specs.Hearings.{FailsOnlyAt, HasFailedAt};
+    ghost use Rattle.hc_peers.specs.Known.{KeepsKnown, KeepsPace, is_connected_at, is_cut_at, is_failed_at, is_open_at, known_at, pace_at};
+    ghost use Rattle.hc_forwards.specs.Links.{lost_at};
+    ghost use Rattle.hc_peers.specs.Peers.{ArePeers, Bounds, HasRoom, IsNext, KeepsOtherLinks, KeepsPaceOf, MayOpen, NoLinkIsLeft, PacesSent, PacesWritten, QueuesOf, StaysOf, StaysSent, StaysTold, has_fewer_open, is_client_overdue, last_given};
     ghost use Rattle.hc_peers.specs.Peers.Bounds.{AtMost};
-    ghost use Rattle.hc_peers.specs.Telling.{KeepsOpened};
     ghost use Rattle.hc_peers.specs.Shown.{ShowNoMore};
-    ghost use Rattle.hc_events.specs.declared.Happening.TheVariants.{ClientOpened};
+    ghost use Rattle.hc_peers.specs.Telling.{KeepsOpened};
 
     /// Nobody has connected, no forward is open, and there are so many places at the origin.
     pub fn new(alloc: Global, places: usize) -> Self
@@ -53,6 +84,8 @@ impl<S: Stream + Drop> Peers<S> {
         Peers {
             clients: Clients::new(alloc),
             forwards: Forwards::new(alloc),
+            guests: Guests::new(alloc),
+            turned_away: TurnedAway::new(alloc),
             places: Places::new(alloc, places),
             lingering: Lingering::new(alloc),
             last: 0,
@@ -74,38 +107,56 @@ impl<S: Stream + Drop> Peers<S> {
         self.last.checked_add(1)
     }
 
-    /// Whether there is room for a further client, where so many are connected at once at most, those whose connections
-    /// are closed and still have a link among them.
+    /// Whether there is room for a further guest, where there are so many links of clients and guests at once at most, those
+    /// of connections that are closed and still have a link among them.
     pub fn has_room(&self, most: usize) -> bool
-        ensures { result ≡ true → HasRoom self.now most }
+        ensures room { result ≡ true → HasRoom self.now most }
+        ensures full { HasRoom self.now most → result ≡ true }
     {
-        self.clients.len() < most && self.connected < most
+        self.clients.len() < most.saturating_sub(self.guests.len())
     }
 
-    /// Whether fewer connections than that are open. Links of closed ones aren't counted.
+    /// Whether a further connection may be opened, where so many are open at once at most, and there is room for its link.
+    pub fn may_open(&self, most: usize) -> bool
+        ensures room { result ≡ true → MayOpen self.now most }
+        ensures full { MayOpen self.now most → result ≡ true }
+    {
+        self.has_room(most) && self.connected < most
+    }
+
+    /// Whether there are fewer open connections and guests than that. Links of closed ones aren't counted.
     pub fn has_fewer_open(&self, most: usize) -> bool
         ensures { result ≡ has_fewer_open self.now most }
     {
-        self.connected < most
+        self.connected < most.saturating_sub(self.guests.len())
     }
 
     /// Whether no link is left.
     pub fn are_gone(&self) -> bool
-        ensures { result ≡ true → NoLinkIsLeft self.now }
+        ensures gone { result ≡ true → NoLinkIsLeft self.now }
+        ensures left { NoLinkIsLeft self.now → result ≡ true }
     {
-        self.clients.len() == 0 && self.forwards.len() == 0 && self.lingering.len() == 0
+        self.clients.len() == 0
+            && self.forwards.len() == 0
+            && self.guests.len() == 0
+            && self.turned_away.len() == 0
+            && self.lingering.len() == 0
     }
 
-    /// A client has opened the connection of the next number, where fewer than so many are open. Where memory is refused,
-    /// its link is closed, and the number isn't used.
+    /// A client has opened the connection of the next number, where fewer than so many are open, and it was a guest before.
+    /// Where memory is refused, its link is closed, and the number isn't used.
     pub fn open(&mut self, number: u64, stream: S, most: usize, tick: u64) -> Result<(), AllocError>
         requires next { IsNext self.old number }
-        requires room { HasRoom self.old most }
+        requires room { MayOpen self.old most }
         ensures tells { S.has_given stream [] → S.has_got stream [] → (origin : ℕ) (log : List Move) → ArePeers S.has_given S.has_got (AtMost most origin) self.old log
             → KeepsOpened (ArePeers S.has_given S.has_got (AtMost most origin) self.new) number result log }
         ensures may { (bounds : Bounds) (log : List Move) → ArePeers S.has_given S.has_got bounds self.old log → MayHappen most (ClientOpened number) log }
         ensures shown { S.has_got stream [] → (log : List Move) → ShowNoMore S.has_got self.old log
             → ShowNoMore S.has_got self.new log }
+        ensures ok { OnOk result (self.new ≡ record self.old { clients = self.new.clients; last = number; connected = self.old.connected + 1 }) }
+        ensures err { OnErr result (self.new ≡ record self.old { clients = self.new.clients }) }
+        ensures others { KeepsOthers number self.old.clients.table self.new.clients.table }
+        ensures pace { OnOk result (pace_at number self.new.clients.table ≡ Some (Idle tick)) }
     {
         self.clients.open(number, stream, tick)?;
         self.last = number;
@@ -124,7 +175,13 @@ impl<S: Stream + Drop> Peers<S> {
             → TellsIfOk (ArePeers S.has_given S.has_got bounds self.new) result log }
         ensures may { (most : ℕ) (bounds : Bounds) (log : List Move) → ArePeers S.has_given S.has_got bounds self.old log → MayBeHeard most result log }
         ensures in_turn { HeardInTurn (IsAnswerOf number hearing.awaited) result }
-        ensures reason { HeardFor hearing.stops hearing.late result }
+        ensures reason { HeardFor number hearing.stops hearing.late (is_cut_at number self.old.clients.table)
+            (HasFailedAt S.has_failed (known_at number self.old.clients.table) (known_at number self.new.clients.table)) result }
+        ensures fails { FailsOnlyAt S.has_failed ((hearing.late ≡ true) ⊎ IsErr result) (known_at number self.old.clients.table) (known_at number self.new.clients.table) }
+        ensures at_once { is_open_at number self.old.clients.table ≡ true → HeardAtOnce number (is_cut_at number self.old.clients.table) hearing.late result }
+        ensures pace { pace_at number self.new.clients.table ≡ option_map (pace_heard result hearing.tick) (pace_at number self.old.clients.table) }
+        ensures others { KeepsOthers number self.old.clients.table self.new.clients.table }
+        ensures rest { self.new ≡ record self.old { clients = self.new.clients } }
         ensures shown { (log : List Move) → ShowNoMore S.has_got self.old log → ShowNoMore S.has_got self.new log }
     {
         match self.clients.hear(number, buffer, hearing)? {
@@ -152,6 +209,10 @@ impl<S: Stream + Drop> Peers<S> {
             → TellsIfOk (ArePeers S.has_given S.has_got bounds self.new) result log }
         ensures may { (most : ℕ) (bounds : Bounds) (log : List Move) → ArePeers S.has_given S.has_got bounds self.old log → MayBeHeard most result log }
         ensures in_turn { HeardInTurn NoAnswer result }
+        ensures reason { HeardOn forward (get nat_cmp self.old.forwards.table forward) result }
+        ensures stays { HearsOrigin S.has_failed (get nat_cmp self.old.forwards.table forward) (get nat_cmp self.new.forwards.table forward) result }
+        ensures others { KeepsOthers forward self.old.forwards.table self.new.forwards.table }
+        ensures rest { self.new ≡ record self.old { forwards = self.new.forwards } }
         ensures shown { (log : List Move) → ShowNoMore S.has_got self.old log → ShowNoMore S.has_got self.new log }
     {
         match self.forwards.hear(forward, buffer, tick)? {
@@ -176,6 +237,10 @@ impl<S: Stream + Drop> Peers<S> {
     pub fn send(&mut self, to: Receiver, octets: &MessageText, tick: u64) -> Result<(), AllocError>
         ensures sent { (bounds : Bounds) (log : List Move) → ArePeers S.has_given S.has_got bounds self.old log
             → TellsSent (ArePeers S.has_given S.has_got bounds self.new) result to octets.now log }
+        ensures stays { StaysSent S.has_failed to self.old self.new }
+        ensures pace { PacesSent to tick self.old.clients.table self.new.clients.table }
+        ensures others { KeepsOtherLinks to self.old self.new }
+        ensures rest { self.new ≡ record self.old { clients = self.new.clients; forwards = self.new.forwards; places = self.new.places } }
         ensures shown { (log : List Move) → ShowNoMore S.has_got self.old log → ShowNoMore S.has_got self.new log }
     {
         match to {
@@ -188,6 +253,8 @@ impl<S: Stream + Drop> Peers<S> {
     fn open_forward(&mut self, forward: u64, request: &MessageText) -> Result<(), AllocError>
         ensures sent { (bounds : Bounds) (log : List Move) → ArePeers S.has_given S.has_got bounds self.old log
             → TellsSent (ArePeers S.has_given S.has_got bounds self.new) result (Origin forward) request.now log }
+        ensures others { KeepsOthers forward self.old.forwards.table self.new.forwards.table }
+        ensures rest { self.new ≡ record self.old { forwards = self.new.forwards; places = self.new.places } }
         ensures shown { (log : List Move) → ShowNoMore S.has_got self.old log → ShowNoMore S.has_got self.new log }
     {
         self.places.open(forward)?;
@@ -199,6 +266,13 @@ impl<S: Stream + Drop> Peers<S> {
         ensures tells { (bounds : Bounds) (log : List Move) → ArePeers S.has_given S.has_got bounds self.old log
             → ArePeers S.has_given S.has_got bounds self.new (Closed (Client number) ∷ log) }
         ensures shown { (log : List Move) → ShowNoMore S.has_got self.old log → ShowNoMore S.has_got self.new log }
+        ensures fails { FailsOnlyAt S.has_failed ⊥ (known_at number self.old.clients.table) (known_at number self.new.clients.table) }
+        ensures pace { KeepsPace number self.old.clients.table self.new.clients.table }
+        ensures others { KeepsOthers number self.old.clients.table self.new.clients.table }
+        ensures rest { self.new ≡ record self.old {
+          clients = self.new.clients;
+          connected = if is_connected_at number self.old.clients.table then self.old.connected - 1 else self.old.connected;
+        } }
     {
         if self.clients.close(number) {
             self.connected = self.connected.saturating_sub(1);
@@ -210,6 +284,8 @@ impl<S: Stream + Drop> Peers<S> {
     pub fn close_origin(&mut self, forward: u64) -> Option<S>
         ensures tells { (bounds : Bounds) (log : List Move) → ArePeers S.has_given S.has_got bounds self.old log
             → ArePeers S.has_given S.has_got bounds self.new (Closed (Origin forward) ∷ log) }
+        ensures others { KeepsOthers forward self.old.forwards.table self.new.forwards.table }
+        ensures rest { self.new ≡ record self.old { forwards = self.new.forwards } }
         ensures shown { (log : List Move) → ShowNoMore S.has_got self.old log → ShowNoMore S.has_got self.new log }
     {
         self.forwards.close(forward)
@@ -217,7 +293,11 @@ impl<S: Stream + Drop> Peers<S> {
 
     /// Writes what is owed at a link, as far as it is taken now. Where there is no link nothing is answered.
     pub fn write(&mut self, link: Receiver, tick: u64) -> Option<Emptying>
-        ensures { (bounds : Bounds) (log : List Move) → ArePeers S.has_given S.has_got bounds self.old log → ArePeers S.has_given S.has_got bounds self.new log }
+        ensures tells { (bounds : Bounds) (log : List Move) → ArePeers S.has_given S.has_got bounds self.old log → ArePeers S.has_given S.has_got bounds self.new log }
+        ensures stays { StaysOf S.has_failed ⊥ link self.old self.new }
+        ensures pace { PacesWritten result link tick self.old.clients.table self.new.clients.table }
+        ensures others { KeepsOtherLinks link self.old self.new }
+        ensures rest { self.new ≡ record self.old { clients = self.new.clients; forwards = self.new.forwards } }
     {
         match link {
             Receiver::Client(number) => self.clients.write(number, tick),
@@ -229,6 +309,10 @@ impl<S: Stream + Drop> Peers<S> {
     pub fn learn(&mut self, link: Receiver, readiness: Readiness) -> bool
         ensures tells { (bounds : Bounds) (log : List Move) → ArePeers S.has_given S.has_got bounds self.old log → ArePeers S.has_given S.has_got bounds self.new log }
         ensures shown { (log : List Move) → ShowNoMore S.has_got self.old log → ShowNoMore S.has_got self.new log }
+        ensures stays { StaysTold S.has_failed readiness link self.old self.new }
+        ensures pace { KeepsPaceOf link self.old self.new }
+        ensures others { KeepsOtherLinks link self.old self.new }
+        ensures rest { self.new ≡ record self.old { clients = self.new.clients; forwards = self.new.forwards } }
     {
         match link {
             Receiver::Client(number) => self.clients.learn(number, readiness),
@@ -240,6 +324,10 @@ impl<S: Stream + Drop> Peers<S> {
     pub fn queue(&mut self, link: Receiver) -> bool
         ensures tells { (bounds : Bounds) (log : List Move) → ArePeers S.has_given S.has_got bounds self.old log → ArePeers S.has_given S.has_got bounds self.new log }
         ensures shown { (log : List Move) → ShowNoMore S.has_got self.old log → ShowNoMore S.has_got self.new log }
+        ensures known { KeepsKnown self.old.clients.table self.new.clients.table }
+        ensures queued { QueuesOf true link self.old self.new }
+        ensures others { KeepsOtherLinks link self.old self.new }
+        ensures rest { self.new ≡ record self.old { clients = self.new.clients; forwards = self.new.forwards } }
     {
         match link {
             Receiver::Client(number) => self.clients.queue(number),
@@ -251,6 +339,10 @@ impl<S: Stream + Drop> Peers<S> {
     pub fn unqueue(&mut self, link: Receiver)
         ensures tells { (bounds : Bounds) (log : List Move) → ArePeers S.has_given S.has_got bounds self.old log → ArePeers S.has_given S.has_got bounds self.new log }
         ensures shown { (log : List Move) → ShowNoMore S.has_got self.old log → ShowNoMore S.has_got self.new log }
+        ensures known { KeepsKnown self.old.clients.table self.new.clients.table }
+        ensures queued { QueuesOf false link self.old self.new }
+        ensures others { KeepsOtherLinks link self.old self.new }
+        ensures rest { self.new ≡ record self.old { clients = self.new.clients; forwards = self.new.forwards } }
     {
         match link {
             Receiver::Client(number) => self.clients.unqueue(number),
@@ -285,14 +377,32 @@ impl<S: Stream + Drop> Peers<S> {
     pub fn lose_client(&mut self, number: u64)
         ensures tells { (bounds : Bounds) (log : List Move) → ArePeers S.has_given S.has_got bounds self.old log → ArePeers S.has_given S.has_got bounds self.new log }
         ensures shown { (log : List Move) → ShowNoMore S.has_got self.old log → ShowNoMore S.has_got self.new log }
+        ensures pace { KeepsPace number self.old.clients.table self.new.clients.table }
+        ensures others { KeepsOthers number self.old.clients.table self.new.clients.table }
+        ensures rest { self.new ≡ record self.old { clients = self.new.clients } }
     {
         self.clients.lose(number);
+    }
+
+    /// A client is cut off, since so much is held: what is owed to it is lost, and its end is heard next.
+    pub fn cut_off(&mut self, number: u64)
+        ensures tells { (bounds : Bounds) (log : List Move) → ArePeers S.has_given S.has_got bounds self.old log → ArePeers S.has_given S.has_got bounds self.new log }
+        ensures shown { (log : List Move) → ShowNoMore S.has_got self.old log → ShowNoMore S.has_got self.new log }
+        ensures cut { is_cut_at number self.new.clients.table ≡ is_some (get nat_cmp self.old.clients.table number) }
+        ensures pace { pace_at number self.new.clients.table ≡ pace_at number self.old.clients.table }
+        ensures others { KeepsOthers number self.old.clients.table self.new.clients.table }
+        ensures rest { self.new ≡ record self.old { clients = self.new.clients } }
+    {
+        self.clients.cut_off(number);
     }
 
     /// There is no link for a forward any more, or none could be made: that is heard next.
     pub fn lose_origin(&mut self, forward: u64, reason: Reason)
         ensures tells { (bounds : Bounds) (log : List Move) → ArePeers S.has_given S.has_got bounds self.old log → ArePeers S.has_given S.has_got bounds self.new log }
         ensures shown { (log : List Move) → ShowNoMore S.has_got self.old log → ShowNoMore S.has_got self.new log }
+        ensures lost { lost_at forward self.new.forwards.table ≡ option_map (λ _. reason) (get nat_cmp self.old.forwards.table forward) }
+        ensures others { KeepsOthers forward self.old.forwards.table self.new.forwards.table }
+        ensures rest { self.new ≡ record self.old { forwards = self.new.forwards } }
     {
         self.forwards.lose(forward, reason);
     }
@@ -301,6 +411,10 @@ impl<S: Stream + Drop> Peers<S> {
     pub fn discard(&mut self, number: u64, buffer: &mut [u8]) -> bool
         ensures tells { (bounds : Bounds) (log : List Move) → ArePeers S.has_given S.has_got bounds self.old log → ArePeers S.has_given S.has_got bounds self.new log }
         ensures shown { (log : List Move) → ShowNoMore S.has_got self.old log → ShowNoMore S.has_got self.new log }
+        ensures fails { FailsOnlyAt S.has_failed ⊥ (known_at number self.old.clients.table) (known_at number self.new.clients.table) }
+        ensures pace { KeepsPace number self.old.clients.table self.new.clients.table }
+        ensures others { KeepsOthers number self.old.clients.table self.new.clients.table }
+        ensures rest { self.new ≡ record self.old { clients = self.new.clients } }
     {
         self.clients.discard(number, buffer)
     }
@@ -310,148 +424,9 @@ impl<S: Stream + Drop> Peers<S> {
     pub fn let_go(&mut self, number: u64) -> bool
         ensures tells { (bounds : Bounds) (log : List Move) → ArePeers S.has_given S.has_got bounds self.old log → ArePeers S.has_given S.has_got bounds self.new log }
         ensures shown { (log : List Move) → ShowNoMore S.has_got self.old log → ShowNoMore S.has_got self.new log }
+        ensures others { KeepsOthers number self.old.clients.table self.new.clients.table }
+        ensures rest { self.new ≡ record self.old { clients = self.new.clients } }
     {
         self.clients.let_go(number)
-    }
-
-    /// A link begins to be made for a forward that has a place, if its request waits for one. Answers whether it has a
-    /// place, and there is memory for a link; else the stream is dropped, and the request waits still.
-    pub fn link(&mut self, forward: u64, stream: S, tick: u64) -> bool
-        ensures tells { S.has_given stream [] → S.has_got stream [] → (bounds : Bounds) (log : List Move) → ArePeers S.has_given S.has_got bounds self.old log
-            → ArePeers S.has_given S.has_got bounds self.new log }
-        ensures shown { (log : List Move) → ShowNoMore S.has_got self.old log → ShowNoMore S.has_got self.new log }
-    {
-        if !self.may_link(forward) {
-            return false;
-        }
-        self.forwards.link(forward, stream, tick).is_ok()
-    }
-
-    /// Whether a forward has a place in which no link lingers.
-    fn may_link(&self, forward: u64) -> bool
-        ensures { result ≡ (has_place forward self.now.places && not (is_lingering forward self.now.lingering)) }
-    {
-        self.places.has(forward) & !self.lingering.has(forward)
-    }
-
-    /// Where a forward's link has failed before it was known to work, the request waits for another one. Answers whether
-    /// it does.
-    pub fn retry(&mut self, forward: u64) -> bool
-        ensures tells { (bounds : Bounds) (log : List Move) → ArePeers S.has_given S.has_got bounds self.old log → ArePeers S.has_given S.has_got bounds self.new log }
-        ensures shown { (log : List Move) → ShowNoMore S.has_got self.old log → ShowNoMore S.has_got self.new log }
-    {
-        self.forwards.retry(forward)
-    }
-
-    /// The link of a forward that was closed lingers in its place. Answers whether it does: it has a place, and there is
-    /// memory for that; else the link is dropped.
-    pub fn linger(&mut self, forward: u64, stream: S) -> bool
-        ensures tells { (bounds : Bounds) (log : List Move) → ArePeers S.has_given S.has_got bounds self.old log → ArePeers S.has_given S.has_got bounds self.new log }
-        ensures shown { (log : List Move) → ShowNoMore S.has_got self.old log → ShowNoMore S.has_got self.new log }
-    {
-        if !self.may_linger(forward) {
-            return false;
-        }
-        self.lingering.put(forward, stream)
-    }
-
-    /// Whether a forward has a place, and no link.
-    fn may_linger(&self, forward: u64) -> bool
-        ensures { result ≡ (has_place forward self.now.places && not (is_linked forward self.now.forwards)) }
-    {
-        self.places.has(forward) & !self.forwards.has_link(forward)
-    }
-
-    /// A link that lingers stands among the turns. Answers whether it lingers and didn't stand there before.
-    pub fn queue_lingering(&mut self, forward: u64) -> bool
-        ensures tells { (bounds : Bounds) (log : List Move) → ArePeers S.has_given S.has_got bounds self.old log → ArePeers S.has_given S.has_got bounds self.new log }
-        ensures shown { (log : List Move) → ShowNoMore S.has_got self.old log → ShowNoMore S.has_got self.new log }
-    {
-        self.lingering.queue(forward)
-    }
-
-    /// Reads what comes on a link that lingers, once, and drops it. It stands among the turns no more.
-    pub fn discard_lingering(&mut self, forward: u64, buffer: &mut [u8]) -> Remainder
-        ensures tells { (bounds : Bounds) (log : List Move) → ArePeers S.has_given S.has_got bounds self.old log → ArePeers S.has_given S.has_got bounds self.new log }
-        ensures shown { (log : List Move) → ShowNoMore S.has_got self.old log → ShowNoMore S.has_got self.new log }
-    {
-        self.lingering.discard(forward, buffer)
-    }
-
-    /// Drops a link that lingers. Answers whether it lingered.
-    pub fn drop_lingering(&mut self, forward: u64) -> bool
-        ensures tells { (bounds : Bounds) (log : List Move) → ArePeers S.has_given S.has_got bounds self.old log → ArePeers S.has_given S.has_got bounds self.new log }
-        ensures shown { (log : List Move) → ShowNoMore S.has_got self.old log → ShowNoMore S.has_got self.new log }
-    {
-        self.lingering.drop_one(forward)
-    }
-
-    /// Drops the link of the least forward whose link lingers, and answers which that is.
-    pub fn drop_least_lingering(&mut self) -> Option<u64>
-        ensures tells { (bounds : Bounds) (log : List Move) → ArePeers S.has_given S.has_got bounds self.old log → ArePeers S.has_given S.has_got bounds self.new log }
-        ensures shown { (log : List Move) → ShowNoMore S.has_got self.old log → ShowNoMore S.has_got self.new log }
-    {
-        self.lingering.drop_least()
-    }
-
-    /// The first of the forwards that were opened and aren't sorted yet, which is taken out.
-    pub fn next_opened(&mut self) -> Option<u64>
-        ensures tells { (bounds : Bounds) (log : List Move) → ArePeers S.has_given S.has_got bounds self.old log → ArePeers S.has_given S.has_got bounds self.new log }
-        ensures shown { (log : List Move) → ShowNoMore S.has_got self.old log → ShowNoMore S.has_got self.new log }
-    {
-        self.places.next_opened()
-    }
-
-    /// A forward waits for a place.
-    pub fn wait_for_place(&mut self, forward: u64, background: bool) -> Result<(), AllocError>
-        ensures tells { (bounds : Bounds) (log : List Move) → ArePeers S.has_given S.has_got bounds self.old log → ArePeers S.has_given S.has_got bounds self.new log }
-        ensures shown { (log : List Move) → ShowNoMore S.has_got self.old log → ShowNoMore S.has_got self.new log }
-    {
-        self.places.wait(forward, background)
-    }
-
-    /// A forward waits for a place no more. The one that has waited for longest is taken out at once, any other once its
-    /// turn comes.
-    pub fn leave_places(&mut self, forward: u64)
-        ensures tells { (bounds : Bounds) (log : List Move) → ArePeers S.has_given S.has_got bounds self.old log → ArePeers S.has_given S.has_got bounds self.new log }
-        ensures shown { (log : List Move) → ShowNoMore S.has_got self.old log → ShowNoMore S.has_got self.new log }
-    {
-        self.places.leave(forward);
-    }
-
-    /// The next forward that may have a place now, which is taken out.
-    pub fn next_candidate(&mut self) -> Option<Candidate>
-        ensures tells { (bounds : Bounds) (log : List Move) → ArePeers S.has_given S.has_got bounds self.old log → ArePeers S.has_given S.has_got bounds self.new log }
-        ensures shown { (log : List Move) → ShowNoMore S.has_got self.old log → ShowNoMore S.has_got self.new log }
-        ensures left { IfSome result (λ _. HasPlaceLeft self.new.places) }
-    {
-        self.places.next()
-    }
-
-    /// A forward has a place. Where memory is refused, all is as it was.
-    pub fn give_place(&mut self, candidate: Candidate) -> Result<(), AllocError>
-        requires left { HasPlaceLeft self.old.places }
-        ensures tells { (bounds : Bounds) (log : List Move) → ArePeers S.has_given S.has_got bounds self.old log → ArePeers S.has_given S.has_got bounds self.new log }
-        ensures shown { (log : List Move) → ShowNoMore S.has_got self.old log → ShowNoMore S.has_got self.new log }
-    {
-        self.places.give(candidate)
-    }
-
-    /// A forward needs its place no more, if it has neither a link nor one that lingers.
-    pub fn free_place(&mut self, forward: u64)
-        ensures tells { (bounds : Bounds) (log : List Move) → ArePeers S.has_given S.has_got bounds self.old log → ArePeers S.has_given S.has_got bounds self.new log }
-        ensures shown { (log : List Move) → ShowNoMore S.has_got self.old log → ShowNoMore S.has_got self.new log }
-    {
-        if self.needs_place(forward) {
-            return;
-        }
-        self.places.free(forward);
-    }
-
-    /// Whether a forward has a link, or one lingers.
-    fn needs_place(&self, forward: u64) -> bool
-        ensures { result ≡ (is_linked forward self.now.forwards || is_lingering forward self.now.lingering) }
-    {
-        self.forwards.has_link(forward) | self.lingering.has(forward)
     }
 }

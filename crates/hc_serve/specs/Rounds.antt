@@ -11,9 +11,11 @@ use Rattle.hc_service.specs.declared.settings.CoreSettings.{CoreSettings}
 use Rattle.hc_service.specs.Agreement.{IsReady}
 use Rattle.hc_service.specs.Runs.{StepResult}
 use Rattle.hc_service.specs.State.{State, awaits_reply}
-use Rattle.hc_machine.specs.Held.{is_background}
+use Rattle.hc_machine.specs.Held.{held_of_client, held_of_forward, is_background}
 use Rattle.hc_machine.specs.Steps.{Cache, GivesStep, StandsFor}
 use Rattle.hc_order.specs.declared.occurrence.Occurrence.{Occurrence}
+use Rattle.hc_order.specs.declared.receiver.Receiver.{Receiver}
+use Rattle.hc_order.specs.declared.receiver.Receiver.TheVariants.{Client, Origin}
 use Rattle.hc_order.specs.Log.{Move}
 use Rattle.hc_order.specs.Mirrors.{MayHappen}
 use Rattle.hc_order.specs.Log.Move.{Heard}
@@ -28,6 +30,15 @@ awaited_by cache c awaits = (settings : CoreSettings) (s : State) → StandsFor 
 -- and that is whether that forward is open for the store alone
 abbrev pub background_by : Cache → ℕ → Bool → Type 0
 background_by cache f background = (settings : CoreSettings) (s : State) → StandsFor settings cache s → background ≡ is_background f s
+
+-- how many octets a state holds of what came on that link and isn't whole
+abbrev pub held_of : Receiver → State → ℕ
+held_of (Client c) s = held_of_client c s
+held_of (Origin f) s = held_of_forward f s
+
+-- and so many octets it holds of that
+abbrev pub held_by : Cache → Receiver → ℕ → Type 0
+held_by cache link count = (settings : CoreSettings) (s : State) → StandsFor settings cache s → count ≡ held_of link s
 
 -- the cache was handed the event, and answered so
 pub record Answers (event : Event) (answer : StepResult) (old new : Cache) : Type 0 where

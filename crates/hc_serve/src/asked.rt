@@ -1,9 +1,10 @@
 //! A cache that is asked what it awaits.
 
-ghost use Rattle.hc_serve.specs.Rounds.{awaited_by, background_by};
+ghost use Rattle.hc_serve.specs.Rounds.{awaited_by, background_by, held_by};
 
 use hc_connection::Awaiting;
 use hc_machine::Core;
+use hc_order::Receiver;
 use std::hash::BuildHasher;
 
 /// A cache, as whoever hears what happens next may ask it.
@@ -17,11 +18,20 @@ impl<'a, S: BuildHasher> Awaiting for Asked<'a, S> {
 
     ghost background = { λ asked. background_by asked.core.now };
 
+    ghost holds = { λ asked. held_by asked.core.now };
+
     fn awaits(&self, connection: u64) -> bool {
         self.core.awaits(connection)
     }
 
     fn is_background(&self, forward: u64) -> bool {
         self.core.is_background(forward)
+    }
+
+    fn held(&self, link: Receiver) -> usize {
+        match link {
+            Receiver::Client(connection) => self.core.held_of_client(connection),
+            Receiver::Origin(forward) => self.core.held_of_forward(forward),
+        }
     }
 }

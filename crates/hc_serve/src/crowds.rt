@@ -39,6 +39,7 @@ fn pause<S: BuildHasher, L: Batches, R: Recorder>(
         (telling (L.tells links.new) (L.shows links.new) (R.has_got recorder.new) (R.has_kept recorder.new)) }
     ensures over { result ≡ Ok true → L.over links.new }
     ensures as_many { L.most links.new ≡ L.most links.old }
+    ensures bounds { L.bounds links.new ≡ L.bounds links.old }
     ensures moments { (moment : ℕ) → L.may_tell links.new moment → L.may_tell links.old moment }
     ensures unread { (times : ℕ) → R.was_read recorder.old times → R.was_read recorder.new times }
     ensures count { CountsRecorder result (R.count recorder.old) (R.count recorder.new) }
@@ -66,6 +67,7 @@ fn serve_batches<S: BuildHasher, L: Batches, R: Recorder, V: Watcher<L, R>>(
         (telling (L.tells links.new) (L.shows links.new) (R.has_got recorder.new) (R.has_kept recorder.new)) (stage core.old log text) core.new }
     ensures over { IfOk result (λ _. L.over links.new) }
     ensures as_many { L.most links.new ≡ L.most links.old }
+    ensures bounds { L.bounds links.new ≡ L.bounds links.old }
     ensures moments { (moment : ℕ) → L.may_tell links.new moment → L.may_tell links.old moment }
     ensures unread { (times : ℕ) → R.was_read recorder.old times → R.was_read recorder.new times }
     ensures count { CountsRecorder result (R.count recorder.old) (R.count recorder.new) }
@@ -97,16 +99,17 @@ fn serve_batches<S: BuildHasher, L: Batches, R: Recorder, V: Watcher<L, R>>(
 /// Then the watcher looks at the links and at the recorder. Where all is served, nothing is left open in the cache.
 ///
 /// A recorder that has fallen silent (`Lapsing` of hc_connection) never fails, so all goes on: then what stands in its file
-/// is a beginning of the recording, and of what clients have seen since it tells nothing. As long as it speaks, no client
-/// has seen a reply that the file lacks.
+/// is a beginning of the recording, all of it for good where the recorder is full, and of what clients have seen since it
+/// tells nothing. As long as it speaks, no client has seen a reply that the file lacks.
 ///
 /// Of a new cache the recording, if it was the opening of a transcript before, is a transcript to which the strictest
 /// audit says yes, as far as records can be numbered; or a beginning of one, where it ends by a fault. Of a new cache with
 /// room for as many connections as the links have open at once, any fault says that memory was refused, that the recorder
 /// failed, or, as `Failed`, that it went round 2^64 - 1 times: by a round for each event, or by a pause.
 ///
-/// However it ends, there are no more links than there may be (`within`). So it is behind each round and pause, too: each
-/// keeps what is told, and nothing is told of more links.
+/// However it ends, there are no more links than there may be within the bounds that they had when it was called (`within`
+/// of `bounds`). So it is behind each round and pause, too: each keeps the bounds and what is told, and nothing is told of
+/// more links.
 pub fn serve_crowd<S: BuildHasher, L: Batches, R: Recorder, V: Watcher<L, R>>(
     alloc: Global,
     core: &mut Core<S>,
@@ -120,9 +123,10 @@ pub fn serve_crowd<S: BuildHasher, L: Batches, R: Recorder, V: Watcher<L, R>>(
     ensures serves { (log : List Move) (text : List ℕ) → L.tells crowd.old log → R.has_got recorder.old text
         → GivesCrowd (L.most crowd.old) (L.shows crowd.old log × R.has_kept recorder.old text) result
         (telling (L.tells crowd.new) (L.shows crowd.new) (R.has_got recorder.new) (R.has_kept recorder.new)) (stage core.old log text) core.new }
-    ensures few { (log : List Move) (text : List ℕ) → L.tells crowd.old log → R.has_got recorder.old text → L.within crowd.new }
+    ensures few { (log : List Move) (text : List ℕ) → L.tells crowd.old log → R.has_got recorder.old text → L.within (L.bounds crowd.old) crowd.new }
     ensures over { IfOk result (λ _. L.over crowd.new) }
     ensures as_many { L.most crowd.new ≡ L.most crowd.old }
+    ensures bounds { L.bounds crowd.new ≡ L.bounds crowd.old }
     ensures moments { (moment : ℕ) → L.may_tell crowd.new moment → L.may_tell crowd.old moment }
     ensures unread { (times : ℕ) → R.was_read recorder.old times → R.was_read recorder.new times }
     ensures count { CountsRecorder result (R.count recorder.old) (R.count recorder.new) }

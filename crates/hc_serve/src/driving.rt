@@ -26,6 +26,7 @@ pub fn drive<S: BuildHasher, L: Links, R: Link>(
         → GivesDrive (L.most links.old) (L.tells links.new) (R.has_got recorder.new) (L.rests links.new) result core.old core.new log text }
     ensures rest { IfOk result (λ _. L.rests links.new) }
     ensures as_many { L.most links.new ≡ L.most links.old }
+    ensures bounds { L.bounds links.new ≡ L.bounds links.old }
     ensures moments { (moment : ℕ) → L.may_tell links.new moment → L.may_tell links.old moment }
     ensures unread { (times : ℕ) → R.was_read recorder.old times → R.was_read recorder.new times }
     ensures count { CountsRecorder result (R.count recorder.old) (R.count recorder.new) }

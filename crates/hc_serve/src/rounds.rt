@@ -27,6 +27,7 @@ pub(crate) fn round<S: BuildHasher, L: Links, R: Link>(
     ensures shown { (log : List Move) → L.shows links.old log → L.shows links.new log }
     ensures kept { (kept : List ℕ) → R.has_kept recorder.old kept → R.has_kept recorder.new kept }
     ensures as_many { L.most links.new ≡ L.most links.old }
+    ensures bounds { L.bounds links.new ≡ L.bounds links.old }
     ensures moments { (moment : ℕ) → L.may_tell links.new moment → L.may_tell links.old moment }
     ensures unread { (times : ℕ) → R.was_read recorder.old times → R.was_read recorder.new times }
     ensures count { CountsRecorder result (R.count recorder.old) (R.count recorder.new) }

@@ -1,9 +1,8 @@
 //! What is amiss is told on standard error.
 
-use crate::notice::Notice;
 use crate::recorded::{RecordEnd, Recorded};
-use crate::voice::Voice;
 use hc_crowd::{Crowd, Failures, World};
+use hc_notices::{Notice, Voice};
 use hc_serve::Watcher;
 use std::io::Write;
 
@@ -26,7 +25,7 @@ pub(crate) struct Herald<'a, E: Write> {
 
 impl<'a, E: Write> Herald<'a, E> {
     ghost use Rattle.std.specs.Prelude.{◌≡◌};
-    ghost use Rattle.hc_sockets.specs.Voices.{GoesOn};
+    ghost use Rattle.hc_notices.specs.Voices.{GoesOn};
 
     /// By that voice. Of so many failures nothing is said.
     pub(crate) fn new(voice: Voice<'a, E>, told: Failures) -> Self
@@ -55,7 +54,7 @@ impl<'a, E: Write> Herald<'a, E> {
         self.voice.say_if(is_due, notice);
     }
 
-    /// Says what is new by that millisecond: so many forwards have failed, and the wall clock is behind or isn't.
+    /// Says what is new by that millisecond: so many links have failed, and the wall clock is behind or isn't.
     fn look_at(&mut self, tick: u64, failures: Failures, is_behind: bool)
         ensures { GoesOn E.contents self.old.voice self.new.voice }
     {
@@ -99,7 +98,8 @@ impl<'a, E: Write> Herald<'a, E> {
         let silent = failures.silent.saturating_sub(self.told.silent);
         let unfinished = failures.unfinished.saturating_sub(self.told.unfinished);
         let unplaced = failures.unplaced.saturating_sub(self.told.unplaced);
-        let is_new = (unreached | late | broken | silent | unfinished | unplaced) > 0;
+        let heavy = failures.heavy.saturating_sub(self.told.heavy);
+        let is_new = (unreached | late | broken | silent | unfinished | unplaced | heavy) > 0;
         let is_due = (tick >= self.due) & is_new;
         if !is_due {
             return;
@@ -114,12 +114,13 @@ impl<'a, E: Write> Herald<'a, E> {
         self.voice
             .say_if(unfinished > 0, Notice::Unfinished(unfinished));
         self.voice.say_if(unplaced > 0, Notice::Unplaced(unplaced));
+        self.voice.say_if(heavy > 0, Notice::Heavy(heavy));
     }
 }
 
 impl<'a, W: World, T: Recorded, E: Write> Watcher<Crowd<W>, T> for Herald<'a, E> {
-    ghost use Rattle.hc_sockets.specs.VoiceLaws.{joined, stays_as_it_is};
-    ghost use Rattle.hc_sockets.specs.Voices.{GoesOn};
+    ghost use Rattle.hc_notices.specs.VoiceLaws.{joined, stays_as_it_is};
+    ghost use Rattle.hc_notices.specs.Voices.{GoesOn};
 
     ghost may_become = { λ before after. GoesOn E.contents before.voice after.voice };
 

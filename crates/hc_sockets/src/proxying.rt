@@ -1,22 +1,22 @@
 //! Many clients at once.
 
 ghost use Rattle.hc_service.specs.Settings.{AreGood};
-ghost use Rattle.hc_sockets.specs.Notices.{SaysSome};
+ghost use Rattle.hc_notices.specs.Notices.{SaysSome};
 ghost use Rattle.hc_sockets.specs.Outcomes.{EndsFor};
 
 use crate::claim::Claim;
 use crate::fault::ServeFault;
 use crate::herald::Herald;
-use crate::notice::{Greeting, Notice};
 use crate::open_files::open_files;
 use crate::recorded::Recorded;
 use crate::serving::opened;
 use crate::sockets::{Sockets, SocketsFault};
 use crate::system_link::{Recording, SystemLink};
-use crate::voice::Voice;
 use hc_connection::{Buffered, Lapsing, Off, Recorder};
 use hc_crowd::{Crowd, Limits};
+use hc_guests::MOST_TURNED_AWAY;
 use hc_machine::{Core, CoreFault};
+use hc_notices::{Greeting, Notice, Voice};
 use hc_serve::{DriveFault, serve_crowd};
 use hc_service::{CoreSettings, StepFault};
 use hc_transcript::Format;
@@ -79,7 +79,7 @@ struct Serving<'a, R: Net + Clock + Files> {
 /// written, or the limit was reached, the recording ends for good, as a beginning of a transcript, and serving goes on;
 /// where it is strict, it is serving that ends where a record can't be written.
 ///
-/// Once clients can connect, `faults` gets a line that says where. Later it gets one for each kind of failure of the origin,
+/// Once clients can connect, `faults` gets a line that says where. Later it gets one for each kind of failure of links,
 /// a second apart at least, one where the wall clock was set back, and one where the recording ends before serving does.
 /// Behind a line that can't be written it gets no other.
 ///
@@ -187,7 +187,12 @@ fn check_open_files<R: Files>(rt: &R, limits: Limits) -> Result<(), ServeFault> 
         return Ok(());
     };
     let links = (limits.connections as u64).saturating_add(limits.origin_connections as u64);
-    if links.saturating_add(FILES_BESIDE) > most {
+    let turned_away = MOST_TURNED_AWAY as u64;
+    if links
+        .saturating_add(turned_away)
+        .saturating_add(FILES_BESIDE)
+        > most
+    {
         return Err(ServeFault::OpenFiles);
     }
     Ok(())

@@ -105,6 +105,7 @@ impl<'a, R: Net + Files + Clock> Sockets<'a, R> {
                 self.listeners.wake(place);
                 Some(Ready::Clients)
             }
+            Source::Guest(number) => Some(Ready::Guest(number, readiness_of(event, true))),
             Source::Client(number) => {
                 let readiness = readiness_of(event, true);
                 Some(Ready::Link(Receiver::Client(number), readiness))
@@ -168,14 +169,21 @@ impl<'a, R: Net + Files + Clock> World for Sockets<'a, R> {
         None
     }
 
-    fn accept(&mut self, number: u64) -> Accepted<Wire> {
+    fn accept(&mut self, guest: u64) -> Accepted<Wire> {
         match self.listeners.accept() {
-            Accepted::Client(stream) => match self.wired(stream, Source::Client(number)) {
+            Accepted::Client(stream) => match self.wired(stream, Source::Guest(guest)) {
                 Some(wire) => Accepted::Client(wire),
                 None => Accepted::Full,
             },
             Accepted::Later => Accepted::Later,
             Accepted::Full => Accepted::Full,
+        }
+    }
+
+    fn rename(&mut self, stream: &mut Wire, number: u64) -> bool {
+        match Source::Client(number).token() {
+            Some(token) => stream.tell_by(self.poll.registry(), token),
+            None => false,
         }
     }
 

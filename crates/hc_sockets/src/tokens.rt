@@ -13,6 +13,9 @@ const CLIENT: u64 = 1;
 /// The kind of links to the origin.
 const ORIGIN: u64 = 2;
 
+/// The kind of guests' links.
+const GUEST: u64 = 3;
+
 /// So many links can be begun for a forward.
 const ATTEMPTS: u64 = 64;
 
@@ -21,6 +24,8 @@ const ATTEMPTS: u64 = 64;
 pub(crate) enum Source {
     /// The listener at that place.
     Listener(u64),
+    /// The link of the guest of that number.
+    Guest(u64),
     /// The link of the client of that number.
     Client(u64),
     /// The link that was begun for the forward of that number, by that attempt.
@@ -36,6 +41,7 @@ impl Source {
     {
         match self {
             Source::Listener(place) => packed(place, 0),
+            Source::Guest(number) => packed(number, GUEST),
             Source::Client(number) => packed(number, CLIENT),
             Source::Origin(forward, attempt) => packed(link_number(forward, attempt)?, ORIGIN),
         }
@@ -49,6 +55,7 @@ impl Source {
         match token.0 as u64 % KINDS {
             CLIENT => Source::Client(number),
             ORIGIN => Source::Origin(number / ATTEMPTS, (number % ATTEMPTS) as u32),
+            GUEST => Source::Guest(number),
             _ => Source::Listener(number),
         }
     }

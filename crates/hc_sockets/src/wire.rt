@@ -1,7 +1,8 @@
 //! A socket that is never waited for.
 
-use hc_flow::{Arrival, Stream, Uptake};
+use hc_flow::{Arrival, Presence, Stream, Uptake};
 use mio::net::TcpStream;
+use mio::{Interest, Registry, Token};
 use std::io::{ErrorKind, IoSlice, Read};
 use std::net::Shutdown;
 
@@ -15,6 +16,14 @@ impl Wire {
     /// That of a stream whose readiness is told.
     pub(crate) fn new(stream: TcpStream) -> Self {
         Wire { stream }
+    }
+
+    /// What becomes ready at it is told by that token from now on. Answers whether the system does that.
+    pub(crate) fn tell_by(&mut self, registry: &Registry, token: Token) -> bool {
+        let interests = Interest::READABLE | Interest::WRITABLE;
+        registry
+            .reregister(&mut self.stream, token, interests)
+            .is_ok()
     }
 }
 
@@ -42,6 +51,17 @@ impl Stream for Wire {
             Err(error) if error.kind() == ErrorKind::WouldBlock => Uptake::Later,
             Err(error) if error.kind() == ErrorKind::Interrupted => Uptake::Later,
             Err(_) => Uptake::Failed,
+        }
+    }
+
+    fn peek(&self) -> Presence {
+        let mut first = [0];
+        match self.stream.peek(&mut first) {
+            Ok(0) => Presence::Over,
+            Ok(_) => Presence::Octets,
+            Err(error) if error.kind() == ErrorKind::WouldBlock => Presence::Later,
+            Err(error) if error.kind() == ErrorKind::Interrupted => Presence::Later,
+            Err(_) => Presence::Over,
         }
     }
 

@@ -23,6 +23,7 @@ actions-preserved g c = record {
   shown = λ log was. c.in_ok-carry_out_one.ensures.shown log (c.actions.invariant.shown log was);
   kept = λ kept was. c.in_ok-carry_out_one.ensures.kept kept (c.actions.invariant.kept kept was);
   as_many = c.in_ok-carry_out_one.ensures.as_many ∙ c.actions.invariant.as_many;
+  bounds = c.in_ok-carry_out_one.ensures.bounds ∙ c.actions.invariant.bounds;
   moments = λ moment may. c.actions.invariant.moments moment (c.in_ok-carry_out_one.ensures.moments moment may);
   unread = λ times was. c.in_ok-carry_out_one.ensures.unread times (c.actions.invariant.unread times was);
   count = c.in_ok-carry_out_one.ensures.count ∙ c.actions.invariant.count;

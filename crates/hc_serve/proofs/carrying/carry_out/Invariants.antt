@@ -11,6 +11,7 @@ invariant-actions g l = record {
   shown : (log : List Move) → g.L.Links.shows l.initial.links log → g.L.Links.shows l.links log;
   kept : (kept : List ℕ) → g.R.Link.has_kept l.initial.recorder kept → g.R.Link.has_kept l.recorder kept;
   as_many : g.L.Links.most l.links ≡ g.L.Links.most l.initial.links;
+  bounds : g.L.Links.bounds l.links ≡ g.L.Links.bounds l.initial.links;
   moments : (moment : ℕ) → g.L.Links.may_tell l.links moment → g.L.Links.may_tell l.initial.links moment;
   unread : (times : ℕ) → g.R.Link.was_read l.initial.recorder times → g.R.Link.was_read l.recorder times;
   count : g.R.Link.count l.recorder ≡ g.R.Link.count l.initial.recorder;

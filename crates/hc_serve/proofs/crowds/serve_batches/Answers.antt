@@ -24,6 +24,7 @@ turns-init g c = record {
   };
   so_far = λ log text told held. turns_begin (g.L.Links.most c.args.links.now) (telling (g.L.Links.tells c.args.links.now) (g.L.Links.shows c.args.links.now) (g.R.Link.has_got c.args.recorder.now) (g.R.Link.has_kept c.args.recorder.now)) (stage c.args.core.now log text) told held;
   as_many = refl;
+  bounds = refl;
   moments = λ moment may. may;
   unread = λ times was. was;
   count = refl;
@@ -41,6 +42,7 @@ turns-preserved-then-branch g c = record {
       (passed f.so_far.occurrences f.so_far.results log) (text ++ texts_given f.so_far.results))
       c.turns.invariant.as_many ((rw on at c.in_ok-round.ensures.round) _ _ f.so_far.told f.so_far.held).0);
   as_many = c.in_ok-round.ensures.as_many ∙ c.turns.invariant.as_many;
+  bounds = c.in_ok-round.ensures.bounds ∙ c.turns.invariant.bounds;
   moments = λ moment may. c.turns.invariant.moments moment (c.in_ok-round.ensures.moments moment may);
   unread = λ times was. c.in_ok-round.ensures.unread times (c.turns.invariant.unread times was);
   count = c.in_ok-round.ensures.count ∙ c.turns.invariant.count;
@@ -57,6 +59,7 @@ turns-preserved g c = record {
       ((rw off at c.in_ok-round.ensures.round) _ _ f.so_far.told f.so_far.held) in
       pause_on i c.in_ok-pause.ensures.tells c.in_ok-pause.ensures.got c.in_ok-pause.ensures.safe;
   as_many = c.in_ok-pause.ensures.as_many ∙ c.in_ok-round.ensures.as_many ∙ c.turns.invariant.as_many;
+  bounds = c.in_ok-pause.ensures.bounds ∙ c.in_ok-round.ensures.bounds ∙ c.turns.invariant.bounds;
   moments = λ moment may. c.turns.invariant.moments moment (c.in_ok-round.ensures.moments moment (c.in_ok-pause.ensures.moments moment may));
   unread = λ times was. c.in_ok-pause.ensures.unread times (c.in_ok-round.ensures.unread times (c.turns.invariant.unread times was));
   count = c.in_ok-pause.ensures.count ∙ c.in_ok-round.ensures.count ∙ c.turns.invariant.count;

@@ -12,6 +12,7 @@ invariant-turns g l = record {
       → TurnsSoFar (g.L.Links.most l.initial.links) (g.L.Links.shows l.initial.links log × g.R.Link.has_kept l.initial.recorder text)
       (telling (g.L.Links.tells l.links) (g.L.Links.shows l.links) (g.R.Link.has_got l.recorder) (g.R.Link.has_kept l.recorder)) (stage l.initial.core log text) l.core l.counter;
   as_many : g.L.Links.most l.links ≡ g.L.Links.most l.initial.links;
+  bounds : g.L.Links.bounds l.links ≡ g.L.Links.bounds l.initial.links;
   moments : (moment : ℕ) → g.L.Links.may_tell l.links moment → g.L.Links.may_tell l.initial.links moment;
   unread : (times : ℕ) → g.R.Link.was_read l.initial.recorder times → g.R.Link.was_read l.recorder times;
   count : g.R.Link.count l.recorder ≡ g.R.Link.count l.initial.recorder;

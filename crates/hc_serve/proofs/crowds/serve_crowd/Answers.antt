@@ -1,3 +1,4 @@
+use Rattle.std.proofs.Common.{subst}
 use Rattle.hc_transcript.specs.Records.{opening}
 use Rattle.hc_service.specs.Sending.{recorded_format}
 use Rattle.hc_serve.specs.Crowds.{stage, telling}
@@ -15,4 +16,4 @@ returns-clause-few g c = λ log text told held.
     let still = still_told _ c.serve_batches.result (g.L.Links.most c.args.crowd.now) (g.L.Links.shows c.args.crowd.now log × g.R.Link.has_kept c.args.recorder.now text)
     (telling (g.L.Links.tells c.serve_batches.new.links) (g.L.Links.shows c.serve_batches.new.links) (g.R.Link.has_got c.serve_batches.new.recorder) (g.R.Link.has_kept c.serve_batches.new.recorder))
     (stage c.args.core.now log text) c.serve_batches.new.core (c.serve_batches.ensures.serves log text told held) in
-    g.met.L.Batches.few c.serve_batches.new.links still.0 still.1
+    subst (λ bounds. g.L.Links.within bounds c.serve_batches.new.links) c.serve_batches.ensures.bounds (g.met.L.Batches.few c.serve_batches.new.links still.0 still.1)

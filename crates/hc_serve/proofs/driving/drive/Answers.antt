@@ -15,6 +15,7 @@ rounds-init g c = record {
   moments = λ moment may. may;
   unread = λ times was. was;
   as_many = refl;
+  bounds = refl;
   count = refl;
 }
 
@@ -32,6 +33,7 @@ rounds-preserved g c = record {
   moments = λ moment may. c.rounds.invariant.moments moment (c.in_ok-round.ensures.moments moment may);
   unread = λ times was. c.in_ok-round.ensures.unread times (c.rounds.invariant.unread times was);
   as_many = c.in_ok-round.ensures.as_many ∙ c.rounds.invariant.as_many;
+  bounds = c.in_ok-round.ensures.bounds ∙ c.rounds.invariant.bounds;
   count = c.in_ok-round.ensures.count ∙ c.rounds.invariant.count;
 }
 

@@ -1,4 +1,4 @@
-use Rattle.hc_sockets.specs.VoiceLaws.{nothing_is_said}
+use Rattle.hc_notices.specs.VoiceLaws.{nothing_is_said}
 use Rattle.hc_sockets.proofs.proxying.serve_proxy.Goals as goal
 
 pub returns-in_err-check_open_files : goal.returns-in_err-check_open_files

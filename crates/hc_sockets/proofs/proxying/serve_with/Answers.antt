@@ -1,5 +1,5 @@
 use Rattle.std.proofs.Common.{◌∙◌, rules, sym}
-use Rattle.hc_sockets.specs.VoiceLaws.{joined, nothing_is_said}
+use Rattle.hc_notices.specs.VoiceLaws.{joined, nothing_is_said}
 use Rattle.hc_sockets.proofs.proxying.serve_with.Goals as goal
 
 pub returns-in_err-crowd : goal.returns-in_err-crowd

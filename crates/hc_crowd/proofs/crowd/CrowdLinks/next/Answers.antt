@@ -10,13 +10,13 @@ use Rattle.hc_crowd.proofs.crowd.CrowdLinks.next.Goals as goal
 pub returns-in-Some-clause-tells : goal.returns-in-Some-clause-tells
 returns-in-Some-clause-tells g c = λ log t. (
   heard_now (ArePeers g.W.Stream.Stream.has_given g.W.Stream.Stream.has_got (bounds_of c.args.self.now.limits) c.happening.new.self.peers) c.now.result c.in-Some.happened.of c.in-Some.happened.reason log
-      c.now.ensures.of c.now.ensures.reason ((rw c.in-Some.is at c.in_ok-happened.ensures.tells) c.args.self.now.limits.origin_connections log t.0),
+      c.now.ensures.of c.now.ensures.reason ((rw c.in-Some.is at c.in_ok-happened.ensures.heard).tells c.args.self.now.limits.origin_connections log t.0),
   told_now (told_by c.args.self.now.clock) c.now.result log c.now.ensures.moment t.1,
 )
 
 pub returns-in-Some-clause-orderly : goal.returns-in-Some-clause-orderly
 returns-in-Some-clause-orderly g c = λ log t.
-    subst (λ (o : Happening). MayHappen c.args.self.now.limits.connections o log) (sym c.now.ensures.of) ((rw c.in-Some.is at c.in_ok-happened.ensures.may) _ log t.0)
+    subst (λ (o : Happening). MayHappen c.args.self.now.limits.connections o log) (sym c.now.ensures.of) ((rw c.in-Some.is at c.in_ok-happened.ensures.heard).may _ log t.0)
 
 pub returns-in-None-clause-tells : goal.returns-in-None-clause-tells
-returns-in-None-clause-tells g c = λ log t. ((rw c.in-None.is at c.in_ok-happened.ensures.tells) _ log t.0, t.1)
+returns-in-None-clause-tells g c = λ log t. ((rw c.in-None.is at c.in_ok-happened.ensures.heard).tells _ log t.0, t.1)

@@ -1,13 +1,11 @@
+use Rattle.hc_crowd.proofs.KeepingLemmas.{keeps_then, keeps_within, within_then}
 use Rattle.hc_crowd.proofs.traffic.Traffic.accept.Goals as goal
 
-pub returns-then-not-make_room-clause-tells : goal.returns-then-not-make_room-clause-tells
-returns-then-not-make_room-clause-tells g c = λ origin log t. c.make_room.ensures.tells _ log t
+pub returns-in_default : goal.returns-in_default
+returns-in_default g c = record { kept = keeps_within (record { tells = c.next_guest.ensures.tells; shown = c.next_guest.ensures.shown }) }
 
-pub returns-in_default-clause-tells : goal.returns-in_default-clause-tells
-returns-in_default-clause-tells g c = λ origin log t. c.make_room.ensures.tells _ log t
+pub returns-then-make_room : goal.returns-then-make_room
+returns-then-make_room g c = record { kept = within_then (keeps_within (keeps_then (record { tells = c.next_guest.ensures.tells; shown = c.next_guest.ensures.shown }) c.make_room.ensures.kept)) c.invite.ensures.kept }
 
-pub returns-clause-tells : goal.returns-clause-tells
-returns-clause-tells g c = λ origin log t. c.accept_as.ensures.tells origin log (c.make_room.ensures.tells _ log t)
-
-pub returns-clause-may : goal.returns-clause-may
-returns-clause-may g c = λ bounds log t. c.accept_as.ensures.may bounds log (c.make_room.ensures.tells bounds log t)
+pub returns : goal.returns
+returns g c = record { kept = keeps_within (keeps_then (keeps_then (record { tells = c.next_guest.ensures.tells; shown = c.next_guest.ensures.shown }) c.make_room.ensures.kept) c.turn_away.ensures.kept) }

@@ -1,7 +1,8 @@
+use Rattle.hc_crowd.proofs.KeepingLemmas.{keeps_then}
 use Rattle.hc_crowd.proofs.traffic.Traffic.connect.Goals as goal
 
-pub returns-then-link-clause-tells : goal.returns-then-link-clause-tells
-returns-then-link-clause-tells g c = λ bounds log t. c.watch_link.ensures.tells bounds log (c.link.ensures.tells c.in-Some.ensures.0 c.in-Some.ensures.1 bounds log t)
+pub returns-then-link : goal.returns-then-link
+returns-then-link g c = record { kept = keeps_then (record { tells = c.link.ensures.tells c.in-Some.ensures.0 c.in-Some.ensures.1; shown = c.link.ensures.shown }) c.watch_link.ensures.kept }
 
-pub returns-else-link-clause-tells : goal.returns-else-link-clause-tells
-returns-else-link-clause-tells g c = λ bounds log t. c.give_up-else-link.ensures.tells bounds log (c.link.ensures.tells c.in-Some.ensures.0 c.in-Some.ensures.1 bounds log t)
+pub returns-else-link : goal.returns-else-link
+returns-else-link g c = record { kept = keeps_then (record { tells = c.link.ensures.tells c.in-Some.ensures.0 c.in-Some.ensures.1; shown = c.link.ensures.shown }) c.give_up-else-link.ensures.kept }

@@ -1,4 +1,5 @@
+use Rattle.hc_crowd.proofs.KeepingLemmas.{keeps_then}
 use Rattle.hc_crowd.proofs.traffic.Traffic.drop_lingering.Goals as goal
 
-pub returns-then-drop_lingering-clause-tells : goal.returns-then-drop_lingering-clause-tells
-returns-then-drop_lingering-clause-tells g c = λ bounds log t. c.free_place.ensures.tells bounds log (c.drop_lingering.ensures.tells bounds log t)
+pub returns-then-drop_lingering : goal.returns-then-drop_lingering
+returns-then-drop_lingering g c = record { kept = keeps_then (record { tells = c.drop_lingering.ensures.tells; shown = c.drop_lingering.ensures.shown }) c.free_place.ensures.kept }

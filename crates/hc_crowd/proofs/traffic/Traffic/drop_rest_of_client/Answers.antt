@@ -1,10 +1,11 @@
+use Rattle.hc_crowd.proofs.KeepingLemmas.{keeps_then}
 use Rattle.hc_crowd.proofs.traffic.Traffic.drop_rest_of_client.Goals as goal
 
-pub returns-then-discard-clause-tells : goal.returns-then-discard-clause-tells
-returns-then-discard-clause-tells g c = λ bounds log t. c.let_go.ensures.tells bounds log (c.discard.ensures.tells bounds log (c.lose_late.ensures.tells bounds log t))
+pub returns-then-discard : goal.returns-then-discard
+returns-then-discard g c = record { kept = keeps_then (keeps_then c.lose_late.ensures.kept (record { tells = c.discard.ensures.tells; shown = c.discard.ensures.shown })) c.let_go.ensures.kept }
 
-pub returns-then-is_readable-clause-tells : goal.returns-then-is_readable-clause-tells
-returns-then-is_readable-clause-tells g c = λ bounds log t. c.give_turn.ensures.tells bounds log (c.discard.ensures.tells bounds log (c.lose_late.ensures.tells bounds log t))
+pub returns-then-is_readable : goal.returns-then-is_readable
+returns-then-is_readable g c = record { kept = keeps_then (keeps_then c.lose_late.ensures.kept (record { tells = c.discard.ensures.tells; shown = c.discard.ensures.shown })) c.give_turn.ensures.kept }
 
-pub returns-else-is_readable-clause-tells : goal.returns-else-is_readable-clause-tells
-returns-else-is_readable-clause-tells g c = λ bounds log t. c.discard.ensures.tells bounds log (c.lose_late.ensures.tells bounds log t)
+pub returns-else-is_readable : goal.returns-else-is_readable
+returns-else-is_readable g c = record { kept = keeps_then c.lose_late.ensures.kept (record { tells = c.discard.ensures.tells; shown = c.discard.ensures.shown }) }

@@ -1,7 +1,8 @@
+use Rattle.hc_crowd.proofs.KeepingLemmas.{keeps_then}
 use Rattle.hc_crowd.proofs.traffic.Traffic.drop_rest_of_origin.Goals as goal
 
-pub returns-in-More-clause-tells : goal.returns-in-More-clause-tells
-returns-in-More-clause-tells g c = λ bounds log t. c.give_lingering_turn.ensures.tells bounds log (c.discard_lingering.ensures.tells bounds log t)
+pub returns-in-More : goal.returns-in-More
+returns-in-More g c = record { kept = keeps_then (record { tells = c.discard_lingering.ensures.tells; shown = c.discard_lingering.ensures.shown }) c.give_lingering_turn.ensures.kept }
 
-pub returns-in-Over-clause-tells : goal.returns-in-Over-clause-tells
-returns-in-Over-clause-tells g c = λ bounds log t. c.drop_lingering.ensures.tells bounds log (c.discard_lingering.ensures.tells bounds log t)
+pub returns-in-Over : goal.returns-in-Over
+returns-in-Over g c = record { kept = keeps_then (record { tells = c.discard_lingering.ensures.tells; shown = c.discard_lingering.ensures.shown }) c.drop_lingering.ensures.kept }

@@ -1,9 +1,8 @@
+use Rattle.hc_crowd.proofs.KeepingLemmas.{keeps_then}
 use Rattle.hc_crowd.proofs.traffic.Traffic.give_places.Goals as goal
 
 pub returns-in_default : goal.returns-in_default
-returns-in_default g c = record {
-  tells = λ bounds log t. c.next_candidate.ensures.tells bounds log (c.places.invariant bounds log t);
-}
+returns-in_default g c = record { kept = keeps_then c.places.invariant (record { tells = c.next_candidate.ensures.tells; shown = c.next_candidate.ensures.shown }) }
 
 pub places-preserved : goal.places-preserved
-places-preserved g c = λ bounds log t. c.reach.ensures.tells bounds log (c.next_candidate.ensures.tells bounds log (c.places.invariant bounds log t))
+places-preserved g c = keeps_then (keeps_then c.places.invariant (record { tells = c.next_candidate.ensures.tells; shown = c.next_candidate.ensures.shown })) c.reach.ensures.kept

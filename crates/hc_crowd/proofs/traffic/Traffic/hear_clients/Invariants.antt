@@ -1,14 +1,6 @@
-use Rattle.std.proofs.Common.{List}
-use Rattle.hc_order.specs.Log.{Move}
-use Rattle.hc_peers.specs.Peers.{ArePeers, Bounds}
-use Rattle.hc_peers.specs.Shown.{ShowNoMore}
+use Rattle.hc_crowd.specs.Keeping.{KeepsPeers}
 use Rattle.hc_crowd.proofs.traffic.Traffic.hear_clients.Given as goal
 
--- what was told so far goes on, and nothing was written
+-- what was told so far is told still, and nothing was written
 abbrev pub invariant-clients : goal.invariant-clients
-invariant-clients g l = record {
-  tells : (bounds : Bounds) (log : List Move) → ArePeers g.W.Stream.Stream.has_given g.W.Stream.Stream.has_got bounds l.initial.self.peers log
-      → ArePeers g.W.Stream.Stream.has_given g.W.Stream.Stream.has_got bounds l.self.peers log;
-  shown : (log : List Move) → ShowNoMore g.W.Stream.Stream.has_got l.initial.self.peers log
-      → ShowNoMore g.W.Stream.Stream.has_got l.self.peers log;
-}
+invariant-clients g l = KeepsPeers g.W.Stream.Stream.has_given g.W.Stream.Stream.has_got l.initial.self.peers l.self.peers

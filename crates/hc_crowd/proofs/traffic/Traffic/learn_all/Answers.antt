@@ -1,7 +1,5 @@
+use Rattle.hc_crowd.proofs.KeepingLemmas.{keeps_then}
 use Rattle.hc_crowd.proofs.traffic.Traffic.learn_all.Goals as goal
 
 pub ready-preserved : goal.ready-preserved
-ready-preserved g c = record {
-  tells = λ bounds log t. c.take_in.ensures.tells bounds log (c.ready.invariant.tells bounds log t);
-  shown = λ log t. c.take_in.ensures.shown log (c.ready.invariant.shown log t);
-}
+ready-preserved g c = keeps_then c.ready.invariant c.take_in.ensures.kept

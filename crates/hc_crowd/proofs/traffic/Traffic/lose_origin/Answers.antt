@@ -1,4 +1,5 @@
+use Rattle.hc_crowd.proofs.KeepingLemmas.{keeps_then}
 use Rattle.hc_crowd.proofs.traffic.Traffic.lose_origin.Goals as goal
 
-pub returns-clause-tells : goal.returns-clause-tells
-returns-clause-tells g c = λ bounds log t. c.give_turn.ensures.tells bounds log (c.lose_origin.ensures.tells bounds log t)
+pub returns : goal.returns
+returns g c = record { kept = keeps_then (record { tells = c.lose_origin.ensures.tells; shown = c.lose_origin.ensures.shown }) c.give_turn.ensures.kept }

@@ -1,10 +1,8 @@
+use Rattle.hc_crowd.proofs.KeepingLemmas.{keeps_then, then_hears, hears_nothing}
 use Rattle.hc_crowd.proofs.traffic.Traffic.origin_turn.Goals as goal
 
-pub returns-then-retry-clause-tells : goal.returns-then-retry-clause-tells
-returns-then-retry-clause-tells g c = λ bounds log t. c.connect.ensures.tells bounds log (c.retry.ensures.tells bounds log (c.unqueue.ensures.tells bounds log t))
+pub returns-then-retry : goal.returns-then-retry
+returns-then-retry g c = record { heard = hears_nothing (keeps_then (keeps_then (record { tells = c.unqueue.ensures.tells; shown = c.unqueue.ensures.shown }) (record { tells = c.retry.ensures.tells; shown = c.retry.ensures.shown })) c.connect.ensures.kept) }
 
-pub returns-clause-tells : goal.returns-clause-tells
-returns-clause-tells g c = λ bounds log t. c.hear_origin.ensures.tells bounds log (c.retry.ensures.tells bounds log (c.unqueue.ensures.tells bounds log t))
-
-pub returns-clause-may : goal.returns-clause-may
-returns-clause-may g c = λ most bounds log t. c.hear_origin.ensures.may most bounds log (c.retry.ensures.tells bounds log (c.unqueue.ensures.tells bounds log t))
+pub returns : goal.returns
+returns g c = record { heard = then_hears (keeps_then (record { tells = c.unqueue.ensures.tells; shown = c.unqueue.ensures.shown }) (record { tells = c.retry.ensures.tells; shown = c.retry.ensures.shown })) c.hear_origin.ensures.heard }

@@ -1,11 +1,8 @@
+use Rattle.hc_crowd.proofs.KeepingLemmas.{keeps_then}
 use Rattle.hc_crowd.proofs.traffic.Traffic.reach.Goals as goal
 
 pub returns-then-is_err : goal.returns-then-is_err
-returns-then-is_err g c = record {
-  tells = λ bounds log t. c.give_up.ensures.tells bounds log (c.give_place.ensures.tells bounds log t);
-}
+returns-then-is_err g c = record { kept = keeps_then (record { tells = c.give_place.ensures.tells; shown = c.give_place.ensures.shown }) c.give_up.ensures.kept }
 
 pub returns : goal.returns
-returns g c = record {
-  tells = λ bounds log t. c.connect.ensures.tells bounds log (c.give_place.ensures.tells bounds log t);
-}
+returns g c = record { kept = keeps_then (record { tells = c.give_place.ensures.tells; shown = c.give_place.ensures.shown }) c.connect.ensures.kept }

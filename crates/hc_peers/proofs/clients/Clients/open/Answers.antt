@@ -2,7 +2,7 @@ use Rattle.std.proofs.Common.{[], Some, refl}
 use Rattle.hc_order.specs.Passages.{passage_of}
 use Rattle.hc_order.specs.declared.receiver.Receiver.TheVariants.{Client}
 use Rattle.hc_peers.specs.Shown.{IsShownAt}
-use Rattle.hc_peers.proofs.TableLemmas.{put, stayed}
+use Rattle.hc_heard.proofs.TableLemmas.{put, stayed}
 use Rattle.hc_peers.proofs.clients.Clients.open.Goals as goal
 
 pub returns-clause-shown : goal.returns-clause-shown

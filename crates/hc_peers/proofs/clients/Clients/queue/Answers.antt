@@ -1,7 +1,7 @@
 use Rattle.std.proofs.Common.{arith}
 use Rattle.hc_order.specs.declared.receiver.Receiver.TheVariants.{Client}
 use Rattle.hc_peers.specs.Links.{IsClientAt}
-use Rattle.hc_peers.proofs.TableLemmas.{lent_stays}
+use Rattle.hc_heard.proofs.TableLemmas.{lent_stays}
 use Rattle.hc_peers.proofs.clients.Clients.queue.Goals as goal
 
 pub returns-in-Some-clause-kept : goal.returns-in-Some-clause-kept

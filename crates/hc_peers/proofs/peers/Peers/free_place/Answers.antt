@@ -5,6 +5,7 @@ pub returns-clause-tells : goal.returns-clause-tells
 returns-clause-tells g c = λ bounds log t. record {
   clients = t.clients;
   forwards = t.forwards;
+  guests = t.guests;
   last = t.last;
   count = t.count;
   few = few_freed bounds c.args.self.now t.few c.args.forward c.free.new.self c.free.ensures.all c.free.ensures.fewer c.free.ensures.others c.if-needs_place.ensures;

@@ -5,6 +5,7 @@ pub returns-clause-tells : goal.returns-clause-tells
 returns-clause-tells g c = λ bounds log t. record {
   clients = t.clients;
   forwards = t.forwards;
+  guests = t.guests;
   last = t.last;
   count = t.count;
   few = few_given bounds c.args.self.now c.give.new.self c.give.ensures.all c.give.ensures.one_more c.requires.left c.give.ensures.kept t.few;

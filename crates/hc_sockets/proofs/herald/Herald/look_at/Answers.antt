@@ -1,4 +1,4 @@
-use Rattle.hc_sockets.specs.VoiceLaws.{joined}
+use Rattle.hc_notices.specs.VoiceLaws.{joined}
 use Rattle.hc_sockets.proofs.herald.Herald.look_at.Goals as goal
 
 pub returns : goal.returns

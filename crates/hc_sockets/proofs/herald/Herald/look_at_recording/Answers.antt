@@ -1,4 +1,4 @@
-use Rattle.hc_sockets.specs.VoiceLaws.{stays_as_it_is}
+use Rattle.hc_notices.specs.VoiceLaws.{stays_as_it_is}
 use Rattle.hc_sockets.proofs.herald.Herald.look_at_recording.Goals as goal
 
 pub returns-then-self : goal.returns-then-self

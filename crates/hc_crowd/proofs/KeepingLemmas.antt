@@ -1,0 +1,162 @@
+-- What the calls of a crowd's traffic keep goes on from one to the next.
+use Rattle.std.proofs.Common.{◌≡◌, ℕ, Bool, true, false, List, Option, Some, None, Result, Ok, Err, refl, sym, true≢false}
+use Rattle.std.specs.declared.alloc.AllocError.{AllocError}
+use Rattle.hc_connection.specs.declared.happened.Happened.{Happened}
+use Rattle.hc_peers.specs.declared.peers.Peers.{Peers}
+use Rattle.hc_order.specs.declared.occurrence.Reason.{Reason}
+use Rattle.hc_order.specs.declared.occurrence.Reason.TheVariants.{Peer, Replies, Reads, Stop, Late, Reset, Held}
+use Rattle.hc_peers.specs.Heard.{HeardAtOnce, HeardFor, IsAnswerOf, IsReasonFor, NoAnswer}
+use Rattle.hc_peers.specs.Peers.Bounds.{AtMost}
+use Rattle.hc_peers.proofs.PeerLemmas.{heard_by, told_on}
+use Rattle.hc_crowd.specs.Keeping.{Hears, HearsWithin, KeepsPeers, KeepsWithin}
+
+module _ {S : Type 0} {has_given has_got : S → List ℕ → Type 0} where
+  -- where nothing changes
+  pub keeps_same : {peers : Peers S} → KeepsPeers has_given has_got peers peers
+  keeps_same {peers} = record { tells = λ bounds log t. t; shown = λ log s. s }
+
+  -- one call behind another
+  pub keeps_then : {before between after : Peers S} → KeepsPeers has_given has_got before between → KeepsPeers has_given has_got between after → KeepsPeers has_given has_got before after
+  keeps_then one other = record {
+    tells = λ bounds log t. other.tells bounds log (one.tells bounds log t);
+    shown = λ log s. other.shown log (one.shown log s);
+  }
+
+  -- whatever bounds keep, a bound on clients keeps
+  pub keeps_within : {most : ℕ} {before after : Peers S} → KeepsPeers has_given has_got before after → KeepsWithin has_given has_got most before after
+  keeps_within {most} kept = record { tells = λ origin log t. kept.tells (AtMost most origin) log t; shown = kept.shown }
+
+  pub within_then : {most : ℕ} {before between after : Peers S} → KeepsWithin has_given has_got most before between → KeepsWithin has_given has_got most between after
+      → KeepsWithin has_given has_got most before after
+  within_then one other = record {
+    tells = λ origin log t. other.tells origin log (one.tells origin log t);
+    shown = λ log s. other.shown log (one.shown log s);
+  }
+
+  -- something is heard behind a call
+  pub then_hears : {awaited : ℕ → Bool → Type 0} {result : Result (Option Happened) AllocError} {before between after : Peers S}
+      → KeepsPeers has_given has_got before between → Hears has_given has_got awaited result between after → Hears has_given has_got awaited result before after
+  then_hears kept heard = record {
+    tells = λ bounds log t. heard.tells bounds log (kept.tells bounds log t);
+    may = λ most bounds log t. heard.may most bounds log (kept.tells bounds log t);
+    in_turn = heard.in_turn;
+    shown = λ log s. heard.shown log (kept.shown log s);
+  }
+
+  pub then_hears_within : {most : ℕ} {awaited : ℕ → Bool → Type 0} {result : Result (Option Happened) AllocError} {before between after : Peers S}
+      → KeepsWithin has_given has_got most before between → HearsWithin has_given has_got most awaited result between after → HearsWithin has_given has_got most awaited result before after
+  then_hears_within kept heard = record {
+    tells = λ origin log t. heard.tells origin log (kept.tells origin log t);
+    may = λ origin log t. heard.may origin log (kept.tells origin log t);
+    in_turn = heard.in_turn;
+    shown = λ log s. heard.shown log (kept.shown log s);
+  }
+
+  -- a call behind what was heard
+  pub hears_then : {awaited : ℕ → Bool → Type 0} {result : Result (Option Happened) AllocError} {before between after : Peers S}
+      → Hears has_given has_got awaited result before between → KeepsPeers has_given has_got between after → Hears has_given has_got awaited result before after
+  hears_then {awaited} {result} {before} {between} {after} heard kept = record {
+    tells = λ bounds log t. told_on has_given has_got bounds between after (kept.tells bounds) result log (heard.tells bounds log t);
+    may = heard.may;
+    in_turn = heard.in_turn;
+    shown = λ log s. kept.shown log (heard.shown log s);
+  }
+
+  -- nothing was heard
+  pub hears_nothing : {awaited : ℕ → Bool → Type 0} {before after : Peers S} → KeepsPeers has_given has_got before after → Hears has_given has_got awaited (Ok None) before after
+  hears_nothing kept = record { tells = kept.tells; may = λ most bounds log t. tt; in_turn = tt; shown = kept.shown }
+
+  pub hears_nothing_within : {most : ℕ} {awaited : ℕ → Bool → Type 0} {before after : Peers S} → KeepsWithin has_given has_got most before after
+      → HearsWithin has_given has_got most awaited (Ok None) before after
+  hears_nothing_within kept = record { tells = kept.tells; may = λ origin log t. tt; in_turn = tt; shown = kept.shown }
+
+  -- memory was refused
+  pub hears_refused_within : {most : ℕ} {awaited : ℕ → Bool → Type 0} {refused : AllocError} {before after : Peers S} → KeepsWithin has_given has_got most before after
+      → HearsWithin has_given has_got most awaited (Err refused) before after
+  hears_refused_within kept = record { tells = kept.tells; may = λ origin log t. tt; in_turn = tt; shown = kept.shown }
+
+  pub hears_refused : {awaited : ℕ → Bool → Type 0} {refused : AllocError} {before after : Peers S} → KeepsPeers has_given has_got before after
+      → Hears has_given has_got awaited (Err refused) before after
+  hears_refused kept = record { tells = kept.tells; may = λ most bounds log t. tt; in_turn = tt; shown = kept.shown }
+
+  -- the other way round
+  pub keeps_nothing : {awaited : ℕ → Bool → Type 0} {before after : Peers S} → Hears has_given has_got awaited (Ok None) before after → KeepsPeers has_given has_got before after
+  keeps_nothing heard = record { tells = heard.tells; shown = heard.shown }
+
+  pub keeps_refused : {awaited : ℕ → Bool → Type 0} {refused : AllocError} {before after : Peers S} → Hears has_given has_got awaited (Err refused) before after
+      → KeepsPeers has_given has_got before after
+  keeps_refused heard = record { tells = heard.tells; shown = heard.shown }
+
+  pub within_nothing : {most : ℕ} {awaited : ℕ → Bool → Type 0} {before after : Peers S} → HearsWithin has_given has_got most awaited (Ok None) before after
+      → KeepsWithin has_given has_got most before after
+  within_nothing heard = record { tells = heard.tells; shown = heard.shown }
+
+  pub within_refused : {most : ℕ} {awaited : ℕ → Bool → Type 0} {refused : AllocError} {before after : Peers S} → HearsWithin has_given has_got most awaited (Err refused) before after
+      → KeepsWithin has_given has_got most before after
+  within_refused heard = record { tells = heard.tells; shown = heard.shown }
+
+  -- whatever bounds there are, it is heard where there may be so many clients
+  pub hears_within : {most : ℕ} {awaited : ℕ → Bool → Type 0} {result : Result (Option Happened) AllocError} {before after : Peers S}
+      → Hears has_given has_got awaited result before after → HearsWithin has_given has_got most awaited result before after
+  hears_within {most} heard = record {
+    tells = λ origin log t. heard.tells (AtMost most origin) log t;
+    may = λ origin log t. heard.may most (AtMost most origin) log t;
+    in_turn = heard.in_turn;
+    shown = heard.shown;
+  }
+
+  -- what never waits is in turn whatever is awaited
+  pub hears_at_once : {awaited : ℕ → Bool → Type 0} {result : Result (Option Happened) AllocError} {before after : Peers S}
+      → Hears has_given has_got NoAnswer result before after → Hears has_given has_got awaited result before after
+  hears_at_once {awaited} {result} heard = record {
+    tells = heard.tells;
+    may = heard.may;
+    in_turn = heard_by NoAnswer awaited result heard.in_turn (λ c answer none. absurd none);
+    shown = heard.shown;
+  }
+
+  pub hears_at_once_within : {most : ℕ} {awaited : ℕ → Bool → Type 0} {result : Result (Option Happened) AllocError} {before after : Peers S}
+      → HearsWithin has_given has_got most NoAnswer result before after → HearsWithin has_given has_got most awaited result before after
+  hears_at_once_within {most} {awaited} {result} heard = record {
+    tells = heard.tells;
+    may = heard.may;
+    in_turn = heard_by NoAnswer awaited result heard.in_turn (λ c answer none. absurd none);
+    shown = heard.shown;
+  }
+
+  -- what waits for one connection has waited by the answer about it
+  pub hears_by_answer : {awaited : ℕ → Bool → Type 0} {c : ℕ} {answer : Bool} {result : Result (Option Happened) AllocError} {before after : Peers S}
+      → awaited c answer → Hears has_given has_got (IsAnswerOf c answer) result before after → Hears has_given has_got awaited result before after
+  hears_by_answer {awaited} {c} {answer} {result} answered heard = record {
+    tells = heard.tells;
+    may = heard.may;
+    in_turn = heard_by (IsAnswerOf c answer) awaited result heard.in_turn (λ d other is. rw (is.0, is.1) answered);
+    shown = heard.shown;
+  }
+
+-- ---- reasons
+
+-- a stop, and that a time is over, may be more than the reason that was told
+reason_for : (stops more_stops late more_late cut : Bool) (F G : Type 0) (reason : Reason) → (stops ≡ true → more_stops ≡ true) → (late ≡ true → more_late ≡ true) → (F → G)
+    → IsReasonFor stops late cut F reason → IsReasonFor more_stops more_late cut G reason
+reason_for stops more_stops late more_late cut F G Peer by_stop by_time fails is = tt
+reason_for stops more_stops late more_late cut F G Replies by_stop by_time fails is = tt
+reason_for stops more_stops late more_late cut F G Reads by_stop by_time fails is = tt
+reason_for stops more_stops late more_late cut F G Stop by_stop by_time fails is = by_stop is
+reason_for stops more_stops late more_late cut F G Late by_stop by_time fails is = by_time is
+reason_for stops more_stops late more_late cut F G Reset by_stop by_time fails is = fails is
+reason_for stops more_stops late more_late cut F G Held by_stop by_time fails is = is
+
+pub heard_for : (number : ℕ) (stops more_stops late more_late cut : Bool) (F G : Type 0) (result : Result (Option Happened) AllocError) → (stops ≡ true → more_stops ≡ true) → (late ≡ true → more_late ≡ true)
+    → (F → G) → HeardFor number stops late cut F result → HeardFor number more_stops more_late cut G result
+heard_for number stops more_stops late more_late cut F G (Ok (Some happened)) by_stop by_time fails is = (is.0, reason_for stops more_stops late more_late cut F G happened.reason by_stop by_time fails is.1)
+heard_for number stops more_stops late more_late cut F G (Ok None) by_stop by_time fails is = tt
+heard_for number stops more_stops late more_late cut F G (Err refused) by_stop by_time fails is = tt
+
+-- what is told at once where a time is over is told where that is sure
+pub heard_at_once : (number : ℕ) (cut late surely_late : Bool) (result : Result (Option Happened) AllocError) → (surely_late ≡ true → late ≡ true)
+    → HeardAtOnce number cut late result → HeardAtOnce number cut surely_late result
+heard_at_once number true late surely_late result surely is = is
+heard_at_once number false true true result surely is = is
+heard_at_once number false false true result surely is = absurd (true≢false (sym (surely refl)))
+heard_at_once number false late false result surely is = tt

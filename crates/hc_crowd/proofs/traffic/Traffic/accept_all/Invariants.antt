@@ -1,0 +1,6 @@
+use Rattle.hc_crowd.specs.Keeping.{KeepsWithin}
+use Rattle.hc_crowd.proofs.traffic.Traffic.accept_all.Given as goal
+
+-- what was told so far is told still, and nothing was written
+abbrev pub invariant-arrivals : goal.invariant-arrivals
+invariant-arrivals g l = KeepsWithin g.W.Stream.Stream.has_given g.W.Stream.Stream.has_got l.limits.connections l.initial.self.peers l.self.peers

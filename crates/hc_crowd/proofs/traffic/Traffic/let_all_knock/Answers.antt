@@ -1,0 +1,5 @@
+use Rattle.hc_crowd.proofs.KeepingLemmas.{keeps_then}
+use Rattle.hc_crowd.proofs.traffic.Traffic.let_all_knock.Goals as goal
+
+pub guests-preserved : goal.guests-preserved
+guests-preserved g c = keeps_then c.guests.invariant c.knock.ensures.kept

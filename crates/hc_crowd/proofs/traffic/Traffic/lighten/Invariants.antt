@@ -1,0 +1,10 @@
+use Rattle.hc_crowd.specs.Keeping.{KeepsPeers}
+use Rattle.std.specs.Vec.{vec_len}
+use Rattle.hc_crowd.proofs.traffic.Traffic.lighten.Given as goal
+
+-- what was told so far is told still, and nothing was written
+abbrev pub invariant-loads : goal.invariant-loads
+invariant-loads g l = KeepsPeers g.W.Stream.Stream.has_given g.W.Stream.Stream.has_got l.initial.self.peers l.self.peers
+
+abbrev pub decreases-loads : goal.decreases-loads
+decreases-loads g l = vec_len l.ranking.loads

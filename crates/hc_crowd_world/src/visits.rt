@@ -1,0 +1,105 @@
+//! Those who connect: each is a guest, and then a client of the cache, or is turned away.
+
+use crate::play::{Play, key_of};
+use crate::standing::Standing;
+use hc_crowd_scripts::{Act, Deed};
+use hc_flow::Presence;
+use hc_order::Receiver;
+use std::alloc::AllocError;
+use std::fmt::Write;
+
+impl Play {
+    /// So many clients connect, as long as one can.
+    pub(crate) fn all_connect(&mut self, count: u64) -> Result<(), AllocError> {
+        'clients: for _ in 0..count {
+            self.connects()?;
+        }
+        Ok(())
+    }
+
+    /// Who has connected first of those that wait is accepted, as the guest of that number. Answers the link, if anybody
+    /// waits.
+    pub(crate) fn accept(&mut self, guest: u64) -> Option<Receiver> {
+        if self.tally.accepted >= self.tally.connected {
+            return None;
+        }
+        // Those who were accepted before are known by now, or turned away.
+        self.tally.check(self.script.limits);
+        self.tally.accepted = self.tally.accepted.saturating_add(1);
+        let link = Receiver::Client(self.tally.accepted);
+        self.stand(link, Standing::Guest(guest));
+        self.stir(link);
+        Some(link)
+    }
+
+    /// A guest is the client of that number from now on, unless the system refuses that.
+    pub(crate) fn rename(&mut self, link: Receiver, number: u64) -> bool {
+        if self.script.names == 0 {
+            return false;
+        }
+        self.script.names -= 1;
+        self.stand(link, Standing::Linked(Receiver::Client(number)));
+        self.stir(link);
+        true
+    }
+
+    /// A guest to whom something is written, or ended, is turned away.
+    pub(crate) fn turn_away(&mut self, link: Receiver) {
+        let Some(Standing::Guest(guest)) = self.standing(link) else {
+            return;
+        };
+        self.stand(link, Standing::TurnedAway(guest));
+    }
+
+    /// How the other side of a link stands, if it is there.
+    fn standing(&self, link: Receiver) -> Option<Standing> {
+        Some(self.peer(link)?.standing())
+    }
+
+    /// The other side of a link stands so from now on.
+    pub(crate) fn stand(&mut self, link: Receiver, standing: Standing) {
+        if let Some(peer) = self.peers.get_mut(&key_of(link)) {
+            self.tally.loses(peer.standing());
+            self.tally.gains(standing);
+            peer.stand(standing);
+        }
+        self.note_visit(link, standing.name());
+    }
+
+    /// A link is let go.
+    pub(crate) fn let_go(&mut self, link: Receiver) {
+        if let Some(peer) = self.peers.get_mut(&key_of(link)) {
+            self.tally.loses(peer.standing());
+            peer.let_go();
+        }
+        self.note_visit(link, "gone");
+    }
+
+    /// Notes what came of one who connected.
+    fn note_visit(&mut self, link: Receiver, what: &str) {
+        let Receiver::Client(visitor) = link else {
+            return;
+        };
+        let before = if self.visits.is_empty() { "" } else { "; " };
+        let tick = self.tick;
+        if write!(self.visits, "{before}{visitor} {what} at {tick}").is_err() {
+            self.tally.broken = true;
+        }
+    }
+
+    /// What is so already at a link is told, too.
+    fn stir(&mut self, link: Receiver) {
+        let stirs = Deed::Does(link, Act::Stirs);
+        if self.script.cues.put(self.tick, stirs).is_err() {
+            self.tally.broken = true;
+        }
+    }
+
+    /// What a read of a link would find.
+    pub(crate) fn peek(&self, link: Receiver) -> Presence {
+        match self.peer(link) {
+            Some(peer) => peer.peek(),
+            None => Presence::Over,
+        }
+    }
+}

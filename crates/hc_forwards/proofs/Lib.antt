@@ -1,0 +1,2 @@
+pub mod ForwardLemmas
+pub mod LinkLemmas

@@ -1,0 +1,16 @@
+use Rattle.std.proofs.Common.{ap}
+use Rattle.hc_order.specs.declared.receiver.Receiver.TheVariants.{Origin}
+use Rattle.hc_forwards.specs.Links.{IsForwardAt, has_link}
+use Rattle.hc_heard.proofs.TableLemmas.{lent_stays}
+use Rattle.hc_forwards.proofs.LinkLemmas.{lent_unlinked, lost_unlinked}
+use Rattle.hc_forwards.proofs.forwards.Forwards.lose.Goals as goal
+
+pub returns-in-Some-clause-kept : goal.returns-in-Some-clause-kept
+returns-in-Some-clause-kept g c =
+    lent_stays (IsForwardAt g.S.Stream.has_given g.S.Stream.has_got) c.args.self.now.table (c.get_mut.follows.lender c.lose.new.self) c.args.number c.in-Some.forward.now c.lose.new.self
+    c.in-Some.ensures.value (c.get_mut.follows.holds c.lose.new.self) Origin c.lose.ensures.kept
+
+pub returns-in-Some-clause-linked : goal.returns-in-Some-clause-linked
+returns-in-Some-clause-linked g c =
+    lent_unlinked c.args.self.now.table (c.get_mut.follows.lender c.lose.new.self) c.args.number c.in-Some.forward.now c.lose.new.self c.in-Some.ensures.value
+    (c.get_mut.follows.holds c.lose.new.self) (lost_unlinked c.lose.new.self.reaching c.args.reason (ap (λ forward. forward.reaching) c.lose.ensures.rest) (has_link c.in-Some.forward.now.reaching))

@@ -1,0 +1,4 @@
+pub mod Links
+pub mod Losses
+pub mod Telling
+pub mod Times

@@ -1,0 +1,4 @@
+pub mod Guests
+pub mod Lingering
+pub mod Tables
+pub mod TurnedAway

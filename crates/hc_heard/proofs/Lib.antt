@@ -1,0 +1,2 @@
+pub mod FlowLemmas
+pub mod TableLemmas

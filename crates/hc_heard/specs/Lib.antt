@@ -1,0 +1,2 @@
+pub mod Hearings
+pub mod Links

@@ -1,0 +1,3 @@
+pub mod Notices
+pub mod VoiceLaws
+pub mod Voices

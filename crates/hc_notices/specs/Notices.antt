@@ -1,0 +1,65 @@
+-- What a proxy says on standard error.
+use Rattle.std.specs.Prelude.{◌≡◌, ℕ, ◌==◌, List, [], ◌∷◌, ◌++◌, Option, codes, decimal, if◌then◌else◌}
+use Rattle.std.specs.Io.KnownBytes.{Appends}
+use Rattle.hc_notices.specs.declared.notice.Notice.{Notice}
+use Rattle.hc_notices.specs.declared.notice.Notice.TheVariants.{Listening, Deaf, Unreached, Late, Broken, Silent, Unfinished, Unplaced, Heavy, Behind, RecordFailed, RecordFull}
+
+-- the word for so many forwards
+abbrev pub forwards_word : ℕ → List ℕ
+forwards_word count = if count == 1 then codes "forward" else codes "forwards"
+
+-- the word for so many links
+abbrev pub links_word : ℕ → List ℕ
+links_word count = if count == 1 then codes "link" else codes "links"
+
+-- the line that says what befell so many forwards, with the line feed behind it
+abbrev pub forwards_line : List ℕ → ℕ → List ℕ
+forwards_line what count = codes "hcache: " ++ (what ++ (codes ": " ++ (decimal count ++ (codes " " ++ (forwards_word count ++ 10 ∷ [])))))
+
+-- the line that says that so many links were cut off
+abbrev pub heavy_line : ℕ → List ℕ
+heavy_line count = codes "hcache: too much was held, and those who held most were cut off: "
+    ++ (decimal count ++ (codes " " ++ (links_word count ++ 10 ∷ [])))
+
+-- the line on standard error, with its line feed
+abbrev pub notice_line : Notice → List ℕ
+notice_line (Listening greeting) = codes "hcache: listening at " ++ (greeting.addresses.now
+    ++ (codes ", before " ++ (greeting.origin.now
+    ++ (codes ", with a store of " ++ (decimal greeting.keys
+    ++ (codes " keys and " ++ (decimal greeting.bytes ++ (codes " bytes" ++ 10 ∷ []))))))))
+notice_line Deaf = codes "hcache: a signal ends it at once, since SIGTERM and SIGINT aren't blocked" ++ 10 ∷ []
+notice_line (Unreached count) = forwards_line (codes "no link to the origin could be made") count
+notice_line (Late count) = forwards_line (codes "no link to the origin was made in time") count
+notice_line (Broken count) = forwards_line (codes "the link to the origin broke off") count
+notice_line (Silent count) = forwards_line (codes "the origin fell silent") count
+notice_line (Unfinished count) = forwards_line (codes "the origin took too long") count
+notice_line (Unplaced count) = forwards_line (codes "no place at the origin came free in time") count
+notice_line (Heavy count) = heavy_line count
+notice_line Behind = codes "hcache: the clock was set back, and ages don't follow it: a restart is due" ++ 10 ∷ []
+notice_line (RecordFailed reason) = codes "hcache: the recording has ended, and serving goes on: " ++ (reason.now ++ 10 ∷ [])
+notice_line RecordFull = codes "hcache: the recording has ended at its limit, and serving goes on" ++ 10 ∷ []
+
+-- the lines of those notices, one behind the other
+abbrev pub lines_of : List Notice → List ℕ
+lines_of [] = []
+lines_of (notice ∷ notices) = notice_line notice ++ lines_of notices
+
+-- known octets grow by the lines of notices
+pub record SaysAll (old new : Option (List ℕ)) : Type 0 where
+  pub notices : List Notice
+  pub said : Appends old new (lines_of notices)
+
+-- known octets grow by a beginning of the lines of notices
+pub record SaysSome (old new : Option (List ℕ)) : Type 0 where
+  pub notices : List Notice
+  pub said : List ℕ
+  pub unsaid : List ℕ
+  pub lines_are : said ++ unsaid ≡ lines_of notices
+  pub appended : Appends old new said
+
+-- known octets grow by a beginning of those
+pub record BeginsBehind (old new : Option (List ℕ)) (octets : List ℕ) : Type 0 where
+  pub said : List ℕ
+  pub unsaid : List ℕ
+  pub octets_are : said ++ unsaid ≡ octets
+  pub appended : Appends old new said

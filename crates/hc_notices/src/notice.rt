@@ -1,0 +1,135 @@
+//! What a proxy says on standard error.
+
+ghost use Rattle.std.specs.Prelude.{◌≡◌, IfOk, string_bytes};
+ghost use Rattle.hc_notices.specs.Notices.{forwards_line, forwards_word, heavy_line, links_word, notice_line};
+
+use std::alloc::{AllocError, Global};
+
+/// Where a proxy listens, and what is behind it.
+#[derive(Clone, Copy)]
+pub struct Greeting<'a> {
+    /// The addresses to which clients connect, with commas between them.
+    pub addresses: &'a str,
+    /// The host and the port of the origin.
+    pub origin: &'a str,
+    /// Of how many targets responses are kept at most.
+    pub keys: usize,
+    /// How many octets of them are kept at most.
+    pub bytes: u64,
+}
+
+/// What a proxy says on standard error.
+#[derive(Clone, Copy)]
+pub enum Notice<'a> {
+    /// Clients can connect.
+    Listening(Greeting<'a>),
+    /// A stop can't be heard.
+    Deaf,
+    /// For so many forwards no link to the origin could be made.
+    Unreached(u64),
+    /// For so many none was made in time.
+    Late(u64),
+    /// Of so many the link broke off.
+    Broken(u64),
+    /// Of so many the origin fell silent.
+    Silent(u64),
+    /// So many took too long in all.
+    Unfinished(u64),
+    /// For so many no place came free in time.
+    Unplaced(u64),
+    /// So many links were cut off, since so much was held.
+    Heavy(u64),
+    /// The wall clock is behind the moment that is told.
+    Behind,
+    /// The recording has ended since it couldn't be written on, for this reason.
+    RecordFailed(&'a str),
+    /// It has ended since it has as many octets as it may have.
+    RecordFull,
+}
+
+impl<'a> Notice<'a> {
+    /// The line that says it, with its line feed. It fails only where memory is refused.
+    pub fn line(self, alloc: Global) -> Result<String, AllocError>
+        ensures { IfOk result (λ line. string_bytes line ≡ notice_line self.entry) }
+    {
+        match self {
+            Notice::Listening(greeting) => listening_line(alloc, greeting),
+            Notice::Deaf => format!(in alloc;
+                "hcache: a signal ends it at once, since SIGTERM and SIGINT aren't blocked\n"
+            ),
+            Notice::Unreached(count) => {
+                forwards_line(alloc, "no link to the origin could be made", count)
+            }
+            Notice::Late(count) => {
+                forwards_line(alloc, "no link to the origin was made in time", count)
+            }
+            Notice::Broken(count) => forwards_line(
+                alloc,
+                "the link to the origin broke off",
+                count,
+            ),
+            Notice::Silent(count) => forwards_line(alloc, "the origin fell silent", count),
+            Notice::Unfinished(count) => forwards_line(alloc, "the origin took too long", count),
+            Notice::Unplaced(count) => {
+                forwards_line(alloc, "no place at the origin came free in time", count)
+            }
+            Notice::Heavy(count) => heavy_line(alloc, count),
+            Notice::Behind => format!(in alloc;
+                "hcache: the clock was set back, and ages don't follow it: a restart is due\n"
+            ),
+            Notice::RecordFailed(reason) => format!(in alloc;
+                "hcache: the recording has ended, and serving goes on: {reason}\n"
+            ),
+            Notice::RecordFull => format!(in alloc;
+                "hcache: the recording has ended at its limit, and serving goes on\n"
+            ),
+        }
+    }
+}
+
+/// The line that says where clients can connect.
+fn listening_line(alloc: Global, greeting: Greeting<'_>) -> Result<String, AllocError>
+    ensures { IfOk result (λ line. string_bytes line ≡ notice_line (Notice.Listening greeting.entry)) }
+{
+    let Greeting {
+        addresses,
+        origin,
+        keys,
+        bytes,
+    } = greeting;
+    format!(in alloc;
+        "hcache: listening at {addresses}, before {origin}, with a store of {keys} keys and {bytes} bytes\n"
+    )
+}
+
+/// The line that says what befell so many forwards.
+fn forwards_line(alloc: Global, what: &str, count: u64) -> Result<String, AllocError>
+    ensures { IfOk result (λ line. string_bytes line ≡ forwards_line what.now count) }
+{
+    let forwards = forwards_word(count);
+    format!(in alloc; "hcache: {what}: {count} {forwards}\n")
+}
+
+/// The line that says that so many links were cut off.
+fn heavy_line(alloc: Global, count: u64) -> Result<String, AllocError>
+    ensures { IfOk result (λ line. string_bytes line ≡ heavy_line count) }
+{
+    let links = links_word(count);
+    format!(in alloc;
+        "hcache: too much was held, and those who held most were cut off: {count} {links}\n"
+    )
+}
+
+/// The word for so many forwards.
+fn forwards_word(count: u64) -> &'static str
+    ensures { result.now ≡ forwards_word count }
+{
+    if count == 1 { "forward" } else { "forwards" }
+}
+
+/// The word for so many links.
+fn links_word(count: u64) -> &'static str
+    ensures { result.now ≡ links_word count }
+{
+    if count == 1 { "link" } else { "links" }
+}
