@@ -64,8 +64,8 @@ def count(text):
 
 def as_launched(words):
     """The words by which ./hcache starts a program that serves until it is stopped: what stops it is held back, and
-    seen by the program all the same."""
-    return ["env", "--block-signal=TERM,INT", *words]
+    seen by the program all the same; and the memory of large bodies goes back at once."""
+    return ["env", "--block-signal=TERM,INT", "MALLOC_MMAP_THRESHOLD_=262144", *words]
 
 
 def open_many_files():
