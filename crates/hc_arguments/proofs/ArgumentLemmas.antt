@@ -25,20 +25,24 @@ use Rattle.hc_service.specs.Settings.{AreGood, is_name, is_size}
 use Rattle.hc_arguments.specs.declared.limit.Limit.{Limit}
 use Rattle.hc_arguments.specs.declared.limit.Limit.TheVariants.{MaxConnections, OriginConnections, IdleTimeout, RequestTimeout, SendTimeout}
 use Rattle.hc_arguments.specs.declared.limit.Limit.TheVariants.{QueueTimeout, ConnectTimeout, OriginTimeout, OriginTotal, DrainTimeout}
+use Rattle.hc_arguments.specs.declared.order.AuditTerms.{AuditTerms}
+use Rattle.hc_arguments.specs.declared.order.Minimums.{Minimums}
 use Rattle.hc_arguments.specs.declared.order.Order.{Order}
 use Rattle.hc_arguments.specs.declared.order.ProxyLimits.{ProxyLimits}
 use Rattle.hc_arguments.specs.declared.order.ProxyPatience.{ProxyPatience}
 use Rattle.hc_arguments.specs.declared.order.RecordTerms.{RecordTerms}
 use Rattle.hc_arguments.specs.declared.refusal.Refusal.{Refusal}
-use Rattle.hc_arguments.specs.declared.refusal.Refusal.TheVariants.{Memory, Missing, Slack, Ignore, Position, StandardInput, Connections, Keys, Bytes, Name}
+use Rattle.hc_arguments.specs.declared.refusal.Refusal.TheVariants.{Memory, Missing, Slack, Ignore, Position, StandardInput, Connections, Keys, Bytes, Name, Allow, DefaultTtl, Grace, Normalized, AgeSlack, MinHits, MinJudged}
 use Rattle.hc_arguments.specs.declared.refusal.Refusal.TheVariants.{RecordLimit, Held, OutOfRange}
-use Rattle.hc_arguments.specs.Command.{Asks, AsksBy, AsksCache, AsksIn, AsksLimits, AsksPatience, AsksSettings, AsksTerms, CanBeDone, Command, IsFileName}
-use Rattle.hc_arguments.specs.Command.{IsMade, IsRefused, IsWord, RefusesBy, RefusesIn, Task, ValuesAsk, command_in, command_named, command_of, hcache, judges, lacks, limit_in}
+use Rattle.hc_arguments.specs.Command.{Asks, AsksAuditTerms, AsksBy, AsksCache, AsksIn, AsksLimits, AsksMinimums, AsksPatience, AsksSettings, AsksTerms, CanBeDone, Command, IsFileName}
+use Rattle.hc_arguments.specs.Command.{IsMade, IsRefused, IsWord, RefusesBy, RefusesIn, Task, ValuesAsk, command_in, command_named, command_of, has_minimums, hcache, judges, lacks, limit_in}
 use Rattle.hc_arguments.specs.Command.{proxy_words, refused_kind, serves, service_words, task_of, value_in}
 use Rattle.hc_arguments.specs.Command.Command.{Audits, Reports, Explains, Replays, Converts, Serves, Proxies}
 use Rattle.hc_arguments.specs.Command.Task.{ToAudit, ToReport, ToExplain, ToReplay, ToConvert, ToServe, ToProxy}
-use Rattle.hc_arguments.specs.Values.{bytes_by, clients_by, connections_of, flag_by, held_by, ignored_by, keys_by, name_by}
-use Rattle.hc_arguments.specs.Values.{plain, plain_cache, plain_limits, plain_patience, plain_terms, position_by, positive_of, record_limit_by, slack_by, unmarked_by}
+use Rattle.hc_arguments.specs.Values.{bytes_by, clients_by, connections_of, flag_by, held_by, ignored_by, keys_by, minimum_by, name_by}
+use Rattle.hc_history.specs.declared.allowed.Allowed.{Allowed}
+use Rattle.hc_arguments.specs.Allowing.{AsksAllowed, allow_by, normalized_by, seconds_by}
+use Rattle.hc_arguments.specs.Values.{no_minimums, plain, plain_audit, plain_cache, plain_limits, plain_patience, plain_terms, position_by, positive_of, record_limit_by, slack_by, unmarked_by}
 
 -- ---- the command
 
@@ -116,9 +120,30 @@ nothing_to_map : {A B : Type 0} (f : A → B) (o : Option A) → option_map f o 
 nothing_to_map f None none = refl
 nothing_to_map f (Some a) none = absurd cc
 
+abbrev allowed_from : (Text → Option Text) → Option Allowed
+allowed_from value = option_map (λ p. record {
+  added_fields = p.0.added_fields;
+  joined_lines = p.0.joined_lines;
+  ranges = p.0.ranges;
+  default_lifetime = p.1.0.0;
+  grace = p.1.0.1;
+  normalized = p.1.1.0;
+  inferred_marks = flag_by (value (codes "infer-marks"));
+  age_slack = p.1.1.1;
+}) (both (allow_by (value (codes "allow")))
+    (both (both (seconds_by (value (codes "default-ttl"))) (seconds_by (value (codes "grace"))))
+    (both (normalized_by (value (codes "normalized"))) (slack_by (value (codes "age-slack"))))))
+
 abbrev settings_from : (Text → Option Text) → Option Settings
-settings_from value = option_map (λ p. record { slack = p.0; ignored = p.1; unmarked = unmarked_by (value (codes "errors-only")) })
-    (both (slack_by (value (codes "slack"))) (ignored_by (value (codes "ignore"))))
+settings_from value = option_map (λ p. record { slack = p.0.0; ignored = p.0.1; unmarked = unmarked_by (value (codes "errors-only")); allowed = p.1 })
+    (both (both (slack_by (value (codes "slack"))) (ignored_by (value (codes "ignore")))) (allowed_from value))
+
+abbrev minimums_from : (Text → Option Text) → Option Minimums
+minimums_from value = option_map (λ p. record { hits = p.0; judged = p.1 })
+    (both (minimum_by (value (codes "min-hits"))) (minimum_by (value (codes "min-judged"))))
+
+abbrev audit_terms_from : (Text → Option Text) → Option AuditTerms
+audit_terms_from value = option_map (λ p. record { settings = p.0; minimums = p.1 }) (both (settings_from value) (minimums_from value))
 
 abbrev cache_from : (Text → Option Text) → Option CoreSettings
 cache_from value = option_map (λ p. record { name = p.1.1; keys = p.0; bytes = p.1.0 })
@@ -158,8 +183,8 @@ file_named None = None
 file_named (Some file) = cond (bytes_eq file (codes "-")) None (Some file)
 
 abbrev task_from : Command → (Text → Option Text) → Option Task
-task_from Audits value = option_map (λ p. ToAudit p.0 p.1) (both (value (codes "FILE")) (settings_from value))
-task_from Reports value = option_map (λ p. ToReport p.0 p.1 (flag_by (value (codes "json")))) (both (value (codes "FILE")) (settings_from value))
+task_from Audits value = option_map (λ p. ToAudit p.0 p.1) (both (value (codes "FILE")) (audit_terms_from value))
+task_from Reports value = option_map (λ p. ToReport p.0 p.1 (flag_by (value (codes "json")))) (both (value (codes "FILE")) (audit_terms_from value))
 task_from Explains value = option_map (λ p. ToExplain p.0 p.1.0 p.1.1)
     (both (file_named (value (codes "FILE"))) (both (position_by (value (codes "POSITION"))) (settings_from value)))
 task_from Replays value = option_map ToReplay (value (codes "FILE"))
@@ -173,9 +198,31 @@ task_from Proxies value = option_map (λ p. ToProxy p.0.0 p.0.1 (value (codes "r
 abbrev task_by : Option Command → (Text → Option Text) → Option Task
 task_by command value = option_and_then (λ c. task_from c value) command
 
+allowed_given : (value : Text → Option Text) (allowed : Allowed) → AsksAllowed value allowed → allowed_from value ≡ Some allowed
+allowed_given value allowed a =
+    λ i. option_map (λ p. record {
+      added_fields = p.0.added_fields;
+      joined_lines = p.0.joined_lines;
+      ranges = p.0.ranges;
+      default_lifetime = p.1.0.0;
+      grace = p.1.0.1;
+      normalized = p.1.1.0;
+      inferred_marks = a.inferred_marks_is i;
+      age_slack = p.1.1.1;
+    }) (both (a.words_are i) (both (both (a.default_lifetime_is i) (a.grace_is i)) (both (a.normalized_is i) (a.age_slack_is i))))
+
 settings_given : (value : Text → Option Text) (settings : Settings) → AsksSettings value settings → settings_from value ≡ Some settings
 settings_given value settings a =
-    λ i. option_map (λ p. record { slack = p.0; ignored = p.1; unmarked = a.unmarked_is i }) (both (a.slack_is i) (a.ignored_is i))
+    λ i. option_map (λ p. record { slack = p.0.0; ignored = p.0.1; unmarked = a.unmarked_is i; allowed = p.1 })
+    (both (both (a.slack_is i) (a.ignored_is i)) (allowed_given value settings.allowed a.allowed_are i))
+
+minimums_given : (value : Text → Option Text) (minimums : Minimums) → AsksMinimums value minimums → minimums_from value ≡ Some minimums
+minimums_given value minimums a = λ i. option_map (λ p. record { hits = p.0; judged = p.1 }) (both (a.hits_are i) (a.judged_are i))
+
+audit_terms_given : (value : Text → Option Text) (terms : AuditTerms) → AsksAuditTerms value terms → audit_terms_from value ≡ Some terms
+audit_terms_given value terms a =
+    λ i. option_map (λ p. record { settings = p.0; minimums = p.1 })
+    (both (settings_given value terms.settings a.settings_are i) (minimums_given value terms.minimums a.minimums_are i))
 
 cache_given : (value : Text → Option Text) (settings : CoreSettings) → AsksCache value settings → cache_from value ≡ Some settings
 cache_given value settings a =
@@ -214,11 +261,11 @@ limits_given value limits a =
 
 -- what is asked is that task
 values_give : (value : Text → Option Text) (task : Task) → ValuesAsk value task → task_from (command_of task) value ≡ Some task
-values_give value (ToAudit file settings) a =
-    let set = settings_given value settings a.settings_are in
+values_give value (ToAudit file terms) a =
+    let set = audit_terms_given value terms a.terms_are in
     λ i. option_map (λ p. ToAudit p.0 p.1) (both (a.file_is i) (set i))
-values_give value (ToReport file settings json) a =
-    let set = settings_given value settings a.settings_are in
+values_give value (ToReport file terms json) a =
+    let set = audit_terms_given value terms a.terms_are in
     λ i. option_map (λ p. ToReport p.0 p.1 (a.json_is i)) (both (a.file_is i) (set i))
 values_give value (ToExplain file position settings) a =
     let set = settings_given value settings a.settings_are in
@@ -254,8 +301,8 @@ number_is_there None n is = absurd (none_is_some _ n refl is)
 number_is_there (Some text) n is = refl
 
 lacks_nothing : (command : Option Command) (value : Text → Option Text) (task : Task) → AsksBy command value task → lacks command value ≡ false
-lacks_nothing command value (ToAudit file settings) asks = rw (asks.0, asks.1.file_is) refl
-lacks_nothing command value (ToReport file settings json) asks = rw (asks.0, asks.1.file_is) refl
+lacks_nothing command value (ToAudit file terms) asks = rw (asks.0, asks.1.file_is) refl
+lacks_nothing command value (ToReport file terms json) asks = rw (asks.0, asks.1.file_is) refl
 lacks_nothing command value (ToExplain file position settings) asks = rw (asks.0, asks.1.file_is) refl
 lacks_nothing command value (ToReplay file) asks = rw (asks.0, asks.1) refl
 lacks_nothing command value (ToConvert file) asks = rw (asks.0, asks.1) refl
@@ -265,13 +312,32 @@ lacks_nothing command value (ToProxy listen origin file terms limits settings) a
 
 -- where a value has a fault there is no task
 settings_lack : (command : Command) (value : Text → Option Text) → judges command ≡ true → settings_from value ≡ None → task_from command value ≡ None
-settings_lack Audits value judging none = nothing_mapped _ _ (second_lacks _ _ none)
-settings_lack Reports value judging none = nothing_mapped _ _ (second_lacks _ _ none)
+settings_lack Audits value judging none = nothing_mapped _ _ (second_lacks _ _ (nothing_mapped _ _ (first_lacks _ _ none)))
+settings_lack Reports value judging none = nothing_mapped _ _ (second_lacks _ _ (nothing_mapped _ _ (first_lacks _ _ none)))
 settings_lack Explains value judging none = nothing_mapped _ _ (second_lacks _ _ (second_lacks _ _ none))
 settings_lack Replays value judging none = absurd cc
 settings_lack Converts value judging none = absurd cc
 settings_lack Serves value judging none = absurd cc
 settings_lack Proxies value judging none = absurd cc
+
+minimums_lack : (command : Command) (value : Text → Option Text) → has_minimums command ≡ true → minimums_from value ≡ None → task_from command value ≡ None
+minimums_lack Audits value counting none = nothing_mapped _ _ (second_lacks _ _ (nothing_mapped _ _ (second_lacks _ _ none)))
+minimums_lack Reports value counting none = nothing_mapped _ _ (second_lacks _ _ (nothing_mapped _ _ (second_lacks _ _ none)))
+minimums_lack Explains value counting none = absurd cc
+minimums_lack Replays value counting none = absurd cc
+minimums_lack Converts value counting none = absurd cc
+minimums_lack Serves value counting none = absurd cc
+minimums_lack Proxies value counting none = absurd cc
+
+-- a command that has minimums judges
+pub minimums_judge : (command : Command) → has_minimums command ≡ true → judges command ≡ true
+minimums_judge Audits counting = refl
+minimums_judge Reports counting = refl
+minimums_judge Explains counting = absurd cc
+minimums_judge Replays counting = absurd cc
+minimums_judge Converts counting = absurd cc
+minimums_judge Serves counting = absurd cc
+minimums_judge Proxies counting = absurd cc
 
 cache_lacks : (command : Command) (value : Text → Option Text) → serves command ≡ true → cache_from value ≡ None → task_from command value ≡ None
 cache_lacks Audits value serving none = absurd cc
@@ -341,6 +407,12 @@ module _ (command : Option Command) (value : Text → Option Text) (task : Task)
   unjudged : option_map judges command ≡ Some true → settings_from value ≡ None → ⊥
   unjudged judging none = is_given (kind_lacks judges value (λ c. λ is. settings_lack c value is none) command judging)
 
+  unallowed : option_map judges command ≡ Some true → allowed_from value ≡ None → ⊥
+  unallowed judging none = unjudged judging (nothing_mapped _ _ (second_lacks _ _ none))
+
+  uncounted : option_map has_minimums command ≡ Some true → minimums_from value ≡ None → ⊥
+  uncounted counting none = is_given (kind_lacks has_minimums value (λ c. λ is. minimums_lack c value is none) command counting)
+
   unserved : option_map serves command ≡ Some true → cache_from value ≡ None → ⊥
   unserved serving none = is_given (kind_lacks serves value (λ c. λ is. cache_lacks c value is none) command serving)
 
@@ -350,8 +422,15 @@ module _ (command : Option Command) (value : Text → Option Text) (task : Task)
   none_outside : (refusal : Refusal) → RefusesBy command value refusal → refused_kind refusal ≡ Some (kind_of e) → ⊥
   none_outside Memory refuses kind = cc
   none_outside Missing refuses kind = true_is_not_false _ refuses (lacks_nothing command value task asks)
-  none_outside Slack refuses kind = unjudged refuses.0 (nothing_mapped _ _ (first_lacks _ _ refuses.1))
-  none_outside Ignore refuses kind = unjudged refuses.0 (nothing_mapped _ _ (second_lacks _ _ refuses.1))
+  none_outside Slack refuses kind = unjudged refuses.0 (nothing_mapped _ _ (first_lacks _ _ (first_lacks _ _ refuses.1)))
+  none_outside Ignore refuses kind = unjudged refuses.0 (nothing_mapped _ _ (first_lacks _ _ (second_lacks _ _ refuses.1)))
+  none_outside Allow refuses kind = unallowed refuses.0 (nothing_mapped _ _ (first_lacks _ _ refuses.1))
+  none_outside DefaultTtl refuses kind = unallowed refuses.0 (nothing_mapped _ _ (second_lacks _ _ (first_lacks _ _ (first_lacks _ _ refuses.1))))
+  none_outside Grace refuses kind = unallowed refuses.0 (nothing_mapped _ _ (second_lacks _ _ (first_lacks _ _ (second_lacks _ _ refuses.1))))
+  none_outside Normalized refuses kind = unallowed refuses.0 (nothing_mapped _ _ (second_lacks _ _ (second_lacks _ _ (first_lacks _ _ refuses.1))))
+  none_outside AgeSlack refuses kind = unallowed refuses.0 (nothing_mapped _ _ (second_lacks _ _ (second_lacks _ _ (second_lacks _ _ refuses.1))))
+  none_outside MinHits refuses kind = uncounted refuses.0 (nothing_mapped _ _ (first_lacks _ _ refuses.1))
+  none_outside MinJudged refuses kind = uncounted refuses.0 (nothing_mapped _ _ (second_lacks _ _ refuses.1))
   none_outside Position refuses kind =
       is_given (fault_lacks _ _ Explains refuses.0 (nothing_mapped _ _ (second_lacks _ _ (first_lacks _ _ refuses.1))))
   none_outside StandardInput refuses kind =
@@ -390,8 +469,8 @@ good_cache value settings asks = record {
 }
 
 pub possible_from : (command : Option Command) (value : Text → Option Text) (task : Task) → AsksBy command value task → CanBeDone task
-possible_from command value (ToAudit file settings) asks = tt
-possible_from command value (ToReport file settings json) asks = tt
+possible_from command value (ToAudit file terms) asks = tt
+possible_from command value (ToReport file terms json) asks = tt
 possible_from command value (ToExplain file position settings) asks = tt
 possible_from command value (ToReplay file) asks = tt
 possible_from command value (ToConvert file) asks = tt
@@ -499,7 +578,19 @@ module _ (name file : Text) (h : IsNoFlag file) where
     slack_is = rw (h.dashes, h.long, h.short) refl;
     ignored_is = rw (h.dashes, h.long, h.short) refl;
     unmarked_is = rw (h.dashes, h.long, h.short) refl;
+    allowed_are = record {
+      words_are = rw (h.dashes, h.long, h.short) refl;
+      default_lifetime_is = rw (h.dashes, h.long, h.short) refl;
+      grace_is = rw (h.dashes, h.long, h.short) refl;
+      normalized_is = rw (h.dashes, h.long, h.short) refl;
+      age_slack_is = rw (h.dashes, h.long, h.short) refl;
+      inferred_marks_is = rw (h.dashes, h.long, h.short) refl;
+    };
   }
+
+  audit_minimums : AsksMinimums (value_in (subcommand_of hcache (name ∷ codes "audit" ∷ file ∷ []))) no_minimums
+  unfolding clap_on_literals
+  audit_minimums = record { hits_are = rw (h.dashes, h.long, h.short) refl; judged_are = rw (h.dashes, h.long, h.short) refl }
 
   audited : value_in (subcommand_of hcache (name ∷ codes "audit" ∷ file ∷ [])) (codes "FILE") ≡ Some file
   unfolding clap_on_literals
@@ -519,7 +610,19 @@ module _ (name file : Text) (h : IsNoFlag file) where
     slack_is = rw (h.dashes, h.long, h.short) refl;
     ignored_is = rw (h.dashes, h.long, h.short) refl;
     unmarked_is = rw (h.dashes, h.long, h.short) refl;
+    allowed_are = record {
+      words_are = rw (h.dashes, h.long, h.short) refl;
+      default_lifetime_is = rw (h.dashes, h.long, h.short) refl;
+      grace_is = rw (h.dashes, h.long, h.short) refl;
+      normalized_is = rw (h.dashes, h.long, h.short) refl;
+      age_slack_is = rw (h.dashes, h.long, h.short) refl;
+      inferred_marks_is = rw (h.dashes, h.long, h.short) refl;
+    };
   }
+
+  report_minimums : AsksMinimums (value_in (subcommand_of hcache (name ∷ codes "report" ∷ file ∷ []))) no_minimums
+  unfolding clap_on_literals
+  report_minimums = record { hits_are = rw (h.dashes, h.long, h.short) refl; judged_are = rw (h.dashes, h.long, h.short) refl }
 
   reported : value_in (subcommand_of hcache (name ∷ codes "report" ∷ file ∷ [])) (codes "FILE") ≡ Some file
   unfolding clap_on_literals
@@ -543,6 +646,14 @@ module _ (name file : Text) (h : IsNoFlag file) where
     slack_is = rw (h.dashes, h.long, h.short) refl;
     ignored_is = rw (h.dashes, h.long, h.short) refl;
     unmarked_is = rw (h.dashes, h.long, h.short) refl;
+    allowed_are = record {
+      words_are = rw (h.dashes, h.long, h.short) refl;
+      default_lifetime_is = rw (h.dashes, h.long, h.short) refl;
+      grace_is = rw (h.dashes, h.long, h.short) refl;
+      normalized_is = rw (h.dashes, h.long, h.short) refl;
+      age_slack_is = rw (h.dashes, h.long, h.short) refl;
+      inferred_marks_is = rw (h.dashes, h.long, h.short) refl;
+    };
   }
 
   explained : value_in (subcommand_of hcache (name ∷ codes "explain" ∷ file ∷ [])) (codes "FILE") ≡ Some file
@@ -561,19 +672,25 @@ module _ (name file : Text) (h : IsNoFlag file) where
   unfolding clap_on_literals
   no_explain_fault = rw (h.dashes, h.long, h.short) refl
 
-pub audit_words : (name file : Text) → IsWord file → AreWordsFor (name ∷ codes "audit" ∷ file ∷ []) (ToAudit file plain)
+pub audit_words : (name file : Text) → IsWord file → AreWordsFor (name ∷ codes "audit" ∷ file ∷ []) (ToAudit file plain_audit)
 audit_words name file is = let h = no_flag file is in record {
-  asks = (is_audit name file h, record { file_is = audited name file h; settings_are = audit_settings name file h });
+  asks = (
+    is_audit name file h,
+    record {
+      file_is = audited name file h;
+      terms_are = record { settings_are = audit_settings name file h; minimums_are = audit_minimums name file h };
+    },
+  );
   no_fault = no_audit_fault name file h;
 }
 
-pub report_words : (name file : Text) → IsWord file → AreWordsFor (name ∷ codes "report" ∷ file ∷ []) (ToReport file plain false)
+pub report_words : (name file : Text) → IsWord file → AreWordsFor (name ∷ codes "report" ∷ file ∷ []) (ToReport file plain_audit false)
 report_words name file is = let h = no_flag file is in record {
   asks = (
     is_report name file h,
     record {
       file_is = reported name file h;
-      settings_are = report_settings name file h;
+      terms_are = record { settings_are = report_settings name file h; minimums_are = report_minimums name file h };
       json_is = no_json name file h;
     },
   );
@@ -608,6 +725,14 @@ module _ (name file number : Text) (h : IsNoFlag file) (n : IsNoFlag number) whe
     slack_is = rw (h.dashes, h.long, h.short, n.dashes, n.long, n.short) refl;
     ignored_is = rw (h.dashes, h.long, h.short, n.dashes, n.long, n.short) refl;
     unmarked_is = rw (h.dashes, h.long, h.short, n.dashes, n.long, n.short) refl;
+    allowed_are = record {
+      words_are = rw (h.dashes, h.long, h.short, n.dashes, n.long, n.short) refl;
+      default_lifetime_is = rw (h.dashes, h.long, h.short, n.dashes, n.long, n.short) refl;
+      grace_is = rw (h.dashes, h.long, h.short, n.dashes, n.long, n.short) refl;
+      normalized_is = rw (h.dashes, h.long, h.short, n.dashes, n.long, n.short) refl;
+      age_slack_is = rw (h.dashes, h.long, h.short, n.dashes, n.long, n.short) refl;
+      inferred_marks_is = rw (h.dashes, h.long, h.short, n.dashes, n.long, n.short) refl;
+    };
   }
 
   explained_at : value_in (subcommand_of hcache (name ∷ codes "explain" ∷ file ∷ number ∷ [])) (codes "FILE") ≡ Some file

@@ -19,6 +19,8 @@ use Rattle.hc_service.specs.Settings.{AreGood}
 use Rattle.hc_arguments.specs.declared.limit.Limit.{Limit}
 use Rattle.hc_arguments.specs.declared.limit.Limit.TheVariants.{MaxConnections, OriginConnections, IdleTimeout, RequestTimeout, SendTimeout}
 use Rattle.hc_arguments.specs.declared.limit.Limit.TheVariants.{QueueTimeout, ConnectTimeout, OriginTimeout, OriginTotal, DrainTimeout}
+use Rattle.hc_arguments.specs.declared.order.AuditTerms.{AuditTerms}
+use Rattle.hc_arguments.specs.declared.order.Minimums.{Minimums}
 use Rattle.hc_arguments.specs.declared.order.Order.{Order}
 use Rattle.hc_arguments.specs.declared.order.Order.TheVariants.{Audit, Report, Explain, Replay, Convert, Serve, Proxy}
 use Rattle.hc_arguments.specs.declared.order.ProxyLimits.{ProxyLimits}
@@ -26,9 +28,10 @@ use Rattle.hc_arguments.specs.declared.order.ProxyPatience.{ProxyPatience}
 use Rattle.hc_arguments.specs.declared.order.RecordTerms.{RecordTerms}
 use Rattle.hc_arguments.specs.declared.options.Wanted.{Wanted}
 use Rattle.hc_arguments.specs.declared.refusal.Refusal.{Refusal}
-use Rattle.hc_arguments.specs.declared.refusal.Refusal.TheVariants.{Memory, Missing, Slack, Ignore, Position, StandardInput, Connections, Keys, Bytes, Name}
+use Rattle.hc_arguments.specs.declared.refusal.Refusal.TheVariants.{Memory, Missing, Slack, Ignore, Position, StandardInput, Connections, Keys, Bytes, Name, Allow, DefaultTtl, Grace, Normalized, AgeSlack, MinHits, MinJudged}
 use Rattle.hc_arguments.specs.declared.refusal.Refusal.TheVariants.{RecordLimit, Held, OutOfRange}
-use Rattle.hc_arguments.specs.Values.{bytes_by, clients_by, connections_of, flag_by, held_by, ignored_by, keys_by, name_by, position_by, slack_by, unmarked_by}
+use Rattle.hc_arguments.specs.Values.{bytes_by, clients_by, connections_of, flag_by, held_by, ignored_by, keys_by, minimum_by, name_by, position_by, slack_by, unmarked_by}
+use Rattle.hc_arguments.specs.Allowing.{AsksAllowed, allow_by, normalized_by, seconds_by}
 use Rattle.hc_arguments.specs.Values.{limit_by, option_of, record_limit_by}
 
 -- ---- what the command takes
@@ -60,13 +63,19 @@ with_rules app (rule ∷ rest) = with_rules (with_rule app rule) rest
 
 -- a command with the options that say by which settings it judges
 abbrev pub with_settings : App → App
-with_settings app = with_rules app (option_rule (codes "slack") ∷ option_rule (codes "ignore") ∷ flag_rule (codes "errors-only") ∷ [])
+with_settings app = with_rules app (option_rule (codes "slack") ∷ option_rule (codes "ignore") ∷ flag_rule (codes "errors-only")
+    ∷ option_rule (codes "allow") ∷ option_rule (codes "default-ttl") ∷ option_rule (codes "grace") ∷ option_rule (codes "normalized")
+    ∷ option_rule (codes "age-slack") ∷ flag_rule (codes "infer-marks") ∷ [])
+
+-- a command with these, and with the options that say how many replies it has to judge
+abbrev pub with_terms : App → App
+with_terms app = with_rules (with_settings app) (option_rule (codes "min-hits") ∷ option_rule (codes "min-judged") ∷ [])
 
 abbrev pub audit : App
-audit = with_settings (with_rule (new_app (codes "audit")) file_rule)
+audit = with_terms (with_rule (new_app (codes "audit")) file_rule)
 
 abbrev pub report : App
-report = with_rule (with_settings (with_rule (new_app (codes "report")) file_rule)) (flag_rule (codes "json"))
+report = with_rule (with_terms (with_rule (new_app (codes "report")) file_rule)) (flag_rule (codes "json"))
 
 abbrev pub explain : App
 explain = with_settings (with_rule (with_rule (new_app (codes "explain")) file_rule) position_rule)
@@ -132,10 +141,10 @@ command_named name = if bytes_eq name (codes "audit") then Some Audits
 
 -- what they can be asked
 pub data Task : Type 0 where
-  -- to audit that file by those settings
-  ToAudit : (file : Text) (settings : Settings) → Task
-  -- to report on it by those settings, by one JSON object or else in text
-  ToReport : (file : Text) (settings : Settings) (json : Bool) → Task
+  -- to audit that file on those terms
+  ToAudit : (file : Text) (terms : AuditTerms) → Task
+  -- to report on it on those terms, by one JSON object or else in text
+  ToReport : (file : Text) (terms : AuditTerms) (json : Bool) → Task
   -- to explain the reply at that position of it, or else the first wrong one, by those settings
   ToExplain : (file : Text) (position : Option ℕ) (settings : Settings) → Task
   -- to replay it
@@ -149,8 +158,8 @@ pub data Task : Type 0 where
   ToProxy : (listen origin : Text) (file : Option Text) (terms : RecordTerms) (limits : ProxyLimits) (settings : CoreSettings) → Task
 
 abbrev pub command_of : Task → Command
-command_of (ToAudit file settings) = Audits
-command_of (ToReport file settings json) = Reports
+command_of (ToAudit file terms) = Audits
+command_of (ToReport file terms json) = Reports
 command_of (ToExplain file position settings) = Explains
 command_of (ToReplay file) = Replays
 command_of (ToConvert file) = Converts
@@ -158,8 +167,8 @@ command_of (ToServe listen origin connections file settings) = Serves
 command_of (ToProxy listen origin file terms limits settings) = Proxies
 
 abbrev pub task_of : Order → Task
-task_of (Audit file settings) = ToAudit file.now settings
-task_of (Report file settings json) = ToReport file.now settings json
+task_of (Audit file terms) = ToAudit file.now terms
+task_of (Report file terms json) = ToReport file.now terms json
 task_of (Explain file position settings) = ToExplain file.now position settings
 task_of (Replay file) = ToReplay file.now
 task_of (Convert file) = ToConvert file.now
@@ -171,16 +180,27 @@ pub record AsksSettings (value : Text → Option Text) (settings : Settings) : T
   pub slack_is : slack_by (value (codes "slack")) ≡ Some settings.slack
   pub ignored_is : ignored_by (value (codes "ignore")) ≡ Some settings.ignored
   pub unmarked_is : unmarked_by (value (codes "errors-only")) ≡ settings.unmarked
+  pub allowed_are : AsksAllowed value settings.allowed
+
+-- and to judge so many replies
+pub record AsksMinimums (value : Text → Option Text) (minimums : Minimums) : Type 0 where
+  pub hits_are : minimum_by (value (codes "min-hits")) ≡ Some minimums.hits
+  pub judged_are : minimum_by (value (codes "min-judged")) ≡ Some minimums.judged
+
+-- and both
+pub record AsksAuditTerms (value : Text → Option Text) (terms : AuditTerms) : Type 0 where
+  pub settings_are : AsksSettings value terms.settings
+  pub minimums_are : AsksMinimums value terms.minimums
 
 -- and that of `audit`
-pub record AsksAudit (value : Text → Option Text) (file : Text) (settings : Settings) : Type 0 where
+pub record AsksAudit (value : Text → Option Text) (file : Text) (terms : AuditTerms) : Type 0 where
   pub file_is : value (codes "FILE") ≡ Some file
-  pub settings_are : AsksSettings value settings
+  pub terms_are : AsksAuditTerms value terms
 
 -- and that of `report`
-pub record AsksReport (value : Text → Option Text) (file : Text) (settings : Settings) (json : Bool) : Type 0 where
+pub record AsksReport (value : Text → Option Text) (file : Text) (terms : AuditTerms) (json : Bool) : Type 0 where
   pub file_is : value (codes "FILE") ≡ Some file
-  pub settings_are : AsksSettings value settings
+  pub terms_are : AsksAuditTerms value terms
   pub json_is : flag_by (value (codes "json")) ≡ json
 
 -- and that of `explain`, which can't read standard input twice
@@ -242,8 +262,8 @@ pub record AsksProxy (value : Text → Option Text) (listen origin : Text) (file
   pub settings_are : AsksCache value settings
 
 abbrev pub ValuesAsk : (Text → Option Text) → Task → Type 0
-ValuesAsk value (ToAudit file settings) = AsksAudit value file settings
-ValuesAsk value (ToReport file settings json) = AsksReport value file settings json
+ValuesAsk value (ToAudit file terms) = AsksAudit value file terms
+ValuesAsk value (ToReport file terms json) = AsksReport value file terms json
 ValuesAsk value (ToExplain file position settings) = AsksExplain value file position settings
 ValuesAsk value (ToReplay file) = value (codes "FILE") ≡ Some file
 ValuesAsk value (ToConvert file) = value (codes "FILE") ≡ Some file
@@ -318,6 +338,16 @@ judges Converts = false
 judges Serves = false
 judges Proxies = false
 
+-- whether it judges all replies, and may have to judge so many
+abbrev pub has_minimums : Command → Bool
+has_minimums Audits = true
+has_minimums Reports = true
+has_minimums Explains = false
+has_minimums Replays = false
+has_minimums Converts = false
+has_minimums Serves = false
+has_minimums Proxies = false
+
 -- whether it serves clients, from a cache
 abbrev pub serves : Command → Bool
 serves Audits = false
@@ -334,6 +364,13 @@ RefusesBy command value Memory = ⊤
 RefusesBy command value Missing = lacks command value ≡ true
 RefusesBy command value Slack = (option_map judges command ≡ Some true) × (slack_by (value (codes "slack")) ≡ None)
 RefusesBy command value Ignore = (option_map judges command ≡ Some true) × (ignored_by (value (codes "ignore")) ≡ None)
+RefusesBy command value Allow = (option_map judges command ≡ Some true) × (allow_by (value (codes "allow")) ≡ None)
+RefusesBy command value DefaultTtl = (option_map judges command ≡ Some true) × (seconds_by (value (codes "default-ttl")) ≡ None)
+RefusesBy command value Grace = (option_map judges command ≡ Some true) × (seconds_by (value (codes "grace")) ≡ None)
+RefusesBy command value Normalized = (option_map judges command ≡ Some true) × (normalized_by (value (codes "normalized")) ≡ None)
+RefusesBy command value AgeSlack = (option_map judges command ≡ Some true) × (slack_by (value (codes "age-slack")) ≡ None)
+RefusesBy command value MinHits = (option_map has_minimums command ≡ Some true) × (minimum_by (value (codes "min-hits")) ≡ None)
+RefusesBy command value MinJudged = (option_map has_minimums command ≡ Some true) × (minimum_by (value (codes "min-judged")) ≡ None)
 RefusesBy command value Position = (command ≡ Some Explains) × (position_by (value (codes "POSITION")) ≡ None)
 RefusesBy command value StandardInput = (command ≡ Some Explains) × (value (codes "FILE") ≡ Some (codes "-"))
 RefusesBy command value Connections = (option_map serves command ≡ Some true) × (clients_by (value (codes "connections")) ≡ None)
@@ -353,6 +390,13 @@ refused_kind Memory = None
 refused_kind Missing = Some kind.MissingRequiredArgument
 refused_kind Slack = Some kind.ValueValidation
 refused_kind Ignore = Some kind.ValueValidation
+refused_kind Allow = Some kind.ValueValidation
+refused_kind DefaultTtl = Some kind.ValueValidation
+refused_kind Grace = Some kind.ValueValidation
+refused_kind Normalized = Some kind.ValueValidation
+refused_kind AgeSlack = Some kind.ValueValidation
+refused_kind MinHits = Some kind.ValueValidation
+refused_kind MinJudged = Some kind.ValueValidation
 refused_kind Position = Some kind.ValueValidation
 refused_kind StandardInput = Some kind.ValueValidation
 refused_kind Connections = Some kind.ValueValidation

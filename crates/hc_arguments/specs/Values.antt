@@ -9,6 +9,7 @@ use Rattle.clap.specs.Words.{Text}
 use Rattle.hc_fields.specs.Numbers.{is_number, largest_number}
 use Rattle.hc_fields.specs.Tokens.{is_token}
 use Rattle.hc_transcript.specs.Limits.{greatest_number}
+use Rattle.hc_history.specs.Allowed.{nothing_allowed}
 use Rattle.hc_history.specs.declared.settings.Settings.{Settings}
 use Rattle.hc_history.specs.declared.settings.UnmarkedReplies.{UnmarkedReplies}
 use Rattle.hc_history.specs.declared.settings.UnmarkedReplies.TheVariants.{Allow, ErrorsOnly}
@@ -17,6 +18,8 @@ use Rattle.hc_arguments.specs.declared.limit.Limit.{Limit}
 use Rattle.hc_arguments.specs.declared.limit.Limit.TheVariants.{MaxConnections, OriginConnections, IdleTimeout, RequestTimeout, SendTimeout}
 use Rattle.hc_arguments.specs.declared.limit.Limit.TheVariants.{QueueTimeout, ConnectTimeout, OriginTimeout, OriginTotal, DrainTimeout}
 use Rattle.hc_arguments.specs.declared.limit.NumberRange.{NumberRange}
+use Rattle.hc_arguments.specs.declared.order.AuditTerms.{AuditTerms}
+use Rattle.hc_arguments.specs.declared.order.Minimums.{Minimums}
 use Rattle.hc_arguments.specs.declared.order.ProxyLimits.{ProxyLimits}
 use Rattle.hc_arguments.specs.declared.order.ProxyPatience.{ProxyPatience}
 use Rattle.hc_arguments.specs.declared.order.RecordTerms.{RecordTerms}
@@ -33,6 +36,13 @@ seconds_of text =
 abbrev pub slack_by : Option Text → Option ℕ
 slack_by None = Some 0
 slack_by (Some text) = seconds_of text
+
+-- ---- minimums
+
+-- `--min-hits` and `--min-judged`, from 0 to 2147483648 as seconds are: 0 where it isn't given
+abbrev pub minimum_by : Option Text → Option ℕ
+minimum_by None = Some 0
+minimum_by (Some text) = seconds_of text
 
 -- ---- names
 
@@ -215,9 +225,17 @@ plain_limits = record {
   clients = None;
 }
 
--- no slack, nothing ignored, and every reply may be unmarked
+-- no slack, nothing ignored, every reply may be unmarked, and nothing is allowed beside the strict rules
 abbrev pub plain : Settings
-plain = record { slack = 0; ignored = []; unmarked = Allow }
+plain = record { slack = 0; ignored = []; unmarked = Allow; allowed = nothing_allowed }
+
+-- any number of replies suffices
+abbrev pub no_minimums : Minimums
+no_minimums = record { hits = 0; judged = 0 }
+
+-- an audit by those settings, of any number of replies
+abbrev pub plain_audit : AuditTerms
+plain_audit = record { settings = plain; minimums = no_minimums }
 
 -- ---- what private functions return
 

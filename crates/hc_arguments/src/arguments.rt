@@ -2,23 +2,27 @@
 
 ghost use Rattle.std.specs.Prelude.{◌≡◌, ◌∷◌, [], IfErr, IfOk, MatchResult, ℕ, Some, None, codes, false, map, true};
 ghost use Rattle.clap.specs.Words.{HasKind, Text, fault_of, first_value, found_of, kind_of, subcommand_of, subcommand_rows_of};
-ghost use Rattle.hc_arguments.specs.Command.{Asks, AsksBy, AsksCache, AsksIn, AsksLimits, AsksPatience, AsksSettings, AsksTerms, CanBeDone, Command, IsFileName, IsRefused, IsRefusedIn, IsWord, RefusesBy, RefusesIn, hcache, judges, limit_in, proxy_words, serves, service_words, task_of};
+ghost use Rattle.hc_arguments.specs.Command.{Asks, AsksAuditTerms, AsksBy, AsksCache, AsksIn, AsksLimits, AsksMinimums, AsksPatience, AsksSettings, AsksTerms, CanBeDone, Command, IsFileName, IsRefused, IsRefusedIn, IsWord, RefusesBy, RefusesIn, has_minimums, hcache, judges, limit_in, proxy_words, serves, service_words, task_of};
 ghost use Rattle.hc_arguments.specs.Command.Command.{Audits, Converts, Explains, Proxies, Replays, Reports, Serves};
 ghost use Rattle.hc_arguments.specs.Command.Task.{ToAudit, ToConvert, ToExplain, ToProxy, ToReplay, ToReport, ToServe};
-ghost use Rattle.hc_arguments.specs.Values.{clients_by, connections_of, held_by, plain, plain_cache, plain_limits, plain_terms, position_by, positive_of};
+ghost use Rattle.hc_arguments.specs.Values.{clients_by, connections_of, held_by, minimum_by, plain, plain_audit, plain_cache, plain_limits, plain_terms, position_by, positive_of};
+ghost use Rattle.hc_arguments.specs.Allowing.{AsksAllowed};
 ghost use Rattle.hc_arguments.specs.declared.refusal.Refusal.TheVariants.{Missing};
 
+use crate::allowing::{allow_by, normalized_by, seconds_by};
 use crate::command::command;
 use crate::limit::Limit;
-use crate::order::{Order, ProxyLimits, ProxyPatience, Proxying, RecordTerms};
+use crate::order::{
+    AuditTerms, Minimums, Order, ProxyLimits, ProxyPatience, Proxying, RecordTerms,
+};
 use crate::refusal::{Refusal, usage_error};
 use crate::values::{
-    bytes_by, clients_by, flag_by, held_by, ignored_by, keys_by, limit_by, name_by, positive_of,
-    record_limit_by, slack_by, unmarked_by,
+    bytes_by, clients_by, flag_by, held_by, ignored_by, keys_by, limit_by, minimum_by, name_by,
+    positive_of, record_limit_by, slack_by, unmarked_by,
 };
 use clap::error::ErrorKind;
 use clap::{ArgMatches, Error};
-use hc_history::Settings;
+use hc_history::{Allowed, Settings};
 use hc_service::CoreSettings;
 use std::alloc::{AllocError, Global};
 use std::convert::AsStr;
@@ -31,12 +35,12 @@ pub fn parsed<'a, S: AsStr>(alloc: Global, words: &'a [S]) -> Result<Order<'a>, 
     // `audit FILE` gives that FILE and the plain settings, and fails only where memory is refused.
     ensures audit { (name file : Text) → IsWord file
         → map S.text words.entry.now ≡ name ∷ codes "audit" ∷ file ∷ []
-        → MatchResult result (λ order. task_of order ≡ ToAudit file plain)
+        → MatchResult result (λ order. task_of order ≡ ToAudit file plain_audit)
         (λ error. kind_of error ≡ ErrorKind.OutOfMemory) }
     // `report FILE` asks for text, and gives that FILE and those settings too.
     ensures report { (name file : Text) → IsWord file
         → map S.text words.entry.now ≡ name ∷ codes "report" ∷ file ∷ []
-        → MatchResult result (λ order. task_of order ≡ ToReport file plain false)
+        → MatchResult result (λ order. task_of order ≡ ToReport file plain_audit false)
         (λ error. kind_of error ≡ ErrorKind.OutOfMemory) }
     // And `explain FILE` asks for the first wrong reply, where FILE isn't `-`.
     ensures explain { (name file : Text) → IsFileName file
@@ -136,8 +140,8 @@ fn audit_in<'a>(alloc: Global, found: &ArgMatches<'a>) -> Result<Order<'a>, Refu
     ensures err { IfErr result (RefusesBy (Some Audits) (first_value (found_of found.now))) }
 {
     let file = required(found, "FILE")?;
-    let settings = settings_in(alloc, found)?;
-    Ok(Order::Audit { file, settings })
+    let terms = audit_terms_in(alloc, found)?;
+    Ok(Order::Audit { file, terms })
 }
 
 // What `report` asks.
@@ -147,12 +151,34 @@ fn report_in<'a>(alloc: Global, found: &ArgMatches<'a>) -> Result<Order<'a>, Ref
 {
     let file = required(found, "FILE")?;
     let json = flag_by(found.get_str("json"));
+    let terms = audit_terms_in(alloc, found)?;
+    Ok(Order::Report { file, terms, json })
+}
+
+// On what terms a command that judges all replies says yes.
+fn audit_terms_in(alloc: Global, found: &ArgMatches<'_>) -> Result<AuditTerms, Refusal>
+    ensures ok { IfOk result (AsksAuditTerms (first_value (found_of found.now))) }
+    ensures err { IfErr result (λ refusal. (command : Command) → has_minimums command ≡ true
+        → RefusesBy (Some command) (first_value (found_of found.now)) refusal) }
+{
     let settings = settings_in(alloc, found)?;
-    Ok(Order::Report {
-        file,
-        settings,
-        json,
-    })
+    let minimums = minimums_in(found)?;
+    Ok(AuditTerms { settings, minimums })
+}
+
+// How many replies a command that judges all has to judge.
+fn minimums_in(found: &ArgMatches<'_>) -> Result<Minimums, Refusal>
+    ensures ok { IfOk result (AsksMinimums (first_value (found_of found.now))) }
+    ensures err { IfErr result (λ refusal. (command : Command) → has_minimums command ≡ true
+        → RefusesBy (Some command) (first_value (found_of found.now)) refusal) }
+{
+    let Some(hits) = minimum_by(found.get_str("min-hits")) else {
+        return Err(Refusal::MinHits);
+    };
+    let Some(judged) = minimum_by(found.get_str("min-judged")) else {
+        return Err(Refusal::MinJudged);
+    };
+    Ok(Minimums { hits, judged })
 }
 
 // What `explain` asks.
@@ -187,6 +213,40 @@ fn position_in(found: &ArgMatches<'_>) -> Result<Option<u64>, Refusal>
     }
 }
 
+// What a command that judges allows beside the strict rules.
+fn allowed_in(alloc: Global, found: &ArgMatches<'_>) -> Result<Allowed, Refusal>
+    ensures ok { IfOk result (AsksAllowed (first_value (found_of found.now))) }
+    ensures err { IfErr result (λ refusal. (command : Command) → judges command ≡ true
+        → RefusesBy (Some command) (first_value (found_of found.now)) refusal) }
+{
+    let Some(words) = allow_by(found.get_str("allow")) else {
+        return Err(Refusal::Allow);
+    };
+    let Some(default_lifetime) = seconds_by(found.get_str("default-ttl")) else {
+        return Err(Refusal::DefaultTtl);
+    };
+    let Some(grace) = seconds_by(found.get_str("grace")) else {
+        return Err(Refusal::Grace);
+    };
+    let Some(normalized) = normalized_by(alloc, found.get_str("normalized"))? else {
+        return Err(Refusal::Normalized);
+    };
+    let Some(age_slack) = slack_by(found.get_str("age-slack")) else {
+        return Err(Refusal::AgeSlack);
+    };
+    let inferred_marks = flag_by(found.get_str("infer-marks"));
+    Ok(Allowed {
+        added_fields: words.added_fields,
+        joined_lines: words.joined_lines,
+        ranges: words.ranges,
+        default_lifetime,
+        grace,
+        normalized,
+        inferred_marks,
+        age_slack,
+    })
+}
+
 // By which settings a command that judges does so.
 fn settings_in(alloc: Global, found: &ArgMatches<'_>) -> Result<Settings, Refusal>
     ensures ok { IfOk result (AsksSettings (first_value (found_of found.now))) }
@@ -200,10 +260,12 @@ fn settings_in(alloc: Global, found: &ArgMatches<'_>) -> Result<Settings, Refusa
         return Err(Refusal::Ignore);
     };
     let unmarked = unmarked_by(found.get_str("errors-only"));
+    let allowed = allowed_in(alloc, found)?;
     Ok(Settings {
         slack,
         ignored,
         unmarked,
+        allowed,
     })
 }
 

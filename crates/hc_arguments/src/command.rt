@@ -2,9 +2,9 @@
 
 ghost use Rattle.std.specs.Prelude.{◌≡◌, false, map};
 ghost use Rattle.clap.specs.Words.{App, new_app, rule_of, with_rule, with_subcommand};
-ghost use Rattle.hc_arguments.specs.Command.{IsMade, audit, convert, explain, file_rule, hcache, judging, position_rule, program, proxy, replay, report, serve, wanted_rule, with_cache, with_proxy, with_rules, with_service, with_settings};
+ghost use Rattle.hc_arguments.specs.Command.{IsMade, audit, convert, explain, file_rule, hcache, judging, position_rule, program, proxy, replay, report, serve, wanted_rule, with_cache, with_proxy, with_rules, with_service, with_settings, with_terms};
 
-use crate::options::{CACHING, JUDGING, PROXYING, REPORTING, SERVING, Wanted};
+use crate::options::{CACHING, COUNTING, JUDGING, PROXYING, REPORTING, SERVING, Wanted};
 use clap::{Arg, ArgAction, Command};
 use std::alloc::{AllocError, Global};
 
@@ -52,6 +52,7 @@ Exit status:
   1   no: the reply at this position is wrong, by this reason
   2   malformed: the transcript breaks at this position, by this fault
   3   no verdict: standard error says `error: memory` or `error: device`
+  4   too few: it is yes, but fewer replies were judged than is asked for, as standard error says
   64  the command line is wrong: standard error says how";
 
 const EXPLAIN_STATUSES: &str = "\
@@ -145,7 +146,7 @@ fn audit_command<'a>(alloc: Global) -> Result<Command<'a>, AllocError>
 {
     let bare = begun(alloc, "audit", "hcache audit", AUDIT_ABOUT, STATUSES);
     let with_file = with_argument(bare, file_argument(alloc, AUDITED_HELP));
-    with_settings(alloc, with_file)
+    with_terms(alloc, with_file)
 }
 
 // The command `report`, without the one above it.
@@ -154,7 +155,7 @@ fn report_command<'a>(alloc: Global) -> Result<Command<'a>, AllocError>
 {
     let bare = begun(alloc, "report", "hcache report", REPORT_ABOUT, STATUSES);
     let with_file = with_argument(bare, file_argument(alloc, AUDITED_HELP));
-    let set = with_settings(alloc, with_file);
+    let set = with_terms(alloc, with_file);
     with_options(alloc, set, &REPORTING)
 }
 
@@ -253,6 +254,16 @@ fn with_settings<'a>(
     ensures { (app : App) → IsMade app command.entry → IsMade (with_settings app) result }
 {
     with_options(alloc, command, &JUDGING)
+}
+
+// The command with the options that say on what terms it says yes.
+fn with_terms<'a>(
+    alloc: Global,
+    command: Result<Command<'a>, AllocError>,
+) -> Result<Command<'a>, AllocError>
+    ensures { (app : App) → IsMade app command.entry → IsMade (with_terms app) result }
+{
+    with_options(alloc, with_settings(alloc, command), &COUNTING)
 }
 
 // The command with the options that say between whom it serves, how long, and where that is recorded.

@@ -1,6 +1,7 @@
 //! The command line of `hcache`: what its words ask, its help, and why words are refused.
 #![tactic(auto)]
 
+mod allowing;
 mod arguments;
 mod command;
 mod limit;
@@ -11,4 +12,4 @@ mod refusal;
 mod values;
 
 pub use arguments::{not_text, parsed};
-pub use order::{Order, ProxyLimits, ProxyPatience, Proxying, RecordTerms};
+pub use order::{AuditTerms, Minimums, Order, ProxyLimits, ProxyPatience, Proxying, RecordTerms};

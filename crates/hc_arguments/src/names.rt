@@ -16,7 +16,7 @@ use std::marker::Model;
 /// An iterator over the texts between the commas of a list, which contracts see as the list of those that
 /// are left.
 #[derive(Drop)]
-struct BetweenCommas<'a> {
+pub(crate) struct BetweenCommas<'a> {
     rest: Option<&'a [u8]>,
 }
 
@@ -65,7 +65,8 @@ impl<'a> Iterator for BetweenCommas<'a> {
     }
 }
 
-fn between_commas(list: &[u8]) -> BetweenCommas<'_>
+/// The texts between the commas of a list.
+pub(crate) fn between_commas(list: &[u8]) -> BetweenCommas<'_>
     ensures { result ≡ between_commas list.now }
 {
     BetweenCommas { rest: Some(list) }

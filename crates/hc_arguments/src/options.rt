@@ -13,7 +13,7 @@ pub(crate) struct Wanted {
 }
 
 /// By which settings a command judges.
-pub(crate) const JUDGING: [Wanted; 3] = [
+pub(crate) const JUDGING: [Wanted; 9] = [
     Wanted {
         name: "slack",
         value: Some("N"),
@@ -31,6 +31,65 @@ pub(crate) const JUDGING: [Wanted; 3] = [
         name: "errors-only",
         value: None,
         help: "A reply without a mark is wrong, but for those of status 400 and more",
+        required: false,
+    },
+    Wanted {
+        name: "allow",
+        value: Some("WORD,.."),
+        help: "What is allowed beside the strict rules, with commas between the words: added-fields, that a reply has \
+            fields which the stored response lacks; joined-lines, that lines of a field are joined or parted; ranges, \
+            that a reply is a part of what the origin answered; all stands alone for each of them",
+        required: false,
+    },
+    Wanted {
+        name: "default-ttl",
+        value: Some("N"),
+        help: "The seconds for which a stored response is fresh that states no lifetime: a decimal from 0 to 2147483648",
+        required: false,
+    },
+    Wanted {
+        name: "grace",
+        value: Some("N"),
+        help: "The seconds for which a stored response may be served stale, unless it forbids that: \
+            a decimal from 0 to 2147483648",
+        required: false,
+    },
+    Wanted {
+        name: "normalized",
+        value: Some("NAME,.."),
+        help: "The names of fields, with commas between them, that the cache normalizes: Vary by them is passed over",
+        required: false,
+    },
+    Wanted {
+        name: "age-slack",
+        value: Some("N"),
+        help: "The seconds by which an Age may be off, where that is more than --slack: \
+            a decimal from 0 to 2147483648, and 0 without the option",
+        required: false,
+    },
+    Wanted {
+        name: "infer-marks",
+        value: None,
+        help: "A reply without a mark, of a status under 400, counts as forwarded where a forward was made for it, and \
+            else as a hit",
+        required: false,
+    },
+];
+
+/// How many replies a command that judges all has to judge.
+pub(crate) const COUNTING: [Wanted; 2] = [
+    Wanted {
+        name: "min-hits",
+        value: Some("N"),
+        help: "The least number of hits: where nothing is wrong and there are fewer, the status is 4: \
+            a decimal from 0 to 2147483648, and 0 without the option",
+        required: false,
+    },
+    Wanted {
+        name: "min-judged",
+        value: Some("N"),
+        help: "The least number of replies that are judged, hits and forwarded ones together: where nothing is wrong \
+            and there are fewer, the status is 4: a decimal from 0 to 2147483648, and 0 without the option",
         required: false,
     },
 ];

@@ -10,15 +10,15 @@ pub enum Order<'a> {
     Audit {
         /// Where it is: the name of a file, or `-` for standard input.
         file: &'a str,
-        /// What the audit lets pass.
-        settings: Settings,
+        /// On what terms it is audited.
+        terms: AuditTerms,
     },
     /// To report on a transcript.
     Report {
         /// Where it is: the name of a file, or `-` for standard input.
         file: &'a str,
-        /// What lets replies pass.
-        settings: Settings,
+        /// On what terms it is audited.
+        terms: AuditTerms,
         /// Whether the report is one JSON object, in place of text.
         json: bool,
     },
@@ -56,6 +56,24 @@ pub enum Order<'a> {
     },
     /// To serve many clients at once.
     Proxy(Proxying<'a>),
+}
+
+/// On what terms an audit says yes.
+#[derive(Drop)]
+pub struct AuditTerms {
+    /// What lets replies pass.
+    pub settings: Settings,
+    /// How many replies it has to judge.
+    pub minimums: Minimums,
+}
+
+/// How many replies of a transcript have to be judged at least, so that it tells something that they are right.
+#[derive(Clone, Copy)]
+pub struct Minimums {
+    /// How many hits there have to be, from 0 to 2,147,483,648.
+    pub hits: u32,
+    /// How many hits and forwarded replies there have to be together, from 0 to 2,147,483,648.
+    pub judged: u32,
 }
 
 /// Between whom a proxy stands, and how.

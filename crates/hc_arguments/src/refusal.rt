@@ -21,6 +21,20 @@ pub(crate) enum Refusal {
     Slack,
     /// The value of `--ignore` is no list of names.
     Ignore,
+    /// The value of `--allow` is no list of its words.
+    Allow,
+    /// The value of `--default-ttl` is no number of seconds, or too great.
+    DefaultTtl,
+    /// The value of `--grace` is no number of seconds, or too great.
+    Grace,
+    /// The value of `--normalized` is no list of names.
+    Normalized,
+    /// The value of `--age-slack` is no number of seconds, or too great.
+    AgeSlack,
+    /// The value of `--min-hits` is no number, or too great.
+    MinHits,
+    /// The value of `--min-judged` is no number, or too great.
+    MinJudged,
     /// POSITION is no number of a position, or too great.
     Position,
     /// FILE is standard input, which can't be read twice.
@@ -78,6 +92,26 @@ impl Refusal {
             Refusal::Slack => "invalid value for '--slack <N>': not a decimal from 0 to 2147483648",
             Refusal::Ignore => {
                 "invalid value for '--ignore <NAME,..>': not names of fields with commas between them"
+            }
+            Refusal::Allow => {
+                "invalid value for '--allow <WORD,..>': not added-fields, joined-lines and ranges with commas between \
+                them, nor all"
+            }
+            Refusal::DefaultTtl => {
+                "invalid value for '--default-ttl <N>': not a decimal from 0 to 2147483648"
+            }
+            Refusal::Grace => "invalid value for '--grace <N>': not a decimal from 0 to 2147483648",
+            Refusal::Normalized => {
+                "invalid value for '--normalized <NAME,..>': not names of fields with commas between them"
+            }
+            Refusal::AgeSlack => {
+                "invalid value for '--age-slack <N>': not a decimal from 0 to 2147483648"
+            }
+            Refusal::MinHits => {
+                "invalid value for '--min-hits <N>': not a decimal from 0 to 2147483648"
+            }
+            Refusal::MinJudged => {
+                "invalid value for '--min-judged <N>': not a decimal from 0 to 2147483648"
             }
             Refusal::Position => {
                 "invalid value for '[POSITION]': not a decimal from 1 to 999999999999"

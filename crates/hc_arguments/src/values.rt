@@ -1,7 +1,7 @@
 //! What the values of options say.
 
 ghost use Rattle.std.specs.Prelude.{◌≡◌, IfOk, option_map};
-ghost use Rattle.hc_arguments.specs.Values.{bytes_by, bytes_in, bytes_of, clients_by, flag_by, held_by, held_of, ignored_by, keys_by, keys_of, limit_by, name_by, name_of, number_within, positive_of, record_limit_by, seconds_of, slack_by, unit_of, unmarked_by};
+ghost use Rattle.hc_arguments.specs.Values.{bytes_by, bytes_in, bytes_of, clients_by, flag_by, held_by, held_of, ignored_by, keys_by, keys_of, limit_by, minimum_by, name_by, name_of, number_within, positive_of, record_limit_by, seconds_of, slack_by, unit_of, unmarked_by};
 
 use crate::limit::{Limit, NumberRange};
 use crate::names::names_of;
@@ -36,8 +36,8 @@ pub(crate) fn slack_by(value: Option<&str>) -> Option<u32>
     }
 }
 
-// The seconds that one or more digits write, where they are not too many.
-fn seconds_of(text: &[u8]) -> Option<u32>
+/// The seconds, or whatever else is counted, that one or more digits write, where they are not too many.
+pub(crate) fn seconds_of(text: &[u8]) -> Option<u32>
     ensures { result ≡ seconds_of text.now }
 {
     let seconds = decimal(text)?;
@@ -45,6 +45,16 @@ fn seconds_of(text: &[u8]) -> Option<u32>
         return None;
     }
     Some(seconds as u32)
+}
+
+/// The number of `--min-hits` or of `--min-judged`, where it is in its range.
+pub(crate) fn minimum_by(value: Option<&str>) -> Option<u32>
+    ensures { result ≡ minimum_by (option_map (λ text. text.now) value.entry) }
+{
+    match value {
+        Some(text) => seconds_of(text.as_bytes()),
+        None => Some(0),
+    }
 }
 
 /// The names of `--ignore`, where they are names.

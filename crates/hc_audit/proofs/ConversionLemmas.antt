@@ -23,22 +23,25 @@ use Rattle.hc_history.specs.declared.settings.Settings.{Settings}
 use Rattle.hc_history.specs.declared.verdicts.Counts.{Counts}
 use Rattle.hc_history.specs.Claims.{Claim, claim_of}
 use Rattle.hc_history.specs.Counting.{counts_of, marked, one_more}
-use Rattle.hc_history.specs.Filters.{filters}
+use Rattle.hc_history.specs.declared.among.Among.{Among}
+use Rattle.hc_history.specs.declared.among.Among.TheVariants.{Any, InWindow, Recent}
+use Rattle.hc_history.specs.Allowing.{filters}
 use Rattle.hc_history.specs.Forwarded.{is_carried, carries_response}
-use Rattle.hc_history.specs.Marks.{reply_mark}
-use Rattle.hc_history.specs.Reused.{Pass, anywhere, collapsed_count, forwarded_count}
-use Rattle.hc_history.specs.Right.{IsRightBy, IsRightForwarded, IsRightTo, IsRight, AllRight, is_judged_collapsed}
+use Rattle.hc_history.specs.Marks.{infers, mark_to}
+use Rattle.hc_history.specs.Reused.{Pass, collapsed_count, filter_count, forwarded_count, is_looked_at}
+use Rattle.hc_history.specs.Right.{CarriesStored, IsRightBy, IsRightForwarded, IsRightTo, IsRight, AllRight, is_judged_collapsed}
 use Rattle.hc_history.specs.States.{state_begun, begun_to, kept_answered_to, state_after, state_at}
 use Rattle.hc_history.specs.Verdicts.{IsAllRight}
-use Rattle.hc_history.specs.Windows.{some_since, is_forward_of, is_error, is_failure}
+use Rattle.hc_history.specs.Windows.{some_since, has_forward, is_forward_of, is_error, is_failure}
+use Rattle.hc_history.proofs.AllowedLemmas.{marked_strictly}
 use Rattle.hc_history.proofs.FurthestLemmas.{Pass-fewer}
 
--- one that is later than a position is one of any
-earlier_anywhere : (n since : ℕ) (claim : Claim) (h : List Item) → Pass n since claim h → Pass n anywhere claim h
-earlier_anywhere n since claim h p = record {
+-- one that came in the window is one of any
+earlier_anywhere : (n : ℕ) (claim : Claim) (h : List Item) → Pass n InWindow claim h → Pass n Any claim h
+earlier_anywhere n claim h p = record {
   position = p.position;
   kept = p.kept;
-  is_later = omega (arith, p.is_later);
+  is_one = refl;
   is_its_state = p.is_its_state;
   holds = p.holds;
 }
@@ -90,8 +93,34 @@ same_since test same since (item ∷ h) = λ i. (nat_lt since (same_length h i +
 abbrev claim_in : Settings → Exchange → ℕ → Message ResponseHead → List Item → Claim
 claim_in settings x moment reply h = claim_of form.First settings x moment reply h
 
-module _ (format : Format) (settings : Settings) (x : Exchange) (moment : ℕ) (reply : Message ResponseHead) where
-  same_claim : (h : List Item) → claim_in settings x moment reply h ≡ claim_in settings x moment reply (map item_without_cause h)
+module _ (format : Format) (settings : Settings) (none : settings.allowed.inferred_marks ≡ false) (x : Exchange) (moment : ℕ) (reply : Message ResponseHead) where
+  -- no mark is inferred in either
+  same_infers : (h g : List Item) → infers format settings.allowed (has_forward x h) reply ≡ infers form.First settings.allowed (has_forward x g) reply
+  same_infers h g =
+      (marked_strictly format settings.allowed (has_forward x h) reply none).0 ∙ sym (marked_strictly form.First settings.allowed (has_forward x g) reply none).0
+
+  same_mark : (h g : List Item) → mark_to format settings (Some x) reply h ≡ mark_to form.First settings (Some x) reply g
+  same_mark h g =
+      (marked_strictly format settings.allowed (has_forward x h) reply none).1 ∙ sym (marked_strictly form.First settings.allowed (has_forward x g) reply none).1
+
+  -- the claim where its format is the first one
+  abbrev first_claim : List Item → Claim
+  first_claim h = record {
+    format = form.First;
+    exchange = x.number;
+    request = x.request;
+    target = x.target;
+    since = x.position;
+    reply = reply;
+    moment = moment;
+    is_inferred = infers format settings.allowed (has_forward x h) reply;
+    ttl = (claim_in settings x moment reply h).ttl;
+    has_error = (claim_in settings x moment reply h).has_error;
+    has_failure = (claim_in settings x moment reply h).has_failure;
+    settings = settings;
+  }
+
+  same_claim : (h : List Item) → first_claim h ≡ claim_in settings x moment reply (map item_without_cause h)
   same_claim h = λ i. record {
     format = form.First;
     exchange = x.number;
@@ -100,20 +129,28 @@ module _ (format : Format) (settings : Settings) (x : Exchange) (moment : ℕ) (
     since = x.position;
     reply = reply;
     moment = moment;
+    is_inferred = same_infers h (map item_without_cause h) i;
     ttl = (claim_in settings x moment reply h).ttl;
     has_error = sym (same_since (is_error x.target) (same_error x.target) x.position h) i;
     has_failure = sym (same_since (is_failure x.target) (same_failure x.target) x.position h) i;
     settings = settings;
   }
 
-  passes : (n since : ℕ) (h : List Item) → Pass n since (claim_of format settings x moment reply h) h → Pass n since (claim_in settings x moment reply (map item_without_cause h)) (map item_without_cause h)
-  passes n since h p = record {
+  passes : (n : ℕ) (among : Among) (h : List Item) → Pass n among (claim_of format settings x moment reply h) h
+      → Pass n among (claim_in settings x moment reply (map item_without_cause h)) (map item_without_cause h)
+  passes n among h p = record {
     position = p.position;
     kept = p.kept;
-    is_later = p.is_later;
+    is_one = subst (λ (claim : Claim). is_looked_at among claim p.position p.kept.state ≡ true) (same_claim h) (of_first among h p.position p.kept p.is_one);
     is_its_state = same_state p.position h ∙ p.is_its_state;
     holds = subst (λ (claim : Claim). list_all (λ b. b) (take n (filters claim p.kept)) ≡ true) (same_claim h) p.holds;
   }
+    where
+      of_first : (among : Among) (h : List Item) (position : ℕ) (kept : Kept) → is_looked_at among (claim_of format settings x moment reply h) position kept.state ≡ true
+          → is_looked_at among (first_claim h) position kept.state ≡ true
+      of_first Any h position kept is = is
+      of_first InWindow h position kept is = is
+      of_first Recent h position kept is = is
 
   -- a response that the reply may carry is one where nothing is told of causes
   carried : (h g : List Item) (item : Item) → is_carried (claim_of format settings x moment reply h) g item ≡ true
@@ -146,24 +183,45 @@ module _ (format : Format) (settings : Settings) (x : Exchange) (moment : ℕ) (
       either true b is = inl refl
       either false b is = inr is
 
+  stored : (inferred : Bool) (h : List Item) → CarriesStored inferred (claim_of format settings x moment reply h) h
+      → CarriesStored inferred (claim_in settings x moment reply (map item_without_cause h)) (map item_without_cause h)
+  stored false h is = passes forwarded_count Any h is
+  stored true h (inl is) = inl (passes filter_count Any h is)
+  stored true h (inr is) = inr (passes forwarded_count Recent h is)
+
+  stored_alike : (h : List Item) → CarriesStored (claim_of format settings x moment reply h).is_inferred (claim_of format settings x moment reply h) h
+      → CarriesStored (claim_in settings x moment reply (map item_without_cause h)).is_inferred (claim_in settings x moment reply (map item_without_cause h)) (map item_without_cause h)
+  stored_alike h is =
+      subst (λ (b : Bool). CarriesStored b (claim_in settings x moment reply (map item_without_cause h)) (map item_without_cause h)) (same_infers h (map item_without_cause h))
+      (stored (claim_of format settings x moment reply h).is_inferred h is)
+
   -- a collapsed one carries an earlier response all the more
+  collapsed_stored : (h : List Item) → Pass collapsed_count InWindow (claim_of format settings x moment reply h) h
+      → CarriesStored (claim_in settings x moment reply (map item_without_cause h)).is_inferred (claim_in settings x moment reply (map item_without_cause h)) (map item_without_cause h)
+  collapsed_stored h is =
+      subst (λ (b : Bool). CarriesStored b (claim_in settings x moment reply (map item_without_cause h)) (map item_without_cause h))
+      (sym (marked_strictly form.First settings.allowed (has_forward x (map item_without_cause h)) reply none).0)
+      (earlier_anywhere forwarded_count _ _ (Pass-fewer forwarded_count collapsed_count _ _ _ (omega arith) (passes collapsed_count InWindow h is)))
+
   right_forwarded : (collapsed : Bool) (h : List Item) → IsRightForwarded collapsed (claim_of format settings x moment reply h) h
       → IsRightForwarded false (claim_in settings x moment reply (map item_without_cause h)) (map item_without_cause h)
-  right_forwarded true h is =
-      inr (earlier_anywhere forwarded_count _ _ _ (Pass-fewer forwarded_count collapsed_count _ _ _ (omega arith) (passes _ _ h is)))
-  right_forwarded false h is = ⊎_elim (λ forwarded. inl (some_carried h h forwarded)) (λ passed. inr (passes _ _ h passed)) is
+  right_forwarded true h is = inr (collapsed_stored h is)
+  right_forwarded false h is = ⊎_elim (λ forwarded. inl (some_carried h h forwarded)) (λ stored. inr (stored_alike h stored)) is
 
   right_by : (mark : Mark) (h : List Item) → IsRightBy mark (claim_of format settings x moment reply h) h
       → IsRightBy mark (claim_in settings x moment reply (map item_without_cause h)) (map item_without_cause h)
-  right_by (Hit ttl) h is = passes _ _ h is
+  right_by (Hit ttl) h is = passes filter_count Any h is
   right_by (Forwarded collapsed) h is = right_forwarded (is_judged_collapsed format collapsed) h is
   right_by Both h is = is
   right_by Unmarked h is = is
 
-module _ (format : Format) (settings : Settings) where
+module _ (format : Format) (settings : Settings) (none : settings.allowed.inferred_marks ≡ false) where
   right_to : (o : Option Exchange) (moment : ℕ) (reply : Message ResponseHead) (h : List Item) → IsRightTo format settings o moment reply h → IsRightTo form.First settings o moment reply (map item_without_cause h)
   right_to None moment reply h is = is
-  right_to (Some x) moment reply h is = right_by format settings x moment reply (reply_mark reply) h is
+  right_to (Some x) moment reply h is =
+      subst (λ (m : Mark). IsRightBy m (claim_in settings x moment reply (map item_without_cause h)) (map item_without_cause h))
+      (same_mark format settings none x moment reply h (map item_without_cause h))
+      (right_by format settings none x moment reply (mark_to format settings (Some x) reply h) h is)
 
   right : (h : List Item) (item : Item) → IsRight format settings h item → IsRight form.First settings (map item_without_cause h) (item_without_cause item)
   right h (ClientRequest n t q g) is = tt
@@ -177,18 +235,28 @@ module _ (format : Format) (settings : Settings) where
   all_right [] are = tt
   all_right (item ∷ h) are = (all_right h are.0, right h item are.1)
 
-same_counts : (h : List Item) → counts_of (map item_without_cause h) ≡ counts_of h
-same_counts [] = refl
-same_counts (ClientRequest n t q g ∷ h) = ap one_more (same_counts h)
-same_counts (OriginRequest n t q g c ∷ h) = ap one_more (same_counts h)
-same_counts (OriginResponse n t r ∷ h) = ap one_more (same_counts h)
-same_counts (OriginFailure n t ∷ h) = ap one_more (same_counts h)
-same_counts (ClientReply n t r ∷ h) = ap (λ (c : Counts). marked (Some (reply_mark r)) (one_more c)) (same_counts h)
+  same_mark_to : (o : Option Exchange) (reply : Message ResponseHead) (h : List Item)
+      → mark_to form.First settings o reply (map item_without_cause h) ≡ mark_to format settings o reply h
+  same_mark_to None reply h = refl
+  same_mark_to (Some x) reply h = sym (same_mark format settings none x 0 reply h (map item_without_cause h))
+
+  same_reply_mark : (n : ℕ) (reply : Message ResponseHead) (h : List Item)
+      → mark_to form.First settings (exchange_of n (map item_without_cause h)) reply (map item_without_cause h) ≡ mark_to format settings (exchange_of n h) reply h
+  same_reply_mark n reply h =
+      ap (λ (o : Option Exchange). mark_to form.First settings o reply (map item_without_cause h)) (same_exchange n h) ∙ same_mark_to (exchange_of n h) reply h
+
+  same_counts : (h : List Item) → counts_of form.First settings (map item_without_cause h) ≡ counts_of format settings h
+  same_counts [] = refl
+  same_counts (ClientRequest n t q g ∷ h) = ap one_more (same_counts h)
+  same_counts (OriginRequest n t q g c ∷ h) = ap one_more (same_counts h)
+  same_counts (OriginResponse n t r ∷ h) = ap one_more (same_counts h)
+  same_counts (OriginFailure n t ∷ h) = ap one_more (same_counts h)
+  same_counts (ClientReply n t r ∷ h) = λ i. marked (Some (same_reply_mark n r h i)) (one_more (same_counts h i))
 
 -- ---- the verdict
 
-pub converted_right : (octets text : List ℕ) (settings : Settings) (counts : Counts) → IsAllRight octets settings counts → IsConverted octets text → IsAllRight text settings counts
-converted_right octets text settings counts right_before is =
+pub converted_right : (octets text : List ℕ) (settings : Settings) → settings.allowed.inferred_marks ≡ false → (counts : Counts) → IsAllRight octets settings counts → IsConverted octets text → IsAllRight text settings counts
+converted_right octets text settings none counts right_before is =
     let other = same_format octets right_before.format is.format right_before.records is.records right_before.history is.history [] [] right_before.is_transcript is.is_transcript in
     let records = (one right_before.format octets right_before.records is.records right_before.history is.history right_before.is_transcript other).0 in
     record {
@@ -197,6 +265,6 @@ converted_right octets text settings counts right_before is =
       history = map item_without_cause right_before.history;
       is_transcript = subst (λ (t : List ℕ). IsTranscript form.First t (map without_cause right_before.records) (map item_without_cause right_before.history))
           (sym (is.text_is ∙ ap converted (sym records))) (converted_transcript right_before.format octets right_before.records right_before.history right_before.is_transcript);
-      all_right = all_right right_before.format settings right_before.history right_before.all_right;
-      counts_are = right_before.counts_are ∙ sym (same_counts right_before.history);
+      all_right = all_right right_before.format settings none right_before.history right_before.all_right;
+      counts_are = right_before.counts_are ∙ sym (same_counts right_before.format settings none right_before.history);
     }

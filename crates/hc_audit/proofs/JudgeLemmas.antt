@@ -1,5 +1,6 @@
 -- What one record more makes of a judgement, and what its end.
-use Rattle.std.proofs.Common.{◌≡◌, ◌≢◌, ℕ, ◌+◌, List, [], arith, ◌∷◌, ◌++◌, Option, Some, None, Result, refl, sym, ap, subst, ◌∙◌, ◌⊎◌, inl, inr}
+use Rattle.std.proofs.Common.{◌≡◌, ◌≢◌, ℕ, ◌+◌, Bool, false, List, [], arith, ◌∷◌, ◌++◌, Option, Some, None, Result, refl, sym, ap, subst, ◌∙◌, ◌⊎◌, inl, inr}
+use Rattle.std.specs.Prelude.{IsSome}
 use Rattle.std.specs.declared.alloc.AllocError.{AllocError}
 use Rattle.hc_transcript.specs.declared.fault.RecordFault.{RecordFault}
 use Rattle.hc_transcript.specs.declared.fault.RecordFault.TheVariants as fault
@@ -8,8 +9,10 @@ use Rattle.hc_transcript.specs.declared.format.Format.TheVariants.{First, Second
 use Rattle.hc_transcript.specs.declared.reader.RecordReader.{RecordReader}
 use Rattle.hc_transcript.specs.declared.record.Record.{Record}
 use Rattle.hc_transcript.specs.Records.{opening}
-use Rattle.hc_transcript.specs.Items.{Item}
-use Rattle.hc_transcript.specs.History.{next_position, last_moment, last_exchange, last_forward}
+use Rattle.hc_head.specs.declared.head.ResponseHead.{ResponseHead}
+use Rattle.hc_framing.specs.declared.message.Message.{Message}
+use Rattle.hc_transcript.specs.Items.{Item, Exchange}
+use Rattle.hc_transcript.specs.History.{exchange_of, next_position, last_moment, last_exchange, last_forward}
 use Rattle.hc_transcript.specs.Checks.{line_fault}
 use Rattle.hc_transcript.specs.Transcript.{Splits, IsTranscript}
 use Rattle.hc_transcript.specs.Malformed.{IsUnfinishedOpening, IsUnfinished, BreaksAfter}
@@ -23,7 +26,13 @@ use Rattle.hc_history.specs.declared.verdicts.Finding.{Finding}
 use Rattle.hc_history.specs.declared.verdicts.Finding.TheVariants.{Right, Wrong}
 use Rattle.hc_history.specs.declared.verdicts.Verdict.{Verdict}
 use Rattle.hc_history.specs.declared.verdicts.Verdict.TheVariants.{Yes, No, Malformed}
+use Rattle.hc_status.specs.declared.marks.Mark.{Mark}
 use Rattle.hc_history.specs.Counting.{counts_of}
+use Rattle.hc_history.specs.Marks.{item_mark, mark_by, mark_to, reply_mark}
+use Rattle.hc_history.specs.Seen.{has_forward_in}
+use Rattle.hc_history.specs.Windows.{has_forward}
+use Rattle.hc_history.proofs.AllowedLemmas.{marked_strictly}
+use Rattle.hc_history.proofs.NoteLemmas.{forwarded_in_window}
 use Rattle.hc_history.specs.Found.{IsFound, AnswersOpen}
 use Rattle.hc_history.specs.Right.{AllRight}
 use Rattle.hc_history.specs.Seen.{Seen}
@@ -136,6 +145,23 @@ found_here format given settings held item h finding found settings-are item-is 
     subst (λ (s : Settings). IsFound format s h item found) settings-are
     (subst (λ (i : Item). IsFound format given h i found) item-is (subst (λ (f : Finding). IsFound format given h held f) found-is is))
 
+-- and its mark
+pub marked_here : (format : Format) (given settings : Settings) (held item : Item) (h : List Item) (mark : Option Mark) → given ≡ settings → held ≡ item
+    → mark ≡ item_mark format given h held → mark ≡ item_mark format settings h item
+marked_here format given settings held item h mark settings-are item-is is = is ∙ (λ i. item_mark format (settings-are i) h (item-is i))
+
+-- where no mark is inferred, it is the reply's own
+pub own_mark : (format : Format) (settings : Settings) (o : Option Exchange) (reply : Message ResponseHead) (h : List Item) → settings.allowed.inferred_marks ≡ false
+    → reply_mark reply ≡ mark_to format settings o reply h
+own_mark format settings None reply h none = refl
+own_mark format settings (Some exchange) reply h none = sym (marked_strictly format settings.allowed (has_forward exchange h) reply none).1
+
+-- else it takes whether a forward was made for the exchange
+pub mark_known : (format : Format) (settings : Settings) (e : ℕ) (reply : Message ResponseHead) (h : List Item) (o : Option Exchange) → exchange_of e h ≡ o → IsSome o
+    → mark_by format settings.allowed (has_forward_in e h) reply ≡ mark_to format settings o reply h
+mark_known format settings e reply h None is some = cc
+mark_known format settings e reply h (Some exchange) is some = ap (λ (b : Bool). mark_by format settings.allowed b reply) (forwarded_in_window e h exchange is)
+
 -- what a reader has read of the octets that told the format
 splits_of : (r : RecordReader) (format : Format) (octets : List ℕ) (records : List Record) (h : List Item) → format_read r ≡ Some format → Agrees r octets records h
     → Splits format octets records h r.held
@@ -185,14 +211,15 @@ module _ {I : Type 0} (seen : I → Seen) (j : Judge I) (settings : Settings) (o
 -- ---- the end
 
 pub yes_of : (r : RecordReader) (octets : List ℕ) (settings : Settings) (records : List Record) (h : List Item) (counts : Counts) → Agrees r octets records h
-    → (format : Format) × IsTranscript format octets records h → AreRight (format_read r) settings h → counts ≡ counts_of h → IsVerdict octets settings (Yes counts)
+    → (format : Format) × IsTranscript format octets records h → AreRight (format_read r) settings h
+    → ((k : Format) → MayBeOf (format_read r) k → counts ≡ counts_of k settings h) → IsVerdict octets settings (Yes counts)
 yes_of r octets settings records h counts agrees is right counts-are = record {
   format = is.0;
   records = records;
   history = h;
   is_transcript = is.1;
   all_right = right is.0 (may_be_split r octets records records h h [] is.0 agrees is.1);
-  counts_are = counts-are;
+  counts_are = counts-are is.0 (may_be_split r octets records records h h [] is.0 agrees is.1);
 }
 
 -- octets that are left are torn
@@ -236,7 +263,7 @@ cell b held e = cc
 ends_behind : (format : Format) (octets : List ℕ) (settings : Settings) (records : List Record) (h : List Item) (held : List ℕ) → Splits format octets records h held
     → AllRight format settings h → IsUnfinished format (line_fault h) held → MayGoOn octets settings
 ends_behind format octets settings records h [] splits right waits = record {
-  verdict = Yes (counts_of h);
+  verdict = Yes (counts_of format settings h);
   may = tt;
   is = record { format = format; records = records; history = h; is_transcript = splits; all_right = right; counts_are = refl };
 }

@@ -21,7 +21,9 @@ use Rattle.hc_history.specs.declared.wrong.Ending.{Ending}
 use Rattle.hc_history.specs.declared.wrong.Ending.TheVariants.{Whole, Broken}
 use Rattle.hc_history.specs.declared.verdicts.Counts.{Counts}
 use Rattle.hc_history.specs.declared.verdicts.Verdict.TheVariants.{Yes}
-use Rattle.hc_history.specs.Counting.{counts_of}
+use Rattle.hc_status.specs.declared.marks.Mark.{Mark}
+use Rattle.hc_history.specs.Counting.{counts_of, no_counts}
+use Rattle.hc_history.specs.Marks.{item_mark}
 use Rattle.hc_history.specs.Right.{AllRight}
 use Rattle.hc_history.specs.Verdicts.{IsVerdict}
 use Rattle.hc_history.specs.Found.{IsFound, AnswersOpen}
@@ -36,8 +38,8 @@ use Rattle.hc_audit.specs.declared.witness.JudgedReply.{JudgedReply}
 use Rattle.hc_audit.specs.Endings.{EndsSo, IsSurveyOf, MayGoOn}
 use Rattle.hc_audit.specs.Hearing.{IsReplyBehind, item_judged}
 use Rattle.hc_audit.specs.Told.{wrong_of}
-use Rattle.hc_audit.specs.Judging.{HasRead, finding_told}
-use Rattle.hc_audit.specs.Surveying.{AreWrong, GoOnBy, IsSurveying, IsSurveyed, IsAheadOf, SurveysBy, ended_by}
+use Rattle.hc_audit.specs.Judging.{HasRead, finding_told, mark_told, MayBeOf}
+use Rattle.hc_audit.specs.Surveying.{AreCounted, AreWrong, GoOnBy, IsSurveying, IsSurveyed, IsAheadOf, SurveysBy, ended_by}
 use Rattle.hc_audit.proofs.JudgeLemmas.{might_be_of, may_be_read, may_be_split, met_more, not_torn, none_is_some, of_the_read}
 
 -- ---- a record more
@@ -62,11 +64,14 @@ pub handed_item : {I : Type 0} (item : Item) (judged : Option (JudgedReply I)) (
     → IfSome judged (λ r. item ≡ ClientReply r.exchange r.moment r.reply) → item ≡ item_judged reply
 handed_item {I} item judged reply some is = subst (λ (o : Option (JudgedReply I)). IfSome o (λ r. item ≡ ClientReply r.exchange r.moment r.reply)) some is
 
+one_mark : (one other : Mark) → Some one ≡ Some other → one ≡ other
+one_mark one other e = cc
+
 pub handed : {I : Type 0} (seen : I → Seen) (format : Format) (settings : Settings) (index : I) (h : List Item) (item : Item) (judged : Option (JudgedReply I)) (reply : JudgedReply I) (count : ℕ)
     → AnswersOpen h item → IsSeenAs format (seen index) h → IsFound format settings h item (finding_told judged) → judged ≡ Some reply → IfSome judged (λ r. r.position ≡ count)
-    → count ≡ next_position h → IfSome judged (λ r. item ≡ ClientReply r.exchange r.moment r.reply)
+    → count ≡ next_position h → mark_told judged ≡ item_mark format settings h item → IfSome judged (λ r. item ≡ ClientReply r.exchange r.moment r.reply)
     → IfSome judged (λ r. (r.format ≡ format) × (r.settings.now ≡ settings) × (r.index.now ≡ index)) → IsReplyBehind seen h reply
-handed {I} seen format settings index h item judged reply count opens known is some position count-is item-is same =
+handed {I} seen format settings index h item judged reply count opens known is some position count-is mark-is item-is same =
     let item-of = handed_item item judged reply some item-is in
     let of = subst (λ (o : Option (JudgedReply I)). IfSome o (λ r. (r.format ≡ format) × (r.settings.now ≡ settings) × (r.index.now ≡ index))) some same in
     let found = subst (λ (o : Option (JudgedReply I)). IsFound format settings h item (finding_told o)) some is in
@@ -74,6 +79,11 @@ handed {I} seen format settings index h item judged reply count opens known is s
       position = subst (λ (o : Option (JudgedReply I)). IfSome o (λ r. r.position ≡ count)) some position ∙ count-is;
       index = subst (λ (k : Format). IsSeenAs k (seen reply.index.now) h) (sym of.0) (subst (λ (i : I). IsSeenAs format (seen i) h) (sym of.2) known);
       is_open = subst (λ (i : Item). AnswersOpen h i) item-of opens;
+      mark = one_mark reply.mark _
+          (subst (λ (k : Format). Some reply.mark ≡ item_mark k reply.settings.now h (item_judged reply)) (sym of.0)
+          (subst (λ (s : Settings). Some reply.mark ≡ item_mark format s h (item_judged reply)) (sym of.1)
+          (subst (λ (i : Item). Some reply.mark ≡ item_mark format settings h i) item-of
+          (subst (λ (o : Option (JudgedReply I)). mark_told o ≡ item_mark format settings h item) some mark-is))));
       found = subst (λ (k : Format). IsFound k reply.settings.now h (item_judged reply) reply.finding) (sym of.0)
           (subst (λ (s : Settings). IsFound format s h (item_judged reply) reply.finding) (sym of.1)
           (subst (λ (i : Item). IsFound format settings h i reply.finding) item-of found));
@@ -245,10 +255,19 @@ open_is {I} seen reach settings octets h wrongs judge is surveys = subst (λ (s 
 
 -- ---- what is counted
 
+counted_nothing : (o : Option Format) (settings : Settings) (h : List Item) (counts : Counts) → ((k : Format) → MayBeOf o k → counts ≡ counts_of k settings h) → h ≡ [] → counts ≡ no_counts
+counted_nothing None settings h counts are none = are First tt ∙ ap (counts_of First settings) none
+counted_nothing (Some format) settings h counts are none = are format refl ∙ ap (counts_of format settings) none
+
 pub open_counts_all : {I : Type 0} (seen : I → Seen) (reach : Reach I) (settings : Settings) (octets : List ℕ) (h : List Item) (wrongs : List WrongReply) (judge : Judge I) → reach ≡ Open judge
-    → SurveysBy seen reach settings octets h wrongs → judge.counts ≡ counts_of h
+    → SurveysBy seen reach settings octets h wrongs → AreCounted octets settings h judge.counts
 open_counts_all seen reach settings octets h wrongs judge is surveys =
-    let w = open_is seen reach settings octets h wrongs judge is surveys in w.surveying.read.counts
+    let w = open_is seen reach settings octets h wrongs judge is surveys in
+    let read = w.surveying.read in
+    record {
+      read = λ format records rest splits. read.counts format (may_be_split judge.reader octets read.records records h h rest format read.reads splits);
+      nothing = counted_nothing (format_read judge.reader) settings h judge.counts read.counts;
+    }
 
 -- ---- what is counted where none is wrong
 
@@ -266,14 +285,15 @@ torn_is_whole : (position : ℕ) → Broken position fault.Torn ≡ Whole → �
 torn_is_whole position e = cc
 
 counted_behind : (format : Format) (octets : List ℕ) (settings : Settings) (records : List Record) (h : List Item) (held : List ℕ) → Splits format octets records h held
-    → AreWrongIn format settings h [] → IsUnfinished format (line_fault h) held → AreWrongReplies octets settings [] Whole → IsVerdict octets settings (Yes (counts_of h))
+    → AreWrongIn format settings h [] → IsUnfinished format (line_fault h) held → AreWrongReplies octets settings [] Whole → IsVerdict octets settings (Yes (counts_of format settings h))
 counted_behind format octets settings records h [] splits wrong waits whole =
     record { format = format; records = records; history = h; is_transcript = splits; all_right = none_wrong format settings h wrong; counts_are = refl }
 counted_behind format octets settings records h (b ∷ held) splits wrong waits whole =
     absurd (torn_is_whole (next_position h) (one_list octets settings [] [] (Broken (next_position h) fault.Torn) Whole (torn_behind format octets settings records h b held [] splits wrong waits) whole).1)
 
 -- it is what their yes says
-pub counted_whole : (octets : List ℕ) (settings : Settings) (h : List Item) (counts : Counts) → IsSurveyOf octets settings h [] Whole → counts ≡ counts_of h → IsVerdict octets settings (Yes counts)
+pub counted_whole : (octets : List ℕ) (settings : Settings) (h : List Item) (counts : Counts) → IsSurveyOf octets settings h [] Whole → AreCounted octets settings h counts
+    → IsVerdict octets settings (Yes counts)
 counted_whole octets settings h counts is counts-are =
     let w = is.wrong in
     let items = is.items in
@@ -284,19 +304,22 @@ counted_whole octets settings h counts is counts-are =
       history = w.history;
       is_transcript = w.is_transcript;
       all_right = none_wrong w.format settings w.history w.are_wrong;
-      counts_are = counts-are ∙ sym (ap counts_of one.1);
+      counts_are = counts-are.read w.format w.records [] (subst (λ (g : List Item). Splits w.format octets w.records g []) one.1 w.is_transcript)
+          ∙ sym (ap (counts_of w.format settings) one.1);
     }
 
 pub counted : (r : RecordReader) (octets : List ℕ) (settings : Settings) (records : List Record) (h : List Item) (counts : Counts) → Agrees r octets records h
-    → AreWrong (format_read r) settings h [] → Waits r h → counts ≡ counts_of h → AreWrongReplies octets settings [] Whole → IsVerdict octets settings (Yes counts)
-counted r octets settings records h counts agrees wrong waits counts-are whole =
-    subst (λ (c : Counts). IsVerdict octets settings (Yes c)) (sym counts-are) (go r.format agrees.reads wrong waits)
+    → AreWrong (format_read r) settings h [] → Waits r h → ((k : Format) → MayBeOf (format_read r) k → counts ≡ counts_of k settings h) → AreWrongReplies octets settings [] Whole
+    → IsVerdict octets settings (Yes counts)
+counted r octets settings records h counts agrees wrong waits counts-are whole = go r.format agrees.reads wrong waits counts-are
   where
-    go : (o : Option Format) → ReadsTo o octets records h r.held → AreWrong o settings h [] → WaitsBy o h r.held → IsVerdict octets settings (Yes (counts_of h))
-    go None reads wrong waits =
+    go : (o : Option Format) → ReadsTo o octets records h r.held → AreWrong o settings h [] → WaitsBy o h r.held → ((k : Format) → MayBeOf o k → counts ≡ counts_of k settings h)
+        → IsVerdict octets settings (Yes counts)
+    go None reads wrong waits are =
         absurd (torn_is_whole 0
         (one_list octets settings [] [] (Broken 0 fault.Torn) Whole (inl (refl, inr (subst (λ (o : List ℕ). IsUnfinishedOpening o) (sym reads.1.1) waits, refl), refl)) whole).1)
-    go (Some format) reads wrong waits = counted_behind format octets settings records h r.held reads (wrong format refl) waits whole
+    go (Some format) reads wrong waits are =
+        subst (λ (c : Counts). IsVerdict octets settings (Yes c)) (sym (are format refl)) (counted_behind format octets settings records h r.held reads (wrong format refl) waits whole)
 
 pub open_counts : {I : Type 0} (seen : I → Seen) (reach : Reach I) (settings : Settings) (octets : List ℕ) (h : List Item) (judge : Judge I) → reach ≡ Open judge
     → SurveysBy seen reach settings octets h [] → AreWrongReplies octets settings [] Whole → IsVerdict octets settings (Yes judge.counts)

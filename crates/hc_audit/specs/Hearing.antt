@@ -2,6 +2,7 @@
 use Rattle.std.specs.Prelude.{◌≡◌, List, IsSome}
 use Rattle.hc_transcript.specs.Items.{Item, ClientReply, item_of}
 use Rattle.hc_transcript.specs.History.{next_position, exchange_of}
+use Rattle.hc_history.specs.Marks.{mark_to}
 use Rattle.hc_history.specs.Right.{IsFinding}
 use Rattle.hc_history.specs.Seen.{Seen, IsSeenAs}
 use Rattle.hc_audit.specs.declared.witness.JudgedReply.{JudgedReply}
@@ -15,11 +16,12 @@ abbrev pub item_passed : {I : Type 0} → PassedRecord I → Item
 item_passed passed = item_of passed.item.now
 
 module _ {I : Type 0} (seen : I → Seen) where
-  -- the reply stands behind these items: its position is the next one, its index knows them, its exchange is open, and by the settings that is found of it
+  -- the reply stands behind these items: its position is the next one, its index knows them, its exchange is open, and by the settings it has that mark, and that is found of it
   pub record IsReplyBehind (h : List Item) (judged : JudgedReply I) : Type 0 where
     pub position : judged.position ≡ next_position h
     pub index : IsSeenAs judged.format (seen judged.index.now) h
     pub is_open : IsSome (exchange_of judged.exchange h)
+    pub mark : judged.mark ≡ mark_to judged.format judged.settings.now (exchange_of judged.exchange h) judged.reply h
     pub found : IsFinding judged.format judged.settings.now (exchange_of judged.exchange h) judged.moment judged.reply h judged.finding
 
   -- the record stands behind them: its position is the next one, and its index knows them

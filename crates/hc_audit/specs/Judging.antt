@@ -15,7 +15,6 @@ use Rattle.hc_history.specs.declared.verdicts.Finding.{Finding}
 use Rattle.hc_history.specs.declared.verdicts.Finding.TheVariants as finding
 use Rattle.hc_history.specs.declared.verdicts.Verdict.{Verdict}
 use Rattle.hc_history.specs.Counting.{AreAtMost, counts_of}
-use Rattle.hc_history.specs.Marks.{reply_mark}
 use Rattle.hc_history.specs.Right.{AllRight}
 use Rattle.hc_history.specs.Seen.{Seen, IsSeenAs}
 use Rattle.hc_audit.specs.declared.judge.Judge.{Judge}
@@ -59,7 +58,7 @@ module _ {I : Type 0} (seen : I → Seen) where
     pub records : List Record
     pub reads : Agrees j.reader octets records h
     pub index : (format : Format) → MayBeOf (format_read j.reader) format → IsSeenAs format (seen j.index) h
-    pub counts : j.counts ≡ counts_of h
+    pub counts : (format : Format) → MayBeOf (format_read j.reader) format → j.counts ≡ counts_of format settings h
     pub settings_are : j.settings ≡ settings
 
   -- its reader has read one item more, of which the index and the counts don't know yet, in a transcript of that format
@@ -71,7 +70,7 @@ module _ {I : Type 0} (seen : I → Seen) where
     pub lends : Lends j.reader item
     pub format_is : format_read j.reader ≡ Some format
     pub index : IsSeenAs format (seen j.index) h
-    pub counts : j.counts ≡ counts_of h
+    pub counts : j.counts ≡ counts_of format settings h
     pub settings_are : j.settings ≡ settings
 
   -- what the reading of the next record says
@@ -90,7 +89,7 @@ finding_told (Some reply) = reply.finding
 
 abbrev pub mark_told : {I : Type 0} → Option (JudgedReply I) → Option Mark
 mark_told None = None
-mark_told (Some reply) = Some (reply_mark reply.reply)
+mark_told (Some reply) = Some reply.mark
 
 -- ---- as long as every reply is right
 

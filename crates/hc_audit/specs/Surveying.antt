@@ -2,12 +2,16 @@
 use Rattle.std.specs.Prelude.{◌≡◌, ℕ, ◌⊎◌, List, [], ◌∷◌, ◌++◌, Option, Some, None, Result, Ok, Err}
 use Rattle.std.specs.declared.alloc.AllocError.{AllocError}
 use Rattle.hc_transcript.specs.declared.format.Format.{Format}
+use Rattle.hc_transcript.specs.declared.record.Record.{Record}
 use Rattle.hc_transcript.specs.Items.{Item}
+use Rattle.hc_transcript.specs.Transcript.{Splits}
 use Rattle.hc_transcript.specs.Reader.{Waits, format_read, unread}
 use Rattle.hc_history.specs.declared.reasons.Reason.{Reason}
 use Rattle.hc_history.specs.declared.settings.Settings.{Settings}
+use Rattle.hc_history.specs.declared.verdicts.Counts.{Counts}
 use Rattle.hc_history.specs.declared.wrong.WrongReply.{WrongReply}
 use Rattle.hc_history.specs.declared.wrong.Ending.{Ending}
+use Rattle.hc_history.specs.Counting.{counts_of, no_counts}
 use Rattle.hc_history.specs.Right.{IsRight, IsWrong}
 use Rattle.hc_history.specs.Seen.{Seen}
 use Rattle.hc_history.specs.WrongReplies.{wrong_after, AreWrongIn}
@@ -29,6 +33,11 @@ AreWrong read settings h wrongs = (format : Format) → MayBeOf read format → 
 abbrev pub GoOnBy : Format → Settings → List Item → Item → List WrongReply → List WrongReply → Type 0
 GoOnBy format settings h item old new =
     (IsRight format settings h item × (new ≡ old)) ⊎ ((why : Reason) × IsWrong format settings h item why × (new ≡ old ++ wrong_after h why ∷ []))
+
+-- so much is counted of these items of the octets, in the format in which they are read; where there are none, nothing
+pub record AreCounted (octets : List ℕ) (settings : Settings) (h : List Item) (counts : Counts) : Type 0 where
+  pub read : (format : Format) (records : List Record) (rest : List ℕ) → Splits format octets records h rest → counts ≡ counts_of format settings h
+  pub nothing : h ≡ [] → counts ≡ no_counts
 
 -- ---- a judge that goes on behind them
 

@@ -1,14 +1,15 @@
 //! The judging of a transcript, a record at a time.
 
-ghost use Rattle.std.specs.Prelude.{◌≡◌, ◌<◌, ◌≤◌, ◌++◌, ◌∷◌, ℕ, List, [], IfOk, IfSome, OnOk, Ok, None};
+ghost use Rattle.std.specs.Prelude.{◌≡◌, ◌<◌, ◌≤◌, ◌++◌, ◌∷◌, ℕ, List, [], IfOk, IfSome, IsSome, OnOk, Ok, None};
 ghost use Rattle.hc_transcript.specs.declared.format.Format.{Format};
 ghost use Rattle.hc_transcript.specs.Items.{Item, ClientReply, item_of};
 ghost use Rattle.hc_transcript.specs.Limits.{longest_unfinished};
 ghost use Rattle.hc_transcript.specs.Reader.{KeepsFormat, format_read, unread, records_read};
 ghost use Rattle.hc_history.specs.declared.settings.Settings.{Settings};
 ghost use Rattle.hc_history.specs.Counting.{AreAtMost};
-ghost use Rattle.hc_history.specs.Found.{IsFound};
-ghost use Rattle.hc_history.specs.Marks.{item_mark};
+ghost use Rattle.hc_history.specs.Found.{AnswersOpen, IsFound};
+ghost use Rattle.hc_transcript.specs.History.{exchange_of};
+ghost use Rattle.hc_history.specs.Marks.{item_mark, mark_to};
 ghost use Rattle.hc_history.specs.Seen.{IsSeenAs};
 ghost use Rattle.hc_history.specs.Verdicts.{IsVerdict};
 
@@ -121,7 +122,8 @@ impl<I: Index + Drop> Judge<I> {
         ensures position { IfOk result (λ judged. IfSome judged (λ reply. reply.position ≡ records_read self.now.reader)) }
         ensures finding { (h : List Item) → IsSeenAs format (I.seen self.now.index) h
             → IfOk result (λ judged. IsFound format self.now.settings h (item_of item.now) (finding_told judged)) }
-        ensures mark { IfOk result (λ judged. mark_told judged ≡ item_mark (item_of item.now)) }
+        ensures mark { (h : List Item) → IsSeenAs format (I.seen self.now.index) h → AnswersOpen h (item_of item.now)
+            → IfOk result (λ judged. mark_told judged ≡ item_mark format self.now.settings h (item_of item.now)) }
         ensures reply { IfOk result (λ judged. IfSome judged (λ reply. item_of item.now ≡ ClientReply reply.exchange reply.moment reply.reply)) }
         ensures known { IfOk result (λ judged. IfSome judged (λ reply.
             (reply.format ≡ format) × (reply.settings.now ≡ self.now.settings) × (reply.index.now ≡ self.now.index))) }
@@ -130,26 +132,41 @@ impl<I: Index + Drop> Judge<I> {
             return Ok(None);
         };
         let reply = MarkedReply::read(self.alloc, reply)?;
+        let settings = &self.settings;
         let finding = self
             .index
-            .find(item.number, &reply, item.moment, &self.settings, format)?;
+            .find(item.number, &reply, item.moment, settings, format)?;
+        let mark = self.mark_of(item.number, &reply, format);
         Ok(Some(JudgedReply {
             position: self.reader.records(),
             exchange: item.number,
             moment: item.moment,
             format,
             reply,
+            mark,
             finding,
-            settings: &self.settings,
+            settings,
             index: &self.index,
         }))
+    }
+
+    /// The mark by which a reply to the open exchange of that number is judged and counted.
+    fn mark_of(&self, exchange: u64, reply: &MarkedReply<'_>, format: Format) -> Mark
+        ensures { (h : List Item) → IsSeenAs format (I.seen self.now.index) h → IsSome (exchange_of exchange h)
+            → result ≡ mark_to format self.now.settings (exchange_of exchange h) reply.now h }
+    {
+        let allowed = &self.settings.allowed;
+        if !allowed.inferred_marks {
+            return reply.mark();
+        }
+        reply.mark_by(format, allowed, self.index.has_forward(exchange))
     }
 
     /// Counts the record that was read last, and notes it in the index. It has that mark, if it is a reply.
     pub(crate) fn note(&mut self, format: Format, mark: Option<Mark>) -> Result<(), AllocError>
         requires { LendsNext self.old }
         ensures read { (settings : Settings) (octets : List ℕ) (h : List Item) (ahead : IsAhead I.seen self.old settings octets h format)
-            → mark ≡ item_mark ahead.item → OnOk result (HasRead I.seen self.new settings octets (ahead.item ∷ h)) }
+            → mark ≡ item_mark format settings h ahead.item → OnOk result (HasRead I.seen self.new settings octets (ahead.item ∷ h)) }
         ensures unread { unread self.new.reader ≡ unread self.old.reader }
         ensures format { format_read self.new.reader ≡ format_read self.old.reader }
     {
@@ -212,12 +229,13 @@ impl<I: Index + Drop> Judge<I> {
     fn found(&self, item: &OwnedItem, format: Format) -> Result<(Finding, Option<Mark>), AllocError>
         ensures finding { (h : List Item) → IsSeenAs format (I.seen self.now.index) h
             → IfOk result (λ found. IsFound format self.now.settings h (item_of item.now) found.0) }
-        ensures mark { IfOk result (λ found. found.1 ≡ item_mark (item_of item.now)) }
+        ensures mark { (h : List Item) → IsSeenAs format (I.seen self.now.index) h → AnswersOpen h (item_of item.now)
+            → IfOk result (λ found. found.1 ≡ item_mark format self.now.settings h (item_of item.now)) }
     {
         let Some(judged) = self.judged(item, format)? else {
             return Ok((Finding::Right, None));
         };
-        Ok((judged.finding, Some(judged.reply.mark())))
+        Ok((judged.finding, Some(judged.mark)))
     }
 
     /// The verdict where the octets end.

@@ -14,8 +14,8 @@ mod witness;
 pub use auditor::Auditor;
 pub use fault::AuditFault;
 pub use hc_history::{
-    Counts, Ending, FieldNames, Finding, Mark, MarkedReply, Reason, Settings, UnmarkedReplies,
-    Verdict, WrongReply,
+    Allowed, Counts, Ending, FieldNames, Finding, Mark, MarkedReply, Reason, Settings,
+    UnmarkedReplies, Verdict, WrongReply,
 };
 pub use hc_index::Index;
 pub use hc_transcript::{Format, RecordFault};

@@ -8,7 +8,6 @@ ghost use Rattle.hc_transcript.specs.Limits.{longest_unfinished};
 ghost use Rattle.hc_history.specs.declared.settings.Settings.{Settings};
 ghost use Rattle.hc_history.specs.declared.wrong.WrongReply.{WrongReply};
 ghost use Rattle.hc_history.specs.declared.wrong.Ending.{Ending};
-ghost use Rattle.hc_history.specs.Counting.{counts_of};
 ghost use Rattle.hc_history.specs.Seen.{IsSeenAs};
 ghost use Rattle.hc_history.specs.Verdicts.{IsVerdict};
 ghost use Rattle.hc_history.specs.WrongReplies.{AreWrongReplies};
@@ -42,7 +41,7 @@ pub struct Survey<I> {
 }
 
 impl<I: Index + Drop> Survey<I> {
-    ghost use Rattle.hc_audit.specs.Surveying.{Surveys, HasFailed, ended, rest};
+    ghost use Rattle.hc_audit.specs.Surveying.{AreCounted, Surveys, HasFailed, ended, rest};
 
     /// A survey that was fed nothing. `index` is to know of nothing yet.
     pub fn new(alloc: Global, index: I, settings: Settings) -> Self
@@ -116,7 +115,7 @@ impl<I: Index + Drop> Survey<I> {
     /// them, or a fault was answered.
     pub fn counts(&self) -> Option<Counts>
         ensures counted { (settings : Settings) (octets : List ℕ) (h : List Item) (wrongs : List WrongReply) → Surveys I.seen self.now settings octets h wrongs
-            → IfSome result (λ counts. counts ≡ counts_of h) }
+            → IfSome result (AreCounted octets settings h) }
         // So it is what their yes says, where the octets are whole and no reply is wrong.
         ensures yes { (settings : Settings) (octets : List ℕ) (h : List Item) → Surveys I.seen self.now settings octets h []
             → AreWrongReplies octets settings [] Ending.Whole → IfSome result (λ counts. IsVerdict octets settings (Verdict.Yes counts)) }

@@ -84,14 +84,15 @@ impl<I: Index + Drop> Judge<I> {
         ensures heard { (h : List Item) → IsSeenAs format (I.seen self.now.index) h → records_read self.now.reader ≡ next_position h
             → AnswersOpen h (item_of item.now)
             → W.hears witness.old h → OnOk result (W.hears witness.new (item_of item.now ∷ h)) }
-        ensures mark { IfOk result (λ mark. mark ≡ item_mark (item_of item.now)) }
+        ensures mark { (h : List Item) → IsSeenAs format (I.seen self.now.index) h → AnswersOpen h (item_of item.now)
+            → IfOk result (λ mark. mark ≡ item_mark format self.now.settings h (item_of item.now)) }
     {
         let Some(judged) = self.judged(item, format)? else {
             witness.pass(&self.passed(item, format))?;
             return Ok(None);
         };
         witness.see(&judged)?;
-        Ok(Some(judged.reply.mark()))
+        Ok(Some(judged.mark))
     }
 
     /// How the octets end.

@@ -6,7 +6,7 @@ ghost use Rattle.hc_history.specs.declared.wrong.WrongReply.{WrongReply};
 ghost use Rattle.hc_audit.specs.Hearing.{IsRecordBehind, IsReplyBehind, item_judged, item_passed};
 ghost use Rattle.hc_audit.specs.Told.{wrong_of};
 
-use hc_history::{Candidate, Finding, MarkedReply, ReplyClaim, Settings};
+use hc_history::{Candidate, Finding, Mark, MarkedReply, ReplyClaim, Settings};
 use hc_index::Index;
 use hc_transcript::{Format, OwnedItem};
 use std::alloc::AllocError;
@@ -22,8 +22,10 @@ pub struct JudgedReply<'a, I> {
     pub moment: u64,
     /// The format of the transcript.
     pub format: Format,
-    /// The reply, with its mark.
+    /// The reply, with what it says of itself.
     pub reply: MarkedReply<'a>,
+    /// The mark by which it is judged and counted: its own, or the one that is inferred.
+    pub mark: Mark,
     /// That it is right, or why it is wrong.
     pub finding: Finding,
     /// What the survey was asked to let pass.

@@ -4,6 +4,7 @@ use Rattle.hc_history.specs.declared.settings.Settings.{Settings}
 use Rattle.hc_history.specs.declared.settings.UnmarkedReplies.TheVariants.{Allow}
 use Rattle.hc_history.specs.declared.verdicts.Counts.{Counts}
 use Rattle.hc_history.specs.declared.verdicts.Verdict.TheVariants.{Yes}
+use Rattle.hc_history.specs.Allowed.{nothing_allowed}
 use Rattle.hc_history.specs.Verdicts.{IsVerdict}
 use Rattle.hc_bench.specs.declared.rate.Rate.{Rate}
 use Rattle.hc_bench.specs.declared.trouble.Trouble.{Trouble}
@@ -11,7 +12,7 @@ use Rattle.hc_bench.specs.declared.trouble.Trouble.TheVariants.{Memory, Device, 
 
 -- the settings of an audit that lets nothing pass but replies without a mark
 abbrev pub plain : Settings
-plain = record { slack = 0; ignored = []; unmarked = Allow }
+plain = record { slack = 0; ignored = []; unmarked = Allow; allowed = nothing_allowed }
 
 -- the verdict on the octets is yes, with so many records
 pub record AreRight (octets : List ℕ) (records : ℕ) : Type 0 where

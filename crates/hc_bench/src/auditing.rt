@@ -6,7 +6,9 @@ ghost use Rattle.hc_audit.specs.Agreement.{Agrees};
 ghost use Rattle.hc_bench.specs.Auditing.{AuditsTo, plain};
 
 use crate::trouble::Trouble;
-use hc_audit::{AuditFault, Auditor, FieldNames, Index, Settings, UnmarkedReplies, Verdict};
+use hc_audit::{
+    Allowed, AuditFault, Auditor, FieldNames, Index, Settings, UnmarkedReplies, Verdict,
+};
 use hc_index::MapIndex;
 use std::alloc::Global;
 
@@ -35,6 +37,7 @@ fn verdict(alloc: Global, octets: &[u8]) -> Result<Verdict, Trouble>
         slack: 0,
         ignored: FieldNames::new(alloc),
         unmarked: UnmarkedReplies::Allow,
+        allowed: Allowed::nothing(alloc),
     };
     let mut auditor = Auditor::new(alloc, MapIndex::new(alloc), settings);
     feed_all(&mut auditor, octets)?;

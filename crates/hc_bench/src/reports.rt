@@ -6,7 +6,7 @@ use crate::lines::report_line;
 use crate::print::printed;
 use crate::rate::Rate;
 use crate::trouble::Trouble;
-use hc_audit::{AuditFault, Ending, FieldNames, Settings, Survey, UnmarkedReplies};
+use hc_audit::{Allowed, AuditFault, Ending, FieldNames, Settings, Survey, UnmarkedReplies};
 use hc_index::{Index, MapIndex};
 use hc_report::Report;
 use hc_transcript::Format;
@@ -110,6 +110,7 @@ fn settings(alloc: Global) -> Settings {
         slack: 0,
         ignored: FieldNames::new(alloc),
         unmarked: UnmarkedReplies::Allow,
+        allowed: Allowed::nothing(alloc),
     }
 }
 

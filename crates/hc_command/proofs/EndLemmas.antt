@@ -18,8 +18,8 @@ explained_with_3 (Some place) status old new faults_old faults_new is = inl is
 
 pub fails_with_3 : (task : Task) (status : ℕ) (old new faults_old faults_new : Option (List ℕ)) → status ≡ 3 → Keeps old new
     → Does task status old new faults_old faults_new
-fails_with_3 (ToAudit file settings) status old new faults_old faults_new is kept = inl is
-fails_with_3 (ToReport file settings json) status old new faults_old faults_new is kept = inl is
+fails_with_3 (ToAudit file terms) status old new faults_old faults_new is kept = inl is
+fails_with_3 (ToReport file terms json) status old new faults_old faults_new is kept = inl is
 fails_with_3 (ToExplain file position settings) status old new faults_old faults_new is kept = explained_with_3 position status old new faults_old faults_new is
 fails_with_3 (ToReplay file) status old new faults_old faults_new is kept = inl is
 fails_with_3 (ToConvert file) status old new faults_old faults_new is kept = inl is
@@ -29,8 +29,8 @@ fails_with_3 (ToProxy listen origin file terms limits settings) status old new f
 -- and what is answered to a task is how the program ends
 pub does_ends : (task : Task) (status : ℕ) (old new faults_old faults_new : Option (List ℕ)) → Does task status old new faults_old faults_new
     → Ends status old new faults_old faults_new
-does_ends (ToAudit file settings) status old new faults_old faults_new does = inl does
-does_ends (ToReport file settings json) status old new faults_old faults_new does = inr (inl (json, does))
+does_ends (ToAudit file terms) status old new faults_old faults_new does = inl (terms.minimums, does)
+does_ends (ToReport file terms json) status old new faults_old faults_new does = inr (inl (json, terms.minimums, does))
 does_ends (ToExplain file position settings) status old new faults_old faults_new does = inr (inr (inl (position, does)))
 does_ends (ToReplay file) status old new faults_old faults_new does = inr (inr (inr (inl does)))
 does_ends (ToConvert file) status old new faults_old faults_new does = inr (inr (inr (inr (inl does))))

@@ -1,5 +1,5 @@
 -- What a survey of what was read says of all octets of an input, and what is said of it.
-use Rattle.std.proofs.Common.{◌≡◌, ◌⊎◌, inl, inr, ℕ, List, [], ◌∷◌, ◌++◌, Option, None, Some, IfSome, append-nil, append_assoc, refl, rules, subst, sym}
+use Rattle.std.proofs.Common.{◌≡◌, ◌⊎◌, inl, inr, ℕ, Bool, true, false, List, [], ◌∷◌, ◌++◌, Option, None, Some, IfSome, append-nil, append_assoc, refl, rules, subst, sym}
 use Rattle.std.specs.Prelude.{slice_get, IsSome}
 use Rattle.std.specs.Io.KnownBytes.{Consumes, IsAtEnd, Keeps}
 use Rattle.std.proofs.KnownBytes.{Consumes-trans}
@@ -25,7 +25,8 @@ use Rattle.hc_command.proofs.AuditLemmas.{at_end, before_end}
 use Rattle.hc_command.specs.declared.surveying.Heard.{Heard}
 use Rattle.hc_command.specs.declared.surveying.Outcome.{Outcome}
 use Rattle.hc_command.specs.declared.surveying.Outcome.TheVariants.{Whole, Broken}
-use Rattle.hc_command.specs.Report.{ExplainsAt, FeedsPieceOfSurvey, FeedsSurvey, IsSurveyed, SurveysFor, WritesIfSome, ending_of, settled_of}
+use Rattle.hc_command.specs.Line.{status_of}
+use Rattle.hc_command.specs.Report.{ExplainsAt, FeedsPieceOfSurvey, FeedsSurvey, IsSurveyed, SaysOf, SurveysFor, WritesIfSome, ending_of, settled_of}
 
 -- ---- what was fed
 
@@ -213,3 +214,10 @@ explains_so place status old new faults says = inr (inr (says, keeps_same faults
 pub explains_nothing : (place status : ℕ) (old new faults_old faults_new : Option (List ℕ)) → status ≡ 64 → WritesIfSome place None old new
     → ExplainsAt place status old new faults_old faults_new
 explains_nothing place status old new faults_old faults_new is kept = inr (inl (is, kept))
+
+-- ---- what is said
+
+-- what is said of a verdict is said with its own status
+pub says_own : (json : Bool) (verdict : Verdict) (status : ℕ) (old new : Option (List ℕ)) → SaysOf json verdict status old new → SaysOf json verdict (status_of verdict) old new
+says_own true verdict status old new s = record { text = s.text; has_status = refl; written = s.written }
+says_own false verdict status old new s = record { line = s.line; more = s.more; has_status = refl; is_line = s.is_line; written = s.written }

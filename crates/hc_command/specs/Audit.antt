@@ -1,6 +1,6 @@
 -- What an audit leaves on its two writers.
 use Rattle.std.specs.Prelude.{◌≡◌, ◌⊎◌, ℕ, List, ◌++◌, Option, None, Some, IfSome}
-use Rattle.std.specs.Io.KnownBytes.{Appends, Consumes, IsAtEnd, Keeps}
+use Rattle.std.specs.Io.KnownBytes.{Appends, Consumes, IsAtEnd}
 use Rattle.hc_history.specs.declared.settings.Settings.{Settings}
 use Rattle.hc_history.specs.declared.verdicts.Verdict.{Verdict}
 use Rattle.hc_history.specs.Verdicts.{IsVerdict}
@@ -8,9 +8,11 @@ use Rattle.hc_history.specs.Seen.{Seen}
 use Rattle.hc_audit.specs.declared.auditor.Auditor.{Auditor}
 use Rattle.hc_audit.specs.Agreement.{Agrees}
 use Rattle.hc_audit.specs.Standing.{Stands}
+use Rattle.hc_arguments.specs.declared.order.Minimums.{Minimums}
 use Rattle.hc_command.specs.declared.auditing.Fed.{Fed}
 use Rattle.hc_command.specs.declared.auditing.Fed.TheVariants.{More, End, Settled}
 use Rattle.hc_command.specs.Line.{IsVerdictLine, status_of}
+use Rattle.hc_command.specs.Minimums.{EndsBy}
 
 -- ---- how far the input is read
 
@@ -37,29 +39,21 @@ pub record SaysLine (verdict : Verdict) (status : ℕ) (old new : Option (List �
   pub is_line : IsVerdictLine verdict line
   pub written : Appends old new line
 
--- the writer got the line of the verdict on all octets that the input had, where these are known
-pub record SaysVerdict (settings : Settings) (input left : Option (List ℕ)) (status : ℕ) (old new : Option (List ℕ)) : Type 0 where
-  pub verdict : Verdict
+-- the verdict is that on all octets that the input had, where these are known, and the writer got its line
+pub record SaysVerdict (settings : Settings) (verdict : Verdict) (input left old new : Option (List ℕ)) : Type 0 where
   pub is : IfSome input (λ octets. IsVerdict octets settings verdict)
   pub concluded : IsConcluded settings verdict input left
-  pub says : SaysLine verdict status old new
+  pub says : SaysLine verdict (status_of verdict) old new
 
--- an audit with those settings says a verdict on the output and leaves the faults as they were; where there is none, the status is 3
-abbrev pub AnswersFor : Settings → Option (List ℕ) → Option (List ℕ) → ℕ → Option (List ℕ) → Option (List ℕ) → Option (List ℕ) → Option (List ℕ) → Type 0
-AnswersFor settings input left status old new faults_old faults_new =
-    (status ≡ 3) ⊎ (SaysVerdict settings input left status old new × Keeps faults_old faults_new)
-
--- ---- where the input isn't known
-
--- the writer got the line of some verdict, and nothing else, and this is its status
-pub record SaysSome (status : ℕ) (old new : Option (List ℕ)) : Type 0 where
-  pub verdict : Verdict
-  pub says : SaysLine verdict status old new
+-- an audit on those terms says a verdict on the output, and ends by it; where there is none, the status is 3
+abbrev pub AnswersFor : Settings → Minimums → Option (List ℕ) → Option (List ℕ) → ℕ → Option (List ℕ) → Option (List ℕ) → Option (List ℕ) → Option (List ℕ) → Type 0
+AnswersFor settings least input left status old new faults_old faults_new =
+    (status ≡ 3) ⊎ ((verdict : Verdict) × SaysVerdict settings verdict input left old new × EndsBy least verdict status faults_old faults_new)
 
 -- the same of an input that isn't known
-abbrev pub Answers : ℕ → Option (List ℕ) → Option (List ℕ) → Option (List ℕ) → Option (List ℕ) → Type 0
-Answers status old new faults_old faults_new =
-    (status ≡ 3) ⊎ (SaysSome status old new × Keeps faults_old faults_new)
+abbrev pub Answers : Minimums → ℕ → Option (List ℕ) → Option (List ℕ) → Option (List ℕ) → Option (List ℕ) → Type 0
+Answers least status old new faults_old faults_new =
+    (status ≡ 3) ⊎ ((verdict : Verdict) × SaysLine verdict (status_of verdict) old new × EndsBy least verdict status faults_old faults_new)
 
 -- ---- what private functions promise
 

@@ -1,7 +1,9 @@
 pub mod Audit
 pub mod Ends
 pub mod Line
+pub mod Minimums
 pub mod Replay
 pub mod Report
+pub mod Reporting
 pub mod Convert
 pub mod Trouble

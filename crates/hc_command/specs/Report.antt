@@ -11,12 +11,11 @@ use Rattle.hc_history.specs.declared.verdicts.Verdict.TheVariants.{Malformed}
 use Rattle.hc_history.specs.declared.wrong.WrongReply.{WrongReply}
 use Rattle.hc_history.specs.declared.wrong.Ending.{Ending}
 use Rattle.hc_history.specs.declared.wrong.Ending.TheVariants as ending
-use Rattle.hc_history.specs.Counting.{counts_of}
 use Rattle.hc_history.specs.Seen.{Seen}
 use Rattle.hc_history.specs.Verdicts.{IsVerdict}
 use Rattle.hc_audit.specs.declared.survey.Survey.{Survey}
 use Rattle.hc_audit.specs.Endings.{EndsSo, IsSurveyOf}
-use Rattle.hc_audit.specs.Surveying.{Surveys}
+use Rattle.hc_audit.specs.Surveying.{AreCounted, Surveys}
 use Rattle.hc_explain.specs.Heads.{IsHead}
 use Rattle.hc_command.specs.declared.surveying.Outcome.{Outcome}
 use Rattle.hc_command.specs.declared.surveying.Outcome.TheVariants.{Whole, Broken}
@@ -33,14 +32,14 @@ ending_of (Whole counts) = ending.Whole
 ending_of (Broken position fault) = ending.Broken position fault
 
 -- where the octets are whole, what is counted is that of their items, right or wrong
-abbrev pub CountsAll : List Item → Outcome → Type 0
-CountsAll h (Whole counts) = counts ≡ counts_of h
-CountsAll h (Broken position fault) = Unit {0}
+abbrev pub CountsAll : List ℕ → Settings → List Item → Outcome → Type 0
+CountsAll octets settings h (Whole counts) = AreCounted octets settings h counts
+CountsAll octets settings h (Broken position fault) = Unit {0}
 
 -- these are all items and all wrong replies of the octets, which end so
 pub record IsSurveyed (octets : List ℕ) (settings : Settings) (h : List Item) (wrongs : List WrongReply) (outcome : Outcome) : Type 0 where
   pub is : IsSurveyOf octets settings h wrongs (ending_of outcome)
-  pub counted : CountsAll h outcome
+  pub counted : CountsAll octets settings h outcome
 
 -- ---- what a survey of an input tells
 

@@ -9,8 +9,10 @@ ghost use Rattle.hc_command.specs.Line.{status_of};
 ghost use Rattle.hc_command.specs.Trouble.{is_of_output};
 
 use crate::line::verdict_line;
+use crate::minimums::ended;
 use crate::print::printed;
 use crate::trouble::Trouble;
+use hc_arguments::AuditTerms;
 use hc_audit::{AuditFault, Auditor};
 use hc_history::{Settings, Verdict};
 use hc_index::{Index, MapIndex};
@@ -28,12 +30,13 @@ pub const READS: u64 = 4_294_967_296;
 /// the exit status. `name` is what the input is called where it fails.
 ///
 /// A verdict is one line on `output`, and the status is 0 for a transcript that is right, 1 for one with
-/// a wrong reply and 2 for one that is malformed. Where there is none, by a read or a write that fails
-/// or by memory, the status is 3, and one line on `faults` says why. A write to `faults` that fails is
-/// passed over.
+/// a wrong reply and 2 for one that is malformed. Where it is right and fewer replies were judged than the
+/// terms want, `faults` gets a line for each number of them that is too small, and the status is 4. Where
+/// there is no verdict, by a read or a write that fails or by memory, the status is 3, and one line on
+/// `faults` says why; a write of that line that fails is passed over.
 pub fn audit<R: Read, W: Write, E: Write>(
     alloc: Global,
-    settings: Settings,
+    terms: AuditTerms,
     name: &str,
     input: &mut R,
     output: &mut W,
@@ -41,27 +44,28 @@ pub fn audit<R: Read, W: Write, E: Write>(
 ) -> u8
     // A verdict is that of all octets that the reader had, where they are known, also where some of them
     // are left.
-    ensures answers { AnswersFor settings (R.remaining input.old) (R.remaining input.new) result
+    ensures answers { AnswersFor terms.settings terms.minimums (R.remaining input.old) (R.remaining input.new) result
         (W.contents output.old) (W.contents output.new) (E.contents faults.old) (E.contents faults.new) }
 
     // Nothing is written on the output before the input's end, or before a verdict stands.
-    ensures late { IsReadUp settings (R.remaining input.old) (R.remaining input.new)
+    ensures late { IsReadUp terms.settings (R.remaining input.old) (R.remaining input.new)
         ⊎ Keeps (W.contents output.old) (W.contents output.new) }
 {
+    let AuditTerms { settings, minimums } = terms;
     match concluded(alloc, settings, input, output) {
-        Ok(status) => status,
+        Ok(verdict) => ended(alloc, minimums, &verdict, faults),
         Err(trouble) => trouble.told(name, faults),
     }
 }
 
-// Says the verdict on what `input` gives, and answers its status.
+// Says the verdict on what `input` gives, which is the answer.
 fn concluded<R: Read, W: Write>(
     alloc: Global,
     settings: Settings,
     input: &mut R,
     output: &mut W,
-) -> Result<u8, Trouble>
-    ensures ok { IfOk result (λ status. SaysVerdict settings (R.remaining input.old) (R.remaining input.new) status
+) -> Result<Verdict, Trouble>
+    ensures ok { IfOk result (λ verdict. SaysVerdict settings verdict (R.remaining input.old) (R.remaining input.new)
         (W.contents output.old) (W.contents output.new)) }
     ensures late { IsReadUp settings (R.remaining input.old) (R.remaining input.new)
         ⊎ Keeps (W.contents output.old) (W.contents output.new) }
@@ -69,7 +73,8 @@ fn concluded<R: Read, W: Write>(
         → Keeps (W.contents output.old) (W.contents output.new)) }
 {
     let verdict = judged(alloc, settings, input)?;
-    said(alloc, &verdict, output)
+    said(alloc, &verdict, output)?;
+    Ok(verdict)
 }
 
 // The verdict on what `input` gives.

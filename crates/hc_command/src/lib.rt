@@ -8,6 +8,7 @@ mod converting;
 mod explaining;
 mod input;
 mod line;
+mod minimums;
 mod print;
 mod replaying;
 mod reporting;

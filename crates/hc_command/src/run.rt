@@ -3,12 +3,13 @@ ghost use Rattle.std.specs.Prelude.{◌≡◌, ◌⊎◌, ◌∷◌, [], ℕ, No
 ghost use Rattle.std.specs.Io.KnownBytes.{Keeps};
 ghost use Rattle.clap.specs.Words.{Text, fault_of, kind_of};
 ghost use Rattle.hc_arguments.specs.Command.{Asks, CanBeDone, IsErrorStatus, IsFileName, IsWord, Task, hcache, proxy_words, service_words, task_of};
-ghost use Rattle.hc_arguments.specs.Values.{connections_of};
+ghost use Rattle.hc_arguments.specs.Values.{connections_of, no_minimums};
 ghost use Rattle.hc_command.specs.Audit.{Answers};
 ghost use Rattle.hc_command.specs.Convert.{Converted};
 ghost use Rattle.hc_command.specs.Ends.{Does, Ends, Proxied, Served};
 ghost use Rattle.hc_command.specs.Replay.{Played};
-ghost use Rattle.hc_command.specs.Report.{Explained, Reported};
+ghost use Rattle.hc_command.specs.Report.{Explained};
+ghost use Rattle.hc_command.specs.Reporting.{ReportedBy};
 ghost use Rattle.hc_service.specs.Settings.{AreGood};
 ghost use Rattle.hc_notices.specs.Notices.{SaysSome};
 
@@ -21,7 +22,9 @@ use crate::reporting::report;
 use crate::trouble::Trouble;
 use clap::Error;
 use clap::error::ErrorKind;
-use hc_arguments::{Order, ProxyLimits, ProxyPatience, Proxying, RecordTerms, not_text, parsed};
+use hc_arguments::{
+    AuditTerms, Order, ProxyLimits, ProxyPatience, Proxying, RecordTerms, not_text, parsed,
+};
 use hc_crowd::{Limits, Patience};
 use hc_history::Settings;
 use hc_service::CoreSettings;
@@ -83,13 +86,13 @@ where
     // `audit FILE` is answered by an audit, and by no usage error.
     ensures audit { (name file : Text) → IsWord file
         → map S.text words.now ≡ name ∷ codes "audit" ∷ file ∷ []
-        → Answers result (W.contents output.old) (W.contents output.new)
+        → Answers no_minimums result (W.contents output.old) (W.contents output.new)
         (E.contents faults.old) (E.contents faults.new) }
 
     // And `report FILE` by a report in text.
     ensures report { (name file : Text) → IsWord file
         → map S.text words.now ≡ name ∷ codes "report" ∷ file ∷ []
-        → Reported false result (W.contents output.old) (W.contents output.new)
+        → ReportedBy false no_minimums result (W.contents output.old) (W.contents output.new)
         (E.contents faults.old) (E.contents faults.new) }
 
     // And `explain FILE`, where that is no standard input, by an explanation of the first wrong reply.
@@ -147,12 +150,8 @@ where
         (E.contents faults.old) (E.contents faults.new) }
 {
     match order {
-        Order::Audit { file, settings } => audited(rt, file, settings, output, faults),
-        Order::Report {
-            file,
-            settings,
-            json,
-        } => reported(rt, file, settings, json, output, faults),
+        Order::Audit { file, terms } => audited(rt, file, terms, output, faults),
+        Order::Report { file, terms, json } => reported(rt, file, terms, json, output, faults),
         Order::Explain {
             file,
             position,
@@ -183,19 +182,19 @@ where
 fn audited<R, W: Write, E: Write>(
     rt: &R,
     file: &str,
-    settings: Settings,
+    terms: AuditTerms,
     output: &mut W,
     faults: &mut E,
 ) -> u8
 where
     R: Files + Input + AllocGlobal,
-    ensures { Answers result (W.contents output.old) (W.contents output.new)
+    ensures { Answers terms.minimums result (W.contents output.old) (W.contents output.new)
         (E.contents faults.old) (E.contents faults.new) }
 {
     if file == "-" {
         return audit(
             rt.alloc(),
-            settings,
+            terms,
             "standard input",
             &mut rt.reader(),
             output,
@@ -203,7 +202,7 @@ where
         );
     }
     match fs::open(rt, file) {
-        Ok(mut opened) => audit(rt.alloc(), settings, file, &mut opened, output, faults),
+        Ok(mut opened) => audit(rt.alloc(), terms, file, &mut opened, output, faults),
         Err(error) => Trouble::Device(error).told(file, faults),
     }
 }
@@ -212,14 +211,14 @@ where
 fn reported<R, W: Write, E: Write>(
     rt: &R,
     file: &str,
-    settings: Settings,
+    terms: AuditTerms,
     json: bool,
     output: &mut W,
     faults: &mut E,
 ) -> u8
 where
     R: Files + Input + AllocGlobal,
-    ensures { Reported json result (W.contents output.old) (W.contents output.new)
+    ensures { ReportedBy json terms.minimums result (W.contents output.old) (W.contents output.new)
         (E.contents faults.old) (E.contents faults.new) }
 {
     let alloc = rt.alloc();
@@ -227,7 +226,7 @@ where
         let mut input = rt.reader();
         return report(
             alloc,
-            settings,
+            terms,
             json,
             "standard input",
             &mut input,
@@ -236,7 +235,7 @@ where
         );
     }
     match fs::open(rt, file) {
-        Ok(mut opened) => report(alloc, settings, json, file, &mut opened, output, faults),
+        Ok(mut opened) => report(alloc, terms, json, file, &mut opened, output, faults),
         Err(error) => Trouble::Device(error).told(file, faults),
     }
 }

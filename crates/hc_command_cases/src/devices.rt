@@ -1,7 +1,8 @@
 //! What the program does over devices in memory.
 
+use hc_arguments::{AuditTerms, Minimums};
 use hc_command::{audit, convert, replay};
-use hc_history::{FieldNames, Settings, UnmarkedReplies};
+use hc_history::{Allowed, FieldNames, Settings, UnmarkedReplies};
 use std::alloc::Global;
 use std::io;
 use std::io::{ErrorKind, Read, Write};
@@ -29,12 +30,16 @@ pub(crate) fn done<I: Read, W: Write, E: Write>(
     }
 }
 
-// Without slack, with nothing ignored, and any reply may be unmarked.
-fn plain(alloc: Global) -> Settings {
-    Settings {
-        slack: 0,
-        ignored: FieldNames::new(alloc),
-        unmarked: UnmarkedReplies::Allow,
+// Without slack, with nothing ignored, any reply may be unmarked, and any number of them suffices.
+fn plain(alloc: Global) -> AuditTerms {
+    AuditTerms {
+        settings: Settings {
+            slack: 0,
+            ignored: FieldNames::new(alloc),
+            unmarked: UnmarkedReplies::Allow,
+            allowed: Allowed::nothing(alloc),
+        },
+        minimums: Minimums { hits: 0, judged: 0 },
     }
 }
 

@@ -1,7 +1,9 @@
 //! What words ask for.
 
 use crate::words::words_of;
-use hc_arguments::{Order, ProxyLimits, ProxyPatience, Proxying, RecordTerms, parsed};
+use hc_arguments::{
+    AuditTerms, Minimums, Order, ProxyLimits, ProxyPatience, Proxying, RecordTerms, parsed,
+};
 use hc_cases::{Unanswered, show_short};
 use hc_history::{Settings, UnmarkedReplies};
 use hc_service::CoreSettings;
@@ -24,18 +26,14 @@ pub(crate) fn say_order(
 
 fn write_order(order: &Order<'_>, out: &mut String) -> Result<(), AllocError> {
     match order {
-        Order::Audit { file, settings } => {
+        Order::Audit { file, terms } => {
             write!(out, "to audit {file}")?;
-            write_settings(settings, out)
+            write_terms_of_audit(terms, out)
         }
-        Order::Report {
-            file,
-            settings,
-            json,
-        } => {
+        Order::Report { file, terms, json } => {
             let form = if *json { "in JSON" } else { "in text" };
             write!(out, "to report on {file} {form}")?;
-            write_settings(settings, out)
+            write_terms_of_audit(terms, out)
         }
         Order::Explain {
             file,
@@ -138,6 +136,20 @@ fn write_reply(position: Option<u64>, out: &mut String) -> Result<(), AllocError
         Some(position) => write!(out, "to explain the reply at {position}"),
         None => out.push_str("to explain the first wrong reply"),
     }
+}
+
+fn write_terms_of_audit(terms: &AuditTerms, out: &mut String) -> Result<(), AllocError> {
+    write_settings(&terms.settings, out)?;
+    write_minimums(terms.minimums, out)
+}
+
+// Nothing where any number of replies suffices.
+fn write_minimums(least: Minimums, out: &mut String) -> Result<(), AllocError> {
+    let Minimums { hits, judged } = least;
+    if hits == 0 && judged == 0 {
+        return Ok(());
+    }
+    write!(out, ", with at least {hits} hits and {judged} judged")
 }
 
 // Which names are ignored other cases ask.

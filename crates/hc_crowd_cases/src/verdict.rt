@@ -1,7 +1,7 @@
 //! The audit of what was recorded.
 
 use hc_audit::{
-    AuditFault, Auditor, Counts, FieldNames, Index, Settings, UnmarkedReplies, Verdict,
+    Allowed, AuditFault, Auditor, Counts, FieldNames, Index, Settings, UnmarkedReplies, Verdict,
 };
 use hc_cases::Unanswered;
 use hc_index::MapIndex;
@@ -13,6 +13,7 @@ pub(crate) fn counts_of(alloc: Global, transcript: &[u8]) -> Result<Option<Count
         slack: 0,
         ignored: FieldNames::new(alloc),
         unmarked: UnmarkedReplies::ErrorsOnly,
+        allowed: Allowed::nothing(alloc),
     };
     let auditor = Auditor::new(alloc, MapIndex::new(alloc), settings);
     match audited(auditor, transcript) {

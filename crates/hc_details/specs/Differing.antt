@@ -1,15 +1,15 @@
 -- The fields of which a reply has other values than a stored response.
-use Rattle.std.specs.Prelude.{◌≡◌, ◌≤◌, ◌+◌, ℕ, Bool, true, ◌&&◌, ◌||◌, not, List, length}
+use Rattle.std.specs.Prelude.{◌≡◌, ◌≤◌, ◌+◌, ℕ, Bool, true, ◌&&◌, not, List, length}
 use Rattle.std.specs.List.{list_all}
 use Rattle.hc_fields.specs.Values.{has_name}
 use Rattle.hc_update.specs.declared.stored.Stored.{Stored}
 use Rattle.hc_history.specs.Claims.{Claim}
-use Rattle.hc_history.specs.Filters.{is_exempt, same_values}
+use Rattle.hc_history.specs.Allowing.{has_its_values}
 use Rattle.hc_details.specs.declared.differing.Differences.{Differences}
 
--- a name is compared, and the values are others
+-- a name is compared, and the values are others, and none that are allowed in their place
 abbrev pub differs : Claim → Stored → List ℕ → Bool
-differs claim state name = not (is_exempt claim name || same_values claim.reply.head.fields state.fields name)
+differs claim state name = not (has_its_values claim state name)
 
 -- it differs, and the reply alone has it, or hasn't it, or both have it
 abbrev pub is_added : Claim → Stored → List ℕ → Bool

@@ -52,7 +52,8 @@ fn compared_names<'a>(
     Ok(names)
 }
 
-/// The fields that are compared, and of which the reply has other values than the stored response.
+/// The fields that are compared, and of which the reply has other values than the stored response, and none that are
+/// allowed in their place.
 pub fn differences(
     alloc: Global,
     claim: &ReplyClaim<'_>,
@@ -63,7 +64,7 @@ pub fn differences(
 {
     let mut found = Differences::new(alloc);
     for name in compared_names(alloc, claim, state)?.as_slice() {
-        if differs(claim, state, name) {
+        if differs(alloc, claim, state, name)? {
             found.note(alloc, claim, state, name)?;
         }
     }

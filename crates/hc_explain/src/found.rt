@@ -24,7 +24,7 @@ pub struct Found {
     pub(crate) format: Format,
     /// What it says, and what was asked.
     pub(crate) reply: AskedReply,
-    /// What its Cache-Status says of it.
+    /// The mark by which it is judged.
     pub(crate) mark: Mark,
     /// Whether it is judged as one that waited for another request's forward.
     pub(crate) is_collapsed: bool,
@@ -71,7 +71,7 @@ impl Found {
         let Some(claim) = judged.claim() else {
             return Ok(None);
         };
-        let mark = judged.reply.mark();
+        let mark = judged.mark;
         let is_collapsed = is_collapsed(&claim, mark);
         let bound = if is_collapsed { claim.since } else { 0 };
         Ok(Some(Found {

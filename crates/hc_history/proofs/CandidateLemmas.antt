@@ -16,9 +16,11 @@ use Rattle.hc_history.specs.declared.candidates.Candidate.{Candidate}
 use Rattle.hc_history.specs.declared.kept.Kept.{Kept}
 use Rattle.hc_history.specs.States.{state_at}
 use Rattle.hc_history.specs.Claims.{Claim}
-use Rattle.hc_history.specs.Filters.{filters}
-use Rattle.hc_history.specs.Furthest.{passed, passed_by, passed_later, furthest_up_to, furthest}
-use Rattle.hc_history.specs.Reused.{anywhere, filter_count}
+use Rattle.hc_history.specs.declared.among.Among.{Among}
+use Rattle.hc_history.specs.declared.among.Among.TheVariants.{Any}
+use Rattle.hc_history.specs.Allowing.{filters}
+use Rattle.hc_history.specs.Furthest.{passed, passed_among, furthest_up_to, furthest}
+use Rattle.hc_history.specs.Reused.{filter_count, is_looked_at}
 use Rattle.hc_history.specs.Seen.{Live, remaining, live_at, live_up_to, live_of}
 use Rattle.hc_history.specs.Candidates.{IsCandidate, is_before, AreCandidates}
 use Rattle.hc_history.proofs.StateLemmas.{place_of}
@@ -300,10 +302,10 @@ of_target : (claim : Claim) (kept : Kept) (same : Bool) → same_target kept.tar
 of_target claim kept true is some = is
 of_target claim kept false is some = absurd (omega (arith, some, passed_other claim kept is))
 
-reached : (claim : Claim) (h : List Item) (cs : List Candidate) → AreCandidates claim h cs → (n : ℕ) → 1 ≤ n → n ≤ furthest anywhere claim h → n ≤ filter_count
+reached : (claim : Claim) (h : List Item) (cs : List Candidate) → AreCandidates claim h cs → (n : ℕ) → 1 ≤ n → n ≤ furthest Any claim h → n ≤ filter_count
     → Reaches n cs
 reached claim h cs are n some le few =
-    let pass = Pass-found n anywhere claim h some le in
+    let pass = Pass-found n Any claim h some le in
     let enough : n ≤ passed (filters claim pass.kept) = hold_from (filters claim pass.kept) n few pass.holds in
     let c : Candidate = record { position = pass.position; passed = passed (filters claim pass.kept) } in
     record {
@@ -317,24 +319,21 @@ reached claim h cs are n some le few =
       reaches = enough;
     }
 
-few_by : (claim : Claim) (o : Option Kept) → passed_by claim o ≤ filter_count
-few_by claim None = omega arith
-few_by claim (Some kept) = passed_few (filters claim kept)
-
-few_later : (since : ℕ) (claim : Claim) (position : ℕ) (o : Option Kept) → passed_later since claim position o ≤ filter_count
-few_later since claim position o = go (ltb since position) (few_by claim o)
+few_among : (among : Among) (claim : Claim) (position : ℕ) (o : Option Kept) → passed_among among claim position o ≤ filter_count
+few_among among claim position None = omega arith
+few_among among claim position (Some kept) = go (is_looked_at among claim position kept.state) (passed_few (filters claim kept))
   where
-    go : (later : Bool) → passed_by claim o ≤ filter_count → cond later (passed_by claim o) 0 ≤ filter_count
+    go : (one : Bool) → passed (filters claim kept) ≤ filter_count → cond one (passed (filters claim kept)) 0 ≤ filter_count
     go true few = few
     go false few = omega arith
 
-few_furthest : (since : ℕ) (claim : Claim) (n : ℕ) (h : List Item) → furthest_up_to since claim n h ≤ filter_count
-few_furthest since claim zero h = omega arith
-few_furthest since claim (suc n) h = omega (arith, few_furthest since claim n h, few_later since claim (suc n) (state_at (suc n) h))
+few_furthest : (among : Among) (claim : Claim) (n : ℕ) (h : List Item) → furthest_up_to among claim n h ≤ filter_count
+few_furthest among claim zero h = omega arith
+few_furthest among claim (suc n) h = omega (arith, few_furthest among claim n h, few_among among claim (suc n) (state_at (suc n) h))
 
-furthest_reached : (claim : Claim) (h : List Item) (cs : List Candidate) → AreCandidates claim h cs → 0 < furthest anywhere claim h → Reaches (furthest anywhere claim h) cs
+furthest_reached : (claim : Claim) (h : List Item) (cs : List Candidate) → AreCandidates claim h cs → 0 < furthest Any claim h → Reaches (furthest Any claim h) cs
 furthest_reached claim h cs are some =
-    reached claim h cs are (furthest anywhere claim h) (omega (arith, some)) (omega arith) (few_furthest anywhere claim (length h) h)
+    reached claim h cs are (furthest Any claim h) (omega (arith, some)) (omega arith) (few_furthest Any claim (length h) h)
 
 passes_no_less : (a b p q : ℕ) → (ltb b a || (eqb a b && ltb q p)) ≡ true → b ≤ a
 passes_no_less a b p q before = grind (arith, nat_tests)
@@ -348,25 +347,25 @@ first_reaches n c cs ordered r =
           omega (arith, passes_no_less c.passed r.candidate.passed c.position r.candidate.position before, r.reaches)
     ]
 
-first_at_least : (claim : Claim) (h : List Item) (c : Candidate) (cs : List Candidate) → AreCandidates claim h (c ∷ cs) → furthest anywhere claim h ≤ c.passed
+first_at_least : (claim : Claim) (h : List Item) (c : Candidate) (cs : List Candidate) → AreCandidates claim h (c ∷ cs) → furthest Any claim h ≤ c.passed
 first_at_least claim h c cs are =
-    elim (cases_lt 0 (furthest anywhere claim h)) [
-      | inl some ↦ first_reaches (furthest anywhere claim h) c cs are.in_order (furthest_reached claim h (c ∷ cs) are some)
+    elim (cases_lt 0 (furthest Any claim h)) [
+      | inl some ↦ first_reaches (furthest Any claim h) c cs are.in_order (furthest_reached claim h (c ∷ cs) are some)
       | inr none ↦ omega (arith, none)
     ]
 
-passes_at_most : (claim : Claim) (h : List Item) (c : Candidate) → IsCandidate claim h c → c.passed ≤ furthest anywhere claim h
+passes_at_most : (claim : Claim) (h : List Item) (c : Candidate) → IsCandidate claim h c → c.passed ≤ furthest Any claim h
 passes_at_most claim h c is =
     let place = place_of c.position h is.kept is.is_its_state in
-    omega (arith, is.passes, passed_up_to anywhere claim h c.position (length h) is.kept (omega (arith, place.0)) is.is_its_state place.1)
+    omega (arith, is.passes, passed_up_to Any claim h c.position (length h) is.kept refl is.is_its_state place.0 place.1)
 
-pub first_is_furthest : (claim : Claim) (h : List Item) (c : Candidate) (cs : List Candidate) → AreCandidates claim h (c ∷ cs) → c.passed ≡ furthest anywhere claim h
+pub first_is_furthest : (claim : Claim) (h : List Item) (c : Candidate) (cs : List Candidate) → AreCandidates claim h (c ∷ cs) → c.passed ≡ furthest Any claim h
 first_is_furthest claim h c cs are =
     omega (arith, passes_at_most claim h c (All-head (IsCandidate claim h) c cs are.each), first_at_least claim h c cs are)
 
-pub none_is_furthest : (claim : Claim) (h : List Item) → AreCandidates claim h [] → furthest anywhere claim h ≡ 0
+pub none_is_furthest : (claim : Claim) (h : List Item) → AreCandidates claim h [] → furthest Any claim h ≡ 0
 none_is_furthest claim h are =
-    elim (cases_lt 0 (furthest anywhere claim h)) [
+    elim (cases_lt 0 (furthest Any claim h)) [
       | inl some ↦ let r = furthest_reached claim h [] are some in absurd (contains_none r.candidate r.has)
       | inr none ↦ omega (arith, none)
     ]

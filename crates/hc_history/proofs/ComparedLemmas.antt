@@ -1,5 +1,5 @@
 -- The names that are compared are those of the reply, and then the others.
-use Rattle.std.proofs.Common.{◌≡◌, ℕ, ◌==◌, ◌||◌, ◌&&◌, ◌++◌, Bool, true, false, List, if◌then◌else◌, ap, sym, ◌∙◌}
+use Rattle.std.proofs.Common.{◌≡◌, ℕ, ◌==◌, ◌&&◌, ◌++◌, Bool, true, false, List, if◌then◌else◌, ap, sym, ◌∙◌}
 use Rattle.std.specs.List.{list_all}
 use Rattle.std.proofs.lemmas.List.Folds.{list_all-append, list_all-map}
 use Rattle.hc_fields.specs.declared.fields.Field.{Field}
@@ -7,15 +7,12 @@ use Rattle.hc_update.specs.declared.stored.Stored.{Stored}
 use Rattle.hc_history.specs.Claims.{Claim}
 use Rattle.hc_head.specs.Statuses.{not_modified}
 use Rattle.hc_rules.specs.Conditions.{repeated_names}
-use Rattle.hc_history.specs.Filters.{has_its_fields, is_exempt, names_of, same_values}
-
--- whether the reply has the values of that name, or they aren't compared
-abbrev pub has_values : Claim → Stored → List ℕ → Bool
-has_values claim state name = is_exempt claim name || same_values claim.reply.head.fields state.fields name
+use Rattle.hc_history.specs.Filters.{names_of}
+use Rattle.hc_history.specs.Allowing.{has_allowed_fields, has_its_values}
 
 -- the same of the names of lines
 abbrev pub has_lines : Claim → Stored → List Field → Bool
-has_lines claim state lines = list_all (λ (f : Field). has_values claim state f.name) lines
+has_lines claim state lines = list_all (λ (f : Field). has_its_values claim state f.name) lines
 
 -- the names besides those of the reply
 others : Claim → Stored → List (List ℕ)
@@ -27,27 +24,27 @@ lines_first p lines names =
     list_all-append p (names_of lines) names ∙ ap (λ (b : Bool). b && list_all p names) (list_all-map p (λ (f : Field). f.name) lines)
 
 in_two : (claim : Claim) (state : Stored)
-    → has_its_fields claim state ≡ (has_lines claim state claim.reply.head.fields && list_all (has_values claim state) (others claim state))
+    → has_allowed_fields claim state ≡ (has_lines claim state claim.reply.head.fields && list_all (has_its_values claim state) (others claim state))
 unfolding others
-in_two claim state = lines_first (has_values claim state) claim.reply.head.fields (others claim state)
+in_two claim state = lines_first (has_its_values claim state) claim.reply.head.fields (others claim state)
 
-pub fields_lacked : (claim : Claim) (state : Stored) → has_lines claim state claim.reply.head.fields ≡ false → false ≡ has_its_fields claim state
-fields_lacked claim state e = sym (in_two claim state ∙ ap (λ (b : Bool). b && list_all (has_values claim state) (others claim state)) e)
+pub fields_lacked : (claim : Claim) (state : Stored) → has_lines claim state claim.reply.head.fields ≡ false → false ≡ has_allowed_fields claim state
+fields_lacked claim state e = sym (in_two claim state ∙ ap (λ (b : Bool). b && list_all (has_its_values claim state) (others claim state)) e)
 
 there : (claim : Claim) (state : Stored) → has_lines claim state claim.reply.head.fields ≡ true
-    → has_its_fields claim state ≡ list_all (has_values claim state) (others claim state)
-there claim state e = in_two claim state ∙ ap (λ (b : Bool). b && list_all (has_values claim state) (others claim state)) e
+    → has_allowed_fields claim state ≡ list_all (has_its_values claim state) (others claim state)
+there claim state e = in_two claim state ∙ ap (λ (b : Bool). b && list_all (has_its_values claim state) (others claim state)) e
 
 pub fields_of_304 : (claim : Claim) (state : Stored) → has_lines claim state claim.reply.head.fields ≡ true → (claim.reply.head.status == not_modified) ≡ true
-    → list_all (has_values claim state) repeated_names ≡ has_its_fields claim state
+    → list_all (has_its_values claim state) repeated_names ≡ has_allowed_fields claim state
 unfolding others
 fields_of_304 claim state e is =
-    sym (there claim state e ∙ ap (λ (b : Bool). list_all (has_values claim state) (if b then repeated_names else names_of state.fields)) is)
+    sym (there claim state e ∙ ap (λ (b : Bool). list_all (has_its_values claim state) (if b then repeated_names else names_of state.fields)) is)
 
 pub fields_of_other : (claim : Claim) (state : Stored) → has_lines claim state claim.reply.head.fields ≡ true → (claim.reply.head.status == not_modified) ≡ false
-    → has_lines claim state state.fields ≡ has_its_fields claim state
+    → has_lines claim state state.fields ≡ has_allowed_fields claim state
 unfolding others
 fields_of_other claim state e is =
     sym (there claim state e
-    ∙ ap (λ (b : Bool). list_all (has_values claim state) (if b then repeated_names else names_of state.fields)) is
-    ∙ list_all-map (has_values claim state) (λ (f : Field). f.name) state.fields)
+    ∙ ap (λ (b : Bool). list_all (has_its_values claim state) (if b then repeated_names else names_of state.fields)) is
+    ∙ list_all-map (has_its_values claim state) (λ (f : Field). f.name) state.fields)

@@ -2,7 +2,9 @@
 use Rattle.std.proofs.Common.{ℕ, ◌+◌, ◌≤◌, List, [], ◌∷◌, length, Option, Some, None, arith}
 use Rattle.hc_status.specs.declared.marks.Mark.{Mark}
 use Rattle.hc_status.specs.declared.marks.Mark.TheVariants.{Hit, Forwarded, Both, Unmarked}
+use Rattle.hc_transcript.specs.declared.format.Format.{Format}
 use Rattle.hc_transcript.specs.Items.{Item}
+use Rattle.hc_history.specs.declared.settings.Settings.{Settings}
 use Rattle.hc_history.specs.declared.verdicts.Counts.{Counts}
 use Rattle.hc_history.specs.Counting.{AreAtMost, counts_of, marked, marked_by, one_more}
 use Rattle.hc_history.specs.Marks.{item_mark}
@@ -57,7 +59,8 @@ lift n k c a few = record {
   unmarked = omega (arith, a.unmarked, few);
 }
 
-pub at_most_items : (h : List Item) → AreAtMost (length h) (counts_of h)
-at_most_items [] = record { records = omega (arith); replies = omega (arith); hits = omega (arith); forwarded = omega (arith); unmarked = omega (arith) }
-at_most_items (item ∷ h) =
-    lift (length h + 1) (length (item ∷ h)) (counts_of (item ∷ h)) (at_most_more (length h) (item_mark item) (counts_of h) (at_most_items h)) (omega (arith))
+pub at_most_items : (format : Format) (settings : Settings) (h : List Item) → AreAtMost (length h) (counts_of format settings h)
+at_most_items format settings [] = record { records = omega (arith); replies = omega (arith); hits = omega (arith); forwarded = omega (arith); unmarked = omega (arith) }
+at_most_items format settings (item ∷ h) =
+    lift (length h + 1) (length (item ∷ h)) (counts_of format settings (item ∷ h))
+    (at_most_more (length h) (item_mark format settings h item) (counts_of format settings h) (at_most_items format settings h)) (omega (arith))

@@ -1,16 +1,19 @@
 -- How far a reply gets tells the first filter that leaves nobody.
 use Rattle.std.proofs.Common.{◌≡◌, ℕ, zero, suc, ◌+◌, ◌≤◌, ◌<◌, Bool, true, false, List, [], ◌∷◌, length, take, Option, Some, None, refl, sym, ap, subst, ◌∙◌, arith, max, ◌⊎◌, inl, inr}
+use Rattle.std.specs.Prelude.{if◌then◌else◌}
 use Rattle.std.specs.List.{list_all}
-use Rattle.std.proofs.lemmas.Bool.{cases_lt, lt-ltb, le-ltb}
+use Rattle.std.proofs.lemmas.Bool.{cases_Bool, cases_lt}
 use Rattle.hc_transcript.specs.Items.{Item}
 use Rattle.hc_history.specs.declared.reasons.Reason.{Reason}
 use Rattle.hc_history.specs.Names.{reason_number}
 use Rattle.hc_history.specs.Claims.{Claim}
 use Rattle.hc_history.specs.declared.kept.Kept.{Kept}
 use Rattle.hc_history.specs.States.{state_at}
-use Rattle.hc_history.specs.Filters.{filters}
-use Rattle.hc_history.specs.Reused.{Pass, IsFirstFailed, anywhere, filter_count}
-use Rattle.hc_history.specs.Furthest.{passed, passed_by, passed_later, furthest_up_to, furthest}
+use Rattle.hc_history.specs.declared.among.Among.{Among}
+use Rattle.hc_history.specs.declared.among.Among.TheVariants.{Any}
+use Rattle.hc_history.specs.Allowing.{filters}
+use Rattle.hc_history.specs.Reused.{Pass, IsFirstFailed, filter_count, is_looked_at}
+use Rattle.hc_history.specs.Furthest.{passed, passed_among, furthest_up_to, furthest}
 use Rattle.hc_history.proofs.StateLemmas.{place_of}
 
 -- the first n hold where n is at most the number that hold from the first on
@@ -34,64 +37,66 @@ passed_few (false ∷ tests) = omega arith
 at_most_max : (n a b : ℕ) → n ≤ max a b → (n ≤ a) ⊎ (n ≤ b)
 at_most_max n a b le = elim (cases_lt a n) [ inl lt ↦ inr (omega arith) | inr ge ↦ inl ge ]
 
-found_at : (since : ℕ) (claim : Claim) (h : List Item) (position n : ℕ) (o : Option Kept) → since < position → state_at position h ≡ o → 1 ≤ n → n ≤ passed_by claim o
-    → Pass n since claim h
-found_at since claim h position n None later is one le = absurd (omega arith)
-found_at since claim h position n (Some kept) later is one le =
-    record { position = position; kept = kept; is_later = later; is_its_state = is; holds = hold_to (filters claim kept) n le }
-
--- where somebody passes, it is later
-found_later : (since : ℕ) (claim : Claim) (h : List Item) (position n : ℕ) → 1 ≤ n → n ≤ passed_later since claim position (state_at position h) → Pass n since claim h
-found_later since claim h position n one le =
-    elim (cases_lt since position) [
-      | inl lt ↦ found_at since claim h position n (state_at position h) lt refl one (rw (lt-ltb since position lt) at le)
-      | inr ge ↦ absurd (let nobody : n ≤ 0 = rw (le-ltb since position ge) at le in omega arith)
+found_at : (among : Among) (claim : Claim) (h : List Item) (position n : ℕ) (o : Option Kept) → state_at position h ≡ o → 1 ≤ n → n ≤ passed_among among claim position o
+    → Pass n among claim h
+found_at among claim h position n None is one le = absurd (omega arith)
+found_at among claim h position n (Some kept) is one le =
+    elim (cases_Bool (is_looked_at among claim position kept.state)) [
+      | inl one_of ↦ record {
+        position = position;
+        kept = kept;
+        is_one = one_of;
+        is_its_state = is;
+        holds = hold_to (filters claim kept) n (rw one_of at le);
+      }
+      | inr none_of ↦ absurd (let nobody : n ≤ 0 = rw none_of at le in omega arith)
     ]
 
-found_up_to : (since : ℕ) (claim : Claim) (h : List Item) (m n : ℕ) → 1 ≤ n → n ≤ furthest_up_to since claim m h → Pass n since claim h
-found_up_to since claim h zero n one le = absurd (omega arith)
-found_up_to since claim h (suc m) n one le =
-    elim (at_most_max n (furthest_up_to since claim m h) (passed_later since claim (suc m) (state_at (suc m) h)) le) [
-      | inl before ↦ found_up_to since claim h m n one before
-      | inr here ↦ found_later since claim h (suc m) n one here
+found_up_to : (among : Among) (claim : Claim) (h : List Item) (m n : ℕ) → 1 ≤ n → n ≤ furthest_up_to among claim m h → Pass n among claim h
+found_up_to among claim h zero n one le = absurd (omega arith)
+found_up_to among claim h (suc m) n one le =
+    elim (at_most_max n (furthest_up_to among claim m h) (passed_among among claim (suc m) (state_at (suc m) h)) le) [
+      | inl before ↦ found_up_to among claim h m n one before
+      | inr here ↦ found_at among claim h (suc m) n (state_at (suc m) h) refl one here
     ]
 
-pub Pass-found : (n since : ℕ) (claim : Claim) (h : List Item) → 1 ≤ n → n ≤ furthest since claim h → Pass n since claim h
-Pass-found n since claim h one le = found_up_to since claim h (length h) n one le
+pub Pass-found : (n : ℕ) (among : Among) (claim : Claim) (h : List Item) → 1 ≤ n → n ≤ furthest among claim h → Pass n among claim h
+Pass-found n among claim h one le = found_up_to among claim h (length h) n one le
 
-passed_there : (since : ℕ) (claim : Claim) (position : ℕ) (o : Option Kept) (kept : Kept) → since < position → o ≡ Some kept
-    → passed_later since claim position o ≡ passed (filters claim kept)
-passed_there since claim position o kept lt is = rw (lt-ltb since position lt, is) refl
+passed_there : (among : Among) (claim : Claim) (position : ℕ) (o : Option Kept) (kept : Kept) → is_looked_at among claim position kept.state ≡ true → o ≡ Some kept
+    → passed_among among claim position o ≡ passed (filters claim kept)
+passed_there among claim position o kept one is = ap (passed_among among claim position) is ∙ ap (λ (b : Bool). if b then passed (filters claim kept) else 0) one
 
-pub passed_up_to : (since : ℕ) (claim : Claim) (h : List Item) (position m : ℕ) (kept : Kept) → since < position → state_at position h ≡ Some kept → position ≤ m
-    → passed (filters claim kept) ≤ furthest_up_to since claim m h
-passed_up_to since claim h position zero kept later is le = absurd (omega arith)
-passed_up_to since claim h position (suc m) kept later is le =
+pub passed_up_to : (among : Among) (claim : Claim) (h : List Item) (position m : ℕ) (kept : Kept) → is_looked_at among claim position kept.state ≡ true
+    → state_at position h ≡ Some kept → 1 ≤ position → position ≤ m → passed (filters claim kept) ≤ furthest_up_to among claim m h
+passed_up_to among claim h position zero kept one is some le = absurd (omega arith)
+passed_up_to among claim h position (suc m) kept one is some le =
     elim (cases_lt m position) [
       | inl last ↦
           let e : position ≡ suc m = omega arith in
-          let there = passed_there since claim (suc m) (state_at (suc m) h) kept (omega arith) (subst (λ (k : ℕ). state_at k h ≡ Some kept) e is) in
+          let there = passed_there among claim (suc m) (state_at (suc m) h) kept (subst (λ (k : ℕ). is_looked_at among claim k kept.state ≡ true) e one)
+          (subst (λ (k : ℕ). state_at k h ≡ Some kept) e is) in
           omega (arith, there)
-      | inr before ↦ omega (arith, passed_up_to since claim h position m kept later is before)
+      | inr before ↦ omega (arith, passed_up_to among claim h position m kept one is some before)
     ]
 
-pub Pass-only : (n since : ℕ) (claim : Claim) (h : List Item) → n ≤ filter_count → Pass n since claim h → n ≤ furthest since claim h
-Pass-only n since claim h few p =
+pub Pass-only : (n : ℕ) (among : Among) (claim : Claim) (h : List Item) → n ≤ filter_count → Pass n among claim h → n ≤ furthest among claim h
+Pass-only n among claim h few p =
     let place = place_of p.position h p.kept p.is_its_state in
     let passes : n ≤ passed (filters claim p.kept) = hold_from (filters claim p.kept) n few p.holds in
-    let at_most : passed (filters claim p.kept) ≤ furthest since claim h = passed_up_to since claim h p.position (length h) p.kept p.is_later p.is_its_state place.1 in
+    let at_most : passed (filters claim p.kept) ≤ furthest among claim h = passed_up_to among claim h p.position (length h) p.kept p.is_one p.is_its_state place.0 place.1 in
     omega arith
 
 -- the first filter that leaves nobody is the one behind the furthest
-pub first_failed : (claim : Claim) (h : List Item) → furthest anywhere claim h < filter_count → IsFirstFailed (furthest anywhere claim h + 1) claim h
+pub first_failed : (claim : Claim) (h : List Item) → furthest Any claim h < filter_count → IsFirstFailed (furthest Any claim h + 1) claim h
 first_failed claim h lt = record {
   is_filter = (omega arith, omega arith);
-  leaves_nobody = λ p. let le = Pass-only (furthest anywhere claim h + 1) anywhere claim h (omega arith) p in absurd (omega arith);
-  earlier = λ k one below. Pass-found k anywhere claim h one (omega arith);
+  leaves_nobody = λ p. let le = Pass-only (furthest Any claim h + 1) Any claim h (omega arith) p in absurd (omega arith);
+  earlier = λ k one below. Pass-found k Any claim h one (omega arith);
 }
 
-pub all_passed : (since : ℕ) (claim : Claim) (h : List Item) → furthest since claim h ≡ filter_count → Pass filter_count since claim h
-all_passed since claim h all = Pass-found filter_count since claim h (omega arith) (omega arith)
+pub all_passed : (among : Among) (claim : Claim) (h : List Item) → furthest among claim h ≡ filter_count → Pass filter_count among claim h
+all_passed among claim h all = Pass-found filter_count among claim h (omega arith) (omega arith)
 
 -- who passes more filters passes fewer
 take_all : (tests : List Bool) (n m : ℕ) → n ≤ m → list_all (λ b. b) (take m tests) ≡ true → list_all (λ b. b) (take n tests) ≡ true
@@ -101,21 +106,21 @@ take_all (b ∷ tests) (suc n) zero le all = absurd (omega arith)
 take_all (true ∷ tests) (suc n) (suc m) le all = take_all tests n m (omega arith) all
 take_all (false ∷ tests) (suc n) (suc m) le all = all
 
-pub Pass-fewer : (n m since : ℕ) (claim : Claim) (h : List Item) → n ≤ m → Pass m since claim h → Pass n since claim h
-Pass-fewer n m since claim h le p = record {
+pub Pass-fewer : (n m : ℕ) (among : Among) (claim : Claim) (h : List Item) → n ≤ m → Pass m among claim h → Pass n among claim h
+Pass-fewer n m among claim h le p = record {
   position = p.position;
   kept = p.kept;
-  is_later = p.is_later;
+  is_one = p.is_one;
   is_its_state = p.is_its_state;
   holds = take_all (filters claim p.kept) n m le p.holds;
 }
 
 -- the reason of the filter behind as many as the furthest response passes
-pub failed_for : (claim : Claim) (h : List Item) (n : ℕ) (why : Reason) → n ≡ furthest anywhere claim h → reason_number why ≡ n + 1 → n + 1 ≤ filter_count
+pub failed_for : (claim : Claim) (h : List Item) (n : ℕ) (why : Reason) → n ≡ furthest Any claim h → reason_number why ≡ n + 1 → n + 1 ≤ filter_count
     → IsFirstFailed (reason_number why) claim h
 failed_for claim h n why n-is why-is few =
     subst (λ (k : ℕ). IsFirstFailed k claim h) (ap (λ (m : ℕ). m + 1) (sym n-is) ∙ sym why-is) (first_failed claim h (omega (arith, n-is, few)))
 
 -- so many filters are passed by one response
-pub passes : (since : ℕ) (claim : Claim) (h : List Item) (n k : ℕ) → n ≡ furthest since claim h → 1 ≤ k → k ≤ n → Pass k since claim h
-passes since claim h n k n-is one few = Pass-found k since claim h one (omega (arith, n-is, few))
+pub passes : (among : Among) (claim : Claim) (h : List Item) (n k : ℕ) → n ≡ furthest among claim h → 1 ≤ k → k ≤ n → Pass k among claim h
+passes among claim h n k n-is one few = Pass-found k among claim h one (omega (arith, n-is, few))

@@ -2,6 +2,7 @@ pub mod StateLemmas
 pub mod ValidatedLemmas
 pub mod WindowLemmas
 pub mod FurthestLemmas
+pub mod StoredLemmas
 pub mod ReasonLemmas
 pub mod ForgetLemmas
 pub mod LiveLemmas
@@ -13,3 +14,6 @@ pub mod ComparedLemmas
 pub mod SeenLemmas
 pub mod CountLemmas
 pub mod FoundLemmas
+pub mod PartLemmas
+pub mod AllowedLemmas
+pub mod StrictLemmas

@@ -5,21 +5,24 @@ use Rattle.std.specs.List.{list_all, flat_map}
 use Rattle.std.specs.Str.{bytes_eq}
 use Rattle.hc_fields.specs.declared.fields.Field.{Field}
 use Rattle.hc_fields.specs.Values.{values_of}
-use Rattle.hc_fields.specs.Lists.{list_members}
+use Rattle.hc_fields.specs.Lists.{list_members, members_of}
 use Rattle.hc_head.specs.declared.head.Target.{Target}
 use Rattle.hc_head.specs.Methods.{is_get}
 use Rattle.hc_head.specs.Targets.{same_target}
-use Rattle.hc_rules.specs.Selecting.{is_met, selects}
 use Rattle.hc_rules.specs.Validators.{has_validator}
 use Rattle.hc_update.specs.declared.stored.Stored.{Stored}
 use Rattle.hc_transcript.specs.Items.{Item}
 use Rattle.hc_history.specs.Claims.{Claim, asks_head}
 use Rattle.hc_history.specs.declared.kept.Kept.{Kept}
 use Rattle.hc_history.specs.States.{state_at}
-use Rattle.hc_history.specs.Filters.{filters}
+use Rattle.hc_history.specs.Allowing.{filters, is_met_or_normalized}
 use Rattle.hc_update.specs.Remnants.{is_lost, vary_lines}
 use Rattle.hc_history.specs.Seen.{remaining, Live, live_at, live_up_to, live_of}
-use Rattle.hc_history.specs.Furthest.{passed, passed_later, furthest_up_to, furthest, furthest_live}
+use Rattle.hc_history.specs.Furthest.{passed, passed_among, furthest_up_to, furthest, furthest_live}
+use Rattle.hc_history.specs.Reused.{is_looked_at}
+use Rattle.hc_history.specs.Usable.{validated_since}
+use Rattle.hc_history.specs.declared.among.Among.{Among}
+use Rattle.hc_history.specs.declared.among.Among.TheVariants.{Any, InWindow, Recent}
 use Rattle.hc_head.proofs.SameTargetLemmas.{same_target_one}
 use Rattle.hc_history.proofs.ForgetLemmas.{remaining_lost, remaining_kept}
 
@@ -34,9 +37,8 @@ kept_values name (x ∷ xs) = go (bytes_eq x.name name) refl (kept_values name x
     go true e rest = rw e (ap (λ (vs : List (List ℕ)). x.value ∷ vs) rest)
     go false e rest = rest
 
-selects_alike : (fields forwarded presented : List Field) → selects (vary_lines fields) forwarded presented ≡ selects fields forwarded presented
-selects_alike fields forwarded presented =
-    ap (λ (vs : List (List ℕ)). list_all (is_met forwarded presented) (flat_map list_members vs)) (kept_values (codes "vary") fields)
+selects_alike : (met : List ℕ → Bool) (fields : List Field) → list_all met (members_of (codes "vary") (vary_lines fields)) ≡ list_all met (members_of (codes "vary") fields)
+selects_alike met fields = ap (λ (vs : List (List ℕ)). list_all met (flat_map list_members vs)) (kept_values (codes "vary") fields)
 
 -- where the third fails, what comes after it doesn't matter
 third_fails : (a b c d e : Bool) (xs ys : List Bool) → b ≡ d → c ≡ false → e ≡ false → passed (a ∷ b ∷ c ∷ xs) ≡ passed (a ∷ d ∷ e ∷ ys)
@@ -56,7 +58,7 @@ passed_remaining_by : (claim : Claim) (target : Target) (state : Stored) (lost :
     → passed (filters claim (record { target = target; state = remaining state })) ≡ passed (filters claim (record { target = target; state = state }))
 passed_remaining_by claim target state true lost =
     ap (λ (s : Stored). passed (filters claim (record { target = target; state = s }))) (remaining_lost state lost)
-    ∙ third_fails _ _ _ _ _ _ _ (selects_alike state.fields state.request.fields claim.request.fields) refl
+    ∙ third_fails _ _ _ _ _ _ _ (selects_alike (is_met_or_normalized claim state) state.fields) refl
     (ap not (is_invalid state.invalid (has_validator state.fields) lost))
 passed_remaining_by claim target state false kept =
     ap (λ (s : Stored). passed (filters claim (record { target = target; state = s }))) (remaining_kept state kept)
@@ -73,40 +75,55 @@ and_false false = refl
 pub passed_other : (claim : Claim) (kept : Kept) → same_target kept.target claim.target ≡ false → passed (filters claim kept) ≡ 0
 passed_other claim kept other = rw (other, and_false (is_get claim.request.method || asks_head claim)) refl
 
-none_later : (n : ℕ) (b : Bool) → n ≡ 0 → cond b n 0 ≡ 0
-none_later n true none = none
-none_later n false none = refl
+none_among : (n : ℕ) (b : Bool) → n ≡ 0 → cond b n 0 ≡ 0
+none_among n true none = none
+none_among n false none = refl
+
+-- what is forgotten of a response leaves it one of those among which is looked
+same_among_by : (among : Among) (claim : Claim) (position : ℕ) (state : Stored) (lost : Bool) → is_lost state ≡ lost
+    → is_looked_at among claim position (remaining state) ≡ is_looked_at among claim position state
+same_among_by among claim position state false kept = ap (is_looked_at among claim position) (remaining_kept state kept)
+same_among_by Any claim position state true lost = refl
+same_among_by InWindow claim position state true lost = refl
+same_among_by Recent claim position state true lost =
+    ap (is_looked_at Recent claim position) (remaining_lost state lost)
+    ∙ ap (λ (b : Bool). ltb claim.since position || (not b && validated_since claim.since state.validated_at))
+    (sym (is_invalid state.invalid (has_validator state.fields) lost))
+
+same_among : (among : Among) (claim : Claim) (position : ℕ) (state : Stored) → is_looked_at among claim position (remaining state) ≡ is_looked_at among claim position state
+same_among among claim position state = same_among_by among claim position state (is_lost state) refl
 
 at_most_zero : (n : ℕ) → max n 0 ≡ n
 at_most_zero n = omega arith
 
-one_live_by : (since : ℕ) (claim : Claim) (position : ℕ) (kept : Kept) (same : Bool) → same_target kept.target claim.target ≡ same
-    → furthest_live since claim (cond same (record { position = position; state = remaining kept.state } ∷ []) []) ≡ passed_later since claim position (Some kept)
-one_live_by since claim position kept true is =
+one_live_by : (among : Among) (claim : Claim) (position : ℕ) (kept : Kept) (same : Bool) → same_target kept.target claim.target ≡ same
+    → furthest_live among claim (cond same (record { position = position; state = remaining kept.state } ∷ []) []) ≡ passed_among among claim position (Some kept)
+one_live_by among claim position kept true is =
     let whole = passed_remaining claim claim.target kept.state in
     let at_target = ap (λ (t : Target). passed (filters claim (record { target = t; state = kept.state }))) (same_target_one kept.target claim.target is) in
-    at_most_zero (passed_later since claim position (Some (record { target = claim.target; state = remaining kept.state })))
-    ∙ ap (λ (n : ℕ). cond (ltb since position) n 0) (whole ∙ sym at_target)
-one_live_by since claim position kept false is = sym (none_later (passed (filters claim kept)) (ltb since position) (passed_other claim kept is))
+    at_most_zero (passed_among among claim position (Some (record { target = claim.target; state = remaining kept.state })))
+    ∙ ap (λ (n : ℕ). cond (is_looked_at among claim position (remaining kept.state)) n 0) (whole ∙ sym at_target)
+    ∙ ap (λ (b : Bool). cond b (passed (filters claim kept)) 0) (same_among among claim position kept.state)
+one_live_by among claim position kept false is = sym (none_among (passed (filters claim kept)) (is_looked_at among claim position kept.state) (passed_other claim kept is))
 
-one_live : (since : ℕ) (claim : Claim) (position : ℕ) (o : Option Kept) → furthest_live since claim (live_at claim.target position o) ≡ passed_later since claim position o
-one_live since claim position None = sym (none_later 0 (ltb since position) refl)
-one_live since claim position (Some kept) = one_live_by since claim position kept (same_target kept.target claim.target) refl
+one_live : (among : Among) (claim : Claim) (position : ℕ) (o : Option Kept) → furthest_live among claim (live_at claim.target position o) ≡ passed_among among claim position o
+one_live among claim position None = refl
+one_live among claim position (Some kept) = one_live_by among claim position kept (same_target kept.target claim.target) refl
 
-live_append : (since : ℕ) (claim : Claim) (xs ys : List Live)
-    → furthest_live since claim (xs ++ ys) ≡ max (furthest_live since claim xs) (furthest_live since claim ys)
-live_append since claim [] ys = omega arith
-live_append since claim (x ∷ xs) ys = omega (arith, live_append since claim xs ys)
+live_append : (among : Among) (claim : Claim) (xs ys : List Live)
+    → furthest_live among claim (xs ++ ys) ≡ max (furthest_live among claim xs) (furthest_live among claim ys)
+live_append among claim [] ys = omega arith
+live_append among claim (x ∷ xs) ys = omega (arith, live_append among claim xs ys)
 
-up_to_live : (since : ℕ) (claim : Claim) (n : ℕ) (h : List Item) → furthest_live since claim (live_up_to claim.target n h) ≡ furthest_up_to since claim n h
-up_to_live since claim zero h = refl
-up_to_live since claim (suc n) h =
-    live_append since claim (live_up_to claim.target n h) (live_at claim.target (suc n) (state_at (suc n) h))
-    ∙ ap (λ (m : ℕ). max m (furthest_live since claim (live_at claim.target (suc n) (state_at (suc n) h)))) (up_to_live since claim n h)
-    ∙ ap (λ (m : ℕ). max (furthest_up_to since claim n h) m) (one_live since claim (suc n) (state_at (suc n) h))
+up_to_live : (among : Among) (claim : Claim) (n : ℕ) (h : List Item) → furthest_live among claim (live_up_to claim.target n h) ≡ furthest_up_to among claim n h
+up_to_live among claim zero h = refl
+up_to_live among claim (suc n) h =
+    live_append among claim (live_up_to claim.target n h) (live_at claim.target (suc n) (state_at (suc n) h))
+    ∙ ap (λ (m : ℕ). max m (furthest_live among claim (live_at claim.target (suc n) (state_at (suc n) h)))) (up_to_live among claim n h)
+    ∙ ap (λ (m : ℕ). max (furthest_up_to among claim n h) m) (one_live among claim (suc n) (state_at (suc n) h))
 
-pub furthest_is_live : (since : ℕ) (claim : Claim) (h : List Item) → furthest_live since claim (live_of claim.target h) ≡ furthest since claim h
-furthest_is_live since claim h = up_to_live since claim (length h) h
+pub furthest_is_live : (among : Among) (claim : Claim) (h : List Item) → furthest_live among claim (live_of claim.target h) ≡ furthest among claim h
+furthest_is_live among claim h = up_to_live among claim (length h) h
 
 -- ---- by rising position
 

@@ -1,7 +1,7 @@
 -- What the next item makes of what is known of a history.
-use Rattle.std.proofs.Common.{◌≡◌, ℕ, zero, suc, ◌+◌, ◌≤◌, Bool, true, false, cond, if◌then◌else◌, ltb, eqb, List, [], ◌∷◌, ◌++◌, length, map, Option, Some, None, refl, ap, sym, ◌∙◌, arith, add-one, eq-eqb}
+use Rattle.std.proofs.Common.{◌≡◌, ℕ, zero, suc, ◌+◌, ◌≤◌, Bool, true, false, cond, ◌&&◌, ◌||◌, if◌then◌else◌, ltb, eqb, List, [], ◌∷◌, ◌++◌, length, map, Option, Some, None, refl, ap, sym, ◌∙◌, arith, add-one, eq-eqb}
 use Rattle.std.specs.Option.{option_map}
-use Rattle.std.proofs.lemmas.Bool.{lt-ltb, le-ltb}
+use Rattle.std.proofs.lemmas.Bool.{lt-ltb, le-ltb, eqb-true}
 use Rattle.std.proofs.lemmas.List.{map-append, append-nil}
 use Rattle.hc_head.specs.declared.head.RequestHead.{RequestHead}
 use Rattle.hc_head.specs.declared.head.ResponseHead.{ResponseHead}
@@ -10,12 +10,12 @@ use Rattle.hc_head.specs.Targets.{same_target}
 use Rattle.hc_framing.specs.declared.message.Message.{Message}
 use Rattle.hc_update.specs.States.{initial_state}
 use Rattle.hc_transcript.specs.declared.format.Format.{Format}
-use Rattle.hc_transcript.specs.Items.{Item, ClientRequest, OriginResponse, OriginFailure, ClientReply, Exchange, Forward}
+use Rattle.hc_transcript.specs.Items.{Item, ClientRequest, OriginRequest, OriginResponse, OriginFailure, ClientReply, Exchange, Forward}
 use Rattle.hc_transcript.specs.History.{next_position, exchange_of, forward_of, cause_of, exchange_after, forward_after, cause_after}
 use Rattle.hc_history.specs.declared.kept.Kept.{Kept}
 use Rattle.hc_history.specs.States.{begun_by, begun_to, state_begun, state_answered, kept_answered_to, state_after, state_at}
-use Rattle.hc_history.specs.Windows.{is_error_by, is_failure_by, is_error, is_failure}
-use Rattle.hc_history.specs.Seen.{remaining, Live, live_at, live_up_to, live_of, WindowResponse, response_in, responses_since, window_responses_of, Seen, IsSeenAs}
+use Rattle.hc_history.specs.Windows.{some_since, has_forward, is_sent_for, is_error_by, is_failure_by, is_error, is_failure}
+use Rattle.hc_history.specs.Seen.{remaining, Live, live_at, live_up_to, live_of, WindowResponse, response_in, responses_since, window_responses_of, has_forward_after, has_forward_in, Seen, IsSeenAs}
 use Rattle.hc_history.specs.Noting.{live_answered, lives_answered, lives_after, added_to_window, window_after, Notes}
 use Rattle.hc_head.proofs.SameTargetLemmas.{same_target_one}
 use Rattle.hc_history.proofs.StateLemmas.{earlier_at}
@@ -211,6 +211,76 @@ same_window format a b c d same cause e o (OriginResponse number moment response
     λ i. window ++ added_to_window format o (same number i) (cause number i) response
 same_window format a b c d same cause e o item window = refl
 
+-- ---- forwards that were made for an exchange
+
+number_in : Option Exchange → ℕ
+number_in None = 0
+number_in (Some exchange) = exchange.number
+
+opened_number : (h : List Item) (number e : ℕ) (request : RequestHead) (target : Target) (exchange : Exchange) (b : Bool) (o : Option Exchange) → eqb number e ≡ b
+    → (o ≡ Some exchange → exchange.number ≡ e)
+    → cond b (Some (record { number = number; position = next_position h; request = request; target = target })) o ≡ Some exchange → exchange.number ≡ e
+unfolding number_in
+opened_number h number e request target exchange true o same before is = let it = ap number_in is in omega (arith, it, eqb-true number e same)
+opened_number h number e request target exchange false o same before is = before is
+
+closed_number : (e : ℕ) (exchange : Exchange) (b : Bool) (o : Option Exchange) → (o ≡ Some exchange → exchange.number ≡ e) → cond b None o ≡ Some exchange → exchange.number ≡ e
+closed_number e exchange true o before is = cc
+closed_number e exchange false o before is = before is
+
+-- the open exchange of a number has that number
+exchange_number : (e : ℕ) (h : List Item) (exchange : Exchange) → exchange_of e h ≡ Some exchange → exchange.number ≡ e
+exchange_number e [] exchange is = cc
+exchange_number e (ClientRequest number moment request target ∷ h) exchange is =
+    opened_number h number e request.head target exchange (eqb number e) (exchange_of e h) refl (exchange_number e h exchange) is
+exchange_number e (ClientReply number moment reply ∷ h) exchange is = closed_number e exchange (eqb number e) (exchange_of e h) (exchange_number e h exchange) is
+exchange_number e (item ∷ h) exchange is = exchange_number e h exchange is
+
+nothing_sent : (b before : Bool) → before ≡ ((b && false) || before)
+nothing_sent true before = refl
+nothing_sent false before = refl
+
+sent_past : (e since : ℕ) (h : List Item) → length h ≤ since → false ≡ some_since (λ earlier item. is_sent_for e item) since h
+sent_past e since [] le = refl
+sent_past e since (item ∷ h) le = rw (le-ltb since (length h + 1) (omega arith)) (sent_past e since h (omega arith))
+
+-- what is sent behind the request of an open exchange stands in its window
+sent_behind : (e : ℕ) (h : List Item) (item : Item) (exchange : Exchange) → exchange_of e h ≡ Some exchange → (is_sent_for e item || has_forward exchange h) ≡ has_forward exchange (item ∷ h)
+sent_behind e h item exchange is =
+    rw (lt-ltb exchange.position (length h + 1) (let place = exchange_place e h exchange is in omega arith))
+    (ap (λ (n : ℕ). is_sent_for n item || has_forward exchange h) (sym (exchange_number e h exchange is)))
+
+forward_opened : (h : List Item) (number moment e : ℕ) (request : Message RequestHead) (target : Target) (exchange : Exchange) (b : Bool) (before : Bool)
+    → (exchange_of e h ≡ Some exchange → before ≡ has_forward exchange h)
+    → cond b (Some (record { number = number; position = next_position h; request = request.head; target = target })) (exchange_of e h) ≡ Some exchange
+    → cond b false before ≡ has_forward exchange (ClientRequest number moment request target ∷ h)
+unfolding position_in
+forward_opened h number moment e request target exchange true before so is =
+    let at : next_position h ≡ exchange.position = ap position_in is in
+    sent_past exchange.number exchange.position (ClientRequest number moment request target ∷ h) (omega (arith, at))
+forward_opened h number moment e request target exchange false before so is = so is ∙ nothing_sent (ltb exchange.position (next_position h)) (has_forward exchange h)
+
+forward_closed : (h : List Item) (number moment e : ℕ) (reply : Message ResponseHead) (exchange : Exchange) (b : Bool) (before : Bool)
+    → (exchange_of e h ≡ Some exchange → before ≡ has_forward exchange h) → cond b None (exchange_of e h) ≡ Some exchange
+    → cond b false before ≡ has_forward exchange (ClientReply number moment reply ∷ h)
+forward_closed h number moment e reply exchange true before so is = cc
+forward_closed h number moment e reply exchange false before so is = so is ∙ nothing_sent (ltb exchange.position (next_position h)) (has_forward exchange h)
+
+-- whether a forward was made for an open exchange
+pub forwarded_in_window : (e : ℕ) (h : List Item) (exchange : Exchange) → exchange_of e h ≡ Some exchange → has_forward_in e h ≡ has_forward exchange h
+forwarded_in_window e [] exchange is = cc
+forwarded_in_window e (ClientRequest number moment request target ∷ h) exchange is =
+    forward_opened h number moment e request target exchange (eqb number e) (has_forward_in e h) (forwarded_in_window e h exchange) is
+forwarded_in_window e (OriginRequest number moment request target cause ∷ h) exchange is =
+    ap (λ (b : Bool). is_sent_for e (OriginRequest number moment request target cause) || b) (forwarded_in_window e h exchange is)
+    ∙ sent_behind e h (OriginRequest number moment request target cause) exchange is
+forwarded_in_window e (OriginResponse number moment response ∷ h) exchange is =
+    forwarded_in_window e h exchange is ∙ sent_behind e h (OriginResponse number moment response) exchange is
+forwarded_in_window e (OriginFailure number moment ∷ h) exchange is =
+    forwarded_in_window e h exchange is ∙ sent_behind e h (OriginFailure number moment) exchange is
+forwarded_in_window e (ClientReply number moment reply ∷ h) exchange is =
+    forward_closed h number moment e reply exchange (eqb number e) (has_forward_in e h) (forwarded_in_window e h exchange) is
+
 -- ---- errors and failures
 
 same_error : (a b : ℕ → Option Forward) → ((f : ℕ) → a f ≡ b f) → (target : Target) (item : Item) → is_error_by target a item ≡ is_error_by target b item
@@ -239,6 +309,7 @@ noted format old new h item is n = record {
       ∙ same_window format old.forward (λ f. forward_of f h) old.cause (λ f. cause_of f h) is.forward is.cause e (exchange_of e h) item (old.window e)
       ∙ ap (window_after format e (exchange_of e h) (λ f. forward_of f h) (λ f. cause_of f h) item) (is.window e)
       ∙ sym (window_behind format e h item);
+  has_forward = λ e. n.has_forward e ∙ ap (has_forward_after e item) (is.has_forward e);
   error = λ target. n.error target
       ∙ ap (λ (b : Bool). cond b (next_position h) (old.error target)) (same_error old.forward (λ f. forward_of f h) is.forward target item)
       ∙ ap (λ (p : ℕ). cond (is_error target h item) (next_position h) p) (is.error target);

@@ -7,9 +7,10 @@ use Rattle.hc_status.specs.declared.marks.Mark.TheVariants.{Hit, Forwarded, Both
 use Rattle.hc_transcript.specs.Items.{Item}
 use Rattle.hc_history.specs.declared.reasons.Reason.{Reason}
 use Rattle.hc_history.specs.declared.reasons.Reason.TheVariants as reason
+use Rattle.hc_history.specs.declared.among.Among.TheVariants.{Any}
 use Rattle.hc_history.specs.Names.{reason_number}
 use Rattle.hc_history.specs.Claims.{Claim}
-use Rattle.hc_history.specs.Reused.{IsFirstFailed, anywhere, filter_count}
+use Rattle.hc_history.specs.Reused.{IsFirstFailed, filter_count}
 use Rattle.hc_history.specs.Right.{IsRightBy, IsWrongBy, IsRightForwarded, IsWrongForwarded, is_judged_collapsed}
 use Rattle.hc_history.proofs.FurthestLemmas.{Pass-fewer}
 
@@ -75,10 +76,10 @@ apart yes_it no_it = cc
 
 not_both_forwarded : (judged : Bool) (claim : Claim) (h : List Item) (why : Reason) → IsRightForwarded judged claim h → ¬ (IsWrongForwarded judged claim h why)
 not_both_forwarded true claim h why right wrong = wrong.1 right
-not_both_forwarded false claim h why right wrong = elim right [ inl carried ↦ apart carried wrong.1.0 | inr pass ↦ wrong.1.1 pass ]
+not_both_forwarded false claim h why right wrong = elim right [ inl carried ↦ apart carried wrong.1.0 | inr stored ↦ wrong.1.1 stored ]
 
 pub not_both : (mark : Mark) (claim : Claim) (h : List Item) (why : Reason) → IsRightBy mark claim h → ¬ (IsWrongBy mark claim h why)
-not_both (Hit ttl) claim h why right wrong = wrong.leaves_nobody (Pass-fewer (reason_number why) filter_count anywhere claim h wrong.is_filter.1 right)
+not_both (Hit ttl) claim h why right wrong = wrong.leaves_nobody (Pass-fewer (reason_number why) filter_count Any claim h wrong.is_filter.1 right)
 not_both (Forwarded collapsed) claim h why right wrong = not_both_forwarded (is_judged_collapsed claim.format collapsed) claim h why right wrong
 not_both Both claim h why right wrong = right
 not_both Unmarked claim h why right wrong = apart right wrong.1

@@ -13,21 +13,24 @@ use Rattle.hc_history.specs.declared.reasons.Reason.{Reason}
 use Rattle.hc_history.specs.declared.settings.Settings.{Settings}
 use Rattle.hc_history.specs.declared.verdicts.Finding.{Finding}
 use Rattle.hc_history.specs.declared.verdicts.Finding.TheVariants.{Right, Wrong}
-use Rattle.hc_history.specs.Marks.{reply_mark}
-use Rattle.hc_history.specs.Windows.{some_since, is_error, is_failure}
+use Rattle.hc_history.specs.Marks.{infers, mark_by, mark_to, reply_mark}
+use Rattle.hc_history.specs.Windows.{some_since, has_forward, is_error, is_failure}
 use Rattle.hc_history.specs.Claims.{Claim, ttl_of, claim_of}
-use Rattle.hc_history.specs.Reused.{Pass, IsFirstFailed, anywhere, filter_count, forwarded_count, collapsed_count}
+use Rattle.hc_history.specs.Reused.{Pass, IsFirstFailed, filter_count, forwarded_count, collapsed_count}
+use Rattle.hc_history.specs.declared.among.Among.{Among}
+use Rattle.hc_history.specs.declared.among.Among.TheVariants.{Any, InWindow, Recent}
 use Rattle.hc_history.specs.Forwarded.{carries, is_forwarded}
-use Rattle.hc_history.specs.Right.{IsFoundBy, IsFinding, IsRightForwarded, IsWrongForwarded, is_judged_collapsed}
+use Rattle.hc_history.specs.Right.{CarriesStored, IsFoundBy, IsFinding, IsRightForwarded, IsWrongForwarded, is_judged_collapsed}
 use Rattle.hc_history.specs.Seen.{responses_since, window_responses_of, Seen, IsSeenAs}
 use Rattle.hc_history.specs.Furthest.{furthest, furthest_live}
 use Rattle.hc_history.proofs.WindowLemmas.{some_since-latest, carried}
 use Rattle.hc_history.proofs.FurthestLemmas.{Pass-found, Pass-only}
 use Rattle.hc_history.proofs.LiveLemmas.{furthest_is_live}
+use Rattle.hc_history.proofs.NoteLemmas.{forwarded_in_window}
 
 -- what a reply to an exchange claims, by what stands in its window
-abbrev pub claim_with : Format → Settings → Exchange → ℕ → Message ResponseHead → Bool → Bool → Claim
-claim_with format settings exchange moment reply error failure = record {
+abbrev pub claim_with : Format → Settings → Exchange → ℕ → Message ResponseHead → Bool → Bool → Bool → Claim
+claim_with format settings exchange moment reply forwarded error failure = record {
   format = format;
   exchange = exchange.number;
   request = exchange.request;
@@ -35,6 +38,7 @@ claim_with format settings exchange moment reply error failure = record {
   since = exchange.position;
   reply = reply;
   moment = moment;
+  is_inferred = infers format settings.allowed forwarded reply;
   ttl = ttl_of (reply_mark reply);
   has_error = error;
   has_failure = failure;
@@ -48,38 +52,59 @@ failure_seen : (format : Format) (seen : Seen) (h : List Item) (target : Target)
     → ltb since (seen.failure target) ≡ some_since (is_failure target) since h
 failure_seen format seen h target since one = ap (ltb since) (one.failure target) ∙ sym (some_since-latest (is_failure target) since h)
 
+-- what the window of an open exchange has
+pub forward_seen : (format : Format) (seen : Seen) (h : List Item) (e : ℕ) (exchange : Exchange) → IsSeenAs format seen h → exchange_of e h ≡ Some exchange
+    → seen.has_forward e ≡ has_forward exchange h
+forward_seen format seen h e exchange one is = one.has_forward e ∙ forwarded_in_window e h exchange is
+
 -- what a reply claims, by what is seen
-pub claim_seen : (format : Format) (seen : Seen) (h : List Item) (settings : Settings) (exchange : Exchange) (moment : ℕ) (reply : Message ResponseHead) → IsSeenAs format seen h
-    → claim_with format settings exchange moment reply (ltb exchange.position (seen.error exchange.target)) (ltb exchange.position (seen.failure exchange.target))
+pub claim_seen : (format : Format) (seen : Seen) (h : List Item) (settings : Settings) (e : ℕ) (exchange : Exchange) (moment : ℕ) (reply : Message ResponseHead) → IsSeenAs format seen h
+    → exchange_of e h ≡ Some exchange
+    → claim_with format settings exchange moment reply (seen.has_forward e) (ltb exchange.position (seen.error exchange.target))
+    (ltb exchange.position (seen.failure exchange.target))
     ≡ claim_of format settings exchange moment reply h
-claim_seen format seen h settings exchange moment reply one =
-    ap (λ (b : Bool). claim_with format settings exchange moment reply b (ltb exchange.position (seen.failure exchange.target)))
+claim_seen format seen h settings e exchange moment reply one is =
+    ap (λ (f : Bool). claim_with format settings exchange moment reply f (ltb exchange.position (seen.error exchange.target)) (ltb exchange.position (seen.failure exchange.target)))
+    (forward_seen format seen h e exchange one is)
+    ∙ ap (λ (b : Bool). claim_with format settings exchange moment reply (has_forward exchange h) b (ltb exchange.position (seen.failure exchange.target)))
     (error_seen format seen h exchange.target exchange.position one)
-    ∙ ap (λ (b : Bool). claim_with format settings exchange moment reply (some_since (is_error exchange.target) exchange.position h) b)
+    ∙ ap (λ (b : Bool). claim_with format settings exchange moment reply (has_forward exchange h) (some_since (is_error exchange.target) exchange.position h) b)
     (failure_seen format seen h exchange.target exchange.position one)
 
-same_claim : (format : Format) (seen : Seen) (h g : List Item) (settings : Settings) (exchange : Exchange) (moment : ℕ) (reply : Message ResponseHead) → IsSeenAs format seen h → IsSeenAs format seen g
-    → claim_of format settings exchange moment reply h ≡ claim_of format settings exchange moment reply g
-same_claim format seen h g settings exchange moment reply one other =
-    sym (claim_seen format seen h settings exchange moment reply one) ∙ claim_seen format seen g settings exchange moment reply other
+-- the mark by which it is judged
+pub mark_seen : (format : Format) (seen : Seen) (h : List Item) (settings : Settings) (e : ℕ) (exchange : Exchange) (reply : Message ResponseHead) → IsSeenAs format seen h
+    → exchange_of e h ≡ Some exchange → mark_by format settings.allowed (seen.has_forward e) reply ≡ mark_to format settings (Some exchange) reply h
+mark_seen format seen h settings e exchange reply one is = ap (λ (f : Bool). mark_by format settings.allowed f reply) (forward_seen format seen h e exchange one is)
 
-same_furthest : (format : Format) (seen : Seen) (h g : List Item) (since : ℕ) (claim : Claim) → IsSeenAs format seen h → IsSeenAs format seen g → furthest since claim h ≡ furthest since claim g
-same_furthest format seen h g since claim one other =
-    sym (furthest_is_live since claim h)
-    ∙ ap (furthest_live since claim) (sym (one.live claim.target) ∙ other.live claim.target)
-    ∙ furthest_is_live since claim g
+same_claim : (format : Format) (seen : Seen) (h g : List Item) (settings : Settings) (e : ℕ) (exchange : Exchange) (moment : ℕ) (reply : Message ResponseHead) → IsSeenAs format seen h
+    → IsSeenAs format seen g → exchange_of e h ≡ Some exchange → exchange_of e g ≡ Some exchange
+    → claim_of format settings exchange moment reply h ≡ claim_of format settings exchange moment reply g
+same_claim format seen h g settings e exchange moment reply one other there here =
+    sym (claim_seen format seen h settings e exchange moment reply one there) ∙ claim_seen format seen g settings e exchange moment reply other here
+
+same_mark : (format : Format) (seen : Seen) (h g : List Item) (settings : Settings) (e : ℕ) (exchange : Exchange) (reply : Message ResponseHead) → IsSeenAs format seen h
+    → IsSeenAs format seen g → exchange_of e h ≡ Some exchange → exchange_of e g ≡ Some exchange
+    → mark_to format settings (Some exchange) reply h ≡ mark_to format settings (Some exchange) reply g
+same_mark format seen h g settings e exchange reply one other there here =
+    sym (mark_seen format seen h settings e exchange reply one there) ∙ mark_seen format seen g settings e exchange reply other here
+
+same_furthest : (format : Format) (seen : Seen) (h g : List Item) (among : Among) (claim : Claim) → IsSeenAs format seen h → IsSeenAs format seen g → furthest among claim h ≡ furthest among claim g
+same_furthest format seen h g among claim one other =
+    sym (furthest_is_live among claim h)
+    ∙ ap (furthest_live among claim) (sym (one.live claim.target) ∙ other.live claim.target)
+    ∙ furthest_is_live among claim g
 
 -- whom one history has to pass so many filters, the other has too
-pass_alike : (format : Format) (seen : Seen) (h g : List Item) (n since : ℕ) (claim : Claim) → IsSeenAs format seen h → IsSeenAs format seen g → 1 ≤ n → n ≤ filter_count
-    → Pass n since claim h → Pass n since claim g
-pass_alike format seen h g n since claim one other some few pass =
-    Pass-found n since claim g some (omega (arith, same_furthest format seen h g since claim one other, Pass-only n since claim h few pass))
+pass_alike : (format : Format) (seen : Seen) (h g : List Item) (n : ℕ) (among : Among) (claim : Claim) → IsSeenAs format seen h → IsSeenAs format seen g → 1 ≤ n → n ≤ filter_count
+    → Pass n among claim h → Pass n among claim g
+pass_alike format seen h g n among claim one other some few pass =
+    Pass-found n among claim g some (omega (arith, same_furthest format seen h g among claim one other, Pass-only n among claim h few pass))
 
 first_alike : (format : Format) (seen : Seen) (h g : List Item) (n : ℕ) (claim : Claim) → IsSeenAs format seen h → IsSeenAs format seen g → IsFirstFailed n claim h → IsFirstFailed n claim g
 first_alike format seen h g n claim one other first = record {
   is_filter = first.is_filter;
-  leaves_nobody = λ pass. first.leaves_nobody (pass_alike format seen g h n anywhere claim other one first.is_filter.0 first.is_filter.1 pass);
-  earlier = λ k some below. pass_alike format seen h g k anywhere claim one other some (omega (arith, first.is_filter.1)) (first.earlier k some below);
+  leaves_nobody = λ pass. first.leaves_nobody (pass_alike format seen g h n Any claim other one first.is_filter.0 first.is_filter.1 pass);
+  earlier = λ k some below. pass_alike format seen h g k Any claim one other some (omega (arith, first.is_filter.1)) (first.earlier k some below);
 }
 
 -- what the window of the exchange holds of its target
@@ -99,27 +124,35 @@ same_forwarded claim h g same =
     ∙ sym (carried claim g)
 
 -- a reply that went forward
+stored_alike : (format : Format) (seen : Seen) (h g : List Item) (inferred : Bool) (claim : Claim) → IsSeenAs format seen h → IsSeenAs format seen g → CarriesStored inferred claim h
+    → CarriesStored inferred claim g
+stored_alike format seen h g false claim one other pass = pass_alike format seen h g forwarded_count Any claim one other (omega arith) (omega arith) pass
+stored_alike format seen h g true claim one other stored = elim stored [
+  | inl pass ↦ inl (pass_alike format seen h g filter_count Any claim one other (omega arith) (omega arith) pass)
+  | inr pass ↦ inr (pass_alike format seen h g forwarded_count Recent claim one other (omega arith) (omega arith) pass)
+]
+
 right_forwarded_alike : (format : Format) (seen : Seen) (h g : List Item) (judged : Bool) (claim : Claim) → IsSeenAs format seen h → IsSeenAs format seen g
     → is_forwarded claim h ≡ is_forwarded claim g → IsRightForwarded judged claim h → IsRightForwarded judged claim g
 right_forwarded_alike format seen h g true claim one other window is =
-    pass_alike format seen h g collapsed_count claim.since claim one other (omega arith) (omega arith) is
+    pass_alike format seen h g collapsed_count InWindow claim one other (omega arith) (omega arith) is
 right_forwarded_alike format seen h g false claim one other window is = elim is [
   | inl carries_it ↦ inl (sym window ∙ carries_it)
-  | inr pass ↦ inr (pass_alike format seen h g forwarded_count anywhere claim one other (omega arith) (omega arith) pass)
+  | inr stored ↦ inr (stored_alike format seen h g claim.is_inferred claim one other stored)
 ]
 
 wrong_forwarded_alike : (format : Format) (seen : Seen) (h g : List Item) (judged : Bool) (claim : Claim) (why : Reason) → IsSeenAs format seen h → IsSeenAs format seen g
     → is_forwarded claim h ≡ is_forwarded claim g → IsWrongForwarded judged claim h why → IsWrongForwarded judged claim g why
 wrong_forwarded_alike format seen h g true claim why one other window is =
-    (is.0, λ pass. is.1 (pass_alike format seen g h collapsed_count claim.since claim other one (omega arith) (omega arith) pass))
+    (is.0, λ pass. is.1 (pass_alike format seen g h collapsed_count InWindow claim other one (omega arith) (omega arith) pass))
 wrong_forwarded_alike format seen h g false claim why one other window is = (
   is.0,
-  (sym window ∙ is.1.0, λ pass. is.1.1 (pass_alike format seen g h forwarded_count anywhere claim other one (omega arith) (omega arith) pass)),
+  (sym window ∙ is.1.0, λ stored. is.1.1 (stored_alike format seen g h claim.is_inferred claim other one stored)),
 )
 
 found_alike : (format : Format) (seen : Seen) (h g : List Item) (mark : Mark) (claim : Claim) (found : Finding) → IsSeenAs format seen h → IsSeenAs format seen g
     → is_forwarded claim h ≡ is_forwarded claim g → IsFoundBy mark claim h found → IsFoundBy mark claim g found
-found_alike format seen h g (Hit ttl) claim Right one other window is = pass_alike format seen h g filter_count anywhere claim one other (omega arith) (omega arith) is
+found_alike format seen h g (Hit ttl) claim Right one other window is = pass_alike format seen h g filter_count Any claim one other (omega arith) (omega arith) is
 found_alike format seen h g (Hit ttl) claim (Wrong why) one other window is = first_alike format seen h g _ claim one other is
 found_alike format seen h g (Forwarded collapsed) claim Right one other window is =
     right_forwarded_alike format seen h g (is_judged_collapsed claim.format collapsed) claim one other window is
@@ -143,8 +176,10 @@ finding_alike format seen h g settings e moment reply found None one other there
 finding_alike format seen h g settings e moment reply found (Some exchange) one other there here is =
     let claim = claim_of format settings exchange moment reply in
     let forwarded = same_forwarded (claim h) h g (same_window format seen h g e exchange one other there here) in
-    subst (λ (c : Claim). IsFoundBy (reply_mark reply) c g found) (same_claim format seen h g settings exchange moment reply one other)
-    (found_alike format seen h g (reply_mark reply) (claim h) found one other forwarded is)
+    let mark = mark_to format settings (Some exchange) reply in
+    subst (λ (m : Mark). IsFoundBy m (claim g) g found) (same_mark format seen h g settings e exchange reply one other there here)
+    (subst (λ (c : Claim). IsFoundBy (mark h) c g found) (same_claim format seen h g settings e exchange moment reply one other there here)
+    (found_alike format seen h g (mark h) (claim h) found one other forwarded is))
 
 pub seen_is_enough : (format : Format) (seen : Seen) (h g : List Item) (settings : Settings) (e moment : ℕ) (reply : Message ResponseHead) (found : Finding)
     → IsSeenAs format seen h → IsSeenAs format seen g
@@ -157,4 +192,4 @@ seen_is_enough format seen h g settings e moment reply found one other is =
 -- of no records the same is seen in both formats
 pub nothing_seen : (format other : Format) (seen : Seen) → IsSeenAs format seen [] → IsSeenAs other seen []
 nothing_seen format other seen is =
-    record { live = is.live; exchange = is.exchange; forward = is.forward; cause = is.cause; window = is.window; error = is.error; failure = is.failure }
+    record { live = is.live; exchange = is.exchange; forward = is.forward; cause = is.cause; window = is.window; has_forward = is.has_forward; error = is.error; failure = is.failure }

@@ -19,7 +19,7 @@ use Rattle.hc_history.specs.declared.verdicts.Counts.{Counts}
 use Rattle.hc_history.specs.declared.verdicts.Verdict.{Verdict}
 use Rattle.hc_history.specs.declared.verdicts.Verdict.TheVariants.{Yes, No, Malformed}
 use Rattle.hc_history.specs.Counting.{counts_of}
-use Rattle.hc_history.specs.Marks.{reply_mark}
+use Rattle.hc_history.specs.Marks.{mark_to}
 use Rattle.hc_history.specs.Claims.{claim_of}
 use Rattle.hc_history.specs.Right.{IsRightTo, IsWrongTo, IsRight, IsWrong, AllRight}
 use Rattle.hc_history.specs.Verdicts.{IsAllRight, IsWrongAt, IsMalformedAt, IsVerdict}
@@ -31,7 +31,7 @@ right_to_wrong : (format : Format) (settings : Settings) (o : Option Exchange) (
     → IsRightTo format settings o moment reply h → ¬ (IsWrongTo format settings o moment reply h why)
 right_to_wrong format settings None moment reply h why right wrong = right
 right_to_wrong format settings (Some exchange) moment reply h why right wrong =
-    not_both (reply_mark reply) (claim_of format settings exchange moment reply h) h why right wrong
+    not_both (mark_to format settings (Some exchange) reply h) (claim_of format settings exchange moment reply h) h why right wrong
 
 pub right_wrong : (format : Format) (settings : Settings) (h : List Item) (item : Item) (why : Reason) → IsRight format settings h item → ¬ (IsWrong format settings h item why)
 right_wrong format settings h (ClientReply number moment reply) why right wrong = right_to_wrong format settings (exchange_of number h) moment reply h why right wrong
@@ -41,7 +41,7 @@ wrong_to_once : (format : Format) (settings : Settings) (o : Option Exchange) (m
     → IsWrongTo format settings o moment reply h why → IsWrongTo format settings o moment reply h other → why ≡ other
 wrong_to_once format settings None moment reply h why other one two = absurd one
 wrong_to_once format settings (Some exchange) moment reply h why other one two =
-    one_reason (reply_mark reply) (claim_of format settings exchange moment reply h) h why other one two
+    one_reason (mark_to format settings (Some exchange) reply h) (claim_of format settings exchange moment reply h) h why other one two
 
 pub wrong_once : (format : Format) (settings : Settings) (h : List Item) (item : Item) (why other : Reason) → IsWrong format settings h item why → IsWrong format settings h item other → why ≡ other
 wrong_once format settings h (ClientReply number moment reply) why other one two = wrong_to_once format settings (exchange_of number h) moment reply h why other one two
@@ -109,7 +109,8 @@ same_counts : (octets : List ℕ) (settings : Settings) (one other : Counts) →
 same_counts octets settings one other y z =
     let whole = same_format octets y.format z.format y.records z.records y.history z.history [] [] y.is_transcript z.is_transcript in
     let same = one_reading y.format octets y.records z.records y.history z.history y.is_transcript whole in
-    ap Yes (y.counts_are ∙ ap counts_of same.1 ∙ sym z.counts_are)
+    let same-format = one_opening octets z.format y.format z.records y.records z.history y.history [] [] z.is_transcript y.is_transcript in
+    ap Yes (y.counts_are ∙ ap (counts_of y.format settings) same.1 ∙ ap (λ (k : Format). counts_of k settings z.history) (sym same-format) ∙ sym z.counts_are)
 
 -- what is wrong in the one format of the octets
 wrong_in : (settings : Settings) (h : List Item) (item : Item) (why : Reason) (format other : Format) → other ≡ format → IsWrong other settings h item why → IsWrong format settings h item why

@@ -181,7 +181,7 @@ first_is_no octets settings wrong later ending all = elim (read_or_not octets se
 
 pub none_is_yes : (octets : List ℕ) (settings : Settings) → AreWrongReplies octets settings [] Whole → (counts : Counts) × IsVerdict octets settings (Yes counts)
 none_is_yes octets settings w = (
-  counts_of w.history,
+  counts_of w.format settings w.history,
   record {
     format = w.format;
     records = w.records;

@@ -10,7 +10,7 @@ use Rattle.hc_history.specs.declared.kept.Kept.{Kept}
 use Rattle.hc_history.specs.declared.settings.Settings.{Settings}
 use Rattle.hc_history.specs.States.{state_at}
 use Rattle.hc_history.specs.Claims.{Claim, claim_of}
-use Rattle.hc_history.specs.Filters.{filters}
+use Rattle.hc_history.specs.Allowing.{filters}
 use Rattle.hc_history.specs.Furthest.{passed}
 
 -- at its position stands a response of the claim's target that may be stored, invalidated or not, and it passes so many filters, as the history has left it

@@ -10,8 +10,8 @@ use Rattle.hc_status.specs.declared.marks.Mark.TheVariants.{Hit}
 use Rattle.hc_transcript.specs.declared.format.Format.{Format}
 use Rattle.hc_transcript.specs.Items.{Item, Exchange}
 use Rattle.hc_history.specs.declared.settings.Settings.{Settings}
-use Rattle.hc_history.specs.Marks.{reply_mark}
-use Rattle.hc_history.specs.Windows.{some_since, is_error, is_failure}
+use Rattle.hc_history.specs.Marks.{infers, reply_mark}
+use Rattle.hc_history.specs.Windows.{some_since, has_forward, is_error, is_failure}
 
 pub record Claim : Type 0 where
   -- the format of the transcript
@@ -21,9 +21,11 @@ pub record Claim : Type 0 where
   pub request : RequestHead
   pub target : Target
   pub since : ℕ
-  -- the reply, its moment, and the seconds for which it says that it is fresh still, negative where it is stale
+  -- the reply, its moment, and whether the mark by which it is judged is inferred
   pub reply : Message ResponseHead
   pub moment : ℕ
+  pub is_inferred : Bool
+  -- the seconds for which it says that it is fresh still, negative where it is stale
   pub ttl : Option ℤ
   -- whether an error, and whether a failure, of a forward of the target stands in the window
   pub has_error : Bool
@@ -45,6 +47,7 @@ claim_of format settings exchange moment reply h = record {
   since = exchange.position;
   reply = reply;
   moment = moment;
+  is_inferred = infers format settings.allowed (has_forward exchange h) reply;
   ttl = ttl_of (reply_mark reply);
   has_error = some_since (is_error exchange.target) exchange.position h;
   has_failure = some_since (is_failure exchange.target) exchange.position h;

@@ -2,7 +2,9 @@
 use Rattle.std.specs.Prelude.{ℕ, ◌+◌, ◌≤◌, List, [], ◌∷◌, Option, Some, None}
 use Rattle.hc_status.specs.declared.marks.Mark.{Mark}
 use Rattle.hc_status.specs.declared.marks.Mark.TheVariants.{Hit, Forwarded, Both, Unmarked}
+use Rattle.hc_transcript.specs.declared.format.Format.{Format}
 use Rattle.hc_transcript.specs.Items.{Item}
+use Rattle.hc_history.specs.declared.settings.Settings.{Settings}
 use Rattle.hc_history.specs.declared.verdicts.Counts.{Counts}
 use Rattle.hc_history.specs.Marks.{item_mark}
 
@@ -24,10 +26,10 @@ abbrev pub marked : Option Mark → Counts → Counts
 marked None c = c
 marked (Some mark) c = marked_by mark c
 
--- what is counted in a history
-abbrev pub counts_of : List Item → Counts
-counts_of [] = no_counts
-counts_of (item ∷ h) = marked (item_mark item) (one_more (counts_of h))
+-- what is counted in a history, by the marks by which its replies are judged
+abbrev pub counts_of : Format → Settings → List Item → Counts
+counts_of format settings [] = no_counts
+counts_of format settings (item ∷ h) = marked (item_mark format settings h item) (one_more (counts_of format settings h))
 
 -- none of the counts is over a number
 pub record AreAtMost (most : ℕ) (c : Counts) : Type 0 where

@@ -1,4 +1,4 @@
--- The filters that a stored response passes, one after another, to be what a reply carries.
+-- The strict rules that a stored response passes, one after another, to be what a reply carries. What an audit may allow beside them stands in Allowing.antt.
 use Rattle.std.specs.Prelude.{ℕ, Bool, true, false, ◌&&◌, ◌||◌, ◌+◌, ◌==◌, not, nat_le, ℤ, pos, ◌-ℤ◌, nat_abs, List, [], ◌∷◌, ◌++◌, length, map, Option, Some, None, option_and_then, codes, bytes_eq, if◌then◌else◌}
 use Rattle.std.specs.List.{list_any, list_all}
 use Rattle.std.specs.Cmp.Lexicographic.{pointwise}
@@ -95,9 +95,9 @@ is_ttl claim left (Some told) = nat_le (nat_abs (told -ℤ left)) claim.settings
 abbrev pub has_its_ttl : Claim → Stored → Bool
 has_its_ttl claim state = is_ttl claim (pos (lifetime_of state) -ℤ pos (age_of claim state)) claim.ttl
 
--- the filters, in their order; the fifth is that the state may be used
-abbrev pub filters : Claim → Kept → List Bool
-filters claim kept =
+-- the strict filters, in their order; the fifth is that the state may be used
+abbrev pub strict_filters : Claim → Kept → List Bool
+strict_filters claim kept =
     is_asked_for claim kept.target
     ∷ is_selected claim kept.state
     ∷ is_valid kept.state

@@ -1,11 +1,12 @@
 -- How many filters one earlier response passes, at most.
-use Rattle.std.specs.Prelude.{◌≡◌, ℕ, zero, suc, ◌+◌, ◌≤◌, Bool, true, false, max, nat_lt, if◌then◌else◌, List, [], ◌∷◌, length, Option, Some, None}
+use Rattle.std.specs.Prelude.{◌≡◌, ℕ, zero, suc, ◌+◌, ◌≤◌, Bool, true, false, max, if◌then◌else◌, List, [], ◌∷◌, length, Option, Some, None}
 use Rattle.hc_transcript.specs.Items.{Item}
 use Rattle.hc_history.specs.Claims.{Claim}
 use Rattle.hc_history.specs.declared.kept.Kept.{Kept}
 use Rattle.hc_history.specs.States.{state_at}
-use Rattle.hc_history.specs.Filters.{filters}
-use Rattle.hc_history.specs.Reused.{filter_count}
+use Rattle.hc_history.specs.declared.among.Among.{Among}
+use Rattle.hc_history.specs.Allowing.{filters}
+use Rattle.hc_history.specs.Reused.{filter_count, is_looked_at}
 use Rattle.hc_history.specs.declared.reasons.Reason.{Reason}
 use Rattle.hc_history.specs.Names.{reason_number}
 use Rattle.hc_history.specs.Seen.{Live}
@@ -16,29 +17,25 @@ passed [] = 0
 passed (false ∷ tests) = 0
 passed (true ∷ tests) = passed tests + 1
 
--- how many filters a stored response passes, if it is there
-abbrev pub passed_by : Claim → Option Kept → ℕ
-passed_by claim None = 0
-passed_by claim (Some kept) = passed (filters claim kept)
+-- the same of what stands at a position, if it is one of those among which is looked
+abbrev pub passed_among : Among → Claim → ℕ → Option Kept → ℕ
+passed_among among claim position None = 0
+passed_among among claim position (Some kept) = if is_looked_at among claim position kept.state then passed (filters claim kept) else 0
 
--- the same of what stands at a position, if that is later than another
-abbrev pub passed_later : ℕ → Claim → ℕ → Option Kept → ℕ
-passed_later since claim position kept = if nat_lt since position then passed_by claim kept else 0
+-- the most filters that one of those up to a position passes
+abbrev pub furthest_up_to : Among → Claim → ℕ → List Item → ℕ
+furthest_up_to among claim zero h = 0
+furthest_up_to among claim (suc n) h = max (furthest_up_to among claim n h) (passed_among among claim (suc n) (state_at (suc n) h))
 
--- the most filters that one of the responses up to a position passes, of those that are later than another
-abbrev pub furthest_up_to : ℕ → Claim → ℕ → List Item → ℕ
-furthest_up_to since claim zero h = 0
-furthest_up_to since claim (suc n) h = max (furthest_up_to since claim n h) (passed_later since claim (suc n) (state_at (suc n) h))
+-- the most filters that one of all of them passes
+abbrev pub furthest : Among → Claim → List Item → ℕ
+furthest among claim h = furthest_up_to among claim (length h) h
 
--- the most filters that one earlier response passes, of those that are later than a position
-abbrev pub furthest : ℕ → Claim → List Item → ℕ
-furthest since claim h = furthest_up_to since claim (length h) h
-
--- the most filters that one of the live responses of the claim's target passes, of those that are later than a position
-abbrev pub furthest_live : ℕ → Claim → List Live → ℕ
-furthest_live since claim [] = 0
-furthest_live since claim (live ∷ lives) =
-    max (passed_later since claim live.position (Some (record { target = claim.target; state = live.state }))) (furthest_live since claim lives)
+-- the most filters that one of the live responses of the claim's target passes, of those among which is looked
+abbrev pub furthest_live : Among → Claim → List Live → ℕ
+furthest_live among claim [] = 0
+furthest_live among claim (live ∷ lives) =
+    max (passed_among among claim live.position (Some (record { target = claim.target; state = live.state }))) (furthest_live among claim lives)
 
 -- the reason of the filter behind so many
 abbrev pub IsReasonBehind : ℕ → Option Reason → Type 0

@@ -10,7 +10,7 @@ use Rattle.hc_transcript.specs.Items.{Item, ClientRequest, OriginResponse, Clien
 use Rattle.hc_transcript.specs.History.{exchange_after, forward_after, cause_after}
 use Rattle.hc_history.specs.States.{begun_by, state_answered}
 use Rattle.hc_history.specs.Windows.{may_be_for, is_error_by, is_failure_by}
-use Rattle.hc_history.specs.Seen.{Live, live_at, remaining, WindowResponse, response_to, Seen}
+use Rattle.hc_history.specs.Seen.{Live, live_at, remaining, WindowResponse, response_to, has_forward_after, Seen}
 
 -- a live response of the forward's target after a response to it
 abbrev pub live_answered : Forward → ℕ → ℕ → Message ResponseHead → Live → Live
@@ -53,5 +53,6 @@ pub record Notes (format : Format) (old : Seen) (position : ℕ) (item : Item) (
   pub forward : (f : ℕ) → new.forward f ≡ forward_after f item (old.forward f)
   pub cause : (f : ℕ) → new.cause f ≡ cause_after f item (old.cause f)
   pub window : (e : ℕ) → new.window e ≡ window_after format e (old.exchange e) old.forward old.cause item (old.window e)
+  pub has_forward : (e : ℕ) → new.has_forward e ≡ has_forward_after e item (old.has_forward e)
   pub error : (target : Target) → new.error target ≡ (if is_error_by target old.forward item then position else old.error target)
   pub failure : (target : Target) → new.failure target ≡ (if is_failure_by target old.forward item then position else old.failure target)

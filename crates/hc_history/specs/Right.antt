@@ -16,9 +16,10 @@ use Rattle.hc_history.specs.declared.settings.Settings.{Settings}
 use Rattle.hc_history.specs.declared.verdicts.Finding.{Finding}
 use Rattle.hc_history.specs.declared.verdicts.Finding.TheVariants as finding
 use Rattle.hc_history.specs.Names.{reason_number}
-use Rattle.hc_history.specs.Marks.{reply_mark}
+use Rattle.hc_history.specs.Marks.{mark_to}
 use Rattle.hc_history.specs.Claims.{Claim, claim_of}
-use Rattle.hc_history.specs.Reused.{Pass, IsReused, IsCollapsible, IsFirstFailed, anywhere, forwarded_count}
+use Rattle.hc_history.specs.declared.among.Among.TheVariants.{Any, Recent}
+use Rattle.hc_history.specs.Reused.{Pass, IsReused, IsCollapsible, IsFirstFailed, forwarded_count}
 use Rattle.hc_history.specs.Forwarded.{is_forwarded}
 
 -- whether a reply of that status may be unmarked
@@ -32,16 +33,22 @@ abbrev pub is_judged_collapsed : Format → Bool → Bool
 is_judged_collapsed First collapsed = false
 is_judged_collapsed Second collapsed = collapsed
 
+-- a reply that went forward carries a stored response in place of what the origin answered, where its mark is inferred (true) and where it isn't. One that says
+-- that it went forward needs no right Age. One that says nothing is either reused, or is a response that came, or was validated, in its window
+abbrev pub CarriesStored : Bool → Claim → List Item → Type 0
+CarriesStored false claim h = Pass forwarded_count Any claim h
+CarriesStored true claim h = IsReused claim h ⊎ Pass forwarded_count Recent claim h
+
 -- a reply that went forward is right, where it is judged as collapsed (true) and where it isn't: a collapsed one carries a response that came in its window;
 -- another one what the origin answered to a forward of its own, or a stored response in its place
 abbrev pub IsRightForwarded : Bool → Claim → List Item → Type 0
 IsRightForwarded true claim h = IsCollapsible claim h
-IsRightForwarded false claim h = (is_forwarded claim h ≡ true) ⊎ Pass forwarded_count anywhere claim h
+IsRightForwarded false claim h = (is_forwarded claim h ≡ true) ⊎ CarriesStored claim.is_inferred claim h
 
 -- it is wrong by that reason, likewise
 abbrev pub IsWrongForwarded : Bool → Claim → List Item → Reason → Type 0
 IsWrongForwarded true claim h why = (why ≡ reason.NotCollapsible) × ¬ (IsCollapsible claim h)
-IsWrongForwarded false claim h why = (why ≡ reason.NotForwarded) × ((is_forwarded claim h ≡ false) × ¬ (Pass forwarded_count anywhere claim h))
+IsWrongForwarded false claim h why = (why ≡ reason.NotForwarded) × ((is_forwarded claim h ≡ false) × ¬ (CarriesStored claim.is_inferred claim h))
 
 -- a reply with that mark is right: a hit is reused; one without a mark is right where the settings allow it; one with both marks is never right
 abbrev pub IsRightBy : Mark → Claim → List Item → Type 0
@@ -68,14 +75,14 @@ IsFoundBy mark claim h finding.Right = IsRightBy mark claim h
 IsFoundBy mark claim h (finding.Wrong why) = IsWrongBy mark claim h why
 
 module _ (format : Format) (settings : Settings) where
-  -- the same of a reply to the exchange that it answers
+  -- the same of a reply to the exchange that it answers, by its mark, or by the one that is inferred
   abbrev pub IsRightTo : Option Exchange → ℕ → Message ResponseHead → List Item → Type 0
   IsRightTo None moment reply h = ⊥
-  IsRightTo (Some exchange) moment reply h = IsRightBy (reply_mark reply) (claim_of format settings exchange moment reply h) h
+  IsRightTo (Some exchange) moment reply h = IsRightBy (mark_to format settings (Some exchange) reply h) (claim_of format settings exchange moment reply h) h
 
   abbrev pub IsWrongTo : Option Exchange → ℕ → Message ResponseHead → List Item → Reason → Type 0
   IsWrongTo None moment reply h why = ⊥
-  IsWrongTo (Some exchange) moment reply h why = IsWrongBy (reply_mark reply) (claim_of format settings exchange moment reply h) h why
+  IsWrongTo (Some exchange) moment reply h why = IsWrongBy (mark_to format settings (Some exchange) reply h) (claim_of format settings exchange moment reply h) h why
 
   -- the next item, if it is a reply, is right
   abbrev pub IsRight : List Item → Item → Type 0
@@ -90,7 +97,7 @@ module _ (format : Format) (settings : Settings) where
   -- what is found of a reply to the exchange that it answers; of one to what isn't open, which no transcript has, anything
   abbrev pub IsFinding : Option Exchange → ℕ → Message ResponseHead → List Item → Finding → Type 0
   IsFinding None moment reply h found = Unit {0}
-  IsFinding (Some exchange) moment reply h found = IsFoundBy (reply_mark reply) (claim_of format settings exchange moment reply h) h found
+  IsFinding (Some exchange) moment reply h found = IsFoundBy (mark_to format settings (Some exchange) reply h) (claim_of format settings exchange moment reply h) h found
 
   -- every reply of the history is right
   abbrev pub AllRight : List Item → Type 0

@@ -1,5 +1,5 @@
 -- What has to be known of a history to judge its replies, without keeping it.
-use Rattle.std.specs.Prelude.{◌≡◌, ℕ, zero, suc, nat_lt, List, [], ◌∷◌, ◌++◌, length, Option, Some, None, if◌then◌else◌}
+use Rattle.std.specs.Prelude.{◌≡◌, ◌==◌, ◌||◌, ℕ, zero, suc, Bool, false, nat_lt, List, [], ◌∷◌, ◌++◌, length, Option, Some, None, if◌then◌else◌}
 use Rattle.hc_head.specs.declared.head.ResponseHead.{ResponseHead}
 use Rattle.hc_head.specs.declared.head.Target.{Target}
 use Rattle.hc_head.specs.Targets.{same_target}
@@ -8,11 +8,11 @@ use Rattle.hc_update.specs.declared.stored.Stored.{Stored}
 use Rattle.hc_update.specs.Remnants.{is_lost, remnant}
 use Rattle.hc_transcript.specs.declared.format.Format.{Format}
 use Rattle.hc_transcript.specs.Records.{told_in}
-use Rattle.hc_transcript.specs.Items.{Item, OriginResponse, Exchange, Forward}
+use Rattle.hc_transcript.specs.Items.{Item, ClientRequest, OriginResponse, ClientReply, Exchange, Forward}
 use Rattle.hc_transcript.specs.History.{next_position, exchange_of, forward_of, cause_of}
 use Rattle.hc_history.specs.declared.kept.Kept.{Kept}
 use Rattle.hc_history.specs.States.{state_at}
-use Rattle.hc_history.specs.Windows.{latest, may_be_for, is_error, is_failure}
+use Rattle.hc_history.specs.Windows.{latest, may_be_for, is_sent_for, is_error, is_failure}
 
 -- ---- the live responses of a target
 
@@ -74,6 +74,17 @@ module _ (format : Format) where
   window_responses_of None h = []
   window_responses_of (Some exchange) h = responses_since exchange.number exchange.target exchange.position h
 
+-- what an item makes of whether a forward was made for the exchange of a number: its request and its reply begin anew
+abbrev pub has_forward_after : ℕ → Item → Bool → Bool
+has_forward_after e (ClientRequest number moment request target) before = if number == e then false else before
+has_forward_after e (ClientReply number moment reply) before = if number == e then false else before
+has_forward_after e item before = is_sent_for e item || before
+
+-- whether one was made since, as the second format tells it
+abbrev pub has_forward_in : ℕ → List Item → Bool
+has_forward_in e [] = false
+has_forward_in e (item ∷ h) = has_forward_after e item (has_forward_in e h)
+
 -- ---- what is known
 
 -- what an index is seen as
@@ -86,6 +97,8 @@ pub record Seen : Type 0 where
   pub cause : ℕ → Option ℕ
   -- what the window of an open exchange holds so far: the responses of its target to forwards that were made for it, as far as that is told, by rising position
   pub window : ℕ → List WindowResponse
+  -- whether a forward was made for an open exchange
+  pub has_forward : ℕ → Bool
   -- the positions of the latest error and of the latest failure of a forward of a target; 0 where there was none
   pub error : Target → ℕ
   pub failure : Target → ℕ
@@ -97,5 +110,6 @@ pub record IsSeenAs (format : Format) (seen : Seen) (h : List Item) : Type 0 whe
   pub forward : (f : ℕ) → seen.forward f ≡ forward_of f h
   pub cause : (f : ℕ) → seen.cause f ≡ cause_of f h
   pub window : (e : ℕ) → seen.window e ≡ window_responses_of format (exchange_of e h) h
+  pub has_forward : (e : ℕ) → seen.has_forward e ≡ has_forward_in e h
   pub error : (target : Target) → seen.error target ≡ latest (is_error target) h
   pub failure : (target : Target) → seen.failure target ≡ latest (is_failure target) h

@@ -42,31 +42,43 @@ abbrev pub max_stale_permits : ℕ → ℕ → Seconds → Bool
 max_stale_permits slack stale Bare = true
 max_stale_permits slack stale said = permits slack stale said
 
--- whether the max-stale of a request of those fields permits how stale it is then
-abbrev pub permits_by_request : ℕ → List Field → Stored → ℕ → Bool
-permits_by_request slack asked stored moment = max_stale_permits slack (staleness_at stored moment) (seconds_said (codes "max-stale") asked)
+-- whether the max-stale of a request of those fields permits that staleness
+abbrev pub request_permits : ℕ → ℕ → List Field → Bool
+request_permits slack stale asked = max_stale_permits slack stale (seconds_said (codes "max-stale") asked)
 
--- whether stale-while-revalidate of the response does (RFC 5861 section 3)
-abbrev pub permits_meanwhile : ℕ → Stored → ℕ → Bool
-permits_meanwhile slack stored moment = permits slack (staleness_at stored moment) (seconds_said (codes "stale-while-revalidate") stored.fields)
+-- whether stale-while-revalidate of a response of those fields does (RFC 5861 section 3)
+abbrev pub meanwhile_permits : ℕ → ℕ → List Field → Bool
+meanwhile_permits slack stale fields = permits slack stale (seconds_said (codes "stale-while-revalidate") fields)
 
 -- whether stale-if-error of the response or of the request does (RFC 5861 section 4)
+abbrev pub error_permits : ℕ → ℕ → List Field → List Field → Bool
+error_permits slack stale asked fields =
+    permits slack stale (seconds_said (codes "stale-if-error") fields) || permits slack stale (seconds_said (codes "stale-if-error") asked)
+
+-- the same of how stale it is then
+abbrev pub permits_by_request : ℕ → List Field → Stored → ℕ → Bool
+permits_by_request slack asked stored moment = request_permits slack (staleness_at stored moment) asked
+
+abbrev pub permits_meanwhile : ℕ → Stored → ℕ → Bool
+permits_meanwhile slack stored moment = meanwhile_permits slack (staleness_at stored moment) stored.fields
+
 abbrev pub permits_on_error : ℕ → List Field → Stored → ℕ → Bool
-permits_on_error slack asked stored moment =
-    permits slack (staleness_at stored moment) (seconds_said (codes "stale-if-error") stored.fields)
-    || permits slack (staleness_at stored moment) (seconds_said (codes "stale-if-error") asked)
+permits_on_error slack asked stored moment = error_permits slack (staleness_at stored moment) asked stored.fields
 
 -- ---- in an audit
 
--- the state may be served stale: nothing in it forbids that, and one of these permits it: the request, the response while it is validated, either where an error or a
--- failure stands in the window; or the origin can't be reached, so that a failure stands there
+-- one of these permits that staleness of a state: the request, the response while it is validated, either where an error or a failure stands in the window; or the
+-- origin can't be reached, so that a failure stands there
+abbrev pub permits_staleness : Claim → Stored → ℕ → Bool
+permits_staleness claim state stale =
+    request_permits claim.settings.slack stale claim.request.fields
+    || meanwhile_permits claim.settings.slack stale state.fields
+    || ((claim.has_error || claim.has_failure) && error_permits claim.settings.slack stale claim.request.fields state.fields)
+    || claim.has_failure
+
+-- the state may be served stale: nothing in it forbids that, and its staleness is permitted
 abbrev pub permits_stale : Claim → Stored → Bool
-permits_stale claim state =
-    not (stale_forbidden state.fields)
-    && (permits_by_request claim.settings.slack claim.request.fields state claim.moment
-    || permits_meanwhile claim.settings.slack state claim.moment
-    || ((claim.has_error || claim.has_failure) && permits_on_error claim.settings.slack claim.request.fields state claim.moment)
-    || claim.has_failure)
+permits_stale claim state = not (stale_forbidden state.fields) && permits_staleness claim state (staleness_at state claim.moment)
 
 -- whether the state was validated in the window
 abbrev pub validated_since : ℕ → Option ℕ → Bool

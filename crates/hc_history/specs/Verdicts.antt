@@ -24,7 +24,7 @@ pub record IsAllRight (octets : List ℕ) (settings : Settings) (counts : Counts
   pub history : List Item
   pub is_transcript : IsTranscript format octets records history
   pub all_right : AllRight format settings history
-  pub counts_are : counts ≡ counts_of history
+  pub counts_are : counts ≡ counts_of format settings history
 
 -- ---- no
 

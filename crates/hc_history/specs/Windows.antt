@@ -3,8 +3,8 @@ use Rattle.std.specs.Prelude.{ℕ, Bool, true, false, ◌&&◌, ◌||◌, ◌==�
 use Rattle.hc_head.specs.Statuses.{is_error_status}
 use Rattle.hc_head.specs.declared.head.Target.{Target}
 use Rattle.hc_transcript.specs.declared.line.ToldCause.{ToldCause}
-use Rattle.hc_transcript.specs.declared.line.ToldCause.TheVariants.{Untold, NoExchange, Exchange}
-use Rattle.hc_transcript.specs.Items.{Item, OriginResponse, OriginFailure, Forward}
+use Rattle.hc_transcript.specs.declared.line.ToldCause.TheVariants as told
+use Rattle.hc_transcript.specs.Items.{Item, OriginRequest, OriginResponse, OriginFailure, Exchange, Forward}
 use Rattle.hc_transcript.specs.History.{next_position, forward_of}
 use Rattle.hc_head.specs.Targets.{same_target}
 
@@ -20,9 +20,23 @@ latest test (item ∷ h) = if test h item then next_position h else latest test 
 
 -- whether a forward may have been made for the exchange of a number, by what is told of its cause: where nothing is told, it may
 abbrev pub may_be_for : ToldCause → ℕ → Bool
-may_be_for Untold e = true
-may_be_for NoExchange e = false
-may_be_for (Exchange n) e = n == e
+may_be_for told.Untold e = true
+may_be_for told.NoExchange e = false
+may_be_for (told.Exchange n) e = n == e
+
+-- whether a number is that of an exchange
+abbrev pub is_number_of : ℕ → Option ℕ → Bool
+is_number_of e None = false
+is_number_of e (Some n) = n == e
+
+-- whether an item is the request of a forward that was made for the exchange of a number, as the second format tells it
+abbrev pub is_sent_for : ℕ → Item → Bool
+is_sent_for e (OriginRequest number moment request target cause) = is_number_of e cause
+is_sent_for e item = false
+
+-- whether one stands in the window of an exchange
+abbrev pub has_forward : Exchange → List Item → Bool
+has_forward exchange h = some_since (λ earlier item. is_sent_for exchange.number item) exchange.position h
 
 -- ---- what permits stale responses in its place: errors (RFC 5861 section 4), and that the origin can't be reached (RFC 9111 section 4.2.4)
 

@@ -27,6 +27,8 @@ pub struct ReplyClaim<'a> {
     pub reply: &'a Message<ResponseHead>,
     /// The moment of the reply.
     pub moment: u64,
+    /// Whether the mark by which it is judged is inferred.
+    pub is_inferred: bool,
     /// The seconds for which it says that it is fresh still, negative where it is stale.
     pub ttl: Option<i64>,
     /// Whether an error of a forward of the target stands in the window.
@@ -50,6 +52,7 @@ impl<'a> Model for ReplyClaim<'a> {
       since = c.since;
       reply = c.reply.now;
       moment = c.moment;
+      is_inferred = c.is_inferred;
       ttl = c.ttl;
       has_error = c.has_error;
       has_failure = c.has_failure;

@@ -1,19 +1,34 @@
 //! Whether a reply has the fields of a stored response.
 
-ghost use Rattle.std.specs.Prelude.{◌≡◌, ◌||◌, ◌==◌, not};
+ghost use Rattle.std.specs.Prelude.{◌≡◌, ◌==◌, not, IfOk};
+ghost use Rattle.std.specs.Option.{option_eq};
 ghost use Rattle.std.specs.List.{list_all, list_any};
 ghost use Rattle.std.specs.Str.{bytes_eq};
 ghost use Rattle.hc_head.specs.Statuses.{not_modified};
-ghost use Rattle.hc_history.specs.Filters.{has_its_fields, is_exempt, rewritten_names, same_values};
+ghost use Rattle.hc_fields.specs.Values.{joined_values, values_of};
+ghost use Rattle.hc_history.specs.Allowing.{has_allowed_fields, has_its_values, may_be_added, is_joined, names_of_content};
+ghost use Rattle.hc_history.specs.Filters.{is_exempt, rewritten_names, same_values};
 
 use crate::claim::ReplyClaim;
 use hc_fields::{Fields, is_among};
 use hc_head::StatusCode;
 use hc_rules::REPEATED_NAMES;
 use hc_update::Stored;
+use std::alloc::{AllocError, Global};
 
 /// The fields that each cache writes anew.
 const REWRITTEN: [&[u8]; 4] = [b"content-length", b"via", b"cache-status", b"age"];
+
+/// The fields that say what a body is.
+const OF_CONTENT: [&[u8]; 7] = [
+    b"content-encoding",
+    b"content-language",
+    b"content-location",
+    b"content-range",
+    b"content-type",
+    b"etag",
+    b"last-modified",
+];
 
 /// Whether the reply says that what the client has still holds.
 pub(crate) fn is_not_modified(claim: &ReplyClaim<'_>) -> bool
@@ -50,53 +65,134 @@ fn same_values(one: &Fields, other: &Fields, name: &[u8]) -> bool
     others.next().is_none()
 }
 
-/// Whether a name isn't compared, or the reply has the values that the stored response has of it.
-fn has_its_values(claim: &ReplyClaim<'_>, state: &Stored, name: &[u8]) -> bool
-    ensures { result
-        ≡ (is_exempt claim.now name.now || same_values claim.now.reply.head.fields state.now.fields name.now) }
+/// Whether the name says what a body is.
+fn is_of_content(name: &[u8]) -> bool
+    ensures { result ≡ list_any (λ known. bytes_eq known name.now) names_of_content }
 {
-    is_exempt(claim, name) || same_values(&claim.reply.head.fields, &state.fields, name)
+    is_among(&OF_CONTENT, name)
 }
 
-/// Whether a name is compared, and the reply has other values of it than the stored response.
-pub fn differs(claim: &ReplyClaim<'_>, state: &Stored, name: &[u8]) -> bool
-    ensures { result
-        ≡ not (is_exempt claim.now name.now || same_values claim.now.reply.head.fields state.now.fields name.now) }
+/// Whether a name may be the reply's alone (RFC 9110 sections 7.7 and 15.4.5).
+fn may_be_added(claim: &ReplyClaim<'_>, state: &Stored, name: &[u8]) -> bool
+    ensures { result ≡ may_be_added claim.now state.now name.now }
 {
-    !has_its_values(claim, state, name)
+    claim.settings.allowed.added_fields && !state.fields.contains(name) && !is_of_content(name)
+}
+
+/// Whether both have the same values of a name where each side's lines are joined.
+fn same_joined(alloc: Global, one: &Fields, other: &Fields, name: &[u8]) -> Result<bool, AllocError>
+    ensures { IfOk result (λ same. same
+        ≡ option_eq bytes_eq (joined_values (values_of name.now one.now)) (joined_values (values_of name.now other.now))) }
+{
+    match (one.joined(alloc, name)?, other.joined(alloc, name)?) {
+        (None, None) => Ok(true),
+        (Some(one), Some(other)) => Ok(one.as_slice() == other.as_slice()),
+        (None, Some(_)) | (Some(_), None) => Ok(false),
+    }
+}
+
+/// Whether both have lines of a name that are the same where each side's are joined (RFC 9110 section 5.3).
+fn is_joined(
+    alloc: Global,
+    claim: &ReplyClaim<'_>,
+    state: &Stored,
+    name: &[u8],
+) -> Result<bool, AllocError>
+    ensures { IfOk result (λ joined. joined ≡ is_joined claim.now state.now name.now) }
+{
+    if !claim.settings.allowed.joined_lines
+        || name == b"set-cookie".as_slice()
+        || !state.fields.contains(name)
+    {
+        return Ok(false);
+    }
+    same_joined(alloc, &claim.reply.head.fields, &state.fields, name)
+}
+
+/// Whether a name isn't compared, or the reply has the values that the stored response has of it, or what is
+/// allowed in their place.
+fn has_its_values(
+    alloc: Global,
+    claim: &ReplyClaim<'_>,
+    state: &Stored,
+    name: &[u8],
+) -> Result<bool, AllocError>
+    ensures { IfOk result (λ has. has ≡ has_its_values claim.now state.now name.now) }
+{
+    if is_exempt(claim, name)
+        || same_values(&claim.reply.head.fields, &state.fields, name)
+        || may_be_added(claim, state, name)
+    {
+        return Ok(true);
+    }
+    is_joined(alloc, claim, state, name)
+}
+
+/// Whether a name is compared, and the reply has other values of it than the stored response, and none that are
+/// allowed in their place. It fails only where memory is refused.
+pub fn differs(
+    alloc: Global,
+    claim: &ReplyClaim<'_>,
+    state: &Stored,
+    name: &[u8],
+) -> Result<bool, AllocError>
+    ensures { IfOk result (λ differs. differs ≡ not (has_its_values claim.now state.now name.now)) }
+{
+    let has = has_its_values(alloc, claim, state, name)?;
+    Ok(!has)
 }
 
 /// Whether the reply has the values of each of those lines' names that is compared.
-fn has_its_lines(claim: &ReplyClaim<'_>, state: &Stored, fields: &Fields) -> bool
-    ensures { result ≡ list_all (λ line. is_exempt claim.now line.name
-        || same_values claim.now.reply.head.fields state.now.fields line.name) fields.now }
+fn has_its_lines(
+    alloc: Global,
+    claim: &ReplyClaim<'_>,
+    state: &Stored,
+    fields: &Fields,
+) -> Result<bool, AllocError>
+    ensures { IfOk result (λ has. has ≡ list_all (λ line. has_its_values claim.now state.now line.name) fields.now) }
 {
-    fields
-        .lines()
-        .iter()
-        .all(|line| has_its_values(claim, state, line.name.as_slice()))
+    for line in fields.lines() {
+        if !has_its_values(alloc, claim, state, line.name.as_slice())? {
+            return Ok(false);
+        }
+    }
+    Ok(true)
 }
 
 /// Whether the reply has the values of each of those names that is compared.
-fn has_each(claim: &ReplyClaim<'_>, state: &Stored, names: &[&[u8]]) -> bool
-    ensures { result ≡ list_all (λ name. is_exempt claim.now name.now
-        || same_values claim.now.reply.head.fields state.now.fields name.now) names.now }
+fn has_each(
+    alloc: Global,
+    claim: &ReplyClaim<'_>,
+    state: &Stored,
+    names: &[&[u8]],
+) -> Result<bool, AllocError>
+    ensures { IfOk result (λ has. has ≡ list_all (λ name. has_its_values claim.now state.now name.now) names.now) }
 {
-    names.iter().all(|name| has_its_values(claim, state, name))
+    for name in names {
+        if !has_its_values(alloc, claim, state, name)? {
+            return Ok(false);
+        }
+    }
+    Ok(true)
 }
 
-/// Whether the reply has the fields of the stored response, but for those that aren't compared. What
-/// the stored response has besides those of the reply counts too, but for a 304, of which those
-/// count that it has to repeat.
-pub(crate) fn has_its_fields(claim: &ReplyClaim<'_>, state: &Stored) -> bool
-    ensures { result ≡ has_its_fields claim.now state.now }
+/// Whether the reply has the fields of the stored response, but for those that aren't compared, or what is
+/// allowed in their place. What the stored response has besides those of the reply counts too, but for a 304,
+/// of which those count that it has to repeat.
+pub(crate) fn has_allowed_fields(
+    alloc: Global,
+    claim: &ReplyClaim<'_>,
+    state: &Stored,
+) -> Result<bool, AllocError>
+    ensures { IfOk result (λ has. has ≡ has_allowed_fields claim.now state.now) }
 {
-    if !has_its_lines(claim, state, &claim.reply.head.fields) {
-        return false;
+    let has = has_its_lines(alloc, claim, state, &claim.reply.head.fields)?;
+    if !has {
+        return Ok(false);
     }
     if is_not_modified(claim) {
-        has_each(claim, state, &REPEATED_NAMES)
+        has_each(alloc, claim, state, &REPEATED_NAMES)
     } else {
-        has_its_lines(claim, state, &state.fields)
+        has_its_lines(alloc, claim, state, &state.fields)
     }
 }

@@ -3,21 +3,25 @@
 ghost use Rattle.std.specs.Prelude.{◌≡◌, IfOk, codes, option_and_then};
 ghost use Rattle.hc_fields.specs.Values.{only_value};
 ghost use Rattle.hc_fields.specs.Numbers.{number_of};
-ghost use Rattle.hc_history.specs.Filters.{filters, has_body, has_its_age, has_its_body, has_its_ttl, is_age, is_asked_for, is_earned, is_explicit, is_selected, is_ttl, is_valid, within};
+ghost use Rattle.hc_history.specs.Filters.{has_body, has_its_age, has_its_body, has_its_ttl, is_age, is_asked_for, is_earned, is_ttl, is_valid, within};
+ghost use Rattle.hc_history.specs.Allowing.{age_is_allowed, body_is_allowed, fields_are_allowed, filters, ttl_is_allowed};
 ghost use Rattle.hc_history.specs.Furthest.{passed};
 
+use crate::allowing::{
+    is_near_age, lifetime_is_allowed, selection_is_allowed, takes_default, use_is_allowed,
+};
 use crate::claim::{ReplyClaim, asks_head};
-use crate::compared::{has_its_fields, is_not_modified};
-use crate::usable::{age_of, is_usable, lifetime_of};
+use crate::compared::{has_allowed_fields, is_not_modified};
+use crate::ranges::is_no_part;
+use crate::usable::{age_of, lifetime_of};
 use hc_fields::number;
-use hc_fresh::explicit;
 use hc_head::{Target, is_get, same_target};
-use hc_rules::{client_condition, selects};
+use hc_rules::client_condition;
 use hc_update::Stored;
 use std::alloc::{AllocError, Global};
 
 /// Whether two numbers are at most the slack apart.
-fn within(slack: u32, one: u32, other: u32) -> bool
+pub(crate) fn within(slack: u32, one: u32, other: u32) -> bool
     ensures { result ≡ within slack one other }
 {
     one.abs_diff(other) <= slack
@@ -30,30 +34,11 @@ fn is_asked_for(claim: &ReplyClaim<'_>, target: &Target) -> bool
     (is_get(&claim.request.method) || asks_head(claim)) && same_target(target, claim.target)
 }
 
-/// Whether its Vary selects the request (RFC 9111 section 4.1).
-fn is_selected(alloc: Global, claim: &ReplyClaim<'_>, state: &Stored) -> Result<bool, AllocError>
-    ensures { IfOk result (λ s. s ≡ is_selected claim.now state.now) }
-{
-    selects(
-        alloc,
-        &state.fields,
-        &state.request.fields,
-        &claim.request.fields,
-    )
-}
-
 /// Whether it isn't invalidated (RFC 9111 section 4.4).
 fn is_valid(state: &Stored) -> bool
     ensures { result ≡ is_valid state.now }
 {
     !state.invalid
-}
-
-/// Whether it states a lifetime, or may be used without (RFC 9111 section 4.2.1).
-fn is_explicit(claim: &ReplyClaim<'_>, state: &Stored) -> bool
-    ensures { result ≡ is_explicit claim.now state.now }
-{
-    explicit(&state.fields) || is_usable(claim, state)
 }
 
 /// Whether the reply has that body, or none where the request is HEAD.
@@ -84,6 +69,27 @@ fn has_its_body(claim: &ReplyClaim<'_>, state: &Stored) -> bool
         || is_earned(claim, state)
 }
 
+/// Whether the reply has its status and its body, or says that there is no such part of it.
+fn body_is_allowed(claim: &ReplyClaim<'_>, state: &Stored) -> bool
+    ensures { result ≡ body_is_allowed claim.now state.now }
+{
+    has_its_body(claim, state) || is_no_part(claim, state.status, state.body.as_slice())
+}
+
+/// Whether the reply has its fields, or what is allowed in their place.
+fn fields_are_allowed(
+    alloc: Global,
+    claim: &ReplyClaim<'_>,
+    state: &Stored,
+) -> Result<bool, AllocError>
+    ensures { IfOk result (λ allowed. allowed ≡ fields_are_allowed claim.now state.now) }
+{
+    if has_allowed_fields(alloc, claim, state)? {
+        return Ok(true);
+    }
+    Ok(is_no_part(claim, state.status, state.body.as_slice()))
+}
+
 /// Whether an Age tells that age, give or take the slack.
 fn is_age(claim: &ReplyClaim<'_>, age: u32, told: Option<u32>) -> bool
     ensures { result ≡ is_age claim.now age told }
@@ -108,6 +114,13 @@ fn has_its_age(claim: &ReplyClaim<'_>, state: &Stored) -> bool
     is_age(claim, age_of(claim, state), age_told(claim))
 }
 
+/// Whether the reply has its Age, or one that is allowed in its place.
+fn age_is_allowed(claim: &ReplyClaim<'_>, state: &Stored) -> bool
+    ensures { result ≡ age_is_allowed claim.now state.now }
+{
+    has_its_age(claim, state) || is_near_age(claim, age_of(claim, state), age_told(claim))
+}
+
 /// Whether a mark tells those seconds that are left, give or take the slack, if it tells any.
 fn is_ttl(claim: &ReplyClaim<'_>, left: i64, told: Option<i64>) -> bool
     ensures { result ≡ is_ttl claim.now left told }
@@ -126,6 +139,13 @@ fn has_its_ttl(claim: &ReplyClaim<'_>, state: &Stored) -> bool
     is_ttl(claim, left, claim.ttl)
 }
 
+/// Whether the mark tells those seconds, or they are those of a default lifetime.
+fn ttl_is_allowed(claim: &ReplyClaim<'_>, state: &Stored) -> bool
+    ensures { result ≡ ttl_is_allowed claim.now state.now }
+{
+    has_its_ttl(claim, state) || takes_default(claim, state)
+}
+
 /// How many filters a stored response of that target passes, one after another, from the first on. It
 /// fails only where memory is refused.
 pub fn passed(
@@ -139,28 +159,28 @@ pub fn passed(
     if !is_asked_for(claim, target) {
         return Ok(0);
     }
-    if !is_selected(alloc, claim, state)? {
+    if !selection_is_allowed(alloc, claim, state)? {
         return Ok(1);
     }
     if !is_valid(state) {
         return Ok(2);
     }
-    if !is_explicit(claim, state) {
+    if !lifetime_is_allowed(claim, state) {
         return Ok(3);
     }
-    if !is_usable(claim, state) {
+    if !use_is_allowed(claim, state) {
         return Ok(4);
     }
-    if !has_its_body(claim, state) {
+    if !body_is_allowed(claim, state) {
         return Ok(5);
     }
-    if !has_its_fields(claim, state) {
+    if !fields_are_allowed(alloc, claim, state)? {
         return Ok(6);
     }
-    if !has_its_age(claim, state) {
+    if !age_is_allowed(claim, state) {
         return Ok(7);
     }
-    if !has_its_ttl(claim, state) {
+    if !ttl_is_allowed(claim, state) {
         return Ok(8);
     }
     Ok(9)

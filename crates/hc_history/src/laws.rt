@@ -1,6 +1,6 @@
 //! Laws of the definitions.
 
-ghost use Rattle.std.specs.Prelude.{◌≡◌, ◌≢◌, ◌≤◌, ◌<◌, ◌+◌, ℕ, true, false, nat_lt, Bool, List, [], ◌∷◌, ◌++◌, Some, length, if◌then◌else◌};
+ghost use Rattle.std.specs.Prelude.{◌≡◌, ◌&&◌, ◌≢◌, ◌≤◌, ◌<◌, ◌+◌, ◌↔◌, ℕ, true, false, nat_lt, Bool, List, [], ◌∷◌, ◌++◌, Some, length, if◌then◌else◌};
 ghost use Rattle.std.specs.List.{list_any};
 ghost use Rattle.hc_fields.specs.declared.fields.Field.{Field};
 ghost use Rattle.hc_head.specs.declared.head.ResponseHead.{ResponseHead};
@@ -16,6 +16,8 @@ ghost use Rattle.hc_transcript.specs.declared.fault.RecordFault.TheVariants.{Tor
 ghost use Rattle.hc_transcript.specs.declared.format.Format.{Format};
 ghost use Rattle.hc_transcript.specs.Items.{Item, OriginResponse, Forward};
 ghost use Rattle.hc_transcript.specs.History.{next_position, exchange_of, forward_of};
+ghost use Rattle.hc_history.specs.declared.among.Among.{Among};
+ghost use Rattle.hc_history.specs.declared.among.Among.TheVariants.{Any};
 ghost use Rattle.hc_history.specs.declared.candidates.Candidate.{Candidate};
 ghost use Rattle.hc_history.specs.declared.reasons.Reason.{Reason};
 ghost use Rattle.hc_history.specs.declared.settings.Settings.{Settings};
@@ -30,10 +32,14 @@ ghost use Rattle.hc_history.specs.declared.wrong.Ending.TheVariants.{Whole, Brok
 ghost use Rattle.hc_history.specs.States.{state_at, state_answered};
 ghost use Rattle.hc_history.specs.Windows.{some_since, latest};
 ghost use Rattle.hc_history.specs.Claims.{Claim};
-ghost use Rattle.hc_history.specs.Filters.{filters};
-ghost use Rattle.hc_history.specs.Reused.{Pass, IsFirstFailed, anywhere, filter_count};
+ghost use Rattle.hc_history.specs.Allowed.{LetsPassMore, nothing_allowed, nothing_but_marks};
+ghost use Rattle.hc_history.specs.Allowing.{filters};
+ghost use Rattle.hc_history.specs.Filters.{strict_filters};
+ghost use Rattle.hc_history.specs.Reused.{Pass, IsFirstFailed, filter_count};
 ghost use Rattle.hc_history.specs.Forwarded.{carries, is_forwarded};
-ghost use Rattle.hc_history.specs.Right.{IsRightBy, IsWrongBy, IsFinding};
+ghost use Rattle.hc_history.specs.Counting.{counts_of};
+ghost use Rattle.hc_history.specs.Strict.{IsStrictlyRight, IsStrictlyWrong, is_answered, strict_counts};
+ghost use Rattle.hc_history.specs.Right.{IsRight, IsRightBy, IsWrong, IsWrongBy, IsFinding};
 ghost use Rattle.hc_history.specs.Verdicts.{IsVerdict};
 ghost use Rattle.hc_history.specs.WrongReplies.{AreWrongReplies};
 ghost use Rattle.hc_history.specs.Seen.{Seen, IsSeenAs, remaining, live_of, responses_since};
@@ -72,15 +78,15 @@ pub fn window_is_what_is_later_than_the_request()
 {}
 
 /// The first filter that leaves nobody is the one behind the most filters that one response passes. Who
-/// passes how many is told by the furthest also among those that are later than a position.
+/// passes how many is told by the furthest also among the recent alone.
 pub fn least_reason_by_the_furthest()
-    ensures all { (since : ℕ) (claim : Claim) (h : List Item) → furthest since claim h ≡ filter_count
-        → Pass filter_count since claim h }
-    ensures first { (claim : Claim) (h : List Item) → furthest anywhere claim h < filter_count
-        → IsFirstFailed (furthest anywhere claim h + 1) claim h }
-    ensures some { (n since : ℕ) (claim : Claim) (h : List Item) → 1 ≤ n → n ≤ furthest since claim h → Pass n since claim h }
-    ensures only { (n since : ℕ) (claim : Claim) (h : List Item) → n ≤ filter_count → Pass n since claim h
-        → n ≤ furthest since claim h }
+    ensures all { (among : Among) (claim : Claim) (h : List Item) → furthest among claim h ≡ filter_count
+        → Pass filter_count among claim h }
+    ensures first { (claim : Claim) (h : List Item) → furthest Any claim h < filter_count
+        → IsFirstFailed (furthest Any claim h + 1) claim h }
+    ensures some { (n : ℕ) (among : Among) (claim : Claim) (h : List Item) → 1 ≤ n → n ≤ furthest among claim h → Pass n among claim h }
+    ensures only { (n : ℕ) (among : Among) (claim : Claim) (h : List Item) → n ≤ filter_count → Pass n among claim h
+        → n ≤ furthest among claim h }
 {}
 
 /// No reply is both right and wrong, and a wrong one has one reason.
@@ -91,14 +97,39 @@ pub fn wrong_by_one_reason()
         → IsWrongBy mark claim h why → IsWrongBy mark claim h other → why ≡ other }
 {}
 
+/// Where nothing is allowed beside the strict rules, a reply is right, or wrong by a reason, exactly where it
+/// strictly is, and the same is counted: of a verdict nothing else reads the settings.
+pub fn nothing_allowed_is_strict()
+    ensures right { (format : Format) (settings : Settings) (h : List Item) (item : Item) → settings.allowed ≡ nothing_allowed
+        → IsRight format settings h item ↔ IsStrictlyRight format settings h item }
+    ensures wrong { (format : Format) (settings : Settings) (h : List Item) (item : Item) (why : Reason) → settings.allowed ≡ nothing_allowed
+        → IsWrong format settings h item why ↔ IsStrictlyWrong format settings h item why }
+    ensures counts { (format : Format) (settings : Settings) (h : List Item) → settings.allowed ≡ nothing_allowed
+        → counts_of format settings h ≡ strict_counts h }
+    // The filters, and what is forwarded, are strict too where marks alone are inferred.
+    ensures filters { (inferred : Bool) (claim : Claim) (kept : Kept) → claim.settings.allowed ≡ nothing_but_marks inferred
+        → filters claim kept ≡ strict_filters claim kept }
+    ensures forwarded { (inferred : Bool) (claim : Claim) (h : List Item) → claim.settings.allowed ≡ nothing_but_marks inferred
+        → is_forwarded claim h ≡ is_answered claim h }
+{}
+
+/// A reply that is right is right, too, where more is allowed, and for as many seconds at least; so a yes stays
+/// one, with the same counts.
+pub fn more_allowed_keeps_right()
+    ensures right { (format : Format) (more less : Settings) (h : List Item) (item : Item) → LetsPassMore more less
+        → IsRight format less h item → IsRight format more h item }
+    ensures yes { (octets : List ℕ) (more less : Settings) (counts : Counts) → LetsPassMore more less
+        → IsVerdict octets less (Yes counts) → IsVerdict octets more (Yes counts) }
+{}
+
 /// What nothing freshens any more may be forgotten: the responses of the claim's target, as they are kept, tell how
 /// many filters one earlier response passes.
 pub fn forgotten_changes_no_reason()
     ensures one { (claim : Claim) (target : Target) (state : Stored)
         → passed (filters claim (record { target = target; state = remaining state }))
         ≡ passed (filters claim (record { target = target; state = state })) }
-    ensures live { (since : ℕ) (claim : Claim) (h : List Item)
-        → furthest_live since claim (live_of claim.target h) ≡ furthest since claim h }
+    ensures live { (among : Among) (claim : Claim) (h : List Item)
+        → furthest_live among claim (live_of claim.target h) ≡ furthest among claim h }
 {}
 
 /// After a history a claim has one list of candidates at most.
@@ -111,8 +142,8 @@ pub fn one_list_of_candidates()
 /// no response passes any.
 pub fn first_candidate_is_the_furthest()
     ensures first { (claim : Claim) (h : List Item) (candidate : Candidate) (others : List Candidate)
-        → AreCandidates claim h (candidate ∷ others) → candidate.passed ≡ furthest anywhere claim h }
-    ensures none { (claim : Claim) (h : List Item) → AreCandidates claim h [] → furthest anywhere claim h ≡ 0 }
+        → AreCandidates claim h (candidate ∷ others) → candidate.passed ≡ furthest Any claim h }
+    ensures none { (claim : Claim) (h : List Item) → AreCandidates claim h [] → furthest Any claim h ≡ 0 }
 {}
 
 /// It may be forgotten before an item as well as after it.

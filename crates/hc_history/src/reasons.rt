@@ -22,9 +22,10 @@ pub enum Reason {
     Age,
     /// None of those has the seconds that are left.
     Ttl,
-    /// It is marked as forwarded, and carries no answer of its window, and no stored response.
+    /// It went forward, by its mark or by an inferred one, and carries no answer of its window, and no stored
+    /// response that it may carry then.
     NotForwarded,
-    /// It has no mark, or is a hit of status 206, though only errors may have none.
+    /// It counts as unmarked, though only errors may.
     Unmarked,
     /// It is marked as a hit and as forwarded.
     BothMarks,

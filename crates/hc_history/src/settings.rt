@@ -4,6 +4,7 @@ ghost use Rattle.std.specs.Prelude.{◌≡◌, ◌++◌, List, ℕ, [], ◌∷�
 ghost use Rattle.std.specs.List.{list_any};
 ghost use Rattle.std.specs.Str.{bytes_eq};
 
+use crate::allowed::Allowed;
 use hc_fields::Octets;
 use std::alloc::{AllocError, Global};
 use std::marker::Model;
@@ -84,6 +85,8 @@ pub struct Settings {
     pub ignored: FieldNames,
     /// Which replies may have no mark.
     pub unmarked: UnmarkedReplies,
+    /// What is allowed beside the strict rules.
+    pub allowed: Allowed,
 }
 
 impl Settings {
@@ -95,6 +98,7 @@ impl Settings {
             slack: self.slack,
             ignored: self.ignored.copy(alloc)?,
             unmarked: self.unmarked,
+            allowed: self.allowed.copy(alloc)?,
         })
     }
 }

@@ -2,7 +2,7 @@
 
 ghost use Rattle.std.specs.Prelude.{◌≡◌, ◌&&◌, ◌||◌, codes};
 ghost use Rattle.hc_fresh.specs.Lifetimes.{says, seconds_said};
-ghost use Rattle.hc_history.specs.Usable.{age_of, is_fresh_within, is_usable, lifetime_of, max_stale_permits, permits, permits_by_request, permits_meanwhile, permits_on_error, permits_stale, staleness_at, validated_since};
+ghost use Rattle.hc_history.specs.Usable.{age_of, error_permits, is_fresh_within, is_usable, lifetime_of, max_stale_permits, meanwhile_permits, permits, permits_stale, permits_staleness, request_permits, staleness_at, validated_since};
 
 use crate::claim::ReplyClaim;
 use hc_directives::Seconds;
@@ -55,53 +55,59 @@ fn max_stale_permits(claim: &ReplyClaim<'_>, staleness: u32, seconds: Seconds) -
     }
 }
 
-/// Whether the request's max-stale permits how stale it is.
-fn by_request(claim: &ReplyClaim<'_>, state: &Stored) -> bool
-    ensures { result ≡ permits_by_request claim.now.settings.slack claim.now.request.fields state.now claim.now.moment }
+/// Whether the request's max-stale permits that staleness.
+fn by_request(claim: &ReplyClaim<'_>, stale: u32) -> bool
+    ensures { result ≡ request_permits claim.now.settings.slack stale claim.now.request.fields }
 {
     let seconds = seconds_said(b"max-stale", &claim.request.fields);
-    max_stale_permits(claim, staleness_of(claim, state), seconds)
+    max_stale_permits(claim, stale, seconds)
 }
 
-/// Whether its stale-while-revalidate permits how stale it is (RFC 5861 section 3).
-fn while_revalidating(claim: &ReplyClaim<'_>, state: &Stored) -> bool
-    ensures { result ≡ permits_meanwhile claim.now.settings.slack state.now claim.now.moment }
+/// Whether its stale-while-revalidate permits that staleness (RFC 5861 section 3).
+fn while_revalidating(claim: &ReplyClaim<'_>, state: &Stored, stale: u32) -> bool
+    ensures { result ≡ meanwhile_permits claim.now.settings.slack stale state.now.fields }
 {
     let seconds = seconds_said(b"stale-while-revalidate", &state.fields);
-    permits(claim, staleness_of(claim, state), seconds)
+    permits(claim, stale, seconds)
 }
 
-/// Whether a stale-if-error of those fields permits how stale it is.
-fn if_error(claim: &ReplyClaim<'_>, state: &Stored, fields: &Fields) -> bool
-    ensures { result ≡ permits claim.now.settings.slack (staleness_at state.now claim.now.moment) (seconds_said (codes "stale-if-error") fields.now) }
+/// Whether a stale-if-error of those fields permits that staleness.
+fn if_error(claim: &ReplyClaim<'_>, fields: &Fields, stale: u32) -> bool
+    ensures { result ≡ permits claim.now.settings.slack stale (seconds_said (codes "stale-if-error") fields.now) }
 {
     let seconds = seconds_said(b"stale-if-error", fields);
-    permits(claim, staleness_of(claim, state), seconds)
+    permits(claim, stale, seconds)
 }
 
-/// Whether an error or a failure stands in the window, and stale-if-error permits how stale it is
+/// Whether an error or a failure stands in the window, and stale-if-error permits that staleness
 /// (RFC 5861 section 4).
-fn on_error(claim: &ReplyClaim<'_>, state: &Stored) -> bool
+fn on_error(claim: &ReplyClaim<'_>, state: &Stored, stale: u32) -> bool
     ensures { result ≡ ((claim.now.has_error || claim.now.has_failure)
-        && permits_on_error claim.now.settings.slack claim.now.request.fields state.now claim.now.moment) }
+        && error_permits claim.now.settings.slack stale claim.now.request.fields state.now.fields) }
 {
     (claim.has_error || claim.has_failure)
-        && (if_error(claim, state, &state.fields) || if_error(claim, state, &claim.request.fields))
+        && (if_error(claim, &state.fields, stale) || if_error(claim, &claim.request.fields, stale))
+}
+
+/// Whether that staleness is permitted.
+pub(crate) fn permits_staleness(claim: &ReplyClaim<'_>, state: &Stored, stale: u32) -> bool
+    ensures { result ≡ permits_staleness claim.now state.now stale }
+{
+    by_request(claim, stale)
+        || while_revalidating(claim, state, stale)
+        || on_error(claim, state, stale)
+        || claim.has_failure
 }
 
 /// Whether it may be served stale (RFC 9111 section 4.2.4).
 fn permits_stale(claim: &ReplyClaim<'_>, state: &Stored) -> bool
     ensures { result ≡ permits_stale claim.now state.now }
 {
-    !stale_forbidden(&state.fields)
-        && (by_request(claim, state)
-            || while_revalidating(claim, state)
-            || on_error(claim, state)
-            || claim.has_failure)
+    !stale_forbidden(&state.fields) && permits_staleness(claim, state, staleness_of(claim, state))
 }
 
 /// Whether it was validated after that position.
-fn validated_since(since: u64, validated_at: Option<u64>) -> bool
+pub(crate) fn validated_since(since: u64, validated_at: Option<u64>) -> bool
     ensures { result ≡ validated_since since validated_at }
 {
     match validated_at {

@@ -14,11 +14,11 @@ pub struct Counts {
     pub records: u64,
     /// Replies, each of which is one of the following.
     pub replies: u64,
-    /// Replies marked as hits, but for those of status 206.
+    /// Replies judged as hits: marked so, but for those of status 206, or inferred to be.
     pub hits: u64,
-    /// Replies marked as forwarded.
+    /// Replies judged as forwarded: marked so, or inferred to be.
     pub forwarded: u64,
-    /// Replies without a mark, and hits of status 206.
+    /// Replies that aren't judged: without a mark, and hits of status 206.
     pub unmarked: u64,
 }
 

@@ -14,7 +14,7 @@ use Rattle.hc_transcript.specs.Items.{Item}
 use Rattle.hc_history.specs.declared.candidates.Candidate.{Candidate}
 use Rattle.hc_history.specs.Candidates.{is_before, AreCandidates}
 use Rattle.hc_history.specs.Claims.{Claim}
-use Rattle.hc_history.specs.Filters.{filters}
+use Rattle.hc_history.specs.Allowing.{filters}
 use Rattle.hc_history.specs.Furthest.{passed}
 use Rattle.hc_history.specs.Seen.{live_of}
 use Rattle.hc_history.proofs.CandidateLemmas.{candidate_of as candidate_seen, candidates_are}

@@ -1,5 +1,5 @@
 -- What the lists of an index tell of a reply.
-use Rattle.std.proofs.Common.{◌≡◌, ℕ, ◌≤◌, Bool, true, false, ◌&&◌, ◌||◌, cond, List, [], ◌∷◌, ◌++◌, length, max, Option, Some, None, Ok, Err, refl, sym, ap, subst, ◌∙◌, arith, append_assoc, append-nil, inl, inr, ⊎_elim, ltb, ltb-true, ltb-false, ◌⊎◌}
+use Rattle.std.proofs.Common.{◌≡◌, ℕ, ◌≤◌, Bool, true, false, ◌&&◌, ◌||◌, cond, List, [], ◌∷◌, ◌++◌, length, max, Option, Some, None, Ok, Err, refl, sym, ap, subst, ◌∙◌, arith, append_assoc, append-nil, inl, inr, ltb, ltb-true, ltb-false}
 use Rattle.std.specs.Prelude.{filter, map, nat_le, Result, IfOk}
 use Rattle.std.specs.declared.alloc.AllocError.{AllocError}
 use Rattle.std.specs.List.{list_any}
@@ -17,13 +17,15 @@ use Rattle.hc_transcript.specs.Items.{Item, Exchange}
 use Rattle.hc_transcript.specs.History.{exchange_of}
 use Rattle.hc_history.specs.declared.settings.Settings.{Settings}
 use Rattle.hc_history.specs.declared.verdicts.Finding.{Finding}
-use Rattle.hc_history.specs.Marks.{reply_mark}
+use Rattle.hc_history.specs.Marks.{mark_to}
 use Rattle.hc_history.specs.Claims.{Claim, claim_of}
 use Rattle.hc_history.specs.Windows.{may_be_for}
-use Rattle.hc_history.specs.Filters.{filters}
+use Rattle.hc_history.specs.declared.among.Among.{Among}
+use Rattle.hc_history.specs.declared.among.Among.TheVariants.{Any, InWindow, Recent}
+use Rattle.hc_history.specs.Allowing.{filters}
 use Rattle.hc_history.specs.Forwarded.{carries, is_forwarded}
-use Rattle.hc_history.specs.Furthest.{passed, passed_later, furthest, furthest_live}
-use Rattle.hc_history.specs.Reused.{anywhere, filter_count}
+use Rattle.hc_history.specs.Furthest.{passed, passed_among, furthest, furthest_live}
+use Rattle.hc_history.specs.Reused.{filter_count, is_looked_at}
 use Rattle.hc_history.specs.Right.{IsFoundBy, IsFinding}
 use Rattle.hc_history.specs.Seen.{Seen, IsSeenAs, Live, WindowResponse, live_of, responses_since, window_responses_of}
 use Rattle.hc_head.proofs.SameTargetLemmas.{same_target_one}
@@ -35,50 +37,45 @@ use Rattle.hc_index.specs.declared.kept.WindowAnswer.{WindowAnswer}
 use Rattle.hc_index.specs.declared.kept.PooledExchange.{PooledExchange}
 use Rattle.hc_index.specs.declared.at_target.AtTarget.{AtTarget}
 use Rattle.hc_index.specs.declared.map_index.MapIndex.{MapIndex}
-use Rattle.hc_index.specs.Lists.{live_seen, answer_seen, exchange_seen, by_target, carried_by, live_in, IsMostOrEnough}
+use Rattle.hc_index.specs.Lists.{live_seen, answer_seen, exchange_seen, by_target, carried_by, ends_at, passed_live, live_in, IsMostOrEnough}
 use Rattle.hc_index.specs.Maps.{ToldResponse, those_for, carries_told, is_open, answers_behind, live_kept, window_kept, open_kept, known_in, pooled_exchange, window_in, seen_in}
 
 -- ---- the most filters that one live response passes
 
--- how many filters a live response passes, of whatever target
-abbrev pub passed_live : Claim → LiveResponse → ℕ
-passed_live claim live = passed (filters claim (record { target = live.target; state = live.state }))
-
--- the same of one that is later than a position
-abbrev pub passed_behind : ℕ → Claim → LiveResponse → ℕ
-passed_behind since claim live = cond (ltb since live.position) (passed_live claim live) 0
-
 -- the most that one of them passes
-abbrev pub most_passed : ℕ → Claim → List LiveResponse → ℕ
-most_passed since claim [] = 0
-most_passed since claim (live ∷ lives) = max (passed_behind since claim live) (most_passed since claim lives)
+abbrev pub most_passed : Among → Claim → List LiveResponse → ℕ
+most_passed among claim [] = 0
+most_passed among claim (live ∷ lives) = max (passed_live among claim live) (most_passed among claim lives)
 
-few_behind : (since : ℕ) (claim : Claim) (live : LiveResponse) → passed_behind since claim live ≤ filter_count
-few_behind since claim live = go (ltb since live.position) (passed_few (filters claim (record { target = live.target; state = live.state })))
+few_behind : (among : Among) (claim : Claim) (live : LiveResponse) → passed_live among claim live ≤ filter_count
+few_behind among claim live =
+    go (is_looked_at among claim live.position live.state) (passed (filters claim (record { target = live.target; state = live.state })))
+    (passed_few (filters claim (record { target = live.target; state = live.state })))
   where
-    go : (later : Bool) → passed_live claim live ≤ filter_count → cond later (passed_live claim live) 0 ≤ filter_count
-    go true few = few
-    go false few = omega arith
+    go : (one : Bool) (n : ℕ) → n ≤ filter_count → cond one n 0 ≤ filter_count
+    go true n few = few
+    go false n few = omega arith
 
-most_few : (since : ℕ) (claim : Claim) (lives : List LiveResponse) → most_passed since claim lives ≤ filter_count
-most_few since claim [] = omega arith
-most_few since claim (live ∷ lives) = omega (arith, few_behind since claim live, most_few since claim lives)
+most_few : (among : Among) (claim : Claim) (lives : List LiveResponse) → most_passed among claim lives ≤ filter_count
+most_few among claim [] = omega arith
+most_few among claim (live ∷ lives) = omega (arith, few_behind among claim live, most_few among claim lives)
 
 -- one of the claim's target passes as many as what is seen of it
-passed_seen : (since : ℕ) (claim : Claim) (live : LiveResponse) → same_target live.target claim.target ≡ true
-    → passed_behind since claim live ≡ passed_later since claim live.position (Some (record { target = claim.target; state = live.state }))
-passed_seen since claim live same =
-    ap (λ (t : Target). cond (ltb since live.position) (passed (filters claim (record { target = t; state = live.state }))) 0)
+passed_seen : (among : Among) (claim : Claim) (live : LiveResponse) → same_target live.target claim.target ≡ true
+    → passed_live among claim live ≡ passed_among among claim live.position (Some (record { target = claim.target; state = live.state }))
+passed_seen among claim live same =
+    ap (λ (t : Target). passed_among among claim live.position (Some (record { target = t; state = live.state })))
     (same_target_one live.target claim.target same)
 
 -- one of another target passes none
-none_passed : (since : ℕ) (claim : Claim) (live : LiveResponse) → same_target live.target claim.target ≡ false → passed_behind since claim live ≡ 0
-none_passed since claim live other =
-    go (ltb since live.position) (passed_other claim (record { target = live.target; state = live.state }) other)
+none_passed : (among : Among) (claim : Claim) (live : LiveResponse) → same_target live.target claim.target ≡ false → passed_live among claim live ≡ 0
+none_passed among claim live other =
+    go (is_looked_at among claim live.position live.state) (passed (filters claim (record { target = live.target; state = live.state })))
+    (passed_other claim (record { target = live.target; state = live.state }) other)
   where
-    go : (later : Bool) → passed_live claim live ≡ 0 → cond later (passed_live claim live) 0 ≡ 0
-    go true none = none
-    go false none = refl
+    go : (one : Bool) (n : ℕ) → n ≡ 0 → cond one n 0 ≡ 0
+    go true n none = none
+    go false n none = refl
 
 most_zero : (n : ℕ) → max 0 n ≡ n
 most_zero n = omega arith
@@ -86,111 +83,93 @@ most_zero n = omega arith
 others_of : Claim → List LiveResponse → List LiveResponse
 others_of claim lives = filter (λ live. same_target live.target claim.target) lives
 
-one_more : (since : ℕ) (claim : Claim) (live : LiveResponse) (lives : List LiveResponse) (same : Bool) → same_target live.target claim.target ≡ same
-    → most_passed since claim lives ≡ furthest_live since claim (live_in claim.target lives)
-    → most_passed since claim (live ∷ lives) ≡ furthest_live since claim (map live_seen (cond same (live ∷ others_of claim lives) (others_of claim lives)))
+one_more : (among : Among) (claim : Claim) (live : LiveResponse) (lives : List LiveResponse) (same : Bool) → same_target live.target claim.target ≡ same
+    → most_passed among claim lives ≡ furthest_live among claim (live_in claim.target lives)
+    → most_passed among claim (live ∷ lives) ≡ furthest_live among claim (map live_seen (cond same (live ∷ others_of claim lives) (others_of claim lives)))
 unfolding others_of
-one_more since claim live lives true is rest =
-    ap (λ (n : ℕ). max n (most_passed since claim lives)) (passed_seen since claim live is)
-    ∙ ap (max (passed_later since claim live.position (Some (record { target = claim.target; state = live.state })))) rest
-one_more since claim live lives false is rest =
-    ap (λ (n : ℕ). max n (most_passed since claim lives)) (none_passed since claim live is)
-    ∙ most_zero (most_passed since claim lives)
+one_more among claim live lives true is rest =
+    ap (λ (n : ℕ). max n (most_passed among claim lives)) (passed_seen among claim live is)
+    ∙ ap (max (passed_among among claim live.position (Some (record { target = claim.target; state = live.state })))) rest
+one_more among claim live lives false is rest =
+    ap (λ (n : ℕ). max n (most_passed among claim lives)) (none_passed among claim live is)
+    ∙ most_zero (most_passed among claim lives)
     ∙ rest
 
-most_is_live : (since : ℕ) (claim : Claim) (lives : List LiveResponse) → most_passed since claim lives ≡ furthest_live since claim (live_in claim.target lives)
+most_is_live : (among : Among) (claim : Claim) (lives : List LiveResponse) → most_passed among claim lives ≡ furthest_live among claim (live_in claim.target lives)
 unfolding others_of
-most_is_live since claim [] = refl
-most_is_live since claim (live ∷ lives) = one_more since claim live lives (same_target live.target claim.target) refl (most_is_live since claim lives)
+most_is_live among claim [] = refl
+most_is_live among claim (live ∷ lives) = one_more among claim live lives (same_target live.target claim.target) refl (most_is_live among claim lives)
 
-pub most_is_furthest : (since : ℕ) (claim : Claim) (lives : List LiveResponse) (h : List Item) → live_in claim.target lives ≡ live_of claim.target h
-    → most_passed since claim lives ≡ furthest since claim h
-most_is_furthest since claim lives h are =
-    most_is_live since claim lives
-    ∙ ap (furthest_live since claim) are
-    ∙ furthest_is_live since claim h
+pub most_is_furthest : (among : Among) (claim : Claim) (lives : List LiveResponse) (h : List Item) → live_in claim.target lives ≡ live_of claim.target h
+    → most_passed among claim lives ≡ furthest among claim h
+most_is_furthest among claim lives h are =
+    most_is_live among claim lives
+    ∙ ap (furthest_live among claim) are
+    ∙ furthest_is_live among claim h
 
-most_append : (since : ℕ) (claim : Claim) (xs ys : List LiveResponse) → most_passed since claim (xs ++ ys) ≡ max (most_passed since claim xs) (most_passed since claim ys)
-most_append since claim [] ys = omega arith
-most_append since claim (x ∷ xs) ys = omega (arith, most_append since claim xs ys)
+most_append : (among : Among) (claim : Claim) (xs ys : List LiveResponse) → most_passed among claim (xs ++ ys) ≡ max (most_passed among claim xs) (most_passed among claim ys)
+most_append among claim [] ys = omega arith
+most_append among claim (x ∷ xs) ys = omega (arith, most_append among claim xs ys)
 
-most_last : (since : ℕ) (claim : Claim) (earlier : List LiveResponse) (live : LiveResponse)
-    → most_passed since claim (earlier ++ live ∷ []) ≡ max (most_passed since claim earlier) (passed_behind since claim live)
-most_last since claim earlier live = omega (arith, most_append since claim earlier (live ∷ []))
+most_last : (among : Among) (claim : Claim) (earlier : List LiveResponse) (live : LiveResponse)
+    → most_passed among claim (earlier ++ live ∷ []) ≡ max (most_passed among claim earlier) (passed_live among claim live)
+most_last among claim earlier live = omega (arith, most_append among claim earlier (live ∷ []))
 
 -- ---- from the newest on
 
 -- the test by which a response of the target, and with it all older ones, is passed over
-abbrev pub is_before : ℕ → Claim → LiveResponse → Bool
-is_before since claim live = nat_le live.position since && same_target live.target claim.target
+abbrev pub is_before : Among → Claim → LiveResponse → Bool
+is_before among claim live = ends_at among && nat_le live.position claim.since && same_target live.target claim.target
 
--- what isn't passed over counts by what it passes
-counted_by : (since : ℕ) (claim : Claim) (live : LiveResponse) (later : Bool) → ltb since live.position ≡ later
-    → same_target live.target claim.target ≡ false ⊎ (later ≡ true) → passed_live claim live ≡ cond later (passed_live claim live) 0
-counted_by since claim live true is which = refl
-counted_by since claim live false is (inl other) = passed_other claim (record { target = live.target; state = live.state }) other
-counted_by since claim live false is (inr later) = cc
-
-not_both : (a b : Bool) → (a && b) ≡ false → (b ≡ false) ⊎ (a ≡ false)
-not_both true b none = inl none
-not_both false b none = inr refl
-
-later_of : (n m : ℕ) → nat_le m n ≡ false → ltb n m ≡ true
-later_of n m less = grind (arith, nat_tests)
-
-counted : (since : ℕ) (claim : Claim) (live : LiveResponse) → is_before since claim live ≡ false → passed_live claim live ≡ passed_behind since claim live
-counted since claim live behind =
-    counted_by since claim live (ltb since live.position) refl
-    (⊎_elim (λ other. inl other) (λ later. inr (later_of since live.position later)) (not_both (nat_le live.position since) (same_target live.target claim.target) behind))
-
--- of those of the target that are no later than a position, none passes any
-none_before : (since : ℕ) (claim : Claim) (lives : List LiveResponse) → AreBefore since (live_in claim.target lives) → most_passed since claim lives ≡ 0
+-- of those of the target that are no later than the request, none came in the window
+none_before : (claim : Claim) (lives : List LiveResponse) → AreBefore claim.since (live_in claim.target lives) → most_passed InWindow claim lives ≡ 0
 unfolding others_of
-none_before since claim [] before = refl
-none_before since claim (live ∷ lives) before = go (same_target live.target claim.target) refl before (λ rest. none_before since claim lives rest)
+none_before claim [] before = refl
+none_before claim (live ∷ lives) before = go (same_target live.target claim.target) refl before (λ rest. none_before claim lives rest)
   where
     not_later : (n m : ℕ) → m ≤ n → ltb n m ≡ false
     not_later n m few = grind (arith, nat_tests)
 
-    go : (same : Bool) → same_target live.target claim.target ≡ same → AreBefore since (map live_seen (cond same (live ∷ others_of claim lives) (others_of claim lives)))
-        → (AreBefore since (live_in claim.target lives) → most_passed since claim lives ≡ 0)
-        → max (passed_behind since claim live) (most_passed since claim lives) ≡ 0
+    go : (same : Bool) → same_target live.target claim.target ≡ same
+        → AreBefore claim.since (map live_seen (cond same (live ∷ others_of claim lives) (others_of claim lives)))
+        → (AreBefore claim.since (live_in claim.target lives) → most_passed InWindow claim lives ≡ 0)
+        → max (passed_live InWindow claim live) (most_passed InWindow claim lives) ≡ 0
     go true is before rest =
-        let none : passed_behind since claim live ≡ 0 = ap (λ (b : Bool). cond b (passed_live claim live) 0) (not_later since live.position before.0) in
+        let none : passed_live InWindow claim live ≡ 0 =
+        ap (λ (b : Bool). cond b (passed (filters claim (record { target = live.target; state = live.state }))) 0) (not_later claim.since live.position before.0) in
         omega (arith, none, rest before.1)
-    go false is before rest = omega (arith, none_passed since claim live is, rest before)
+    go false is before rest = omega (arith, none_passed InWindow claim live is, rest before)
 
 -- the most so far and the most of what is left, of all those that are looked at; and what is left begins them
-abbrev pub IsMost : ℕ → Claim → List LiveResponse → ℕ → List LiveResponse → Type 0
-IsMost since claim lives most left = (max most (most_passed since claim left) ≡ most_passed since claim lives) × (more : List LiveResponse) × (lives ≡ left ++ more)
+abbrev pub IsMost : Among → Claim → List LiveResponse → ℕ → List LiveResponse → Type 0
+IsMost among claim lives most left = (max most (most_passed among claim left) ≡ most_passed among claim lives) × (more : List LiveResponse) × (lives ≡ left ++ more)
 
-pub most_at_first : (since : ℕ) (claim : Claim) (lives left : List LiveResponse) → left ≡ lives → IsMost since claim lives 0 left
-most_at_first since claim lives left is = (omega (arith, ap (most_passed since claim) is), [], sym is ∙ sym (append-nil left))
+pub most_at_first : (among : Among) (claim : Claim) (lives left : List LiveResponse) → left ≡ lives → IsMost among claim lives 0 left
+most_at_first among claim lives left is = (omega (arith, ap (most_passed among claim) is), [], sym is ∙ sym (append-nil left))
 
 begins : (lives left earlier more : List LiveResponse) (live : LiveResponse) → left ≡ earlier ++ live ∷ [] → lives ≡ left ++ more → lives ≡ earlier ++ live ∷ more
 begins lives left earlier more live last are = are ∙ ap (λ (xs : List LiveResponse). xs ++ more) last ∙ append_assoc earlier (live ∷ []) more
 
-pub most_goes_on : (since : ℕ) (claim : Claim) (lives left earlier : List LiveResponse) (most here more : ℕ) (live : LiveResponse) → IsMost since claim lives most left
-    → left ≡ earlier ++ live ∷ [] → is_before since claim live ≡ false → here ≡ passed_live claim live → more ≡ max most here → IsMost since claim lives more earlier
-most_goes_on since claim lives left earlier most here more live so_far last behind is greater = (
-  omega (arith, so_far.0, ap (most_passed since claim) last, most_last since claim earlier live, is, counted since claim live behind, greater),
+pub most_goes_on : (among : Among) (claim : Claim) (lives left earlier : List LiveResponse) (most here more : ℕ) (live : LiveResponse) → IsMost among claim lives most left
+    → left ≡ earlier ++ live ∷ [] → here ≡ passed_live among claim live → more ≡ max most here → IsMost among claim lives more earlier
+most_goes_on among claim lives left earlier most here more live so_far last is greater = (
+  omega (arith, so_far.0, ap (most_passed among claim) last, most_last among claim earlier live, is, greater),
   live ∷ so_far.1,
   begins lives left earlier so_far.1 live last so_far.2,
 )
 
 -- where one passes enough, the most are no less
-pub enough_is_found : (since : ℕ) (claim : Claim) (lives left earlier : List LiveResponse) (most here enough : ℕ) (live : LiveResponse) (h : List Item)
-    → IsMost since claim lives most left → left ≡ earlier ++ live ∷ [] → is_before since claim live ≡ false → here ≡ passed_live claim live → enough ≤ here
-    → live_in claim.target lives ≡ live_of claim.target h → IsMostOrEnough enough here (furthest since claim h)
-enough_is_found since claim lives left earlier most here enough live h so_far last behind is full are = record {
+pub enough_is_found : (among : Among) (claim : Claim) (lives left earlier : List LiveResponse) (most here enough : ℕ) (live : LiveResponse) (h : List Item)
+    → IsMost among claim lives most left → left ≡ earlier ++ live ∷ [] → here ≡ passed_live among claim live → enough ≤ here
+    → live_in claim.target lives ≡ live_of claim.target h → IsMostOrEnough enough here (furthest among claim h)
+enough_is_found among claim lives left earlier most here enough live h so_far last is full are = record {
   at_most = omega (
     arith,
     so_far.0,
-    ap (most_passed since claim) last,
-    most_last since claim earlier live,
+    ap (most_passed among claim) last,
+    most_last among claim earlier live,
     is,
-    counted since claim live behind,
-    most_is_furthest since claim lives h are,
+    most_is_furthest among claim lives h are,
   );
   less_is_most = λ less. absurd (omega (arith, less, full));
 }
@@ -221,42 +200,45 @@ before_both false b both = cc
 le_of : (n m : ℕ) → nat_le m n ≡ true → m ≤ n
 le_of n m less = grind (arith, nat_tests)
 
-pub before_is_most : (since : ℕ) (claim : Claim) (lives left earlier : List LiveResponse) (most enough : ℕ) (live : LiveResponse) (h : List Item)
-    → IsMost since claim lives most left → left ≡ earlier ++ live ∷ [] → is_before since claim live ≡ true
-    → live_in claim.target lives ≡ live_of claim.target h → IsMostOrEnough enough most (furthest since claim h)
-before_is_most since claim lives left earlier most enough live h so_far last before are =
-    let both = before_both (nat_le live.position since) (same_target live.target claim.target) before in
-    let few = le_of since live.position both.0 in
+pub before_is_most : (among : Among) (claim : Claim) (lives left earlier : List LiveResponse) (most enough : ℕ) (live : LiveResponse) (h : List Item)
+    → IsMost among claim lives most left → left ≡ earlier ++ live ∷ [] → is_before among claim live ≡ true
+    → live_in claim.target lives ≡ live_of claim.target h → IsMostOrEnough enough most (furthest among claim h)
+before_is_most Any claim lives left earlier most enough live h so_far last before are = cc
+before_is_most Recent claim lives left earlier most enough live h so_far last before are = cc
+before_is_most InWindow claim lives left earlier most enough live h so_far last before are =
+    let both = before_both (nat_le live.position claim.since) (same_target live.target claim.target) before in
+    let few = le_of claim.since live.position both.0 in
     let later = so_far.1 in
     let seen : live_of claim.target h ≡ live_in claim.target earlier ++ live_seen live ∷ live_in claim.target later =
     sym are
     ∙ ap (live_in claim.target) (begins lives left earlier later live last so_far.2)
     ∙ seen_append claim.target earlier (live ∷ later)
     ∙ ap (λ (l : List Live). live_in claim.target earlier ++ l) (seen_first claim.target live later both.1) in
-    let older = before_later live.position since _ few (earlier_are_before claim.target h (live_in claim.target earlier) (live_seen live) (live_in claim.target later) seen) in
-    let none = none_before since claim earlier older in
-    let not_later : ltb since live.position ≡ false = grind (arith, nat_tests) in
-    let itself : passed_behind since claim live ≡ 0 = ap (λ (b : Bool). cond b (passed_live claim live) 0) not_later in
-    most_is_enough most enough (furthest since claim h)
-    (omega (arith, so_far.0, ap (most_passed since claim) last, most_last since claim earlier live, none, itself, most_is_furthest since claim lives h are))
+    let older = before_later live.position claim.since _ few (earlier_are_before claim.target h (live_in claim.target earlier) (live_seen live) (live_in claim.target later) seen) in
+    let none = none_before claim earlier older in
+    let not_later : ltb claim.since live.position ≡ false = grind (arith, nat_tests) in
+    let itself : passed_live InWindow claim live ≡ 0 =
+    ap (λ (b : Bool). cond b (passed (filters claim (record { target = live.target; state = live.state }))) 0) not_later in
+    most_is_enough most enough (furthest InWindow claim h)
+    (omega (arith, so_far.0, ap (most_passed InWindow claim) last, most_last InWindow claim earlier live, none, itself, most_is_furthest InWindow claim lives h are))
 
-none_left : (since : ℕ) (claim : Claim) (left : List LiveResponse) → length left ≡ 0 → most_passed since claim left ≡ 0
-none_left since claim [] none = refl
-none_left since claim (live ∷ lives) none = omega (arith, none)
+none_left : (among : Among) (claim : Claim) (left : List LiveResponse) → length left ≡ 0 → most_passed among claim left ≡ 0
+none_left among claim [] none = refl
+none_left among claim (live ∷ lives) none = omega (arith, none)
 
 -- behind the last one, the most so far is the most of all
-pub end_is_enough : (since : ℕ) (claim : Claim) (lives left : List LiveResponse) (most enough : ℕ) (h : List Item) → IsMost since claim lives most left → length left ≡ 0
-    → live_in claim.target lives ≡ live_of claim.target h → IsMostOrEnough enough most (furthest since claim h)
-end_is_enough since claim lives left most enough h so_far none are =
-    most_is_enough most enough (furthest since claim h) (omega (arith, so_far.0, none_left since claim left none, most_is_furthest since claim lives h are))
+pub end_is_enough : (among : Among) (claim : Claim) (lives left : List LiveResponse) (most enough : ℕ) (h : List Item) → IsMost among claim lives most left → length left ≡ 0
+    → live_in claim.target lives ≡ live_of claim.target h → IsMostOrEnough enough most (furthest among claim h)
+end_is_enough among claim lives left most enough h so_far none are =
+    most_is_enough most enough (furthest among claim h) (omega (arith, so_far.0, none_left among claim left none, most_is_furthest among claim lives h are))
 
 -- nobody passes more than all
 pub all_are_most : (claim : Claim) (lives : List LiveResponse) (n : ℕ) (h : List Item) → live_in claim.target lives ≡ live_of claim.target h
-    → IsMostOrEnough filter_count n (furthest anywhere claim h) → n ≡ furthest anywhere claim h
+    → IsMostOrEnough filter_count n (furthest Any claim h) → n ≡ furthest Any claim h
 all_are_most claim lives n h are most =
     elim (cases_Bool (ltb n filter_count)) [
       | inl less ↦ most.less_is_most (ltb-true n filter_count less)
-      | inr all ↦ omega (arith, ltb-false n filter_count all, most.at_most, most_few anywhere claim lives, most_is_furthest anywhere claim lives h are)
+      | inr all ↦ omega (arith, ltb-false n filter_count all, most.at_most, most_few Any claim lives, most_is_furthest Any claim lives h are)
     ]
 
 -- ---- what the window holds
@@ -306,13 +288,16 @@ pool_tells claim mark answers b is = is ∙ ap (carried_by claim.format mark) (s
 pub found_of_reply : (format : Format) (seen : Seen) (settings : Settings) (number moment : ℕ) (reply : Message ResponseHead) (h : List Item)
     (exchange : Exchange) (mark : Mark) (claim : Claim) (found : Result Finding AllocError)
     → IsSeenAs format seen h → Some exchange ≡ seen.exchange number
-    → mark ≡ reply_mark reply → claim ≡ claim_of format settings exchange moment reply h
+    → (exchange_of number h ≡ Some exchange → mark ≡ mark_to format settings (Some exchange) reply h)
+    → (exchange_of number h ≡ Some exchange → claim ≡ claim_of format settings exchange moment reply h)
     → (seen.live claim.target ≡ live_of claim.target h → seen.window number ≡ responses_since claim.format claim.exchange claim.target claim.since h
     → IfOk found (IsFoundBy mark claim h))
     → IfOk found (IsFinding format settings (exchange_of number h) moment reply h)
-found_of_reply format seen settings number moment reply h exchange mark claim found one is mark-is claim-is by =
+found_of_reply format seen settings number moment reply h exchange mark claim found one is mark-told claim-told by =
     let its_claim = claim_of format settings exchange moment reply h in
     let there : exchange_of number h ≡ Some exchange = sym (one.exchange number) ∙ sym is in
+    let mark-is = mark-told there in
+    let claim-is = claim-told there in
     let window : seen.window number ≡ responses_since format exchange.number exchange.target exchange.position h =
     one.window number ∙ ap (λ (o : Option Exchange). window_responses_of format o h) there in
     let its_window : seen.window number ≡ responses_since claim.format claim.exchange claim.target claim.since h =
@@ -337,11 +322,12 @@ found_of_none format seen settings number moment reply h found one none =
 pub found_at_target : (format : Format) (index : MapIndex) (settings : Settings) (number moment : ℕ) (reply : Message ResponseHead) (h : List Item)
     (pooled : PooledExchange) (here : AtTarget) (mark : Mark) (claim : Claim) (found : Result Finding AllocError)
     → IsSeenAs format (seen_in index) h → Some pooled ≡ get nat_cmp index.exchanges number → Some here ≡ get by_target index.targets pooled.exchange.target
-    → mark ≡ reply_mark reply → claim ≡ claim_of format settings (exchange_seen pooled.exchange) moment reply h
+    → (exchange_of number h ≡ Some (exchange_seen pooled.exchange) → mark ≡ mark_to format settings (Some (exchange_seen pooled.exchange)) reply h)
+    → (exchange_of number h ≡ Some (exchange_seen pooled.exchange) → claim ≡ claim_of format settings (exchange_seen pooled.exchange) moment reply h)
     → (live_in claim.target here.lives.items ≡ live_of claim.target h → those_for claim.exchange (answers_behind pooled.behind here.pool) ≡ responses_since claim.format claim.exchange claim.target claim.since h
     → IfOk found (IsFoundBy mark claim h))
     → IfOk found (IsFinding format settings (exchange_of number h) moment reply h)
-found_at_target format index settings number moment reply h pooled here mark claim found one is here-is mark-is claim-is by =
+found_at_target format index settings number moment reply h pooled here mark claim found one is here-is mark-told claim-told by =
     go (is_open pooled.behind number here.pool) refl
   where
     go : (b : Bool) → is_open pooled.behind number here.pool ≡ b → IfOk found (IsFinding format settings (exchange_of number h) moment reply h)
@@ -350,9 +336,10 @@ found_at_target format index settings number moment reply h pooled here mark cla
         sym (ap (known_in index.targets number) (sym is)
         ∙ ap (λ (o : Option AtTarget). cond (open_kept pooled.behind number o) (Some pooled) None) (sym here-is)
         ∙ ap (λ (b : Bool). cond b (Some pooled) None) there) in
+        let claim-is = claim-told (sym (one.exchange number) ∙ sym (ap pooled_exchange known)) in
         let at_target : Some here ≡ get by_target index.targets claim.target =
         here-is ∙ ap (λ (k : Claim). get by_target index.targets k.target) (sym claim-is) in
-        found_of_reply format (seen_in index) settings number moment reply h (exchange_seen pooled.exchange) mark claim found one (ap pooled_exchange known) mark-is claim-is
+        found_of_reply format (seen_in index) settings number moment reply h (exchange_seen pooled.exchange) mark claim found one (ap pooled_exchange known) mark-told claim-told
         (λ live window. by (ap (live_kept claim.target) at_target ∙ live)
         (ap (λ (k : Claim). those_for k.exchange (answers_behind pooled.behind here.pool)) claim-is
         ∙ ap (λ (o : Option AtTarget). those_for pooled.exchange.number (window_kept pooled.behind o)) here-is ∙ ap (window_in index.targets) known ∙ window))

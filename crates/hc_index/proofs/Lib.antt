@@ -8,3 +8,4 @@ pub mod CandidateLemmas
 pub mod PoolLemmas
 pub mod TargetsLemmas
 pub mod MapLemmas
+pub mod SentLemmas

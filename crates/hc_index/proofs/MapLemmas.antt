@@ -3,6 +3,7 @@ use Rattle.std.proofs.Common.{◌≡◌, ℕ, Bool, true, false, ◌&&◌, cond,
 use Rattle.std.specs.Option.{option_map}
 use Rattle.std.specs.Ordering.{nat_cmp}
 use Rattle.std.specs.BTreeMap.{BTreeMap, get}
+use Rattle.std.specs.BTreeSet.{BTreeSet, contains}
 use Rattle.std.proofs.lemmas.Bool.{cases_eq}
 use Rattle.std.proofs.lemmas.List.{append-nil}
 use Rattle.hc_head.specs.declared.head.RequestHead.{RequestHead}
@@ -101,6 +102,7 @@ pub record Asks (old : MapIndex) (number : ℕ) (x : PooledExchange) (new : MapI
   pub exchanges : (e : ℕ) → get nat_cmp new.exchanges e ≡ cond (eqb number e) (Some x) (get nat_cmp old.exchanges e)
   pub targets : ChangesAt x.exchange.target old.targets new.targets (OpensAt x.exchange.target number x.behind)
   pub forwards : new.forwards ≡ old.forwards
+  pub forwarded : (e : ℕ) → contains nat_cmp new.forwarded e ≡ cond (eqb number e) false (contains nat_cmp old.forwarded e)
 
 keeps_others : (number e behind : ℕ) (target : Target) (old new : Targets) → (e ≡ number → ⊥) → ChangesAt target old new (OpensAt target number behind) → KeepsWindow e old new
 keeps_others number e behind target old new ne changes =
@@ -146,6 +148,7 @@ notes_request format old number position moment request x new asks is =
       forward = λ f. ap (λ (m : BTreeMap ℕ OpenForward). option_map forward_seen (get nat_cmp m f)) asks.forwards;
       cause = λ f. ap (λ (m : BTreeMap ℕ OpenForward). cause_seen (get nat_cmp m f)) asks.forwards;
       window = asked_window old number x new asks;
+      has_forward = asks.forwarded;
       error = λ t. same_at target t old.targets new.targets R (λ k. error_kept) asks.targets (λ o n opens. opens.error);
       failure = λ t. same_at target t old.targets new.targets R (λ k. failure_kept) asks.targets (λ o n opens. opens.failure);
     }
@@ -157,6 +160,7 @@ pub record Replies (old : MapIndex) (number : ℕ) (target : Target) (new : MapI
   pub exchanges : (e : ℕ) → get nat_cmp new.exchanges e ≡ cond (eqb number e) None (get nat_cmp old.exchanges e)
   pub targets : ChangesAt target old.targets new.targets (ClosesAt target number)
   pub forwards : new.forwards ≡ old.forwards
+  pub forwarded : (e : ℕ) → contains nat_cmp new.forwarded e ≡ cond (eqb number e) false (contains nat_cmp old.forwarded e)
 
 keeps_open : (number e : ℕ) (target : Target) (old new : Targets) → (e ≡ number → ⊥) → ChangesAt target old new (ClosesAt target number) → KeepsWindow e old new
 keeps_open number e target old new ne changes =
@@ -194,6 +198,7 @@ notes_reply format old number position moment reply target new replies =
       forward = λ f. ap (λ (m : BTreeMap ℕ OpenForward). option_map forward_seen (get nat_cmp m f)) replies.forwards;
       cause = λ f. ap (λ (m : BTreeMap ℕ OpenForward). cause_seen (get nat_cmp m f)) replies.forwards;
       window = replied_window old number target new replies;
+      has_forward = replies.forwarded;
       error = λ t. same_at target t old.targets new.targets R (λ k. error_kept) replies.targets (λ o n closes. closes.error);
       failure = λ t. same_at target t old.targets new.targets R (λ k. failure_kept) replies.targets (λ o n closes. closes.failure);
     }
@@ -206,6 +211,7 @@ pub record Fails (old : MapIndex) (forward : OpenForward) (number position : ℕ
   pub forwards : ReplacesForward number None old.forwards new.forwards
   pub targets : ChangesAt forward.target old.targets new.targets (FailsAt forward.target position)
   pub exchanges : new.exchanges ≡ old.exchanges
+  pub forwarded : new.forwarded ≡ old.forwarded
 
 pub notes_failure : (format : Format) (old : MapIndex) (forward : OpenForward) (number position moment : ℕ) (new : MapIndex) → Fails old forward number position new
     → Notes format (seen_in old) position (OriginFailure number moment) (seen_in new)
@@ -222,6 +228,7 @@ notes_failure format old forward number position moment new fails =
       cause = cause_replaced number None old.forwards new.forwards fails.forwards;
       window = λ e. ap (λ (m : BTreeMap ℕ PooledExchange). window_in new.targets (known_in new.targets e (get nat_cmp m e))) fails.exchanges
           ∙ window_stays e old.targets new.targets (keeps e) (get nat_cmp old.exchanges e);
+      has_forward = λ e. ap (λ (s : BTreeSet ℕ). contains nat_cmp s e) fails.forwarded;
       error = λ t. same_at target t old.targets new.targets R (λ k. error_kept) fails.targets (λ o n f. f.error);
       failure = λ t. changed_at target t old.targets new.targets R (λ k. failure_kept) (λ k o. position) fails.targets (λ o n f. f.failure)
           ∙ ap (λ (o : Option Forward). cond (is_forward_of t o) position (failure_kept (get by_target old.targets t))) is;
@@ -235,6 +242,7 @@ pub record Answers (format : Format) (old : MapIndex) (forward : OpenForward) (n
   pub forwards : ReplacesForward number None old.forwards new.forwards
   pub targets : ChangesAt forward.target old.targets new.targets (AnswersAt (forward_seen forward) (told_in format forward.cause) position moment response)
   pub exchanges : new.exchanges ≡ old.exchanges
+  pub forwarded : new.forwarded ≡ old.forwarded
 
 -- what the response adds to the answers for a target
 abbrev added_for : Target → Forward → ToldCause → Message ResponseHead → List ToldResponse
@@ -344,6 +352,7 @@ notes_response format old forward number position moment response new answers =
           ∙ window_grows format e seen forward.cause response old.targets new.targets (grows e) (get nat_cmp old.exchanges e)
           ∙ (λ i. window_in old.targets (known_in old.targets e (get nat_cmp old.exchanges e))
           ++ added_to_window format (pooled_exchange (known_in old.targets e (get nat_cmp old.exchanges e))) (is i) (cause i) response);
+      has_forward = λ e. ap (λ (s : BTreeSet ℕ). contains nat_cmp s e) answers.forwarded;
       error = λ t. changed_at forward.target t old.targets new.targets R (λ k. error_kept)
           (λ k o. cond (is_error_status response.head.status) position (error_kept o)) answers.targets (λ o n a. a.error)
           ∙ two_tests (is_error_status response.head.status) (same_target forward.target t) position (error_kept (get by_target old.targets t))

@@ -3,6 +3,7 @@ use Rattle.std.proofs.Common.{◌≡◌, ℕ, Bool, true, false, ◌&&◌, cond,
 use Rattle.std.specs.Option.{option_map}
 use Rattle.std.specs.Ordering.{nat_cmp}
 use Rattle.std.specs.BTreeMap.{BTreeMap, get}
+use Rattle.std.specs.BTreeSet.{BTreeSet, contains}
 use Rattle.std.proofs.lemmas.List.{append-nil}
 use Rattle.hc_head.specs.declared.head.ResponseHead.{ResponseHead}
 use Rattle.hc_head.specs.declared.head.Target.{Target}
@@ -72,6 +73,7 @@ pub record Answers (format : Format) (old : ListIndex) (forward : OpenForward) (
   pub answered : map targeted mid ≡ map (targeted_answered (forward_seen forward) position moment response) (map targeted old.lives.items)
   pub begun : (target : Target) → live_in target new.lives.items ≡ live_in target mid ++ live_at target position (begun_by (forward_seen forward) moment response)
   pub failures : new.failures ≡ old.failures
+  pub forwarded : new.forwarded ≡ old.forwarded
 
 pub notes_answer : (format : Format) (old new : ListIndex) (forward : OpenForward) (number position moment : ℕ) (response : Message ResponseHead) (mid : List LiveResponse)
     → Answers format old forward number position moment response mid new → Notes format (seen_in old) position (OriginResponse number moment response) (seen_in new)
@@ -89,6 +91,7 @@ notes_answer format old new forward number position moment response mid a =
       cause = cause_replaced number None old.forwards new.forwards a.forwards;
       window = λ e. window_answered format (forward_seen forward) forward.cause response e old.exchanges.items new.exchanges.items a.exchanges
           ∙ (λ i. window_of (open_in e old.exchanges.items) ++ added_to_window format (watched_exchange (open_in e old.exchanges.items)) (is i) (cause i) response);
+      has_forward = λ e. ap (λ (s : BTreeSet ℕ). contains nat_cmp s e) a.forwarded;
       error = λ target. a.errors target
           ∙ ap (λ (o : Option Forward). cond (is_error_status response.head.status && is_forward_of target o) position (position_in target old.errors)) is;
       failure = λ target. ap (position_in target) a.failures;

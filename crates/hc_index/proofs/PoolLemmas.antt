@@ -25,7 +25,7 @@ nat_tied_by x y false is = go (eqb x y)
     go true = refl
     go false = refl
 
-nat_tied : (x y : ℕ) → is_eq (nat_cmp x y) ≡ eqb x y
+pub nat_tied : (x y : ℕ) → is_eq (nat_cmp x y) ≡ eqb x y
 nat_tied x y = nat_tied_by x y (ltb x y) refl
 
 and_false : (a : Bool) → (a && false) ≡ false

@@ -1,8 +1,9 @@
 -- What plain lists are seen as.
-use Rattle.std.specs.Prelude.{◌≡◌, ◌≤◌, ◌<◌, ℕ, Bool, false, ◌==◌, ◌&&◌, ◌||◌, not, List, [], ◌++◌, filter, find, map, Option, Some, None, if◌then◌else◌}
+use Rattle.std.specs.Prelude.{◌≡◌, ◌≤◌, ◌<◌, ℕ, Bool, true, false, ◌==◌, ◌&&◌, ◌||◌, not, List, [], ◌++◌, filter, find, map, Option, Some, None, if◌then◌else◌}
 use Rattle.std.specs.Option.{option_map}
 use Rattle.std.specs.Ordering.{nat_cmp}
 use Rattle.std.specs.BTreeMap.{BTreeMap, get}
+use Rattle.std.specs.BTreeSet.{contains}
 use Rattle.std.specs.declared.cmp.Ordering.{Ordering}
 use Rattle.hc_head.specs.contracts.head.TargetOrd.TheImpl as target_order
 use Rattle.hc_head.specs.declared.head.ResponseHead.{ResponseHead}
@@ -19,8 +20,10 @@ use Rattle.hc_transcript.specs.Items.{Exchange, Forward}
 use Rattle.hc_framing.specs.declared.message.Message.{Message}
 use Rattle.hc_history.specs.declared.candidates.Candidate.{Candidate}
 use Rattle.hc_history.specs.Claims.{Claim}
-use Rattle.hc_history.specs.Filters.{filters}
-use Rattle.hc_history.specs.Furthest.{passed}
+use Rattle.hc_history.specs.declared.among.Among.{Among}
+use Rattle.hc_history.specs.declared.among.Among.TheVariants.{Any, InWindow, Recent}
+use Rattle.hc_history.specs.Allowing.{filters}
+use Rattle.hc_history.specs.Furthest.{passed, passed_among}
 use Rattle.hc_history.specs.Windows.{may_be_for}
 use Rattle.hc_history.specs.Noting.{live_answered}
 use Rattle.hc_history.specs.Right.{is_judged_collapsed}
@@ -141,6 +144,16 @@ candidate_of claim live = record { position = live.position; passed = passed (fi
 abbrev pub candidates_in : Claim → List LiveResponse → List Candidate
 candidates_in claim lives = map (candidate_of claim) (filter (λ live. same_target live.target claim.target) lives)
 
+-- whether, among those, none is looked at that came before the window
+abbrev pub ends_at : Among → Bool
+ends_at InWindow = true
+ends_at Any = false
+ends_at Recent = false
+
+-- how many filters a live response passes, if it is one of those
+abbrev pub passed_live : Among → Claim → LiveResponse → ℕ
+passed_live among claim live = passed_among among claim live.position (Some (record { target = live.target; state = live.state }))
+
 -- n is the most, or at least enough and no more than the most
 pub record IsMostOrEnough (enough n most : ℕ) : Type 0 where
   pub at_most : n ≤ most
@@ -161,6 +174,7 @@ seen_in index = record {
   forward = λ f. option_map forward_seen (get nat_cmp index.forwards f);
   cause = λ f. cause_seen (get nat_cmp index.forwards f);
   window = λ e. window_of (open_in e index.exchanges.items);
+  has_forward = λ e. contains nat_cmp index.forwarded e;
   error = λ target. position_in target index.errors;
   failure = λ target. position_in target index.failures;
 }

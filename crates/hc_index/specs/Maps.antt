@@ -177,6 +177,7 @@ seen_in index = record {
   forward = λ f. option_map forward_seen (get nat_cmp index.forwards f);
   cause = λ f. cause_seen (get nat_cmp index.forwards f);
   window = λ e. window_in index.targets (open_in index e);
+  has_forward = λ e. contains nat_cmp index.forwarded e;
   error = λ target. error_kept (get by_target index.targets target);
   failure = λ target. failure_kept (get by_target index.targets target);
 }

@@ -1,22 +1,23 @@
 //! What is found of a reply, by what an index keeps of its exchange and its target.
 
-ghost use Rattle.std.specs.Prelude.{◌≡◌, ◌&&◌, nat_le, ℤ, Bool, List, Option, IfOk, map, true, false};
+ghost use Rattle.std.specs.Prelude.{◌≡◌, ◌&&◌, nat_le, ℕ, ℤ, Bool, List, Option, Some, IfOk, map, true, false};
 ghost use Rattle.std.specs.List.{list_any};
 ghost use Rattle.hc_transcript.specs.Items.{Item};
+ghost use Rattle.hc_transcript.specs.History.{exchange_of};
 ghost use Rattle.hc_history.specs.Claims.{claim_of};
 ghost use Rattle.hc_history.specs.Forwarded.{carries, is_forwarded};
 ghost use Rattle.hc_history.specs.Furthest.{furthest};
-ghost use Rattle.hc_history.specs.Reused.{anywhere};
 ghost use Rattle.hc_history.specs.Right.{IsFoundBy, IsFoundForwarded};
 ghost use Rattle.hc_head.specs.Targets.{same_target};
 ghost use Rattle.hc_history.specs.Seen.{Seen, IsSeenAs, live_of};
-ghost use Rattle.hc_index.specs.Lists.{IsMostOrEnough, carried_by, exchange_seen, live_in};
+ghost use Rattle.hc_index.specs.Lists.{IsMostOrEnough, carried_by, ends_at, exchange_seen, live_in, passed_live};
 
 use crate::kept::{LiveResponse, OpenExchange, WindowAnswer};
 use hc_head::same_target;
 use hc_history::{
-    Finding, Mark, MarkedReply, Reason, ReplyClaim, Settings, carries, found_of_collapsed,
-    found_of_forwarded, found_of_hit, found_of_unmarked, is_judged_collapsed, passed, ttl_of,
+    Among, Finding, Mark, MarkedReply, Reason, ReplyClaim, Settings, carries, found_of_collapsed,
+    found_of_forwarded, found_of_hit, found_of_inferred, found_of_unmarked, is_judged_collapsed,
+    is_looked_at, passed, ttl_of,
 };
 use hc_transcript::Format;
 use std::alloc::{AllocError, Global};
@@ -30,27 +31,29 @@ const FORWARDED_COUNT: u32 = 7;
 /// How many filters a reply passes that was collapsed.
 const COLLAPSED_COUNT: u32 = 8;
 
-/// The position behind which every response lies.
-const ANYWHERE: u64 = 0;
-
-/// Where the latest error and the latest failure of a forward of a target stand; 0 where there was none.
+/// What is known of the window of an exchange, whatever it holds.
 #[derive(Clone, Copy)]
-pub(crate) struct Latest {
+pub(crate) struct Window {
+    /// Where the latest error of a forward of its target stands; 0 where there was none.
     pub(crate) error: u64,
+    /// Where the latest failure of one stands; 0 where there was none.
     pub(crate) failure: u64,
+    /// Whether a forward was made for the exchange.
+    pub(crate) has_forward: bool,
 }
 
 /// What a reply to an open exchange claims.
 pub(crate) fn claim_of<'a>(
     exchange: &'a OpenExchange,
-    latest: Latest,
+    window: Window,
     moment: u64,
     reply: &MarkedReply<'a>,
     settings: &'a Settings,
     format: Format,
 ) -> ReplyClaim<'a>
-    ensures { (seen : Seen) (h : List Item) → IsSeenAs format seen h
-        → latest.error ≡ seen.error exchange.now.target → latest.failure ≡ seen.failure exchange.now.target
+    ensures { (seen : Seen) (h : List Item) (e : ℕ) → IsSeenAs format seen h → exchange_of e h ≡ Some (exchange_seen exchange.now)
+        → window.error ≡ seen.error exchange.now.target → window.failure ≡ seen.failure exchange.now.target
+        → window.has_forward ≡ seen.has_forward e
         → result ≡ claim_of format settings.now (exchange_seen exchange.now) moment reply.now h }
 {
     ReplyClaim {
@@ -61,9 +64,10 @@ pub(crate) fn claim_of<'a>(
         since: exchange.position,
         reply: reply.reply(),
         moment,
+        is_inferred: reply.infers(format, &settings.allowed, window.has_forward),
         ttl: ttl_of(reply.mark()),
-        has_error: exchange.position < latest.error,
-        has_failure: exchange.position < latest.failure,
+        has_error: exchange.position < window.error,
+        has_failure: exchange.position < window.failure,
         settings,
     }
 }
@@ -77,32 +81,58 @@ pub(crate) fn carries_one(claim: &ReplyClaim<'_>, answers: &[WindowAnswer]) -> b
     })
 }
 
-/// Whether it is a response of the claim's target that stands no later than a position: then all older ones of
-/// the target stand no later, either.
-fn is_before(claim: &ReplyClaim<'_>, since: u64, live: &LiveResponse) -> bool
-    ensures { result ≡ (nat_le live.now.position since && same_target live.now.target claim.now.target) }
+/// Whether only what came in the window is looked at.
+fn ends_at(among: Among) -> bool
+    ensures { result ≡ ends_at among }
 {
-    live.position <= since && same_target(&live.target, claim.target)
+    match among {
+        Among::InWindow => true,
+        Among::Any | Among::Recent => false,
+    }
 }
 
-/// The most filters that one of the live responses passes that stand later than a position. The newest is
-/// looked at first; behind one that passes enough of them, or that stands no later, none is.
+/// Whether only what came in the window is looked at, and it is a response of the claim's target that came before: then
+/// all older ones of the target did so, too.
+fn is_before(claim: &ReplyClaim<'_>, among: Among, live: &LiveResponse) -> bool
+    ensures { result ≡ (ends_at among && nat_le live.now.position claim.now.since && same_target live.now.target claim.now.target) }
+{
+    ends_at(among) && live.position <= claim.since && same_target(&live.target, claim.target)
+}
+
+/// How many filters a live response passes, if it is one of those.
+fn passed_among(
+    alloc: Global,
+    claim: &ReplyClaim<'_>,
+    among: Among,
+    live: &LiveResponse,
+) -> Result<u32, AllocError>
+    ensures { IfOk result (λ n. n ≡ passed_live among claim.now live.now) }
+{
+    if is_looked_at(among, claim, live.position, &live.state) {
+        passed(alloc, claim, &live.target, &live.state)
+    } else {
+        Ok(0)
+    }
+}
+
+/// The most filters that one of those live responses passes. The newest is looked at first; behind one that passes
+/// enough of them, or that came before the window where only what came in it is looked at, none is.
 fn furthest(
     alloc: Global,
     claim: &ReplyClaim<'_>,
-    since: u64,
+    among: Among,
     lives: &[LiveResponse],
     enough: u32,
 ) -> Result<u32, AllocError>
     ensures { (h : List Item) → live_in claim.now.target lives.now ≡ live_of claim.now.target h
-        → IfOk result (λ n. IsMostOrEnough enough n (furthest since claim.now h)) }
+        → IfOk result (λ n. IsMostOrEnough enough n (furthest among claim.now h)) }
 {
     let mut most = 0;
     for live in lives.iter().rev() {
-        if is_before(claim, since, live) {
+        if is_before(claim, among, live) {
             return Ok(most);
         }
-        let here = passed(alloc, claim, &live.target, &live.state)?;
+        let here = passed_among(alloc, claim, among, live)?;
         if enough <= here {
             return Ok(here);
         }
@@ -120,7 +150,7 @@ fn found_of_hit_among(
     ensures { (ttl : Option ℤ) (h : List Item) → live_in claim.now.target lives.now ≡ live_of claim.now.target h
         → IfOk result (IsFoundBy (Mark.Hit ttl) claim.now h) }
 {
-    let passed = furthest(alloc, claim, ANYWHERE, lives, FILTER_COUNT)?;
+    let passed = furthest(alloc, claim, Among::Any, lives, FILTER_COUNT)?;
     Ok(found_of_hit(passed))
 }
 
@@ -133,11 +163,29 @@ fn found_of_collapsed_among(
     ensures { (h : List Item) → live_in claim.now.target lives.now ≡ live_of claim.now.target h
         → IfOk result (IsFoundForwarded true claim.now h) }
 {
-    let passed = furthest(alloc, claim, claim.since, lives, COLLAPSED_COUNT)?;
+    let passed = furthest(alloc, claim, Among::InWindow, lives, COLLAPSED_COUNT)?;
     if COLLAPSED_COUNT <= passed {
         return Ok(Finding::Right);
     }
     Ok(found_of_collapsed(passed))
+}
+
+/// What is found of a reply that went forward without saying so, and carries no response of its window.
+fn found_of_inferred_among(
+    alloc: Global,
+    claim: &ReplyClaim<'_>,
+    lives: &[LiveResponse],
+) -> Result<Finding, AllocError>
+    ensures { (h : List Item) → live_in claim.now.target lives.now ≡ live_of claim.now.target h
+        → claim.now.is_inferred ≡ true → is_forwarded claim.now h ≡ false
+        → IfOk result (IsFoundForwarded false claim.now h) }
+{
+    let recent = furthest(alloc, claim, Among::Recent, lives, FORWARDED_COUNT)?;
+    if FORWARDED_COUNT <= recent {
+        return Ok(Finding::Right);
+    }
+    let passed = furthest(alloc, claim, Among::Any, lives, FILTER_COUNT)?;
+    Ok(found_of_inferred(passed, recent))
 }
 
 /// What is found of a reply that went forward by itself, where it is told whether it carries a response of
@@ -155,7 +203,10 @@ fn found_of_forwarded_among(
     if carried {
         return Ok(Finding::Right);
     }
-    let passed = furthest(alloc, claim, ANYWHERE, lives, FORWARDED_COUNT)?;
+    if claim.is_inferred {
+        return found_of_inferred_among(alloc, claim, lives);
+    }
+    let passed = furthest(alloc, claim, Among::Any, lives, FORWARDED_COUNT)?;
     if FORWARDED_COUNT <= passed {
         return Ok(Finding::Right);
     }

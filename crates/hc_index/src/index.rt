@@ -5,7 +5,7 @@ ghost use Rattle.std.specs.Option.{option_map};
 ghost use Rattle.hc_transcript.specs.Items.{Item, item_of};
 ghost use Rattle.hc_transcript.specs.History.{next_position, exchange_of, forward_of, cause_of};
 ghost use Rattle.hc_history.specs.Claims.{claim_of};
-ghost use Rattle.hc_history.specs.Seen.{Seen, IsSeenAs, live_of};
+ghost use Rattle.hc_history.specs.Seen.{Seen, IsSeenAs, has_forward_in, live_of};
 ghost use Rattle.hc_history.specs.Right.{IsFinding};
 ghost use Rattle.hc_history.specs.Candidates.{AreCandidatesOf};
 ghost use Rattle.hc_index.specs.Lists.{cause_seen, forward_seen, state_in};
@@ -58,6 +58,10 @@ pub trait Index {
     ) -> Result<Vec<Candidate>, AllocError>
         ensures { (h : List Item) → IsSeenAs format (seen self.now) h
             → IfOk result (λ candidates. AreCandidatesOf format settings.now (exchange_of exchange h) moment reply.now h candidates.items) };
+
+    /// Whether a forward was made for the open exchange of that number, as the second format tells it.
+    fn has_forward(&self, exchange: u64) -> bool
+        ensures { (format : Format) (h : List Item) → IsSeenAs format (seen self.now) h → result ≡ has_forward_in exchange h };
 
     /// What a reply to the open exchange of that number claims, which comes next in a transcript of that
     /// format, at that moment. None where no exchange of that number is open.

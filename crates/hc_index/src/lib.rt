@@ -15,6 +15,7 @@ mod map_finding;
 mod map_index;
 mod noting;
 mod pool;
+mod sent;
 mod targets;
 
 pub use hc_history::{Candidate, Finding, MarkedReply, Reason, ReplyClaim, Settings};

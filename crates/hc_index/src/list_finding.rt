@@ -13,7 +13,7 @@ ghost use Rattle.hc_history.specs.Seen.{IsSeenAs};
 ghost use Rattle.hc_index.specs.Lists.{carried_by, open_in, position_in, seen_in};
 
 use crate::candidates::candidates_among;
-use crate::finding::{Latest, carries_one, claim_of, found_by};
+use crate::finding::{Window, carries_one, claim_of, found_by};
 use crate::kept::{WatchedExchange, WindowAnswer};
 use crate::list_index::ListIndex;
 use hc_head::Target;
@@ -69,12 +69,13 @@ pub(crate) fn finding(
         return Ok(Finding::Right);
     };
     let exchange = &watched.exchange;
-    let latest = Latest {
+    let window = Window {
         error: position_of(&index.errors, &exchange.target),
         failure: position_of(&index.failures, &exchange.target),
+        has_forward: index.forwarded.contains(&number),
     };
-    let claim = claim_of(exchange, latest, moment, reply, settings, format);
-    let mark = reply.mark();
+    let claim = claim_of(exchange, window, moment, reply, settings, format);
+    let mark = reply.mark_by(format, &settings.allowed, window.has_forward);
     let carried = is_carried(mark, &claim, watched.window.as_slice());
     found_by(index.alloc, mark, &claim, index.lives.as_slice(), carried)
 }
@@ -93,11 +94,12 @@ pub(crate) fn claim<'a>(
 {
     let watched = open_exchange(index.exchanges.as_slice(), number)?;
     let exchange = &watched.exchange;
-    let latest = Latest {
+    let window = Window {
         error: position_of(&index.errors, &exchange.target),
         failure: position_of(&index.failures, &exchange.target),
+        has_forward: index.forwarded.contains(&number),
     };
-    Some(claim_of(exchange, latest, moment, reply, settings, format))
+    Some(claim_of(exchange, window, moment, reply, settings, format))
 }
 
 /// The candidates of a reply to the open exchange of that number. Where there is none, there are none.

@@ -19,13 +19,14 @@ use crate::kept::{LiveResponse, OpenExchange, OpenForward, WatchedExchange};
 use crate::list_finding::{candidates, claim, finding};
 use crate::lives::{answer_lives, begin_live};
 use crate::noting::{Noting, note_item};
+use crate::sent::{add_sent, begin_anew};
 use hc_framing::Message;
 use hc_head::{RequestHead, ResponseHead, Target, is_error_status};
 use hc_history::{Candidate, Finding, MarkedReply, ReplyClaim, Settings};
 use hc_transcript::{Format, OwnedItem, ToldCause};
 use hc_update::Stored;
 use std::alloc::{AllocError, Global};
-use std::collections::BTreeMap;
+use std::collections::{BTreeMap, BTreeSet};
 
 /// An index that keeps lists and walks them: the time for a reply grows with the number of live responses,
 /// and that for a response with the number of live responses and open exchanges.
@@ -36,6 +37,8 @@ pub struct ListIndex {
     pub(crate) lives: Vec<LiveResponse>,
     pub(crate) exchanges: Vec<WatchedExchange>,
     pub(crate) forwards: BTreeMap<u64, OpenForward>,
+    /// The open exchanges for which a forward was made.
+    pub(crate) forwarded: BTreeSet<u64>,
     /// The position of the latest error of a forward of each target.
     pub(crate) errors: BTreeMap<Target, u64>,
     /// The position of the latest failure of a forward of each target.
@@ -82,6 +85,7 @@ impl ListIndex {
             lives: Vec::new(alloc),
             exchanges: Vec::new(alloc),
             forwards: BTreeMap::new(alloc),
+            forwarded: BTreeSet::new(alloc),
             errors: BTreeMap::new(alloc),
             failures: BTreeMap::new(alloc),
         }
@@ -102,10 +106,12 @@ impl Noting for ListIndex {
             exchange: OpenExchange::new(number, position, request, target),
             window: Vec::new(self.alloc),
         };
+        begin_anew(&mut self.forwarded, number);
         open_exchange(&mut self.exchanges, watched)
     }
 
     fn close_exchange(&mut self, number: u64) {
+        begin_anew(&mut self.forwarded, number);
         close_exchange(&mut self.exchanges, number);
     }
 
@@ -119,7 +125,7 @@ impl Noting for ListIndex {
     ) -> Result<(), AllocError> {
         let forward = OpenForward::new(moment, request, target, cause);
         self.forwards.insert(number, forward)?;
-        Ok(())
+        add_sent(&mut self.forwarded, cause)
     }
 
     fn fail_forward(&mut self, number: u64, position: u64) -> Result<(), AllocError> {
@@ -177,6 +183,10 @@ impl Index for ListIndex {
         format: Format,
     ) -> Result<Vec<Candidate>, AllocError> {
         candidates(self, exchange, reply, moment, settings, format)
+    }
+
+    fn has_forward(&self, exchange: u64) -> bool {
+        self.forwarded.contains(&exchange)
     }
 
     fn claim<'a>(

@@ -14,7 +14,7 @@ ghost use Rattle.hc_index.specs.Lists.{by_target, carried_by, state_in};
 ghost use Rattle.hc_index.specs.Maps.{answers_behind, carries_told, live_kept, seen_in};
 
 use crate::candidates::{candidates_among, response_among};
-use crate::finding::{Latest, claim_of, found_by};
+use crate::finding::{Window, claim_of, found_by};
 use crate::map_index::MapIndex;
 use crate::pool::Pool;
 use hc_head::Target;
@@ -57,12 +57,13 @@ pub(crate) fn finding(
     let Some(here) = index.targets.get(&exchange.target) else {
         return Ok(Finding::Right);
     };
-    let latest = Latest {
+    let window = Window {
         error: here.error,
         failure: here.failure,
+        has_forward: index.forwarded.contains(&number),
     };
-    let claim = claim_of(exchange, latest, moment, reply, settings, format);
-    let mark = reply.mark();
+    let claim = claim_of(exchange, window, moment, reply, settings, format);
+    let mark = reply.mark_by(format, &settings.allowed, window.has_forward);
     let carried = is_carried(mark, &claim, &here.pool, pooled.behind);
     found_by(index.alloc, mark, &claim, here.lives.as_slice(), carried)
 }
@@ -85,11 +86,12 @@ pub(crate) fn claim<'a>(
     if !here.pool.is_open(pooled.behind, number) {
         return None;
     }
-    let latest = Latest {
+    let window = Window {
         error: here.error,
         failure: here.failure,
+        has_forward: index.forwarded.contains(&number),
     };
-    Some(claim_of(exchange, latest, moment, reply, settings, format))
+    Some(claim_of(exchange, window, moment, reply, settings, format))
 }
 
 /// The candidates of a reply to the open exchange of that number. Where there is none, there are none.

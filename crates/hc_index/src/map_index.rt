@@ -13,6 +13,7 @@ use crate::index::Index;
 use crate::kept::{OpenExchange, OpenForward, PooledExchange};
 use crate::map_finding::{candidates, claim, finding, response};
 use crate::noting::{Noting, note_item};
+use crate::sent::{add_sent, begin_anew};
 use crate::targets::{answer_at, close_at, fail_at, open_at};
 use hc_framing::Message;
 use hc_head::{RequestHead, ResponseHead, Target};
@@ -20,7 +21,7 @@ use hc_history::{Candidate, Finding, MarkedReply, ReplyClaim, Settings};
 use hc_transcript::{Format, OwnedItem, ToldCause};
 use hc_update::Stored;
 use std::alloc::{AllocError, Global};
-use std::collections::BTreeMap;
+use std::collections::{BTreeMap, BTreeSet};
 
 /// An index that looks at one target alone: the time for a record doesn't grow with the records of other
 /// targets, and a hit that the newest response passes is found at once.
@@ -30,6 +31,8 @@ pub struct MapIndex {
     pub(crate) targets: BTreeMap<Target, AtTarget>,
     pub(crate) exchanges: BTreeMap<u64, PooledExchange>,
     pub(crate) forwards: BTreeMap<u64, OpenForward>,
+    /// The open exchanges for which a forward was made.
+    pub(crate) forwarded: BTreeSet<u64>,
 }
 
 impl MapIndex {
@@ -42,6 +45,7 @@ impl MapIndex {
             targets: BTreeMap::new(alloc),
             exchanges: BTreeMap::new(alloc),
             forwards: BTreeMap::new(alloc),
+            forwarded: BTreeSet::new(alloc),
         }
     }
 }
@@ -56,6 +60,7 @@ impl Noting for MapIndex {
         request: Message<RequestHead>,
         target: Target,
     ) -> Result<(), AllocError> {
+        begin_anew(&mut self.forwarded, number);
         let behind = open_at(self.alloc, &mut self.targets, &target, number)?;
         let pooled = PooledExchange {
             exchange: OpenExchange::new(number, position, request, target),
@@ -66,6 +71,7 @@ impl Noting for MapIndex {
     }
 
     fn close_exchange(&mut self, number: u64) {
+        begin_anew(&mut self.forwarded, number);
         if let Some(pooled) = self.exchanges.remove(&number) {
             let target = &pooled.exchange.target;
             close_at(&mut self.targets, target, pooled.behind, number);
@@ -82,7 +88,7 @@ impl Noting for MapIndex {
     ) -> Result<(), AllocError> {
         let forward = OpenForward::new(moment, request, target, cause);
         self.forwards.insert(number, forward)?;
-        Ok(())
+        add_sent(&mut self.forwarded, cause)
     }
 
     fn fail_forward(&mut self, number: u64, position: u64) -> Result<(), AllocError> {
@@ -138,6 +144,10 @@ impl Index for MapIndex {
         format: Format,
     ) -> Result<Vec<Candidate>, AllocError> {
         candidates(self, exchange, reply, moment, settings, format)
+    }
+
+    fn has_forward(&self, exchange: u64) -> bool {
+        self.forwarded.contains(&exchange)
     }
 
     fn claim<'a>(

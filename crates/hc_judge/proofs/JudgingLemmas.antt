@@ -12,6 +12,7 @@ use Rattle.hc_transcript.specs.Transcript.{AreReadAs, Splits}
 use Rattle.hc_history.specs.declared.reasons.Reason.{Reason}
 use Rattle.hc_judge.specs.declared.past.PastItem.{PastItem}
 use Rattle.hc_history.specs.declared.settings.Settings.{Settings}
+use Rattle.hc_history.specs.declared.among.Among.{Among}
 use Rattle.hc_history.specs.Claims.{Claim}
 use Rattle.hc_history.specs.States.{state_at}
 use Rattle.hc_history.specs.declared.verdicts.Counts.{Counts}
@@ -19,7 +20,7 @@ use Rattle.hc_history.specs.declared.verdicts.Verdict.TheVariants.{Yes, Malforme
 use Rattle.hc_history.specs.Counting.{counts_of}
 use Rattle.hc_history.specs.Right.{AllRight}
 use Rattle.hc_history.specs.Verdicts.{IsWrongAt, IsVerdict}
-use Rattle.hc_history.specs.Furthest.{passed_later, furthest_up_to}
+use Rattle.hc_history.specs.Furthest.{passed_among, furthest_up_to}
 use Rattle.hc_judge.specs.Past.{history_of}
 use Rattle.hc_judge.specs.declared.reading.Ending.TheVariants.{Whole, Broken}
 use Rattle.hc_judge.specs.Reading.{AreFirstOf, EndsBy}
@@ -36,11 +37,11 @@ next : (n : ℕ) → suc n ≡ n + 1
 next n = omega arith
 
 -- one position more
-pub furthest_more : (since : ℕ) (claim : Claim) (h : List Item) (n most passed : ℕ) → most ≡ furthest_up_to since claim n h
-    → passed ≡ passed_later since claim (n + 1) (state_at (n + 1) h) → max most passed ≡ furthest_up_to since claim (n + 1) h
-furthest_more since claim h n most passed most-is passed-is =
-    subst (λ (k : ℕ). passed ≡ passed_later since claim k (state_at k h) → max most passed ≡ furthest_up_to since claim k h) (next n)
-    (λ is. ap (λ (m : ℕ). max m passed) most-is ∙ ap (max (furthest_up_to since claim n h)) is) passed-is
+pub furthest_more : (among : Among) (claim : Claim) (h : List Item) (n most passed : ℕ) → most ≡ furthest_up_to among claim n h
+    → passed ≡ passed_among among claim (n + 1) (state_at (n + 1) h) → max most passed ≡ furthest_up_to among claim (n + 1) h
+furthest_more among claim h n most passed most-is passed-is =
+    subst (λ (k : ℕ). passed ≡ passed_among among claim k (state_at k h) → max most passed ≡ furthest_up_to among claim k h) (next n)
+    (λ is. ap (λ (m : ℕ). max m passed) most-is ∙ ap (max (furthest_up_to among claim n h)) is) passed-is
 
 -- ---- where an item stands
 
@@ -132,8 +133,16 @@ right_read format other octets settings h records rest first right splits = elim
   | inr read ↦ subst (λ (k : Format). AllRight k settings h) (one_opening octets format other read.0 records h h read.1 rest read.2 splits) right
 ]
 
+-- and what is counted of them is the same
+counted_read : (format other : Format) (octets : List ℕ) (settings : Settings) (h : List Item) (records : List Record) (rest : List ℕ) → AreFirstOf format octets h
+    → Splits other octets records h rest → counts_of format settings h ≡ counts_of other settings h
+counted_read format other octets settings h records rest first splits = elim first [
+  | inl empty ↦ ap (counts_of format settings) empty ∙ sym (ap (counts_of other settings) empty)
+  | inr read ↦ ap (λ (k : Format). counts_of k settings h) (one_opening octets format other read.0 records h h read.1 rest read.2 splits)
+]
+
 -- the verdict on octets of which every reply is right
-pub right_to_the_end : (format : Format) (octets : List ℕ) (settings : Settings) (h : List Item) (counts : Counts) → AreFirstOf format octets h → AllRight format settings h → counts ≡ counts_of h
+pub right_to_the_end : (format : Format) (octets : List ℕ) (settings : Settings) (h : List Item) (counts : Counts) → AreFirstOf format octets h → AllRight format settings h → counts ≡ counts_of format settings h
     → EndsBy octets h Whole → IsVerdict octets settings (Yes counts)
 right_to_the_end format octets settings h counts first right counts-are ends = record {
   format = ends.0;
@@ -141,7 +150,7 @@ right_to_the_end format octets settings h counts first right counts-are ends = r
   history = h;
   is_transcript = ends.2;
   all_right = right_read format ends.0 octets settings h ends.1 [] first right ends.2;
-  counts_are = counts-are;
+  counts_are = counts-are ∙ counted_read format ends.0 octets settings h ends.1 [] first ends.2;
 }
 
 pub right_to_the_break : (format : Format) (octets : List ℕ) (settings : Settings) (h : List Item) (position : ℕ) (f : RecordFault) → AreFirstOf format octets h → AllRight format settings h

@@ -3,7 +3,8 @@
 ghost use Rattle.std.specs.Prelude.{◌≡◌, ℤ, Option, IfOk, true, false};
 ghost use Rattle.hc_transcript.specs.History.{exchange_of};
 ghost use Rattle.hc_history.specs.Claims.{claim_of};
-ghost use Rattle.hc_history.specs.Marks.{reply_mark};
+ghost use Rattle.hc_history.specs.Forwarded.{is_forwarded};
+ghost use Rattle.hc_history.specs.Marks.{mark_to};
 ghost use Rattle.hc_history.specs.Right.{IsFinding, IsFoundBy, IsFoundForwarded};
 ghost use Rattle.hc_judge.specs.Past.{history_of};
 
@@ -11,31 +12,27 @@ use crate::forwarded::is_forwarded;
 use crate::furthest::furthest;
 use crate::open::{OpenExchange, open_exchange};
 use crate::past::PastItem;
-use crate::windows::{has_error, has_failure};
+use crate::windows::{has_error, has_failure, has_forward};
 use hc_framing::Message;
 use hc_head::ResponseHead;
 use hc_history::{
-    Finding, Mark, Reason, ReplyClaim, Settings, found_of_collapsed, found_of_forwarded,
-    found_of_hit, found_of_unmarked, is_judged_collapsed, reply_mark, ttl_of,
+    Among, Finding, Mark, MarkedReply, Reason, ReplyClaim, Settings, found_of_collapsed,
+    found_of_forwarded, found_of_hit, found_of_inferred, found_of_unmarked, is_judged_collapsed,
+    ttl_of,
 };
 use hc_transcript::Format;
 use std::alloc::{AllocError, Global};
 
-/// The position behind which every response lies.
-const ANYWHERE: u64 = 0;
-
-/// What a reply with that mark claims, behind those items.
+/// What a reply claims, behind those items.
 fn claim_of<'a>(
     format: Format,
     settings: &'a Settings,
     exchange: &OpenExchange<'a>,
     moment: u64,
-    reply: &'a Message<ResponseHead>,
-    mark: Mark,
+    reply: &MarkedReply<'a>,
     items: &[PastItem],
 ) -> ReplyClaim<'a>
-    ensures { mark ≡ reply_mark reply.now
-        → result ≡ claim_of format settings.now exchange.now moment reply.now (history_of items.now) }
+    ensures { result ≡ claim_of format settings.now exchange.now moment reply.now (history_of items.now) }
 {
     ReplyClaim {
         format,
@@ -43,9 +40,10 @@ fn claim_of<'a>(
         request: exchange.request,
         target: exchange.target,
         since: exchange.position,
-        reply,
+        reply: reply.reply(),
         moment,
-        ttl: ttl_of(mark),
+        is_inferred: reply.infers(format, &settings.allowed, has_forward(exchange, items)),
+        ttl: ttl_of(reply.mark()),
         has_error: has_error(exchange.target, exchange.position, items),
         has_failure: has_failure(exchange.target, exchange.position, items),
         settings,
@@ -60,7 +58,7 @@ fn found_of_hit_behind(
 ) -> Result<Finding, AllocError>
     ensures { (ttl : Option ℤ) → IfOk result (IsFoundBy (Mark.Hit ttl) claim.now (history_of items.now)) }
 {
-    let passed = furthest(alloc, claim, ANYWHERE, items)?;
+    let passed = furthest(alloc, claim, Among::Any, items)?;
     Ok(found_of_hit(passed))
 }
 
@@ -72,8 +70,22 @@ fn found_of_collapsed_behind(
 ) -> Result<Finding, AllocError>
     ensures { IfOk result (IsFoundForwarded true claim.now (history_of items.now)) }
 {
-    let passed = furthest(alloc, claim, claim.since, items)?;
+    let passed = furthest(alloc, claim, Among::InWindow, items)?;
     Ok(found_of_collapsed(passed))
+}
+
+/// What is found of a reply that went forward without saying so, and carries no response of its window.
+fn found_of_inferred_behind(
+    alloc: Global,
+    claim: &ReplyClaim<'_>,
+    items: &[PastItem],
+) -> Result<Finding, AllocError>
+    ensures { claim.now.is_inferred ≡ true → is_forwarded claim.now (history_of items.now) ≡ false
+        → IfOk result (IsFoundForwarded false claim.now (history_of items.now)) }
+{
+    let passed = furthest(alloc, claim, Among::Any, items)?;
+    let recent = furthest(alloc, claim, Among::Recent, items)?;
+    Ok(found_of_inferred(passed, recent))
 }
 
 /// What is found of a reply that went forward by itself.
@@ -87,7 +99,10 @@ fn found_of_forwarded_behind(
     if is_forwarded(claim, items) {
         return Ok(Finding::Right);
     }
-    let passed = furthest(alloc, claim, ANYWHERE, items)?;
+    if claim.is_inferred {
+        return found_of_inferred_behind(alloc, claim, items);
+    }
+    let passed = furthest(alloc, claim, Among::Any, items)?;
     Ok(found_of_forwarded(passed))
 }
 
@@ -140,7 +155,27 @@ pub(crate) fn found(
     let Some(exchange) = open_exchange(items, number) else {
         return Ok(Finding::Right);
     };
-    let mark = reply_mark(alloc, reply)?;
-    let claim = claim_of(format, settings, &exchange, moment, reply, mark, items);
+    let reply = MarkedReply::read(alloc, reply)?;
+    let claim = claim_of(format, settings, &exchange, moment, &reply, items);
+    let mark = reply.mark_by(format, &settings.allowed, has_forward(&exchange, items));
     found_by(alloc, mark, &claim, items)
+}
+
+/// The mark by which the reply to the exchange of that number is judged, behind those items.
+pub(crate) fn mark_to(
+    alloc: Global,
+    format: Format,
+    settings: &Settings,
+    items: &[PastItem],
+    number: u64,
+    reply: &Message<ResponseHead>,
+) -> Result<Mark, AllocError>
+    ensures { IfOk result (λ mark. mark
+        ≡ mark_to format settings.now (exchange_of number (history_of items.now)) reply.now (history_of items.now)) }
+{
+    let reply = MarkedReply::read(alloc, reply)?;
+    let Some(exchange) = open_exchange(items, number) else {
+        return Ok(reply.mark());
+    };
+    Ok(reply.mark_by(format, &settings.allowed, has_forward(&exchange, items)))
 }

@@ -2,14 +2,12 @@
 
 ghost use Rattle.std.specs.Prelude.{◌≡◌, ℕ, List, IfOk};
 ghost use Rattle.hc_transcript.specs.Items.{item_of};
-ghost use Rattle.hc_transcript.specs.declared.format.Format.{Format};
 ghost use Rattle.hc_judge.specs.Past.{history_of};
 ghost use Rattle.hc_judge.specs.Reading.{AreFirstOf, EndsBy};
 ghost use Rattle.hc_judge.specs.Judging.{AllAnswerOpen, IsFirstWrong};
 ghost use Rattle.hc_history.specs.Found.{IsFound};
 ghost use Rattle.hc_history.specs.Right.{AllRight};
 ghost use Rattle.hc_history.specs.Verdicts.{IsVerdict};
-ghost use Rattle.hc_history.specs.declared.settings.Settings.{Settings};
 
 use crate::counting::counts_of;
 use crate::finding::found;
@@ -66,14 +64,20 @@ fn first_wrong(
 }
 
 /// The verdict on octets of which every reply is right.
-fn verdict_by(alloc: Global, items: &[PastItem], ending: Ending) -> Result<Verdict, AllocError>
-    ensures { (format : Format) (octets : List ℕ) (settings : Settings) → AreFirstOf format octets (history_of items.now)
-        → AllRight format settings (history_of items.now) → EndsBy octets (history_of items.now) ending → IfOk result (IsVerdict octets settings) }
+fn verdict_by(
+    alloc: Global,
+    format: Format,
+    settings: &Settings,
+    items: &[PastItem],
+    ending: Ending,
+) -> Result<Verdict, AllocError>
+    ensures { (octets : List ℕ) → AreFirstOf format octets (history_of items.now) → AllRight format settings.now (history_of items.now)
+        → EndsBy octets (history_of items.now) ending → IfOk result (IsVerdict octets settings.now) }
 {
     match ending {
         Ending::Broken(position, fault) => Ok(Verdict::Malformed(position, fault)),
         Ending::Whole => {
-            let counts = counts_of(alloc, items)?;
+            let counts = counts_of(alloc, format, settings, items)?;
             Ok(Verdict::Yes(counts))
         }
     }
@@ -88,6 +92,6 @@ pub fn judge(alloc: Global, octets: &[u8], settings: &Settings) -> Result<Verdic
     let (format, items, ending) = read(alloc, octets)?;
     match first_wrong(alloc, format, settings, items.as_slice())? {
         Some((position, why)) => Ok(Verdict::No(position, why)),
-        None => verdict_by(alloc, items.as_slice(), ending),
+        None => verdict_by(alloc, format, settings, items.as_slice(), ending),
     }
 }

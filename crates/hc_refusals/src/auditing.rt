@@ -2,7 +2,7 @@
 
 use crate::answers::{Next, Seen};
 use crate::trouble::Trouble;
-use hc_audit::{AuditFault, Auditor, FieldNames, Settings, UnmarkedReplies, Verdict};
+use hc_audit::{Allowed, AuditFault, Auditor, FieldNames, Settings, UnmarkedReplies, Verdict};
 use hc_index::MapIndex;
 use std::alloc::Global;
 
@@ -31,6 +31,7 @@ pub fn seen(alloc: Global) -> Seen {
         slack: 0,
         ignored: FieldNames::new(alloc),
         unmarked: UnmarkedReplies::Allow,
+        allowed: Allowed::nothing(alloc),
     };
     let mut auditor = Auditor::new(alloc, MapIndex::new(alloc), settings);
     let mut seen = Seen::Answered;

@@ -57,7 +57,7 @@ impl<I: Index> Witness<I> for Report {
     fn see(&mut self, judged: &JudgedReply<'_, I>) -> Result<(), AllocError> {
         let octets = judged.reply.reply().body.len() as u64;
         let is_right = judged.finding == Finding::Right;
-        self.replies.count(judged.reply.mark(), octets, is_right);
+        self.replies.count(judged.mark, octets, is_right);
         if let Finding::Wrong(reason) = judged.finding {
             self.take_wrong(judged, reason)?;
         }

@@ -25,7 +25,7 @@ pub use passing::{
     kept_lines, no_framing_stays, no_name_stays, passed_request_is_writable,
     passed_response_is_writable, plain_head_is_writable, received_heads,
 };
-pub use selecting::selects;
-pub use storing::{asks_for_storable, may_store};
+pub use selecting::{is_met, selects};
+pub use storing::{asks_for_storable, is_heuristically_cacheable, may_store};
 pub use tags::{last_modified, tag, validator};
 pub use validators::Validator;

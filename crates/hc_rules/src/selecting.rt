@@ -101,7 +101,7 @@ fn agree(
 }
 
 /// Whether a member of Vary names a field, in any case, in which the requests agree.
-fn is_met(
+pub fn is_met(
     alloc: Global,
     member: &[u8],
     forwarded: &Fields,

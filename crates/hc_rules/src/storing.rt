@@ -34,7 +34,8 @@ fn is_storable(status: StatusCode) -> bool
         && status != StatusCode::NOT_MODIFIED
 }
 
-fn is_heuristically_cacheable(status: StatusCode) -> bool
+/// Whether a response of that status may be stored where nothing says so (RFC 9110 section 15.1).
+pub fn is_heuristically_cacheable(status: StatusCode) -> bool
     ensures { result ≡ is_heuristically_cacheable status }
 {
     HEURISTICALLY_CACHEABLE.contains(&status)

@@ -10,7 +10,9 @@ ghost use Rattle.hc_scripts.specs.Replays.{Replays, StopsReplay};
 
 use crate::fault::ScriptFault;
 use crate::script::read_script;
-use hc_audit::{AuditFault, Auditor, FieldNames, Index, Settings, UnmarkedReplies, Verdict};
+use hc_audit::{
+    Allowed, AuditFault, Auditor, FieldNames, Index, Settings, UnmarkedReplies, Verdict,
+};
 use hc_core::run;
 use hc_fields::Octets;
 use hc_index::MapIndex;
@@ -40,6 +42,7 @@ fn strict(alloc: Global) -> Settings
         slack: 0,
         ignored: FieldNames::new(alloc),
         unmarked: UnmarkedReplies::ErrorsOnly,
+        allowed: Allowed::nothing(alloc),
     }
 }
 

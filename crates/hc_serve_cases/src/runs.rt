@@ -3,7 +3,9 @@
 use crate::links::Memory;
 use crate::notebook::{Device, Fault, Notebook};
 use crate::scene::{Scene, Site, Ticking, Trickle, new_core};
-use hc_audit::{AuditFault, Auditor, FieldNames, Index, Settings, UnmarkedReplies, Verdict};
+use hc_audit::{
+    Allowed, AuditFault, Auditor, FieldNames, Index, Settings, UnmarkedReplies, Verdict,
+};
 use hc_cases::Unanswered;
 use hc_connection::{Connection, Origins};
 use hc_index::MapIndex;
@@ -136,6 +138,7 @@ pub(crate) fn verdict_on(alloc: Global, recording: &[u8]) -> Result<Verdict, Una
         slack: 0,
         ignored: FieldNames::new(alloc),
         unmarked: UnmarkedReplies::ErrorsOnly,
+        allowed: Allowed::nothing(alloc),
     };
     let auditor = Auditor::new(alloc, MapIndex::new(alloc), settings);
     match audited(auditor, recording) {

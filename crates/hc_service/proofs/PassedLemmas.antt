@@ -1,5 +1,5 @@
 -- Replies that are what the origin answered, and those that the cache makes itself, are right.
-use Rattle.std.proofs.Common.{◌≡◌, ℕ, ◌+◌, ◌≤◌, Bool, true, false, ◌&&◌, List, [], ◌∷◌, length, Option, Some, None, refl, sym, ap, subst, arith, inl, inr}
+use Rattle.std.proofs.Common.{◌≡◌, ℕ, ◌+◌, ◌≤◌, Bool, true, false, List, [], ◌∷◌, length, Option, Some, None, refl, sym, ap, subst, arith, inl, inr}
 use Rattle.std.specs.Prelude.{◌==◌, if◌then◌else◌}
 use Rattle.std.specs.Str.{bytes_eq}
 use Rattle.std.proofs.lemmas.Bool.{cases_eq, eq-eqb, ne_eqb, and_from, or_left, le-leb, lt-ltb}
@@ -61,16 +61,13 @@ module _ (items : List Item) (f moment : ℕ) (response : Message ResponseHead) 
   same_body true bare = ap (λ (body : List ℕ). length body == 0) (bare refl)
   same_body false bare = (bytes_eq-Decides response.body response.body).1 refl
 
-  three : (a b c : Bool) → a ≡ true → b ≡ true → c ≡ true → (a && b && c) ≡ true
-  three a b c ea eb ec = rw (ea, eb, ec) refl
-
   is_its : forward_of f items ≡ Some (recorded_forward forward) → forward.request.method ≡ x.request.method → forward.target ≡ x.target
       → (is_head x.request.method ≡ true → response.body ≡ []) → carries_response the_claim (forward_of f items) response ≡ true
   is_its is_open method target bare =
       subst (λ (o : Option Forward). carries_response the_claim o response ≡ true) (sym is_open)
       (and_from _ _ (subst (λ (t : Target). same_target forward.target t ≡ true) target (same_target_itself forward.target))
-      (three _ _ _ (or_left _ _ ((bytes_eq-Decides forward.request.method x.request.method).1 method)) (eq-eqb response.head.status response.head.status refl)
-      (same_body (is_head x.request.method) bare)))
+      (and_from _ _ (or_left _ _ ((bytes_eq-Decides forward.request.method x.request.method).1 method))
+      (or_left _ _ (and_from _ _ (eq-eqb response.head.status response.head.status refl) (same_body (is_head x.request.method) bare)))))
 
   is_for_it : cause_of f items ≡ Some x.number → may_be_for (told (cause_of f items)) x.number ≡ true
   is_for_it cause = subst (λ (o : Option ℕ). may_be_for (told o) x.number ≡ true) (sym cause) (eq-eqb x.number x.number refl)

@@ -4,7 +4,7 @@ use Rattle.std.specs.Prelude.{◌==◌, nat_le, not, codes, option_and_then, if�
 use Rattle.std.specs.Cmp.Lexicographic.{pointwise}
 use Rattle.std.specs.List.{list_all}
 use Rattle.std.specs.Str.{bytes_eq}
-use Rattle.std.proofs.lemmas.Bool.{cases_Bool, eq-eqb, and_from, or_left, or_right, le-leb}
+use Rattle.std.proofs.lemmas.Bool.{cases_Bool, eq-eqb, and_from, or_left, or_right, le-leb, lt-ltb}
 use Rattle.std.proofs.lemmas.Int.{ints}
 use Rattle.std.proofs.lemmas.Slice.Eq.{bytes_eq-Decides}
 use Rattle.hc_fields.specs.declared.fields.Field.{Field}
@@ -29,12 +29,14 @@ use Rattle.hc_replies.proofs.ReplyLemmas.{stored_marked, stored_values, stored_a
 use Rattle.hc_transcript.specs.Items.{Item, ClientReply, Exchange}
 use Rattle.hc_transcript.specs.History.{exchange_of}
 use Rattle.hc_history.specs.Claims.{claim_of, ttl_of}
-use Rattle.hc_history.specs.Filters.{within, is_age, is_ttl, is_exempt, same_values, compared_names, names_of, has_its_body, has_its_fields, has_its_age, has_its_ttl}
+use Rattle.hc_history.specs.Filters.{within, is_age, is_ttl, is_exempt, same_values, compared_names, names_of, has_its_body, has_its_fields, has_its_age, has_its_ttl, strict_filters}
 use Rattle.hc_history.specs.Marks.{reply_mark, judged_mark}
-use Rattle.hc_history.specs.Reused.{Pass, IsReused, anywhere, collapsed_count, forwarded_count}
+use Rattle.hc_history.specs.declared.among.Among.TheVariants.{Any, InWindow}
+use Rattle.hc_history.specs.Allowing.{filters}
+use Rattle.hc_history.specs.Reused.{Pass, IsReused, collapsed_count, filter_count, forwarded_count}
+use Rattle.hc_history.proofs.AllowedLemmas.{strict_alike}
 use Rattle.hc_history.specs.Right.{IsRight, IsRightTo, IsRightBy}
 use Rattle.hc_history.specs.Usable.{age_at, lifetime_of, is_usable}
-use Rattle.hc_history.proofs.StateLemmas.{place_of}
 use Rattle.hc_head.proofs.SameTargetLemmas.{same_target_itself}
 use Rattle.hc_store.specs.Choosing.{is_selected}
 use Rattle.hc_service.specs.Sending.{recorded_format}
@@ -214,43 +216,51 @@ module _ (items : List Item) (x : Exchange) (moment : ℕ) (name : List ℕ) (cl
   module _ {since : Target → ℕ} (source : HasSource since items x.target stored) (can : CanReply stored) (method : (is_get x.request.method || is_head x.request.method) ≡ true)
       (selected : is_selected x.request.fields stored ≡ true) (reply : Message ResponseHead) (carries : Carries reply)
       (usable : is_usable (claim_of recorded_format strict x moment reply items) stored ≡ true) where
-    pub passes_seven : Pass forwarded_count anywhere (claim_of recorded_format strict x moment reply items) items
+    -- nothing is allowed beside the strict rules
+    as_allowed : (n : ℕ) → list_all (λ b. b) (take n (strict_filters (claim_of recorded_format strict x moment reply items) (record { target = x.target; state = stored }))) ≡ true
+        → list_all (λ b. b) (take n (filters (claim_of recorded_format strict x moment reply items) (record { target = x.target; state = stored }))) ≡ true
+    as_allowed n holds =
+        subst (λ (tests : List Bool). list_all (λ b. b) (take n tests) ≡ true)
+        (sym (strict_alike (claim_of recorded_format strict x moment reply items) false refl (record { target = x.target; state = stored }))) holds
+
+    pub passes_seven : Pass forwarded_count Any (claim_of recorded_format strict x moment reply items) items
     passes_seven =
-        let place = place_of source.position items (record { target = x.target; state = stored }) source.is_its_state in
         record {
           position = source.position;
           kept = record { target = x.target; state = stored };
-          is_later = omega (arith, place.0);
+          is_one = refl;
           is_its_state = source.is_its_state;
-          holds = all_seven _ _ _ _ _ _ _ (has_its_age (claim_of recorded_format strict x moment reply items) stored) (has_its_ttl (claim_of recorded_format strict x moment reply items) stored)
-              (and_from _ _ method (same_target_itself x.target)) selected (ap not source.is_valid) (or_right _ _ usable) usable carries.body carries.fields;
+          holds = as_allowed forwarded_count
+              (all_seven _ _ _ _ _ _ _ (has_its_age (claim_of recorded_format strict x moment reply items) stored) (has_its_ttl (claim_of recorded_format strict x moment reply items) stored)
+              (and_from _ _ method (same_target_itself x.target)) selected (ap not source.is_valid) (or_right _ _ usable) usable carries.body carries.fields);
         }
 
     -- all but the last, where the stored response lies behind the request
-    pub passes_eight : x.position ≤ since x.target → Pass collapsed_count x.position (claim_of recorded_format strict x moment reply items) items
+    pub passes_eight : x.position ≤ since x.target → Pass collapsed_count InWindow (claim_of recorded_format strict x moment reply items) items
     passes_eight behind = record {
       position = source.position;
       kept = record { target = x.target; state = stored };
-      is_later = omega (arith, behind, source.is_later);
+      is_one = lt-ltb x.position source.position (omega (arith, behind, source.is_later));
       is_its_state = source.is_its_state;
-      holds = all_eight _ _ _ _ _ _ _ _ (has_its_ttl (claim_of recorded_format strict x moment reply items) stored)
+      holds = as_allowed collapsed_count
+          (all_eight _ _ _ _ _ _ _ _ (has_its_ttl (claim_of recorded_format strict x moment reply items) stored)
           (and_from _ _ method (same_target_itself x.target)) selected (ap not source.is_valid) (or_right _ _ usable) usable carries.body carries.fields
-          (subst (λ (o : Option ℕ). is_age (claim_of recorded_format strict x moment reply items) (age_at stored moment) o ≡ true) (sym carries.age) (within_itself (age_at stored moment)));
+          (subst (λ (o : Option ℕ). is_age (claim_of recorded_format strict x moment reply items) (age_at stored moment) o ≡ true) (sym carries.age) (within_itself (age_at stored moment))));
     }
 
     pub passes_nine : reply_mark reply ≡ mark.Hit (Some (ttl_at stored moment)) → IsReused (claim_of recorded_format strict x moment reply items) items
     passes_nine marked =
-        let place = place_of source.position items (record { target = x.target; state = stored }) source.is_its_state in
         record {
           position = source.position;
           kept = record { target = x.target; state = stored };
-          is_later = omega (arith, place.0);
+          is_one = refl;
           is_its_state = source.is_its_state;
-          holds = all_nine _ _ _ _ _ _ _ _ _
+          holds = as_allowed filter_count
+              (all_nine _ _ _ _ _ _ _ _ _
               (and_from _ _ method (same_target_itself x.target)) selected (ap not source.is_valid) (or_right _ _ usable) usable carries.body carries.fields
               (subst (λ (o : Option ℕ). is_age (claim_of recorded_format strict x moment reply items) (age_at stored moment) o ≡ true) (sym carries.age) (within_itself (age_at stored moment)))
               (subst (λ (m : Mark). is_ttl (claim_of recorded_format strict x moment reply items) (pos (lifetime_of stored) -ℤ pos (age_at stored moment)) (ttl_of m) ≡ true) (sym marked)
-              (no_difference (pos (lifetime_of stored) -ℤ pos (age_at stored moment))));
+              (no_difference (pos (lifetime_of stored) -ℤ pos (age_at stored moment)))));
         }
 
 module _ {since : Target → ℕ} (items : List Item) (x : Exchange) (moment : ℕ) (name : List ℕ) (closes : Bool) (stored : Stored)

@@ -233,7 +233,7 @@ pub right_judged : (records : List Record) (end : Option State) → RunsTo recor
 right_judged records end to =
     let more = to.goes_on in
     record {
-      counts = counts_of to.later.items;
+      counts = counts_of recorded_format strict to.later.items;
       verdict = record {
         format = recorded_format;
         records = to.later.records;

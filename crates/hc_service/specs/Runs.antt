@@ -11,6 +11,7 @@ use Rattle.hc_history.specs.declared.settings.Settings.{Settings}
 use Rattle.hc_history.specs.declared.settings.UnmarkedReplies.TheVariants.{ErrorsOnly}
 use Rattle.hc_history.specs.declared.verdicts.Counts.{Counts}
 use Rattle.hc_history.specs.declared.verdicts.Verdict.TheVariants.{Yes}
+use Rattle.hc_history.specs.Allowed.{nothing_allowed}
 use Rattle.hc_history.specs.Right.{IsRight}
 use Rattle.hc_history.specs.Verdicts.{IsVerdict}
 use Rattle.hc_events.specs.declared.Event.{Event}
@@ -55,9 +56,9 @@ abbrev pub origin_octets_by : Happening → (ℕ → List ℕ) → ℕ → List 
 origin_octets_by (OriginBytes f octets) before = with_octets f octets before
 origin_octets_by other before = before
 
--- the audit that lets nothing pass: no slack, no names that aren't compared, and no reply without a mark but errors
+-- the audit that lets nothing pass: no slack, no names that aren't compared, no reply without a mark but errors, and nothing beside the strict rules
 abbrev pub strict : Settings
-strict = record { slack = 0; ignored = []; unmarked = ErrorsOnly }
+strict = record { slack = 0; ignored = []; unmarked = ErrorsOnly; allowed = nothing_allowed }
 
 -- each of the newer items is right behind those before it
 abbrev pub AllRightBehind : List Item → List Item → Type 0

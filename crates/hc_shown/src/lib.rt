@@ -7,6 +7,6 @@ mod target;
 mod value;
 
 pub use moment::push_moment;
-pub use octets::{SHOWN, push_octets};
+pub use octets::{SHOWN, push_first, push_octets};
 pub use target::push_target;
 pub use value::push_value;

@@ -42,8 +42,8 @@ fn first(octets: &[u8], most: usize) -> &[u8]
     }
 }
 
-/// Puts at most so many of the octets at the end, the first ones.
-pub(crate) fn push_first(octets: &[u8], most: usize, out: &mut String) -> Result<(), AllocError>
+/// Puts at most so many of the octets at the end, the first ones, as `push_octets` does, and doesn't say how many there are.
+pub fn push_first(octets: &[u8], most: usize, out: &mut String) -> Result<(), AllocError>
     ensures { OnOk result (string_bytes out.new ≡ string_bytes out.old ++ first_text most octets.now) }
 {
     for octet in first(octets, most) {

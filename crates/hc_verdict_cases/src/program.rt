@@ -3,10 +3,9 @@
 use crate::lines::without_line_feed;
 use crate::others::Others;
 use crate::pieces::Pieces;
-use hc_arguments::{Order, parsed};
+use hc_arguments::{AuditTerms, Order, parsed};
 use hc_cases::Unanswered;
 use hc_command::{audit, shown};
-use hc_history::Settings;
 use std::alloc::{AllocError, Global};
 use std::fmt::Write;
 
@@ -54,10 +53,10 @@ impl Audited {
         order: Order<'_>,
         pieces: &[&[u8]],
     ) -> Result<Self, Unanswered> {
-        let Order::Audit { file, settings } = order else {
+        let Order::Audit { file, terms } = order else {
             return Err(Unanswered::Unknown);
         };
-        let (text, status) = said(alloc, settings, file, pieces)?;
+        let (text, status) = said(alloc, terms, file, pieces)?;
         let others = Others::by(alloc, words, pieces)?;
         Ok(Audited {
             text,
@@ -101,12 +100,12 @@ impl Audited {
 // What the program writes of the transcript that the pieces make, and its exit status.
 fn said(
     alloc: Global,
-    settings: Settings,
+    terms: AuditTerms,
     file: &str,
     pieces: &[&[u8]],
 ) -> Result<(String, u8), Unanswered> {
     let mut written = Vec::new(alloc);
-    let status = append_said(alloc, settings, file, pieces, &mut written)?;
+    let status = append_said(alloc, terms, file, pieces, &mut written)?;
     let text = text_of(alloc, written.as_slice())?;
     Ok((text, status))
 }
@@ -114,14 +113,14 @@ fn said(
 // Appends what the program writes, faults behind, and answers its exit status.
 fn append_said(
     alloc: Global,
-    settings: Settings,
+    terms: AuditTerms,
     file: &str,
     pieces: &[&[u8]],
     written: &mut Vec<u8>,
 ) -> Result<u8, AllocError> {
     let mut faults = Vec::new(alloc);
     let mut input = Pieces::new(pieces);
-    let status = audit(alloc, settings, file, &mut input, written, &mut faults);
+    let status = audit(alloc, terms, file, &mut input, written, &mut faults);
     written.extend_from_slice(faults.as_slice())?;
     Ok(status)
 }

@@ -74,11 +74,9 @@ fn done(
     let mut input = Pieces::new(&pieces);
     let (output, faults) = (&mut written.output, &mut written.faults);
     match order {
-        Order::Report {
-            file,
-            settings,
-            json,
-        } => Ok(report(alloc, settings, json, file, &mut input, output, faults)),
+        Order::Report { file, terms, json } => {
+            Ok(report(alloc, terms, json, file, &mut input, output, faults))
+        }
         Order::Explain {
             file,
             position,

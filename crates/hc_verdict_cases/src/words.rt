@@ -46,7 +46,7 @@ pub fn words_for<'a>(
 /// What the words, which ask for an audit, let pass.
 pub fn settings_of(alloc: Global, words: &[&str]) -> Result<Settings, Unanswered> {
     match parsed(alloc, words) {
-        Ok(Order::Audit { settings, .. }) => Ok(settings),
+        Ok(Order::Audit { terms, .. }) => Ok(terms.settings),
         _ => Err(Unanswered::Unknown),
     }
 }

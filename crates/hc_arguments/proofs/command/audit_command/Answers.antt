@@ -9,4 +9,4 @@ returns c =
     let bare = new_app (codes "audit") in
     let with_file = ruled bare c.with_argument-with_file.result _ file_rule c.file_argument.ensures.rule
     (c.with_argument-with_file.ensures bare c.file_argument.ensures.local c.begun-bare.ensures) in
-    c.with_settings.ensures (with_rule bare file_rule) with_file
+    c.with_terms.ensures (with_rule bare file_rule) with_file

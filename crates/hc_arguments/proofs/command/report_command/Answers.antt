@@ -1,6 +1,6 @@
 use Rattle.std.proofs.Common.{codes}
 use Rattle.clap.specs.Words.{new_app, with_rule}
-use Rattle.hc_arguments.specs.Command.{file_rule, with_settings}
+use Rattle.hc_arguments.specs.Command.{file_rule, with_terms}
 use Rattle.hc_arguments.proofs.ArgumentLemmas.{ruled}
 use Rattle.hc_arguments.proofs.command.report_command.Goals as goal
 
@@ -10,4 +10,4 @@ returns c =
     let filed = with_rule bare file_rule in
     let with_file = ruled bare c.with_argument-with_file.result _ file_rule c.file_argument.ensures.rule
     (c.with_argument-with_file.ensures bare c.file_argument.ensures.local c.begun-bare.ensures) in
-    c.with_options.ensures (with_settings filed) (c.with_settings-set.ensures filed with_file)
+    c.with_options.ensures (with_terms filed) (c.with_terms-set.ensures filed with_file)

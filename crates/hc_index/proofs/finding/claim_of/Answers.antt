@@ -3,6 +3,6 @@ use Rattle.hc_index.specs.Lists.{exchange_seen}
 use Rattle.hc_index.proofs.finding.claim_of.Goals as goal
 
 pub returns : goal.returns
-returns c = λ seen h one error failure.
-    rw (c.reply.ensures, c.ttl_of.ensures, c.mark.ensures, error, failure)
-    (claim_seen c.args.format seen h c.args.settings.now (exchange_seen c.args.exchange.now) c.args.moment c.args.reply.now one)
+returns c = λ seen h e one is error failure forwarded.
+    rw (c.reply.ensures, c.ttl_of.ensures, c.mark.ensures, c.infers.ensures, error, failure, forwarded)
+    (claim_seen c.args.format seen h c.args.settings.now e (exchange_seen c.args.exchange.now) c.args.moment c.args.reply.now one is)

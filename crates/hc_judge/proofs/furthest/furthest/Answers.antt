@@ -7,6 +7,6 @@ pub loop-position-preserved : goal.loop-position-preserved
 loop-position-preserved c =
     let greater : c.max-most.result ≡ max c.loop-position.most c.in_ok-here.here = search rules in (
       greater
-          ∙ furthest_more c.args.since c.args.claim.now (history_of c.args.items.now) c.loop-position.position c.loop-position.most c.in_ok-here.here c.loop-position.invariant.0 c.in_ok-here.ensures,
+          ∙ furthest_more c.args.among c.args.claim.now (history_of c.args.items.now) c.loop-position.position c.loop-position.most c.in_ok-here.here c.loop-position.invariant.0 c.in_ok-here.ensures,
       omega (arith, c.loop-position-test.true),
     )

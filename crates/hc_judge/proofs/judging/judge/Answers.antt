@@ -19,5 +19,5 @@ returns c =
     let h = history_of c.in_ok-format.items.items in
     let first = rw c.as_slice.ensures.value at c.in_ok-position.ensures in
     let judged = rw c.as_slice-in-None.ensures.value at c.verdict_by.ensures in
-    judged c.in_ok-format.format c.args.octets.now c.args.settings.now read.are_first
+    judged c.args.octets.now read.are_first
     (subst (λ (o : Option (ℕ × Reason)). IsFirstWrong c.in_ok-format.format c.args.settings.now h o) c.in-None.is (first (first_open c.in_ok-format.format c.args.octets.now h read.are_first))) read.ends

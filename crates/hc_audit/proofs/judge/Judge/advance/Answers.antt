@@ -1,6 +1,7 @@
 use Rattle.std.proofs.Common.{◌≡◌, ◌∙◌, Some, sym}
 use Rattle.hc_transcript.specs.Reader.{format_read}
 use Rattle.hc_audit.proofs.JudgeLemmas.{might_be_of, in_the_read, next_is}
+use Rattle.hc_history.specs.Counting.{counts_of}
 use Rattle.hc_history.specs.Seen.{IsSeenAs}
 use Rattle.hc_transcript.specs.declared.format.Format.{Format}
 use Rattle.hc_audit.proofs.judge.Judge.advance.Goals as goal
@@ -17,7 +18,7 @@ returns-in-Ok-false-clause-gives g c = λ settings octets h read.
         records = read.records;
         reads = on.0;
         index = λ k may. read.index k (might_be_of (format_read c.args.self.now.reader) (format_read c.advance.new.self) c.in-Ok-false.ensures.format k may);
-        counts = read.counts;
+        counts = λ k may. read.counts k (might_be_of (format_read c.args.self.now.reader) (format_read c.advance.new.self) c.in-Ok-false.ensures.format k may);
         settings_are = read.settings_are;
       },
       on.1,
@@ -37,6 +38,7 @@ returns-in-Ok-true-clause-gives g c = λ settings octets h read.
       format_is = is;
       index = in_the_read (λ (k : Format). IsSeenAs k (g.I.Index.seen c.args.self.now.index) h) (format_read c.args.self.now.reader) (format_read c.advance.new.self) format
           c.in-Ok-true.ensures.format is read.index;
-      counts = read.counts;
+      counts = in_the_read (λ (k : Format). c.args.self.now.counts ≡ counts_of k settings h) (format_read c.args.self.now.reader) (format_read c.advance.new.self) format
+          c.in-Ok-true.ensures.format is read.counts;
       settings_are = read.settings_are;
     }

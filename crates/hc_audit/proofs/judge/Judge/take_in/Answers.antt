@@ -1,8 +1,7 @@
-use Rattle.std.proofs.Common.{◌∙◌, ◌∷◌, sym, ap, subst}
+use Rattle.std.proofs.Common.{◌∷◌, sym, subst}
 use Rattle.hc_transcript.specs.Items.{Item}
 use Rattle.hc_history.specs.Found.{AnswersOpen}
-use Rattle.hc_history.specs.Marks.{item_mark}
-use Rattle.hc_audit.proofs.JudgeLemmas.{ahead_open, ahead_position}
+use Rattle.hc_audit.proofs.JudgeLemmas.{ahead_open, ahead_position, marked_here}
 use Rattle.hc_audit.proofs.SurveyLemmas.{told_here, wrong_goes_on}
 use Rattle.hc_audit.proofs.judge.Judge.take_in.Goals as goal
 
@@ -20,7 +19,7 @@ returns-clause-goes_on g c = λ settings octets was.
       a.item ∷ h,
       told.0,
       wrong_goes_on seen judge _ settings octets c.args.format h was.1 told.0 w (told_here c.args.format _ settings h _ a.item was.1 told.0 a.settings_are item told.1) c.note.ensures.format
-          (c.in_ok-note.ensures.read settings octets h a (c.in_ok-mark.ensures.mark ∙ ap item_mark item)),
+          (c.in_ok-note.ensures.read settings octets h a (marked_here c.args.format _ settings _ a.item h _ a.settings_are item (c.in_ok-mark.ensures.mark h a.index opens))),
       told.2,
       subst (λ (i : Item). g.W.Witness.hears c.tell.new.witness (i ∷ h)) item (c.in_ok-mark.ensures.heard h a.index position opens was.4),
     )

@@ -18,4 +18,4 @@ returns-clause-heard g c = λ h seen position opens hears.
     subst (λ (i : Item). g.W.Witness.hears c.see.new.self (i ∷ h)) (sym (handed_item (item_of c.args.item.now) _ c.in-Some.judged c.in-Some.is c.in_ok-judged.ensures.reply))
     (c.in_ok-see.ensures.heard h hears
     (handed g.I.Index.seen c.args.format c.args.self.now.settings c.args.self.now.index h (item_of c.args.item.now) _ c.in-Some.judged _ opens seen (c.in_ok-judged.ensures.finding h seen)
-    c.in-Some.is c.in_ok-judged.ensures.position position c.in_ok-judged.ensures.reply c.in_ok-judged.ensures.known))
+    c.in-Some.is c.in_ok-judged.ensures.position position (c.in_ok-judged.ensures.mark h seen opens) c.in_ok-judged.ensures.reply c.in_ok-judged.ensures.known))

@@ -11,6 +11,7 @@ returns c =
       lives = c.begin_live.new.lives;
       exchanges = c.add_to_windows.new.exchanges;
       forwards = c.remove.new.self;
+      forwarded = c.args.self.now.forwarded;
       errors = c.keep_error.new.positions;
       failures = c.args.self.now.failures;
     } in
@@ -23,5 +24,6 @@ returns c =
       answered = c.in_ok-answer_lives.ensures;
       begun = begun;
       failures = search rules;
+      forwarded = search rules;
     }))
     c.begin_live.ensures

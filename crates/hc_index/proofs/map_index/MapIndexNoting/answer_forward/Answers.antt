@@ -11,6 +11,7 @@ returns c =
       targets = c.answer_at.new.targets;
       exchanges = c.args.self.now.exchanges;
       forwards = c.remove.new.self;
+      forwarded = c.args.self.now.forwarded;
     } in
     on_ok_weaker c.answer_at.result
     (λ changes. notes_response c.args.format c.args.self.now c.in-Some.forward c.args.number c.args.position c.args.moment c.args.response new
@@ -19,5 +20,6 @@ returns c =
       forwards = λ f. search rules;
       targets = rw c.told_in-cause.ensures at changes;
       exchanges = refl;
+      forwarded = refl;
     }))
     c.answer_at.ensures

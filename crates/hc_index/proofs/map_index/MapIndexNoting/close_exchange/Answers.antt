@@ -10,10 +10,12 @@ returns-in-Some c =
       targets = c.close_at.new.targets;
       exchanges = c.remove.new.self;
       forwards = c.args.self.now.forwards;
+      forwarded = c.begin_anew.new.forwarded;
     } in
     λ format position moment reply. notes_reply format c.args.self.now c.args.number position moment reply c.in-Some.pooled.exchange.target new
     (record {
       exchanges = λ e. search rules;
       targets = c.close_at.ensures;
       forwards = refl;
+      forwarded = c.begin_anew.ensures;
     })

@@ -11,6 +11,7 @@ returns c =
       targets = c.fail_at.new.targets;
       exchanges = c.args.self.now.exchanges;
       forwards = c.remove.new.self;
+      forwarded = c.args.self.now.forwarded;
     } in
     λ format moment. on_ok_weaker c.fail_at.result
     (λ changes. notes_failure format c.args.self.now c.in-Some.forward c.args.number c.args.position moment new
@@ -19,5 +20,6 @@ returns c =
       forwards = λ f. search rules;
       targets = changes;
       exchanges = refl;
+      forwarded = refl;
     }))
     c.fail_at.ensures

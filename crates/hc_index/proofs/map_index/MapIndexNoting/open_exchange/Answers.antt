@@ -15,11 +15,13 @@ returns c =
       targets = c.open_at.new.targets;
       exchanges = c.insert.new.self;
       forwards = c.args.self.now.forwards;
+      forwarded = c.begin_anew.new.forwarded;
     } in
     λ format moment. notes_request format c.args.self.now c.args.number c.args.position moment c.args.request pooled new
     (record {
       exchanges = λ e. search rules;
       targets = c.in_ok-behind.ensures;
       forwards = refl;
+      forwarded = c.begin_anew.ensures;
     })
     refl
