@@ -1,7 +1,9 @@
 -- What a parse of the program's words comes to.
-use Rattle.std.proofs.Common.{◌≡◌, ◌∙◌, ◌&&◌, ℕ, List, [], ◌∷◌, Option, None, Some, ap, cond, inl, inr, refl, rules, sym, subst, true, false, codes, Bool, is_none, length, nat_eq, nat_lt, option_and_then, option_map}
+use Rattle.std.proofs.Common.{◌≡◌, ◌∙◌, ◌&&◌, ◌<◌, ℕ, List, [], ◌∷◌, Option, None, Some, ap, cond, inl, inr, refl, rules, sym, subst, true, false, codes, Bool, is_none, length, nat_eq, nat_le, nat_lt, take, drop, option_and_then, option_map}
 use Rattle.std.specs.Prelude.{Result, Ok, Err, IfOk, IfErr, MatchResult}
+use Rattle.std.proofs.lemmas.Bool.{ltb-true}
 use Rattle.std.proofs.lemmas.Result.{IfErr-weaker, IfOk-weaker}
+use Rattle.hc_transcript.specs.Limits.{greatest_number}
 use Rattle.std.specs.Char.{is_ascii_digit}
 use Rattle.std.specs.Str.{bytes_eq}
 use Rattle.std.specs.Str.Parse.{digits_value}
@@ -22,6 +24,7 @@ use Rattle.clap.proofs.WalkLemmas.{first_value-rows}
 use Rattle.hc_history.specs.declared.settings.Settings.{Settings}
 use Rattle.hc_service.specs.declared.settings.CoreSettings.{CoreSettings}
 use Rattle.hc_service.specs.Settings.{AreGood, is_name, is_size}
+use Rattle.hc_showing.specs.declared.span.Span.{Span}
 use Rattle.hc_arguments.specs.declared.limit.Limit.{Limit}
 use Rattle.hc_arguments.specs.declared.limit.Limit.TheVariants.{MaxConnections, OriginConnections, IdleTimeout, RequestTimeout, SendTimeout}
 use Rattle.hc_arguments.specs.declared.limit.Limit.TheVariants.{QueueTimeout, ConnectTimeout, OriginTimeout, OriginTotal, DrainTimeout}
@@ -32,16 +35,17 @@ use Rattle.hc_arguments.specs.declared.order.ProxyLimits.{ProxyLimits}
 use Rattle.hc_arguments.specs.declared.order.ProxyPatience.{ProxyPatience}
 use Rattle.hc_arguments.specs.declared.order.RecordTerms.{RecordTerms}
 use Rattle.hc_arguments.specs.declared.refusal.Refusal.{Refusal}
-use Rattle.hc_arguments.specs.declared.refusal.Refusal.TheVariants.{Memory, Missing, Slack, Ignore, Position, StandardInput, Connections, Keys, Bytes, Name, Allow, DefaultTtl, Grace, Normalized, AgeSlack, MinHits, MinJudged}
+use Rattle.hc_arguments.specs.declared.refusal.Refusal.TheVariants.{Memory, Missing, Slack, Ignore, Position, StandardInput, Connections, Keys, Bytes, Name, Allow, DefaultTtl, Grace, Normalized, AgeSlack, MinHits, MinJudged, Positions}
 use Rattle.hc_arguments.specs.declared.refusal.Refusal.TheVariants.{RecordLimit, Held, OutOfRange}
 use Rattle.hc_arguments.specs.Command.{Asks, AsksAuditTerms, AsksBy, AsksCache, AsksIn, AsksLimits, AsksMinimums, AsksPatience, AsksSettings, AsksTerms, CanBeDone, Command, IsFileName}
 use Rattle.hc_arguments.specs.Command.{IsMade, IsRefused, IsWord, RefusesBy, RefusesIn, Task, ValuesAsk, command_in, command_named, command_of, has_minimums, hcache, judges, lacks, limit_in}
 use Rattle.hc_arguments.specs.Command.{proxy_words, refused_kind, serves, service_words, task_of, value_in}
-use Rattle.hc_arguments.specs.Command.Command.{Audits, Reports, Explains, Replays, Converts, Serves, Proxies}
-use Rattle.hc_arguments.specs.Command.Task.{ToAudit, ToReport, ToExplain, ToReplay, ToConvert, ToServe, ToProxy}
+use Rattle.hc_arguments.specs.Command.Command.{Audits, Reports, Explains, Shows, Replays, Converts, Serves, Proxies}
+use Rattle.hc_arguments.specs.Command.Task.{ToAudit, ToReport, ToExplain, ToShow, ToReplay, ToConvert, ToServe, ToProxy}
 use Rattle.hc_arguments.specs.Values.{bytes_by, clients_by, connections_of, flag_by, held_by, ignored_by, keys_by, minimum_by, name_by}
 use Rattle.hc_history.specs.declared.allowed.Allowed.{Allowed}
 use Rattle.hc_arguments.specs.Allowing.{AsksAllowed, allow_by, normalized_by, seconds_by}
+use Rattle.hc_arguments.specs.Positions.{len_before_hyphen, span_between, span_from, span_of}
 use Rattle.hc_arguments.specs.Values.{no_minimums, plain, plain_audit, plain_cache, plain_limits, plain_patience, plain_terms, position_by, positive_of, record_limit_by, slack_by, unmarked_by}
 
 -- ---- the command
@@ -187,6 +191,7 @@ task_from Audits value = option_map (λ p. ToAudit p.0 p.1) (both (value (codes 
 task_from Reports value = option_map (λ p. ToReport p.0 p.1 (flag_by (value (codes "json")))) (both (value (codes "FILE")) (audit_terms_from value))
 task_from Explains value = option_map (λ p. ToExplain p.0 p.1.0 p.1.1)
     (both (file_named (value (codes "FILE"))) (both (position_by (value (codes "POSITION"))) (settings_from value)))
+task_from Shows value = option_map (λ p. ToShow p.0 p.1) (both (value (codes "FILE")) (option_and_then span_of (value (codes "POSITION[-POSITION]"))))
 task_from Replays value = option_map ToReplay (value (codes "FILE"))
 task_from Converts value = option_map ToConvert (value (codes "FILE"))
 task_from Serves value = option_map (λ p. ToServe p.0.0 p.0.1 p.1.0.0 p.1.0.1 p.1.1)
@@ -271,6 +276,7 @@ values_give value (ToExplain file position settings) a =
     let set = settings_given value settings a.settings_are in
     let named = ap file_named a.file_is ∙ ap (λ b. cond b None (Some file)) a.file_has_name in
     λ i. option_map (λ p. ToExplain p.0 p.1.0 p.1.1) (both (named i) (both (a.position_is i) (set i)))
+values_give value (ToShow file span) a = λ i. option_map (λ p. ToShow p.0 p.1) (both (a.file_is i) (a.span_is i))
 values_give value (ToReplay file) a = ap (option_map ToReplay) a
 values_give value (ToConvert file) a = ap (option_map ToConvert) a
 values_give value (ToServe listen origin connections file settings) a =
@@ -300,10 +306,15 @@ number_is_there : (o : Option Text) (n : ℕ) → option_and_then connections_of
 number_is_there None n is = absurd (none_is_some _ n refl is)
 number_is_there (Some text) n is = refl
 
+span_is_there : (o : Option Text) (span : Span) → option_and_then span_of o ≡ Some span → is_none o ≡ false
+span_is_there None span is = absurd (none_is_some _ span refl is)
+span_is_there (Some text) span is = refl
+
 lacks_nothing : (command : Option Command) (value : Text → Option Text) (task : Task) → AsksBy command value task → lacks command value ≡ false
 lacks_nothing command value (ToAudit file terms) asks = rw (asks.0, asks.1.file_is) refl
 lacks_nothing command value (ToReport file terms json) asks = rw (asks.0, asks.1.file_is) refl
 lacks_nothing command value (ToExplain file position settings) asks = rw (asks.0, asks.1.file_is) refl
+lacks_nothing command value (ToShow file span) asks = rw (asks.0, asks.1.file_is, span_is_there (value (codes "POSITION[-POSITION]")) span asks.1.span_is) refl
 lacks_nothing command value (ToReplay file) asks = rw (asks.0, asks.1) refl
 lacks_nothing command value (ToConvert file) asks = rw (asks.0, asks.1) refl
 lacks_nothing command value (ToServe listen origin n file settings) asks =
@@ -315,6 +326,7 @@ settings_lack : (command : Command) (value : Text → Option Text) → judges co
 settings_lack Audits value judging none = nothing_mapped _ _ (second_lacks _ _ (nothing_mapped _ _ (first_lacks _ _ none)))
 settings_lack Reports value judging none = nothing_mapped _ _ (second_lacks _ _ (nothing_mapped _ _ (first_lacks _ _ none)))
 settings_lack Explains value judging none = nothing_mapped _ _ (second_lacks _ _ (second_lacks _ _ none))
+settings_lack Shows value judging none = absurd cc
 settings_lack Replays value judging none = absurd cc
 settings_lack Converts value judging none = absurd cc
 settings_lack Serves value judging none = absurd cc
@@ -324,6 +336,7 @@ minimums_lack : (command : Command) (value : Text → Option Text) → has_minim
 minimums_lack Audits value counting none = nothing_mapped _ _ (second_lacks _ _ (nothing_mapped _ _ (second_lacks _ _ none)))
 minimums_lack Reports value counting none = nothing_mapped _ _ (second_lacks _ _ (nothing_mapped _ _ (second_lacks _ _ none)))
 minimums_lack Explains value counting none = absurd cc
+minimums_lack Shows value counting none = absurd cc
 minimums_lack Replays value counting none = absurd cc
 minimums_lack Converts value counting none = absurd cc
 minimums_lack Serves value counting none = absurd cc
@@ -334,6 +347,7 @@ pub minimums_judge : (command : Command) → has_minimums command ≡ true → j
 minimums_judge Audits counting = refl
 minimums_judge Reports counting = refl
 minimums_judge Explains counting = absurd cc
+minimums_judge Shows counting = absurd cc
 minimums_judge Replays counting = absurd cc
 minimums_judge Converts counting = absurd cc
 minimums_judge Serves counting = absurd cc
@@ -343,6 +357,7 @@ cache_lacks : (command : Command) (value : Text → Option Text) → serves comm
 cache_lacks Audits value serving none = absurd cc
 cache_lacks Reports value serving none = absurd cc
 cache_lacks Explains value serving none = absurd cc
+cache_lacks Shows value serving none = absurd cc
 cache_lacks Replays value serving none = absurd cc
 cache_lacks Converts value serving none = absurd cc
 cache_lacks Serves value serving none = nothing_mapped _ _ (second_lacks _ _ (second_lacks _ _ none))
@@ -364,6 +379,7 @@ number_lacks : (command : Command) (value : Text → Option Text) → serves com
 number_lacks Audits value serving none = absurd cc
 number_lacks Reports value serving none = absurd cc
 number_lacks Explains value serving none = absurd cc
+number_lacks Shows value serving none = absurd cc
 number_lacks Replays value serving none = absurd cc
 number_lacks Converts value serving none = absurd cc
 number_lacks Serves value serving none =
@@ -433,6 +449,7 @@ module _ (command : Option Command) (value : Text → Option Text) (task : Task)
   none_outside MinJudged refuses kind = uncounted refuses.0 (nothing_mapped _ _ (second_lacks _ _ refuses.1))
   none_outside Position refuses kind =
       is_given (fault_lacks _ _ Explains refuses.0 (nothing_mapped _ _ (second_lacks _ _ (first_lacks _ _ refuses.1))))
+  none_outside Positions refuses kind = is_given (fault_lacks _ _ Shows refuses.0 (nothing_mapped _ _ (second_lacks _ _ refuses.1)))
   none_outside StandardInput refuses kind =
       is_given (fault_lacks _ _ Explains refuses.0 (nothing_mapped _ _ (first_lacks _ _ (ap file_named refuses.1))))
   none_outside Connections refuses kind =
@@ -468,10 +485,42 @@ good_cache value settings asks = record {
   size = good_size (value (codes "keys")) settings.keys asks.keys_is;
 }
 
+-- positions are positive, and those up to a last one too
+positive : (digits some few : Bool) (value number : ℕ) → nat_lt 0 value ≡ some → cond (digits && (some && few)) (Some value) None ≡ Some number → 0 < number
+positive true true true value number is taken = let same : value ≡ number = search rules in subst (λ (n : ℕ). 0 < n) same (ltb-true 0 value is)
+positive true true false value number is taken = absurd cc
+positive true false few value number is taken = absurd cc
+positive false some few value number is taken = absurd cc
+
+positive_number : (text : Text) (number : ℕ) → positive_of text ≡ Some number → 0 < number
+positive_number text number is = positive (is_number text) (nat_lt 0 (digits_value 10 text)) (nat_le (digits_value 10 text) greatest_number) (digits_value 10 text) number refl is
+
+last_between : (first last : ℕ) (span : Span) (b : Bool) → cond b (Some (record { first = first; last = last })) None ≡ Some span → 0 < last → 0 < span.last
+last_between first last span true is some = let same : record { first = first; last = last } ≡ span = search rules in subst (λ (s : Span). 0 < s.last) same some
+last_between first last span false is some = absurd cc
+
+last_behind : (first : ℕ) (span : Span) (text : Text) (o : Option ℕ) → positive_of text ≡ o → option_and_then (span_between first) o ≡ Some span → 0 < span.last
+last_behind first span text None counts is = absurd cc
+last_behind first span text (Some last) counts is = last_between first last span (nat_le first last) is (positive_number text last counts)
+
+last_from : (first : ℕ) (rest : Text) (span : Span) → 0 < first → span_from first rest ≡ Some span → 0 < span.last
+last_from first [] span some is = last_between first first span (nat_le first first) is some
+last_from first (hyphen ∷ last) span some is = last_behind first span last (positive_of last) refl is
+
+last_of : (first rest : Text) (span : Span) (o : Option ℕ) → positive_of first ≡ o → option_and_then (λ n. span_from n rest) o ≡ Some span → 0 < span.last
+last_of first rest span None counts is = absurd cc
+last_of first rest span (Some number) counts is = last_from number rest span (positive_number first number counts) is
+
+last_is_one : (o : Option Text) (span : Span) → option_and_then span_of o ≡ Some span → 0 < span.last
+last_is_one None span is = absurd (none_is_some _ span refl is)
+last_is_one (Some text) span is =
+    last_of (take (len_before_hyphen text) text) (drop (len_before_hyphen text) text) span (positive_of (take (len_before_hyphen text) text)) refl is
+
 pub possible_from : (command : Option Command) (value : Text → Option Text) (task : Task) → AsksBy command value task → CanBeDone task
 possible_from command value (ToAudit file terms) asks = tt
 possible_from command value (ToReport file terms json) asks = tt
 possible_from command value (ToExplain file position settings) asks = tt
+possible_from command value (ToShow file span) asks = last_is_one (value (codes "POSITION[-POSITION]")) span asks.1.span_is
 possible_from command value (ToReplay file) asks = tt
 possible_from command value (ToConvert file) asks = tt
 possible_from command value (ToServe listen origin connections file settings) asks = good_cache value settings asks.1.settings_are

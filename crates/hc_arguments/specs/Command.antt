@@ -1,5 +1,5 @@
 -- The command line of `hcache`, as a parse sees it.
-use Rattle.std.specs.Prelude.{◌≡◌, ◌≢◌, ◌⊎◌, ⊤, ℕ, List, [], ◌∷◌, ◌++◌, Option, None, Some, Result, IfOk, true, codes}
+use Rattle.std.specs.Prelude.{◌≡◌, ◌≢◌, ◌<◌, ◌⊎◌, ⊤, ℕ, List, [], ◌∷◌, ◌++◌, Option, None, Some, Result, IfOk, true, codes}
 use Rattle.std.specs.Prelude.{Bool, ◌||◌, if◌then◌else◌, false, is_none, option_and_then, option_map, slice_get}
 use Rattle.std.specs.Option.{option_map_or}
 use Rattle.std.specs.Str.{bytes_eq}
@@ -16,22 +16,24 @@ use Rattle.clap.specs.declared.error.ErrorKind.TheVariants as kind
 use Rattle.hc_history.specs.declared.settings.Settings.{Settings}
 use Rattle.hc_service.specs.declared.settings.CoreSettings.{CoreSettings}
 use Rattle.hc_service.specs.Settings.{AreGood}
+use Rattle.hc_showing.specs.declared.span.Span.{Span}
 use Rattle.hc_arguments.specs.declared.limit.Limit.{Limit}
 use Rattle.hc_arguments.specs.declared.limit.Limit.TheVariants.{MaxConnections, OriginConnections, IdleTimeout, RequestTimeout, SendTimeout}
 use Rattle.hc_arguments.specs.declared.limit.Limit.TheVariants.{QueueTimeout, ConnectTimeout, OriginTimeout, OriginTotal, DrainTimeout}
 use Rattle.hc_arguments.specs.declared.order.AuditTerms.{AuditTerms}
 use Rattle.hc_arguments.specs.declared.order.Minimums.{Minimums}
 use Rattle.hc_arguments.specs.declared.order.Order.{Order}
-use Rattle.hc_arguments.specs.declared.order.Order.TheVariants.{Audit, Report, Explain, Replay, Convert, Serve, Proxy}
+use Rattle.hc_arguments.specs.declared.order.Order.TheVariants.{Audit, Report, Explain, Show, Replay, Convert, Serve, Proxy}
 use Rattle.hc_arguments.specs.declared.order.ProxyLimits.{ProxyLimits}
 use Rattle.hc_arguments.specs.declared.order.ProxyPatience.{ProxyPatience}
 use Rattle.hc_arguments.specs.declared.order.RecordTerms.{RecordTerms}
 use Rattle.hc_arguments.specs.declared.options.Wanted.{Wanted}
 use Rattle.hc_arguments.specs.declared.refusal.Refusal.{Refusal}
-use Rattle.hc_arguments.specs.declared.refusal.Refusal.TheVariants.{Memory, Missing, Slack, Ignore, Position, StandardInput, Connections, Keys, Bytes, Name, Allow, DefaultTtl, Grace, Normalized, AgeSlack, MinHits, MinJudged}
+use Rattle.hc_arguments.specs.declared.refusal.Refusal.TheVariants.{Memory, Missing, Slack, Ignore, Position, StandardInput, Connections, Keys, Bytes, Name, Allow, DefaultTtl, Grace, Normalized, AgeSlack, MinHits, MinJudged, Positions}
 use Rattle.hc_arguments.specs.declared.refusal.Refusal.TheVariants.{RecordLimit, Held, OutOfRange}
 use Rattle.hc_arguments.specs.Values.{bytes_by, clients_by, connections_of, flag_by, held_by, ignored_by, keys_by, minimum_by, name_by, position_by, slack_by, unmarked_by}
 use Rattle.hc_arguments.specs.Allowing.{AsksAllowed, allow_by, normalized_by, seconds_by}
+use Rattle.hc_arguments.specs.Positions.{span_of}
 use Rattle.hc_arguments.specs.Values.{limit_by, option_of, record_limit_by}
 
 -- ---- what the command takes
@@ -43,6 +45,10 @@ file_rule = record (new_rule (codes "FILE")) { required = true }
 -- the second one of `explain`, which may be left out
 abbrev pub position_rule : Rule
 position_rule = new_rule (codes "POSITION")
+
+-- the second one of `show`
+abbrev pub span_rule : Rule
+span_rule = record (new_rule (codes "POSITION[-POSITION]")) { required = true }
 
 -- an option with one value
 abbrev pub option_rule : Text → Rule
@@ -79,6 +85,9 @@ report = with_rule (with_terms (with_rule (new_app (codes "report")) file_rule))
 
 abbrev pub explain : App
 explain = with_settings (with_rule (with_rule (new_app (codes "explain")) file_rule) position_rule)
+
+abbrev pub show : App
+show = with_rule (with_rule (new_app (codes "show")) file_rule) span_rule
 
 abbrev pub replay : App
 replay = with_rule (new_app (codes "replay")) file_rule
@@ -119,7 +128,7 @@ abbrev pub judging : App
 judging = with_subcommand (with_subcommand (with_subcommand program audit.top) report.top) explain.top
 
 abbrev pub hcache : App
-hcache = with_subcommand (with_subcommand (with_subcommand (with_subcommand judging replay.top) serve.top) proxy.top) convert.top
+hcache = with_subcommand (with_subcommand (with_subcommand (with_subcommand (with_subcommand judging show.top) replay.top) serve.top) proxy.top) convert.top
 
 -- ---- what the words say
 
@@ -128,6 +137,7 @@ pub data Command : Type 0 where
   Audits : Command
   Reports : Command
   Explains : Command
+  Shows : Command
   Replays : Command
   Converts : Command
   Serves : Command
@@ -136,7 +146,7 @@ pub data Command : Type 0 where
 abbrev pub command_named : Text → Option Command
 command_named name = if bytes_eq name (codes "audit") then Some Audits
     else if bytes_eq name (codes "report") then Some Reports else if bytes_eq name (codes "explain") then Some Explains
-    else if bytes_eq name (codes "replay") then Some Replays else if bytes_eq name (codes "serve") then Some Serves
+    else if bytes_eq name (codes "show") then Some Shows else if bytes_eq name (codes "replay") then Some Replays else if bytes_eq name (codes "serve") then Some Serves
     else if bytes_eq name (codes "proxy") then Some Proxies else if bytes_eq name (codes "convert") then Some Converts else None
 
 -- what they can be asked
@@ -147,6 +157,8 @@ pub data Task : Type 0 where
   ToReport : (file : Text) (terms : AuditTerms) (json : Bool) → Task
   -- to explain the reply at that position of it, or else the first wrong one, by those settings
   ToExplain : (file : Text) (position : Option ℕ) (settings : Settings) → Task
+  -- to show its records at these positions
+  ToShow : (file : Text) (span : Span) → Task
   -- to replay it
   ToReplay : (file : Text) → Task
   -- to convert it
@@ -161,6 +173,7 @@ abbrev pub command_of : Task → Command
 command_of (ToAudit file terms) = Audits
 command_of (ToReport file terms json) = Reports
 command_of (ToExplain file position settings) = Explains
+command_of (ToShow file span) = Shows
 command_of (ToReplay file) = Replays
 command_of (ToConvert file) = Converts
 command_of (ToServe listen origin connections file settings) = Serves
@@ -170,6 +183,7 @@ abbrev pub task_of : Order → Task
 task_of (Audit file terms) = ToAudit file.now terms
 task_of (Report file terms json) = ToReport file.now terms json
 task_of (Explain file position settings) = ToExplain file.now position settings
+task_of (Show file span) = ToShow file.now span
 task_of (Replay file) = ToReplay file.now
 task_of (Convert file) = ToConvert file.now
 task_of (Serve listen origin connections file settings) = ToServe listen.now origin.now connections file.now settings
@@ -209,6 +223,11 @@ pub record AsksExplain (value : Text → Option Text) (file : Text) (position : 
   pub file_has_name : bytes_eq file (codes "-") ≡ false
   pub position_is : position_by (value (codes "POSITION")) ≡ Some position
   pub settings_are : AsksSettings value settings
+
+-- and that of `show`
+pub record AsksShow (value : Text → Option Text) (file : Text) (span : Span) : Type 0 where
+  pub file_is : value (codes "FILE") ≡ Some file
+  pub span_is : option_and_then span_of (value (codes "POSITION[-POSITION]")) ≡ Some span
 
 -- and that of the cache that `serve` and `proxy` have
 pub record AsksCache (value : Text → Option Text) (settings : CoreSettings) : Type 0 where
@@ -265,6 +284,7 @@ abbrev pub ValuesAsk : (Text → Option Text) → Task → Type 0
 ValuesAsk value (ToAudit file terms) = AsksAudit value file terms
 ValuesAsk value (ToReport file terms json) = AsksReport value file terms json
 ValuesAsk value (ToExplain file position settings) = AsksExplain value file position settings
+ValuesAsk value (ToShow file span) = AsksShow value file span
 ValuesAsk value (ToReplay file) = value (codes "FILE") ≡ Some file
 ValuesAsk value (ToConvert file) = value (codes "FILE") ≡ Some file
 ValuesAsk value (ToServe listen origin connections file settings) = AsksService value listen origin connections file settings
@@ -289,8 +309,9 @@ AsksIn given = AsksBy (command_in given) (value_in given)
 abbrev pub Asks : List Text → Task → Type 0
 Asks words = AsksIn (subcommand_of hcache words)
 
--- what a task can be asked with: of those settings there are caches
+-- what a task can be asked with: of those settings there are caches, and the last of these positions is one
 abbrev pub CanBeDone : Task → Type 0
+CanBeDone (ToShow file span) = 0 < span.last
 CanBeDone (ToServe listen origin connections file settings) = AreGood settings
 CanBeDone (ToProxy listen origin file terms limits settings) = AreGood settings
 CanBeDone task = ⊤
@@ -322,6 +343,7 @@ lacks None value = true
 lacks (Some Audits) value = is_none (value (codes "FILE"))
 lacks (Some Reports) value = is_none (value (codes "FILE"))
 lacks (Some Explains) value = is_none (value (codes "FILE"))
+lacks (Some Shows) value = is_none (value (codes "FILE")) || is_none (value (codes "POSITION[-POSITION]"))
 lacks (Some Replays) value = is_none (value (codes "FILE"))
 lacks (Some Converts) value = is_none (value (codes "FILE"))
 lacks (Some Serves) value = is_none (value (codes "listen")) || (is_none (value (codes "origin"))
@@ -333,6 +355,7 @@ abbrev pub judges : Command → Bool
 judges Audits = true
 judges Reports = true
 judges Explains = true
+judges Shows = false
 judges Replays = false
 judges Converts = false
 judges Serves = false
@@ -343,6 +366,7 @@ abbrev pub has_minimums : Command → Bool
 has_minimums Audits = true
 has_minimums Reports = true
 has_minimums Explains = false
+has_minimums Shows = false
 has_minimums Replays = false
 has_minimums Converts = false
 has_minimums Serves = false
@@ -353,6 +377,7 @@ abbrev pub serves : Command → Bool
 serves Audits = false
 serves Reports = false
 serves Explains = false
+serves Shows = false
 serves Replays = false
 serves Converts = false
 serves Serves = true
@@ -372,6 +397,7 @@ RefusesBy command value AgeSlack = (option_map judges command ≡ Some true) × 
 RefusesBy command value MinHits = (option_map has_minimums command ≡ Some true) × (minimum_by (value (codes "min-hits")) ≡ None)
 RefusesBy command value MinJudged = (option_map has_minimums command ≡ Some true) × (minimum_by (value (codes "min-judged")) ≡ None)
 RefusesBy command value Position = (command ≡ Some Explains) × (position_by (value (codes "POSITION")) ≡ None)
+RefusesBy command value Positions = (command ≡ Some Shows) × (option_and_then span_of (value (codes "POSITION[-POSITION]")) ≡ None)
 RefusesBy command value StandardInput = (command ≡ Some Explains) × (value (codes "FILE") ≡ Some (codes "-"))
 RefusesBy command value Connections = (option_map serves command ≡ Some true) × (clients_by (value (codes "connections")) ≡ None)
 RefusesBy command value RecordLimit = (command ≡ Some Proxies) × (record_limit_by (value (codes "record-limit")) ≡ None)
@@ -398,6 +424,7 @@ refused_kind AgeSlack = Some kind.ValueValidation
 refused_kind MinHits = Some kind.ValueValidation
 refused_kind MinJudged = Some kind.ValueValidation
 refused_kind Position = Some kind.ValueValidation
+refused_kind Positions = Some kind.ValueValidation
 refused_kind StandardInput = Some kind.ValueValidation
 refused_kind Connections = Some kind.ValueValidation
 refused_kind RecordLimit = Some kind.ValueValidation

@@ -1,3 +1,4 @@
 pub mod Command
+pub mod Positions
 pub mod Values
 pub mod Allowing

@@ -3,10 +3,11 @@
 ghost use Rattle.std.specs.Prelude.{◌≡◌, ◌∷◌, [], IfErr, IfOk, MatchResult, ℕ, Some, None, codes, false, map, true};
 ghost use Rattle.clap.specs.Words.{HasKind, Text, fault_of, first_value, found_of, kind_of, subcommand_of, subcommand_rows_of};
 ghost use Rattle.hc_arguments.specs.Command.{Asks, AsksAuditTerms, AsksBy, AsksCache, AsksIn, AsksLimits, AsksMinimums, AsksPatience, AsksSettings, AsksTerms, CanBeDone, Command, IsFileName, IsRefused, IsRefusedIn, IsWord, RefusesBy, RefusesIn, has_minimums, hcache, judges, limit_in, proxy_words, serves, service_words, task_of};
-ghost use Rattle.hc_arguments.specs.Command.Command.{Audits, Converts, Explains, Proxies, Replays, Reports, Serves};
+ghost use Rattle.hc_arguments.specs.Command.Command.{Audits, Converts, Explains, Proxies, Replays, Reports, Serves, Shows};
 ghost use Rattle.hc_arguments.specs.Command.Task.{ToAudit, ToConvert, ToExplain, ToProxy, ToReplay, ToReport, ToServe};
 ghost use Rattle.hc_arguments.specs.Values.{clients_by, connections_of, held_by, minimum_by, plain, plain_audit, plain_cache, plain_limits, plain_terms, position_by, positive_of};
 ghost use Rattle.hc_arguments.specs.Allowing.{AsksAllowed};
+ghost use Rattle.hc_arguments.specs.Positions.{span_of};
 ghost use Rattle.hc_arguments.specs.declared.refusal.Refusal.TheVariants.{Missing};
 
 use crate::allowing::{allow_by, normalized_by, seconds_by};
@@ -15,6 +16,7 @@ use crate::limit::Limit;
 use crate::order::{
     AuditTerms, Minimums, Order, ProxyLimits, ProxyPatience, Proxying, RecordTerms,
 };
+use crate::positions::span_of;
 use crate::refusal::{Refusal, usage_error};
 use crate::values::{
     bytes_by, clients_by, flag_by, held_by, ignored_by, keys_by, limit_by, minimum_by, name_by,
@@ -126,6 +128,7 @@ fn order_in<'a>(alloc: Global, matches: &ArgMatches<'a>) -> Result<Order<'a>, Re
         "audit" => audit_in(alloc, found),
         "report" => report_in(alloc, found),
         "explain" => explain_in(alloc, found),
+        "show" => show_in(found),
         "replay" => replay_in(found),
         "serve" => serve_in(alloc, found),
         "proxy" => proxy_in(alloc, found),
@@ -210,6 +213,19 @@ fn position_in(found: &ArgMatches<'_>) -> Result<Option<u64>, Refusal>
     match positive_of(text.as_bytes()) {
         Some(position) => Ok(Some(position)),
         None => Err(Refusal::Position),
+    }
+}
+
+// What `show` asks.
+fn show_in<'a>(found: &ArgMatches<'a>) -> Result<Order<'a>, Refusal>
+    ensures ok { IfOk result (λ order. AsksBy (Some Shows) (first_value (found_of found.now)) (task_of order)) }
+    ensures err { IfErr result (RefusesBy (Some Shows) (first_value (found_of found.now))) }
+{
+    let file = required(found, "FILE")?;
+    let written = required(found, "POSITION[-POSITION]")?;
+    match span_of(written.as_bytes()) {
+        Some(span) => Ok(Order::Show { file, span }),
+        None => Err(Refusal::Positions),
     }
 }
 

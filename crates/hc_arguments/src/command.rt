@@ -2,15 +2,15 @@
 
 ghost use Rattle.std.specs.Prelude.{◌≡◌, false, map};
 ghost use Rattle.clap.specs.Words.{App, new_app, rule_of, with_rule, with_subcommand};
-ghost use Rattle.hc_arguments.specs.Command.{IsMade, audit, convert, explain, file_rule, hcache, judging, position_rule, program, proxy, replay, report, serve, wanted_rule, with_cache, with_proxy, with_rules, with_service, with_settings, with_terms};
+ghost use Rattle.hc_arguments.specs.Command.{IsMade, audit, convert, explain, file_rule, hcache, judging, position_rule, program, proxy, replay, report, serve, show, span_rule, wanted_rule, with_cache, with_proxy, with_rules, with_service, with_settings, with_terms};
 
 use crate::options::{CACHING, COUNTING, JUDGING, PROXYING, REPORTING, SERVING, Wanted};
 use clap::{Arg, ArgAction, Command};
 use std::alloc::{AllocError, Global};
 
 const ABOUT: &str =
-    "Audits the transcripts of a cache, groups and explains their wrong replies, plays scripts to a cache \
-    that records one, serves clients from one, also many at once, and converts transcripts";
+    "Audits the transcripts of a cache, groups and explains their wrong replies, shows records, plays scripts \
+    to a cache that records one, serves clients from one, also many at once, and converts transcripts";
 
 const AUDIT_ABOUT: &str = "Says whether every reply in a transcript is right, in one line";
 
@@ -26,6 +26,11 @@ const EXPLAINED_HELP: &str = "The transcript, a file that is read twice";
 
 const POSITION_HELP: &str =
     "The position of the reply: a decimal from 1 to 999999999999, and that of the first wrong one without it";
+
+const SHOW_ABOUT: &str = "Shows records of a transcript as text, without secrets";
+
+const SPAN_HELP: &str =
+    "The position of the record, or of the first and of the last with a hyphen between them: decimals from 1 to 999999999999";
 
 const REPLAY_ABOUT: &str =
     "Plays a script of events to a new cache: standard output gets the transcript that it records, \
@@ -63,6 +68,13 @@ Exit status:
   3   not explained: standard error says `error: memory` or `error: device`
   64  the command line is wrong, or no reply stands at POSITION: standard error says how";
 
+const SHOW_STATUSES: &str = "\
+Exit status:
+  0   the records were shown
+  2   malformed: the transcript breaks before the last of them, at this position, by this fault
+  3   not shown: standard error says `error: memory` or `error: device`
+  64  the command line is wrong, or a position is past the end: standard error says how";
+
 const REPLAY_STATUSES: &str = "\
 Exit status:
   0   yes: the script was played, and every reply in the transcript is right
@@ -94,7 +106,8 @@ pub(crate) fn command<'a>(alloc: Global) -> Result<Command<'a>, AllocError>
     ensures { IsMade hcache result }
 {
     let judging = judging_command(alloc);
-    let replaying = with_subcommand(judging, replay_command(alloc));
+    let showing = with_subcommand(judging, show_command(alloc));
+    let replaying = with_subcommand(showing, replay_command(alloc));
     let serving = with_subcommand(replaying, serve_command(alloc));
     let proxying = with_subcommand(serving, proxy_command(alloc));
     with_subcommand(proxying, convert_command(alloc))
@@ -121,6 +134,7 @@ pub(crate) fn command_named<'a>(
         "audit" => audit_command(alloc),
         "report" => report_command(alloc),
         "explain" => explain_command(alloc),
+        "show" => show_command(alloc),
         "replay" => replay_command(alloc),
         "serve" => serve_command(alloc),
         "proxy" => proxy_command(alloc),
@@ -173,6 +187,15 @@ fn explain_command<'a>(alloc: Global) -> Result<Command<'a>, AllocError>
     let with_file = with_argument(bare, file_argument(alloc, EXPLAINED_HELP));
     let with_position = with_argument(with_file, position_argument(alloc));
     with_settings(alloc, with_position)
+}
+
+// The command `show`, without the one above it.
+fn show_command<'a>(alloc: Global) -> Result<Command<'a>, AllocError>
+    ensures { IsMade show result }
+{
+    let bare = begun(alloc, "show", "hcache show", SHOW_ABOUT, SHOW_STATUSES);
+    let with_file = with_argument(bare, file_argument(alloc, AUDITED_HELP));
+    with_argument(with_file, span_argument(alloc))
 }
 
 // The command `replay`, without the one above it.
@@ -333,6 +356,15 @@ fn position_argument<'a>(alloc: Global) -> Arg<'a>
     ensures local { result.global ≡ false }
 {
     Arg::new(alloc, "POSITION").help(POSITION_HELP)
+}
+
+fn span_argument<'a>(alloc: Global) -> Arg<'a>
+    ensures rule { rule_of result ≡ span_rule }
+    ensures local { result.global ≡ false }
+{
+    Arg::new(alloc, "POSITION[-POSITION]")
+        .required(true)
+        .help(SPAN_HELP)
 }
 
 // An option, as it is wanted.

@@ -8,6 +8,7 @@ mod limit;
 mod names;
 mod options;
 mod order;
+mod positions;
 mod refusal;
 mod values;
 

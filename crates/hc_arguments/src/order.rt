@@ -2,6 +2,7 @@
 
 use hc_history::Settings;
 use hc_service::CoreSettings;
+use hc_showing::Span;
 
 /// What the words ask.
 #[derive(Drop)]
@@ -30,6 +31,13 @@ pub enum Order<'a> {
         position: Option<u64>,
         /// What lets replies pass.
         settings: Settings,
+    },
+    /// To show records of a transcript.
+    Show {
+        /// Where it is: the name of a file, or `-` for standard input.
+        file: &'a str,
+        /// The positions of the records, of which there are some, from 1 to 999,999,999,999.
+        span: Span,
     },
     /// To replay a script.
     Replay {

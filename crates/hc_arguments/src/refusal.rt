@@ -37,6 +37,8 @@ pub(crate) enum Refusal {
     MinJudged,
     /// POSITION is no number of a position, or too great.
     Position,
+    /// What stands for positions are none.
+    Positions,
     /// FILE is standard input, which can't be read twice.
     StandardInput,
     /// The value of `--connections` is no number of connections, or too great.
@@ -115,6 +117,10 @@ impl Refusal {
             }
             Refusal::Position => {
                 "invalid value for '[POSITION]': not a decimal from 1 to 999999999999"
+            }
+            Refusal::Positions => {
+                "invalid value for '<POSITION[-POSITION]>': not a decimal from 1 to 999999999999, nor two with a hyphen \
+                between them, of which the first is no greater"
             }
             Refusal::StandardInput => {
                 "invalid value for '<FILE>': it is read twice, so it can't be standard input"

@@ -2,7 +2,7 @@
 use Rattle.std.proofs.Common.{◌≡◌, ℕ, List, Option, Some, None, inl, inr, subst}
 use Rattle.std.specs.Io.KnownBytes.{Keeps}
 use Rattle.hc_arguments.specs.Command.{Task}
-use Rattle.hc_arguments.specs.Command.Task.{ToAudit, ToReport, ToExplain, ToReplay, ToConvert, ToServe, ToProxy}
+use Rattle.hc_arguments.specs.Command.Task.{ToAudit, ToReport, ToExplain, ToShow, ToReplay, ToConvert, ToServe, ToProxy}
 use Rattle.hc_command.specs.Ends.{Does, Ends}
 use Rattle.hc_command.specs.Report.{Explained}
 
@@ -21,6 +21,7 @@ pub fails_with_3 : (task : Task) (status : ℕ) (old new faults_old faults_new :
 fails_with_3 (ToAudit file terms) status old new faults_old faults_new is kept = inl is
 fails_with_3 (ToReport file terms json) status old new faults_old faults_new is kept = inl is
 fails_with_3 (ToExplain file position settings) status old new faults_old faults_new is kept = explained_with_3 position status old new faults_old faults_new is
+fails_with_3 (ToShow file span) status old new faults_old faults_new is kept = inl is
 fails_with_3 (ToReplay file) status old new faults_old faults_new is kept = inl is
 fails_with_3 (ToConvert file) status old new faults_old faults_new is kept = inl is
 fails_with_3 (ToServe listen origin connections file settings) status old new faults_old faults_new is kept = (kept, inl is)
@@ -32,7 +33,8 @@ pub does_ends : (task : Task) (status : ℕ) (old new faults_old faults_new : Op
 does_ends (ToAudit file terms) status old new faults_old faults_new does = inl (terms.minimums, does)
 does_ends (ToReport file terms json) status old new faults_old faults_new does = inr (inl (json, terms.minimums, does))
 does_ends (ToExplain file position settings) status old new faults_old faults_new does = inr (inr (inl (position, does)))
-does_ends (ToReplay file) status old new faults_old faults_new does = inr (inr (inr (inl does)))
-does_ends (ToConvert file) status old new faults_old faults_new does = inr (inr (inr (inr (inl does))))
-does_ends (ToServe listen origin connections file settings) status old new faults_old faults_new does = inr (inr (inr (inr (inr (inl does)))))
-does_ends (ToProxy listen origin file terms limits settings) status old new faults_old faults_new does = inr (inr (inr (inr (inr (inr (inl does))))))
+does_ends (ToShow file span) status old new faults_old faults_new does = inr (inr (inr (inl (span, does))))
+does_ends (ToReplay file) status old new faults_old faults_new does = inr (inr (inr (inr (inl does))))
+does_ends (ToConvert file) status old new faults_old faults_new does = inr (inr (inr (inr (inr (inl does)))))
+does_ends (ToServe listen origin connections file settings) status old new faults_old faults_new does = inr (inr (inr (inr (inr (inr (inl does))))))
+does_ends (ToProxy listen origin file terms limits settings) status old new faults_old faults_new does = inr (inr (inr (inr (inr (inr (inr (inl does)))))))

@@ -3,3 +3,4 @@ pub mod EndLemmas
 pub mod ReplayLemmas
 pub mod ConvertLemmas
 pub mod ReportLemmas
+pub mod ShowLemmas

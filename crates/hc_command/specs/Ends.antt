@@ -3,12 +3,14 @@ use Rattle.std.specs.Prelude.{◌≡◌, ◌⊎◌, ℕ, List, Bool, Option}
 use Rattle.std.specs.Io.KnownBytes.{Keeps}
 use Rattle.hc_arguments.specs.declared.order.Minimums.{Minimums}
 use Rattle.hc_arguments.specs.Command.{Task}
-use Rattle.hc_arguments.specs.Command.Task.{ToAudit, ToReport, ToExplain, ToReplay, ToConvert, ToServe, ToProxy}
+use Rattle.hc_arguments.specs.Command.Task.{ToAudit, ToReport, ToExplain, ToShow, ToReplay, ToConvert, ToServe, ToProxy}
 use Rattle.hc_command.specs.Audit.{Answers}
 use Rattle.hc_command.specs.Convert.{Converted}
 use Rattle.hc_command.specs.Replay.{Played}
 use Rattle.hc_command.specs.Report.{Explained}
 use Rattle.hc_command.specs.Reporting.{ReportedBy}
+use Rattle.hc_command.specs.Show.{ShownFor}
+use Rattle.hc_showing.specs.declared.span.Span.{Span}
 use Rattle.hc_notices.specs.Notices.{SaysSome}
 
 -- nothing was written on the output; all clients were served and nothing was said, or the status is 3
@@ -24,6 +26,7 @@ abbrev pub Does : Task → ℕ → Option (List ℕ) → Option (List ℕ) → O
 Does (ToAudit file terms) status old new faults_old faults_new = Answers terms.minimums status old new faults_old faults_new
 Does (ToReport file terms json) status old new faults_old faults_new = ReportedBy json terms.minimums status old new faults_old faults_new
 Does (ToExplain file position settings) status old new faults_old faults_new = Explained position status old new faults_old faults_new
+Does (ToShow file span) status old new faults_old faults_new = ShownFor span status old new faults_old faults_new
 Does (ToReplay file) status old new faults_old faults_new = Played status old new faults_old faults_new
 Does (ToConvert file) status old new faults_old faults_new = Converted status old new faults_old faults_new
 Does (ToServe listen origin connections file settings) status old new faults_old faults_new = Served status old new faults_old faults_new
@@ -34,5 +37,6 @@ abbrev pub Ends : ℕ → Option (List ℕ) → Option (List ℕ) → Option (Li
 Ends status old new faults_old faults_new = ((least : Minimums) × Answers least status old new faults_old faults_new)
     ⊎ ((json : Bool) × (least : Minimums) × ReportedBy json least status old new faults_old faults_new)
     ⊎ ((position : Option ℕ) × Explained position status old new faults_old faults_new)
+    ⊎ ((span : Span) × ShownFor span status old new faults_old faults_new)
     ⊎ Played status old new faults_old faults_new ⊎ Converted status old new faults_old faults_new ⊎ Served status old new faults_old faults_new
     ⊎ Proxied status old new faults_old faults_new ⊎ ((status ≡ 0) × Keeps faults_old faults_new) ⊎ ((status ≡ 64) × Keeps old new)

@@ -5,5 +5,6 @@ pub mod Minimums
 pub mod Replay
 pub mod Report
 pub mod Reporting
+pub mod Show
 pub mod Convert
 pub mod Trouble

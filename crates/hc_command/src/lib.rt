@@ -1,5 +1,5 @@
 //! What the program `hcache` does: the audit of a transcript, the report on all its wrong replies, the explanation of one,
-//! the replay of a script, the serving of clients, the conversion of a transcript, the line of a verdict, and the exit
+//! records as text, the replay of a script, the serving of clients, the conversion of a transcript, the line of a verdict, and the exit
 //! status.
 #![tactic(auto)]
 
@@ -14,6 +14,7 @@ mod replaying;
 mod reporting;
 mod run;
 mod saying;
+mod showing;
 mod surveying;
 mod trouble;
 
@@ -24,3 +25,4 @@ pub use line::verdict_line;
 pub use replaying::replay;
 pub use reporting::report;
 pub use run::{answered, shown, status};
+pub use showing::show;

@@ -1,5 +1,5 @@
 //! What the program does, over any system and any two writers.
-ghost use Rattle.std.specs.Prelude.{◌≡◌, ◌⊎◌, ◌∷◌, [], ℕ, None, Some, codes, false, map};
+ghost use Rattle.std.specs.Prelude.{◌≡◌, ◌⊎◌, ◌<◌, ◌∷◌, [], ℕ, None, Some, codes, false, map};
 ghost use Rattle.std.specs.Io.KnownBytes.{Keeps};
 ghost use Rattle.clap.specs.Words.{Text, fault_of, kind_of};
 ghost use Rattle.hc_arguments.specs.Command.{Asks, CanBeDone, IsErrorStatus, IsFileName, IsWord, Task, hcache, proxy_words, service_words, task_of};
@@ -8,6 +8,7 @@ ghost use Rattle.hc_command.specs.Audit.{Answers};
 ghost use Rattle.hc_command.specs.Convert.{Converted};
 ghost use Rattle.hc_command.specs.Ends.{Does, Ends, Proxied, Served};
 ghost use Rattle.hc_command.specs.Replay.{Played};
+ghost use Rattle.hc_command.specs.Show.{ShownFor};
 ghost use Rattle.hc_command.specs.Report.{Explained};
 ghost use Rattle.hc_command.specs.Reporting.{ReportedBy};
 ghost use Rattle.hc_service.specs.Settings.{AreGood};
@@ -19,6 +20,7 @@ use crate::explaining::explain;
 use crate::print::printed;
 use crate::replaying::replay;
 use crate::reporting::report;
+use crate::showing::show;
 use crate::trouble::Trouble;
 use clap::Error;
 use clap::error::ErrorKind;
@@ -28,6 +30,7 @@ use hc_arguments::{
 use hc_crowd::{Limits, Patience};
 use hc_history::Settings;
 use hc_service::CoreSettings;
+use hc_showing::Span;
 use hc_sockets::{Claim, Proxy, RecordTo, ServeFault, Service, serve, serve_proxy};
 use std::convert::AsStr;
 use std::io::Write;
@@ -39,7 +42,8 @@ use std::{env, fs, io};
 
 const USAGE: &str =
     "\nUsage: hcache audit [OPTIONS] <FILE>\n       hcache report [OPTIONS] <FILE>\n       \
-    hcache explain [OPTIONS] <FILE> [POSITION]\n       hcache replay <FILE>\n       \
+    hcache explain [OPTIONS] <FILE> [POSITION]\n       hcache show <FILE> <POSITION[-POSITION]>\n       \
+    hcache replay <FILE>\n       \
     hcache serve [OPTIONS] --listen <HOST:PORT> --origin <HOST:PORT> --connections <N> --record <FILE>\n       \
     hcache proxy [OPTIONS] --listen <HOST:PORT> --origin <HOST:PORT>\n       \
     hcache convert <FILE>\n";
@@ -157,6 +161,7 @@ where
             position,
             settings,
         } => explained(rt, file, position, settings, output, faults),
+        Order::Show { file, span } => records_shown(rt, file, span, output, faults),
         Order::Replay { file } => replayed(rt, file, output, faults),
         Order::Convert { file } => converted(rt, file, output, faults),
         Order::Serve {
@@ -267,6 +272,31 @@ where
             faults,
         ),
         (Err(error), _) | (_, Err(error)) => Trouble::Device(error).told(file, faults),
+    }
+}
+
+// Shows records of the file, or of standard input for `-`.
+fn records_shown<R, W: Write, E: Write>(
+    rt: &R,
+    file: &str,
+    span: Span,
+    output: &mut W,
+    faults: &mut E,
+) -> u8
+where
+    R: Files + Input + AllocGlobal,
+    requires { 0 < span.last }
+    ensures { ShownFor span result (W.contents output.old) (W.contents output.new)
+        (E.contents faults.old) (E.contents faults.new) }
+{
+    let alloc = rt.alloc();
+    if file == "-" {
+        let mut input = rt.reader();
+        return show(alloc, span, "standard input", &mut input, output, faults);
+    }
+    match fs::open(rt, file) {
+        Ok(mut opened) => show(alloc, span, file, &mut opened, output, faults),
+        Err(error) => Trouble::Device(error).told(file, faults),
     }
 }
 

@@ -7,6 +7,7 @@ use hc_arguments::{
 use hc_cases::{Unanswered, show_short};
 use hc_history::{Settings, UnmarkedReplies};
 use hc_service::CoreSettings;
+use hc_showing::Span;
 use std::alloc::{AllocError, Global};
 use std::fmt::Write;
 
@@ -43,6 +44,10 @@ fn write_order(order: &Order<'_>, out: &mut String) -> Result<(), AllocError> {
             write_reply(*position, out)?;
             write!(out, " of {file}")?;
             write_settings(settings, out)
+        }
+        Order::Show { file, span } => {
+            let Span { first, last } = *span;
+            write!(out, "to show {first} to {last} of {file}")
         }
         Order::Replay { file } => write!(out, "to replay {file}"),
         Order::Convert { file } => write!(out, "to convert {file}"),

@@ -1,6 +1,6 @@
 use Rattle.std.proofs.Common.{rules}
 use Rattle.clap.specs.Words.{found_of}
-use Rattle.hc_arguments.specs.Command.Command.{Audits, Reports, Explains, Replays, Serves, Proxies, Converts}
+use Rattle.hc_arguments.specs.Command.Command.{Audits, Reports, Explains, Shows, Replays, Serves, Proxies, Converts}
 use Rattle.hc_arguments.proofs.ArgumentLemmas.{asks_in, refuses_in}
 use Rattle.hc_arguments.proofs.arguments.order_in.Goals as goal
 
@@ -33,6 +33,16 @@ pub returns-in-explain-clause-err : goal.returns-in-explain-clause-err
 returns-in-explain-clause-err c =
     refuses_in c.args.matches.now c.in-Some.name.now (found_of c.in-Some.found.now) c.in-Some.ensures.name c.in-Some.ensures.rows Explains (search rules)
     c.explain_in.result c.explain_in.ensures.err
+
+pub returns-in-show-clause-ok : goal.returns-in-show-clause-ok
+returns-in-show-clause-ok c =
+    asks_in c.args.matches.now c.in-Some.name.now (found_of c.in-Some.found.now) c.in-Some.ensures.name c.in-Some.ensures.rows Shows (search rules)
+    c.show_in.result c.show_in.ensures.ok
+
+pub returns-in-show-clause-err : goal.returns-in-show-clause-err
+returns-in-show-clause-err c =
+    refuses_in c.args.matches.now c.in-Some.name.now (found_of c.in-Some.found.now) c.in-Some.ensures.name c.in-Some.ensures.rows Shows (search rules)
+    c.show_in.result c.show_in.ensures.err
 
 pub returns-in-replay-clause-ok : goal.returns-in-replay-clause-ok
 returns-in-replay-clause-ok c =

@@ -1,0 +1,42 @@
+//! Positions, and hyphens between two of them.
+
+ghost use Rattle.std.specs.Prelude.{◌≡◌, ◌≤◌, length};
+ghost use Rattle.hc_arguments.specs.Positions.{len_before_hyphen, span_between, span_of};
+
+use crate::values::positive_of;
+use hc_showing::Span;
+
+/// How many octets stand before the first hyphen.
+fn len_before_hyphen(text: &[u8]) -> usize
+    ensures is { result ≡ len_before_hyphen text.now }
+    ensures within { result ≤ length text.now }
+{
+    for (index, octet) in text.iter().enumerate() {
+        if *octet == b'-' {
+            return index;
+        }
+    }
+    text.len()
+}
+
+/// The positions from one to another, if there are some.
+fn span_between(first: u64, last: u64) -> Option<Span>
+    ensures { result ≡ span_between first last }
+{
+    if first > last {
+        return None;
+    }
+    Some(Span { first, last })
+}
+
+/// The positions that are written: one alone, or from one to another with a hyphen between them.
+pub(crate) fn span_of(text: &[u8]) -> Option<Span>
+    ensures { result ≡ span_of text.now }
+{
+    let (first, rest) = text.split_at(len_before_hyphen(text));
+    let first = positive_of(first)?;
+    match rest.split_first() {
+        Some((_, last)) => span_between(first, positive_of(last)?),
+        None => span_between(first, first),
+    }
+}

@@ -1,0 +1,2 @@
+pub mod ShowingLemmas
+pub mod TextLemmas
