@@ -1,0 +1,3 @@
+pub mod SeekingLemmas
+pub mod StoringLemmas
+pub mod ListedLemmas

@@ -1,0 +1,111 @@
+-- What one reply more makes of what is found at a position.
+use Rattle.std.proofs.Common.{◌≡◌, ◌≢◌, ◌==◌, ℕ, Bool, true, false, List, [], ◌∷◌, ◌++◌, Option, Some, None, is_some, IfSome, refl, sym, ap, subst, ◌∙◌, arith}
+use Rattle.std.specs.Prelude.{if◌then◌else◌}
+use Rattle.std.proofs.lemmas.Bool.Decides.{nat_tests}
+use Rattle.std.specs.Option.{option_or}
+use Rattle.hc_history.specs.declared.reasons.Reason.{Reason}
+use Rattle.hc_history.specs.declared.verdicts.Finding.{Finding}
+use Rattle.hc_history.specs.declared.verdicts.Finding.TheVariants.{Right, Wrong}
+use Rattle.hc_history.specs.declared.wrong.WrongReply.{WrongReply}
+use Rattle.hc_audit.specs.Told.{wrong_of}
+use Rattle.hc_why.specs.declared.explaining.Explanation.{Explanation}
+use Rattle.hc_why.specs.declared.seeking.ReplyAt.{ReplyAt}
+use Rattle.hc_why.specs.Explaining.{finding_of, position_of}
+use Rattle.hc_why.specs.Seeking.{IsFoundAt, IsOfPlace, reason_in, wrong_at}
+
+-- ---- what stands at a place in a list, and in one behind it
+
+choice : (here : Bool) (why : Reason) (one other : Option Reason)
+    → (if here then Some why else option_or one other) ≡ option_or (if here then Some why else one) other
+choice true why one other = refl
+choice false why one other = refl
+
+in_either : (place : ℕ) (one other : List WrongReply) → wrong_at place (one ++ other) ≡ option_or (wrong_at place one) (wrong_at place other)
+in_either place [] other = refl
+in_either place (wrong ∷ one) other =
+    ap (λ found. if wrong.position == place then Some wrong.reason else found) (in_either place one other)
+    ∙ choice (wrong.position == place) wrong.reason (wrong_at place one) (wrong_at place other)
+
+-- ---- a reply more
+
+at_another : (place position : ℕ) (finding : Finding) → (position == place) ≡ false → wrong_at place (wrong_of position finding) ≡ None
+at_another place position Right other = refl
+at_another place position (Wrong why) other = ap (λ here. if here then Some why else None) other
+
+at_the_same : (place position : ℕ) (finding : Finding) → (position == place) ≡ true → wrong_at place (wrong_of position finding) ≡ reason_in finding
+at_the_same place position Right same = refl
+at_the_same place position (Wrong why) same = ap (λ here. if here then Some why else None) same
+
+or_none : (one other : Option Reason) → other ≡ None → option_or one other ≡ one
+or_none None other none = none
+or_none (Some why) other none = refl
+
+-- one elsewhere changes nothing
+elsewhere : (place position : ℕ) (finding : Finding) (wrongs : List WrongReply) → (position == place) ≡ false
+    → wrong_at place (wrongs ++ wrong_of position finding) ≡ wrong_at place wrongs
+elsewhere place position finding wrongs other =
+    in_either place wrongs (wrong_of position finding)
+    ∙ or_none (wrong_at place wrongs) (wrong_at place (wrong_of position finding)) (at_another place position finding other)
+
+-- nor does one where a wrong reply stood before
+known : (place position : ℕ) (finding : Finding) (wrongs : List WrongReply) (reason : Option Reason) → is_some reason ≡ true → reason ≡ wrong_at place wrongs
+    → wrong_at place (wrongs ++ wrong_of position finding) ≡ wrong_at place wrongs
+known place position finding wrongs None some is = absurd (cc)
+known place position finding wrongs (Some why) some is =
+    in_either place wrongs (wrong_of position finding)
+    ∙ ap (λ found. option_or found (wrong_at place (wrong_of position finding))) (sym is) ∙ is
+
+-- else it is the one there
+here : (place position : ℕ) (finding : Finding) (wrongs : List WrongReply) (reason : Option Reason) → (position == place) ≡ true → is_some reason ≡ false
+    → reason ≡ wrong_at place wrongs → wrong_at place (wrongs ++ wrong_of position finding) ≡ reason_in finding
+here place position finding wrongs None same none is =
+    in_either place wrongs (wrong_of position finding)
+    ∙ ap (λ found. option_or found (wrong_at place (wrong_of position finding))) (sym is)
+    ∙ at_the_same place position finding same
+here place position finding wrongs (Some why) same none is = absurd (cc)
+
+-- ---- what is found
+
+not_same : (position place : ℕ) → position ≢ place → (position == place) ≡ false
+not_same position place other = grind (arith, nat_tests)
+
+are_same : (position place : ℕ) → position ≡ place → (position == place) ≡ true
+are_same position place same = grind (arith, nat_tests)
+
+stays : (seeker : ReplyAt) (wrongs more : List WrongReply) → wrong_at seeker.position more ≡ wrong_at seeker.position wrongs
+    → IsFoundAt seeker wrongs → IsFoundAt seeker more
+stays seeker wrongs more same before = record {
+  reason = before.reason ∙ sym same;
+  found = subst (λ (reason : Option Reason). IfSome seeker.found (λ reply. (position_of reply ≡ seeker.position) × (reason_in (finding_of reply) ≡ reason)))
+      (sym same) before.found;
+}
+
+pub stays_elsewhere : (seeker : ReplyAt) (wrongs : List WrongReply) (position : ℕ) (finding : Finding) → position ≢ seeker.position
+    → IsFoundAt seeker wrongs → IsFoundAt seeker (wrongs ++ wrong_of position finding)
+stays_elsewhere seeker wrongs position finding other before =
+    stays seeker wrongs (wrongs ++ wrong_of position finding)
+    (elsewhere seeker.position position finding wrongs (not_same position seeker.position other)) before
+
+pub stays_known : (seeker : ReplyAt) (wrongs : List WrongReply) (position : ℕ) (finding : Finding) → is_some seeker.reason ≡ true
+    → IsFoundAt seeker wrongs → IsFoundAt seeker (wrongs ++ wrong_of position finding)
+stays_known seeker wrongs position finding some before =
+    stays seeker wrongs (wrongs ++ wrong_of position finding)
+    (known seeker.position position finding wrongs seeker.reason some before.reason) before
+
+is_of_place : (place position : ℕ) (finding : Finding) (wrongs : List WrongReply) (found : Option Explanation) → position ≡ place
+    → wrong_at place wrongs ≡ reason_in finding → IfSome found (λ reply. (position_of reply ≡ position) × (finding_of reply ≡ finding))
+    → IfSome found (λ reply. IsOfPlace place wrongs (position_of reply) (finding_of reply))
+is_of_place place position finding wrongs None same is told = tt
+is_of_place place position finding wrongs (Some reply) same is told = (told.0 ∙ same, ap reason_in told.1 ∙ sym is)
+
+-- the reply there is found
+pub is_found : (seeker : ReplyAt) (wrongs : List WrongReply) (position : ℕ) (finding : Finding) (reason : Option Reason) (found : Option Explanation)
+    → position ≡ seeker.position → is_some seeker.reason ≡ false → reason ≡ reason_in finding
+    → IfSome found (λ reply. (position_of reply ≡ position) × (finding_of reply ≡ finding)) → IsFoundAt seeker wrongs
+    → IsFoundAt record { alloc = seeker.alloc; position = seeker.position; is_behind = seeker.is_behind; reason = reason; found = found } (wrongs ++ wrong_of position finding)
+is_found seeker wrongs position finding reason found same none reason-is told before =
+    let stands = here seeker.position position finding wrongs seeker.reason (are_same position seeker.position same) none before.reason in
+    record {
+      reason = reason-is ∙ sym stands;
+      found = is_of_place seeker.position position finding (wrongs ++ wrong_of position finding) found same stands told;
+    }

@@ -1,0 +1,40 @@
+-- What the first reading tells.
+use Rattle.std.specs.Prelude.{◌≡◌, ℕ, ◌==◌, List, [], ◌∷◌, Option, Some, None, IfSome, if◌then◌else◌}
+use Rattle.hc_history.specs.declared.reasons.Reason.{Reason}
+use Rattle.hc_history.specs.declared.verdicts.Finding.{Finding}
+use Rattle.hc_history.specs.declared.verdicts.Finding.TheVariants.{Right, Wrong}
+use Rattle.hc_history.specs.declared.wrong.WrongReply.{WrongReply}
+use Rattle.hc_why.specs.declared.seeking.FirstWrong.{FirstWrong}
+use Rattle.hc_why.specs.declared.seeking.ReplyAt.{ReplyAt}
+use Rattle.hc_why.specs.Explaining.{finding_of, position_of}
+
+-- ---- the first wrong reply
+
+-- the one that it has seen
+abbrev pub first_of : FirstWrong → Option WrongReply
+first_of seeker = seeker.first
+
+-- ---- the reply at a position
+
+-- the position
+abbrev pub place_of : ReplyAt → ℕ
+place_of seeker = seeker.position
+
+-- why a reply is wrong of which that is found, if it is
+abbrev pub reason_in : Finding → Option Reason
+reason_in Right = None
+reason_in (Wrong why) = Some why
+
+-- why the reply at a position is wrong, if one of these wrong replies stands there
+abbrev pub wrong_at : ℕ → List WrongReply → Option Reason
+wrong_at place [] = None
+wrong_at place (wrong ∷ wrongs) = if wrong.position == place then Some wrong.reason else wrong_at place wrongs
+
+-- a reply of that position and that finding stands at the place, and is wrong by the reason that these wrong replies have there, or right where they have none
+abbrev pub IsOfPlace : ℕ → List WrongReply → ℕ → Finding → Type 0
+IsOfPlace place wrongs position finding = (position ≡ place) × (reason_in finding ≡ wrong_at place wrongs)
+
+-- what it has found there, of these wrong replies
+pub record IsFoundAt (seeker : ReplyAt) (wrongs : List WrongReply) : Type 0 where
+  pub reason : seeker.reason ≡ wrong_at seeker.position wrongs
+  pub found : IfSome seeker.found (λ reply. IsOfPlace seeker.position wrongs (position_of reply) (finding_of reply))

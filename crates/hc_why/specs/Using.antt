@@ -1,0 +1,26 @@
+-- How old a stored response is at a reply, and what forbids to use it.
+use Rattle.std.specs.Prelude.{ℕ, Option, Some, None, if◌then◌else◌}
+use Rattle.hc_fresh.specs.Ages.{fresh, staleness}
+use Rattle.hc_fresh.specs.Lifetimes.{explicit}
+use Rattle.hc_update.specs.declared.stored.Stored.{Stored}
+use Rattle.hc_history.specs.Claims.{Claim}
+use Rattle.hc_history.specs.Usable.{age_of, lifetime_of}
+use Rattle.hc_why.specs.declared.usage.Usage.{Usage}
+use Rattle.hc_why.specs.Forbidding.{unusable_by}
+
+-- the lifetime that it states (RFC 9111 section 4.2.1)
+abbrev pub stated_lifetime : Stored → Option ℕ
+stated_lifetime state = if explicit state.fields then Some (lifetime_of state) else None
+
+-- by how much it is stale, if it isn't fresh (RFC 9111 section 4.2)
+abbrev pub stale_by : ℕ → ℕ → Option ℕ
+stale_by lifetime age = if fresh lifetime age then None else Some (staleness lifetime age)
+
+abbrev pub usage_of : Claim → Stored → Usage
+usage_of claim state = record {
+  lifetime = stated_lifetime state;
+  age = age_of claim state;
+  stale_by = stale_by (lifetime_of state) (age_of claim state);
+  forbidden = unusable_by state.fields;
+  slack = claim.settings.slack;
+}

@@ -1,0 +1,234 @@
+//! What is known of one reply, right or wrong.
+
+ghost use Rattle.std.specs.Prelude.{◌≡◌, IfOk, IfSome};
+ghost use Rattle.hc_why.specs.Explaining.{finding_of, position_of};
+
+use crate::asking::AskedReply;
+use crate::ends::EndedForward;
+use crate::naming::{Nearest, Reaches, named, nearest_of};
+use crate::reading::why_by;
+use crate::sources::Source;
+use crate::whys::Why;
+use hc_audit::JudgedReply;
+use hc_history::{Candidate, Finding, Mark, ReplyClaim, is_judged_collapsed};
+use hc_index::Index;
+use std::alloc::{AllocError, Global};
+
+/// The way that a reply went, by the mark by which it is judged.
+#[derive(Clone, Copy, PartialEq, Eq)]
+pub enum Way {
+    /// It is a hit.
+    Hit,
+    /// It went forward by itself.
+    Forwarded,
+    /// It waited for another request's forward.
+    Collapsed,
+    /// It doesn't say.
+    Unmarked,
+}
+
+/// What is found of a reply.
+#[derive(Drop)]
+pub enum Ground {
+    /// It is right; and the stored response that it carries, if it carries one.
+    Right(Option<Nearest>),
+    /// What is wrong with it.
+    Wrong(Why),
+}
+
+/// What is known of one reply, and of the records that are named with it.
+pub struct Explanation {
+    pub(crate) alloc: Global,
+    /// The position of its record.
+    pub position: u64,
+    /// The number of its exchange.
+    pub exchange: u64,
+    /// The position of the request that it answers.
+    pub since: u64,
+    /// What it says, and what was asked.
+    pub reply: AskedReply,
+    /// The way that it went.
+    pub way: Way,
+    /// That it is right, or why it is wrong.
+    pub finding: Finding,
+    /// What is found of it.
+    pub ground: Ground,
+    /// The responses that it may carry, but for those before its request where it was collapsed.
+    pub reaches: Reaches,
+    /// Those before its request, where it was collapsed.
+    pub before: Reaches,
+    /// The records of the responses that it may carry, as far as they are named.
+    pub sources: Vec<Source>,
+    /// The latest answer of its window that it carries.
+    pub carried: Option<Source>,
+}
+
+impl Drop for Explanation {
+    fn drop(self) {
+        let Explanation {
+            alloc: _,
+            position: _,
+            exchange: _,
+            since: _,
+            reply,
+            way: _,
+            finding: _,
+            ground,
+            reaches,
+            before,
+            sources,
+            carried,
+        } = self;
+        drop(reply);
+        drop(ground);
+        drop(reaches);
+        drop(before);
+        drop(sources);
+        drop(carried);
+    }
+}
+
+// The way of a reply of that mark.
+fn way_of(claim: &ReplyClaim<'_>, mark: Mark) -> Way {
+    match mark {
+        Mark::Hit { .. } => Way::Hit,
+        Mark::Forwarded { collapsed } if is_judged_collapsed(claim, collapsed) => Way::Collapsed,
+        Mark::Forwarded { .. } => Way::Forwarded,
+        Mark::Both | Mark::Unmarked => Way::Unmarked,
+    }
+}
+
+// What is found of a reply, of which that response is named.
+fn ground_of(
+    alloc: Global,
+    claim: &ReplyClaim<'_>,
+    finding: Finding,
+    nearest: Option<Nearest>,
+) -> Result<Ground, AllocError> {
+    match finding {
+        Finding::Right => Ok(Ground::Right(nearest)),
+        Finding::Wrong(reason) => Ok(Ground::Wrong(why_by(alloc, claim, reason, nearest)?)),
+    }
+}
+
+// Lists those candidates: those behind the position, the one that is named first, and those before it.
+fn list(
+    candidates: &[Candidate],
+    named: Option<Candidate>,
+    since: u64,
+    reaches: &mut Reaches,
+    before: &mut Reaches,
+) -> Result<(), AllocError> {
+    if let Some(named) = &named {
+        reaches.push(named)?;
+    }
+    for candidate in candidates {
+        if candidate.position <= since {
+            before.push(candidate)?;
+        } else if named != Some(*candidate) {
+            reaches.push(candidate)?;
+        }
+    }
+    Ok(())
+}
+
+// The position behind which the responses lie that a reply of that way may carry.
+fn bound_of(way: Way, since: u64) -> u64 {
+    match way {
+        Way::Collapsed => since,
+        Way::Hit | Way::Forwarded | Way::Unmarked => 0,
+    }
+}
+
+impl Explanation {
+    /// What is known of that reply behind the records before it. None where no exchange of its number is open.
+    pub(crate) fn read<I: Index>(
+        alloc: Global,
+        judged: &JudgedReply<'_, I>,
+    ) -> Result<Option<Self>, AllocError>
+        ensures { IfOk result (λ found. IfSome found (λ reply. (position_of reply ≡ judged.now.position) × (finding_of reply ≡ judged.now.finding))) }
+    {
+        let Some(claim) = judged.claim() else {
+            return Ok(None);
+        };
+        let way = way_of(&claim, judged.mark);
+        let bound = bound_of(way, claim.since);
+        let candidates = judged.candidates()?;
+        let candidate = named(judged.index, &claim, candidates.as_slice(), bound);
+        let nearest = nearest_of(alloc, judged.index, &claim, candidate)?;
+        let mut explanation = Explanation {
+            alloc,
+            position: judged.position,
+            exchange: judged.exchange,
+            since: claim.since,
+            reply: AskedReply::read(alloc, &claim)?,
+            way,
+            finding: judged.finding,
+            ground: ground_of(alloc, &claim, judged.finding, nearest)?,
+            reaches: Reaches::new(alloc),
+            before: Reaches::new(alloc),
+            sources: Vec::new(alloc),
+            carried: None,
+        };
+        explanation.list(candidates.as_slice(), candidate, bound)?;
+        Ok(Some(explanation))
+    }
+
+    // Lists those candidates.
+    fn list(
+        &mut self,
+        candidates: &[Candidate],
+        named: Option<Candidate>,
+        bound: u64,
+    ) -> Result<(), AllocError>
+        ensures { (position_of self.new ≡ position_of self.old) × (finding_of self.new ≡ finding_of self.old) }
+    {
+        list(
+            candidates,
+            named,
+            bound,
+            &mut self.reaches,
+            &mut self.before,
+        )
+    }
+
+    /// The position of its record, of which the first has 1.
+    pub fn position(&self) -> u64
+        ensures { result ≡ position_of self.now }
+    {
+        self.position
+    }
+
+    /// That it is right, or why it is wrong.
+    pub fn finding(&self) -> Finding
+        ensures { result ≡ finding_of self.now }
+    {
+        self.finding
+    }
+
+    /// The position behind which the responses lie that it may carry.
+    pub(crate) fn bound(&self) -> u64 {
+        bound_of(self.way, self.since)
+    }
+
+    /// The response that is named, if one is.
+    pub fn nearest(&self) -> Option<&Nearest> {
+        match &self.ground {
+            Ground::Right(nearest) => nearest.as_ref(),
+            Ground::Wrong(why) => why.nearest(),
+        }
+    }
+
+    /// The record of the response at that position, if it is named.
+    pub fn source(&self, position: u64) -> Option<&Source> {
+        self.sources
+            .iter()
+            .find(|source| source.record.position == position)
+    }
+
+    /// Takes in what the end of a forward before the reply tells of what is named.
+    pub(crate) fn take(&mut self, ended: &EndedForward<'_>) -> Result<(), AllocError> {
+        self.take_source(ended)?;
+        self.take_ground(ended)
+    }
+}

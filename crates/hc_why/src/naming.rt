@@ -1,0 +1,195 @@
+//! The responses that a reply may carry, and the one of them that is named.
+
+use crate::bodies::has_body;
+use crate::records::NAMED;
+use crate::rules::{Rule, rule_behind};
+use crate::shortfalls::Shortfall;
+use hc_audit::JudgedReply;
+use hc_history::{Candidate, ReplyClaim};
+use hc_index::Index;
+use hc_update::Stored;
+use std::alloc::{AllocError, Global};
+
+/// A response, and the first rule that it breaks.
+#[derive(Clone, Copy, PartialEq, Eq)]
+pub struct Reach {
+    /// The position of its record.
+    pub position: u64,
+    /// The first rule that it breaks; none where it keeps all.
+    pub breaks: Option<Rule>,
+}
+
+/// Responses, the one that gets furthest first, and how many more there are.
+pub struct Reaches {
+    /// At most so many as are named.
+    pub named: Vec<Reach>,
+    /// How many more there are.
+    pub more: u64,
+}
+
+impl Drop for Reaches {
+    fn drop(self) {
+        let Reaches { named, more: _ } = self;
+        drop(named);
+    }
+}
+
+impl Reaches {
+    /// None.
+    pub(crate) fn new(alloc: Global) -> Self {
+        Reaches {
+            named: Vec::new(alloc),
+            more: 0,
+        }
+    }
+
+    /// Adds a response, which gets no further than the others.
+    pub(crate) fn push(&mut self, candidate: &Candidate) -> Result<(), AllocError> {
+        if NAMED <= self.named.len() {
+            self.more = self.more.saturating_add(1);
+            return Ok(());
+        }
+        self.named.push(Reach {
+            position: candidate.position,
+            breaks: rule_behind(candidate.passed),
+        })?;
+        Ok(())
+    }
+
+    /// Whether the response at that position is named.
+    pub(crate) fn names(&self, position: u64) -> bool {
+        self.named.iter().any(|reach| reach.position == position)
+    }
+}
+
+/// The response that is named: of those that get furthest the one with the reply's body, or else the newest.
+pub struct Nearest {
+    /// The position of its record.
+    pub position: u64,
+    /// The position of the 304 that freshened it last.
+    pub validated_at: Option<u64>,
+    /// The moment that its Date shows, where that isn't the one at which it came.
+    pub date: Option<u64>,
+    /// In what it falls short; nothing where it keeps all rules.
+    pub shortfall: Option<Shortfall>,
+}
+
+impl Drop for Nearest {
+    fn drop(self) {
+        let Nearest {
+            position: _,
+            validated_at: _,
+            date: _,
+            shortfall,
+        } = self;
+        drop(shortfall);
+    }
+}
+
+impl Nearest {
+    /// The first rule that it breaks; none where it keeps all.
+    pub fn breaks(&self) -> Option<Rule> {
+        self.shortfall.as_ref().map(|shortfall| shortfall.rule())
+    }
+
+    /// The position of the record from which on it is as it is: its own, or that of the 304 that freshened it
+    /// last.
+    pub(crate) fn settled_at(&self) -> u64 {
+        self.validated_at.unwrap_or(self.position)
+    }
+
+    // That candidate, which is in that state.
+    fn read(
+        alloc: Global,
+        claim: &ReplyClaim<'_>,
+        state: &Stored,
+        candidate: Candidate,
+    ) -> Result<Self, AllocError> {
+        Ok(Nearest {
+            position: candidate.position,
+            validated_at: state.validated_at,
+            date: date_of(state),
+            shortfall: shortfall(alloc, claim, state, rule_behind(candidate.passed))?,
+        })
+    }
+}
+
+// The Date of a response, where it isn't the moment at which it came.
+fn date_of(state: &Stored) -> Option<u64> {
+    let times = state.times;
+    if times.date == times.response_time {
+        None
+    } else {
+        Some(times.date)
+    }
+}
+
+// In what the response falls short that breaks that rule, if it breaks one.
+fn shortfall(
+    alloc: Global,
+    claim: &ReplyClaim<'_>,
+    state: &Stored,
+    rule: Option<Rule>,
+) -> Result<Option<Shortfall>, AllocError> {
+    match rule {
+        Some(rule) => Ok(Some(Shortfall::read(alloc, claim, state, rule)?)),
+        None => Ok(None),
+    }
+}
+
+// Whether the response at that position has the body of the reply.
+fn has_its_body<I: Index>(index: &I, claim: &ReplyClaim<'_>, position: u64) -> bool {
+    match index.response(claim.target, position) {
+        Some(state) => has_body(
+            &claim.request.method,
+            claim.reply.body.as_slice(),
+            state.body.as_slice(),
+        ),
+        None => false,
+    }
+}
+
+/// The candidate that is named of those behind a position: of those that get furthest the one with the reply's
+/// body, and of these the newest.
+pub(crate) fn named<I: Index>(
+    index: &I,
+    claim: &ReplyClaim<'_>,
+    candidates: &[Candidate],
+    since: u64,
+) -> Option<Candidate> {
+    let furthest = candidates.iter().find(|one| since < one.position)?;
+    let with_body = candidates.iter().find(|one| {
+        since < one.position
+            && one.passed == furthest.passed
+            && has_its_body(index, claim, one.position)
+    });
+    Some(*with_body.unwrap_or(furthest))
+}
+
+/// The response that is named of those behind a position, if there is one.
+pub(crate) fn nearest_behind<I: Index>(
+    alloc: Global,
+    judged: &JudgedReply<'_, I>,
+    claim: &ReplyClaim<'_>,
+    since: u64,
+) -> Result<Option<Nearest>, AllocError> {
+    let candidates = judged.candidates()?;
+    let named = named(judged.index, claim, candidates.as_slice(), since);
+    nearest_of(alloc, judged.index, claim, named)
+}
+
+/// What the index knows of that candidate, if there is one.
+pub(crate) fn nearest_of<I: Index>(
+    alloc: Global,
+    index: &I,
+    claim: &ReplyClaim<'_>,
+    named: Option<Candidate>,
+) -> Result<Option<Nearest>, AllocError> {
+    let Some(candidate) = named else {
+        return Ok(None);
+    };
+    match index.response(claim.target, candidate.position) {
+        Some(state) => Ok(Some(Nearest::read(alloc, claim, state, candidate)?)),
+        None => Ok(None),
+    }
+}

@@ -1,0 +1,207 @@
+//! The first reading, which looks for the reply.
+
+ghost use Rattle.std.specs.Prelude.{◌≡◌, ◌++◌, List, [], None, true, slice_get, IfSome, IsSome, OnOk};
+ghost use Rattle.hc_history.specs.declared.wrong.WrongReply.{WrongReply};
+ghost use Rattle.hc_audit.specs.Told.{wrong_of};
+ghost use Rattle.hc_why.specs.Explaining.{finding_of, position_of};
+ghost use Rattle.hc_why.specs.Seeking.{IsFoundAt, IsOfPlace, first_of, place_of, reason_in};
+
+use crate::explaining::Explanation;
+use hc_audit::{JudgedReply, PassedRecord, Witness};
+use hc_history::{Finding, Reason, WrongReply};
+use hc_index::Index;
+use std::alloc::{AllocError, Global};
+/// A witness that looks for the first wrong reply.
+pub struct FirstWrong {
+    alloc: Global,
+    first: Option<WrongReply>,
+    found: Option<Explanation>,
+}
+
+impl Drop for FirstWrong {
+    fn drop(self) {
+        let FirstWrong {
+            alloc: _,
+            first: _,
+            found,
+        } = self;
+        drop(found);
+    }
+}
+
+impl FirstWrong {
+    /// It has seen no reply.
+    pub fn new(alloc: Global) -> Self
+        ensures { first_of result ≡ None }
+    {
+        FirstWrong {
+            alloc,
+            first: None,
+            found: None,
+        }
+    }
+
+    /// The first wrong reply, if there was one.
+    pub fn first_wrong(&self) -> Option<WrongReply>
+        ensures { result ≡ first_of self.now }
+    {
+        self.first
+    }
+
+    /// What was found of it, which is moved.
+    pub fn into_found(self) -> Option<Explanation> {
+        let FirstWrong {
+            alloc: _,
+            first: _,
+            found,
+        } = self;
+        found
+    }
+
+    /// Whether it was found, so that no further record tells more of it.
+    pub fn is_behind(&self) -> bool
+        ensures { result ≡ true → IsSome (first_of self.now) }
+    {
+        self.first.is_some()
+    }
+
+    // Takes in what was found of the reply at that position.
+    fn take(&mut self, position: u64, finding: Finding)
+        ensures { (wrongs : List WrongReply) → self.old.first ≡ slice_get wrongs 0
+            → self.new.first ≡ slice_get (wrongs ++ wrong_of position finding) 0 }
+    {
+        if let (Finding::Wrong(reason), None) = (finding, self.first) {
+            self.first = Some(WrongReply { position, reason });
+        }
+    }
+}
+
+impl<I: Index> Witness<I> for FirstWrong {
+    ghost tells = { λ seeker wrongs. first_of seeker ≡ slice_get wrongs 0 };
+
+    ghost hears = { λ seeker h. Unit {0} };
+
+    fn pass(&mut self, _: &PassedRecord<'_, I>) -> Result<(), AllocError> {
+        Ok(())
+    }
+
+    fn see(&mut self, judged: &JudgedReply<'_, I>) -> Result<(), AllocError> {
+        if self.first.is_none() && judged.finding != Finding::Right {
+            self.found = Explanation::read(self.alloc, judged)?;
+        }
+        self.take(judged.position, judged.finding);
+        Ok(())
+    }
+}
+
+/// A witness that looks for the reply at a position.
+pub struct ReplyAt {
+    alloc: Global,
+    position: u64,
+    is_behind: bool,
+    // Why the reply there is wrong, if it is.
+    reason: Option<Reason>,
+    found: Option<Explanation>,
+}
+
+impl Drop for ReplyAt {
+    fn drop(self) {
+        let ReplyAt {
+            alloc: _,
+            position: _,
+            is_behind: _,
+            reason: _,
+            found,
+        } = self;
+        drop(found);
+    }
+}
+
+impl ReplyAt {
+    /// It has seen no record.
+    pub fn new(alloc: Global, position: u64) -> Self
+        ensures place { place_of result ≡ position }
+        ensures tells { IsFoundAt result [] }
+    {
+        ReplyAt {
+            alloc,
+            position,
+            is_behind: false,
+            reason: None,
+            found: None,
+        }
+    }
+
+    /// What was found of the reply, which is moved. None where another record, or none, stands there.
+    pub fn into_found(self) -> Option<Explanation>
+        // It stands there, and is wrong where one of the wrong replies stands there, by its reason.
+        ensures { (wrongs : List WrongReply) → IsFoundAt self wrongs
+            → IfSome result (λ reply. IsOfPlace (place_of self) wrongs (position_of reply) (finding_of reply)) }
+    {
+        let ReplyAt {
+            alloc: _,
+            position: _,
+            is_behind: _,
+            reason: _,
+            found,
+        } = self;
+        found
+    }
+
+    /// Whether the record at the position has passed, so that no further one tells more of it.
+    pub fn is_behind(&self) -> bool {
+        self.is_behind
+    }
+
+    // Takes in that the record at that position has passed.
+    fn pass_by(&mut self, position: u64)
+        ensures { (wrongs : List WrongReply) → IsFoundAt self.old wrongs → IsFoundAt self.new wrongs }
+    {
+        if self.position <= position {
+            self.is_behind = true;
+        }
+    }
+
+    // Takes in a reply.
+    fn take<I: Index>(&mut self, judged: &JudgedReply<'_, I>) -> Result<(), AllocError>
+        ensures { (wrongs : List WrongReply) → IsFoundAt self.old wrongs
+            → OnOk result (IsFoundAt self.new (wrongs ++ wrong_of judged.now.position judged.now.finding)) }
+    {
+        if judged.position != self.position {
+            return Ok(());
+        }
+        if self.reason.is_some() {
+            return Ok(());
+        }
+        self.reason = reason_in(judged.finding);
+        self.found = Explanation::read(self.alloc, judged)?;
+        Ok(())
+    }
+}
+
+// Why a reply is wrong of which that is found, if it is.
+fn reason_in(finding: Finding) -> Option<Reason>
+    ensures { result ≡ reason_in finding }
+{
+    match finding {
+        Finding::Right => None,
+        Finding::Wrong(reason) => Some(reason),
+    }
+}
+
+impl<I: Index> Witness<I> for ReplyAt {
+    ghost tells = { λ seeker wrongs. IsFoundAt seeker wrongs };
+
+    ghost hears = { λ _ h. Unit {0} };
+
+    fn pass(&mut self, passed: &PassedRecord<'_, I>) -> Result<(), AllocError> {
+        self.pass_by(passed.position);
+        Ok(())
+    }
+
+    fn see(&mut self, judged: &JudgedReply<'_, I>) -> Result<(), AllocError> {
+        self.take(judged)?;
+        self.pass_by(judged.position);
+        Ok(())
+    }
+}

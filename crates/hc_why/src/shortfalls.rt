@@ -1,0 +1,157 @@
+//! In what a stored response falls short of what a reply carries: one thing for each rule.
+
+use crate::aging::{AgeGap, TtlGap, age_gap, ttl_gap};
+use crate::bodies::{ContentGap, content_gap};
+use crate::differing::{Differences, compare};
+use crate::records::{Newest, RecordName};
+use crate::rules::Rule;
+use crate::selecting::{Selection, unmet_members};
+use crate::usage::{Usage, usage_at};
+use hc_head::{Method, StatusCode};
+use hc_history::ReplyClaim;
+use hc_update::Stored;
+use std::alloc::{AllocError, Global};
+
+/// A response that invalidated another one (RFC 9111 section 4.4).
+pub struct Invalidator {
+    /// Its record.
+    pub record: RecordName,
+    /// Its status.
+    pub status: StatusCode,
+    /// The method that it answers.
+    pub method: Method,
+}
+
+impl Drop for Invalidator {
+    fn drop(self) {
+        let Invalidator {
+            record: _,
+            status: _,
+            method,
+        } = self;
+        drop(method);
+    }
+}
+
+/// What invalidated a response since it is as it is, as far as that was looked for.
+pub struct Invalidation {
+    /// What invalidated it.
+    pub by: Newest<Invalidator>,
+    /// The 304s since, of which none is about it.
+    pub validating: Newest<RecordName>,
+}
+
+impl Drop for Invalidation {
+    fn drop(self) {
+        let Invalidation { by, validating } = self;
+        drop(by);
+        drop(validating);
+    }
+}
+
+/// Why a response may not be used.
+pub struct UseGap {
+    /// How old it is, and what forbids to use it.
+    pub usage: Usage,
+    /// The positions of the latest error and of the latest failure in the window, as far as they were looked for.
+    pub error: Option<u64>,
+    pub failure: Option<u64>,
+    /// The 304s of the window, of which none is about it.
+    pub validating: Newest<RecordName>,
+}
+
+impl Drop for UseGap {
+    fn drop(self) {
+        let UseGap {
+            usage: _,
+            error: _,
+            failure: _,
+            validating,
+        } = self;
+        drop(validating);
+    }
+}
+
+impl UseGap {
+    /// What the state of the response tells.
+    fn read(alloc: Global, claim: &ReplyClaim<'_>, state: &Stored) -> Self {
+        UseGap {
+            usage: usage_at(claim, state),
+            error: None,
+            failure: None,
+            validating: Newest::new(alloc),
+        }
+    }
+}
+
+/// In what a stored response falls short of what a reply carries.
+#[derive(Drop)]
+pub enum Shortfall {
+    /// The request is neither GET nor HEAD, but this.
+    Asked(Method),
+    /// Its Vary doesn't select the request.
+    Selected(Selection),
+    /// It is invalidated.
+    Valid(Invalidation),
+    /// It states no lifetime, and may not be used without.
+    Lifetime(UseGap),
+    /// It may not be used.
+    Use(UseGap),
+    /// The reply has another status, or another body.
+    Body(ContentGap),
+    /// The reply has other fields.
+    Fields(Differences),
+    /// The reply has another Age.
+    Age(AgeGap),
+    /// The reply's mark tells other seconds.
+    Ttl(TtlGap),
+}
+
+impl Shortfall {
+    /// In what the response falls short that breaks that rule, as far as its state tells.
+    pub(crate) fn read(
+        alloc: Global,
+        claim: &ReplyClaim<'_>,
+        state: &Stored,
+        rule: Rule,
+    ) -> Result<Self, AllocError> {
+        match rule {
+            Rule::Asked => Ok(Shortfall::Asked(claim.request.method.clone()?)),
+            Rule::Selected => Ok(Shortfall::Selected(unmet_members(alloc, claim, state)?)),
+            Rule::Valid => Ok(Shortfall::Valid(Invalidation {
+                by: Newest::new(alloc),
+                validating: Newest::new(alloc),
+            })),
+            Rule::Lifetime => Ok(Shortfall::Lifetime(UseGap::read(alloc, claim, state))),
+            Rule::Use => Ok(Shortfall::Use(UseGap::read(alloc, claim, state))),
+            Rule::Body => Ok(Shortfall::Body(content_gap(alloc, claim, state)?)),
+            Rule::Fields => Ok(Shortfall::Fields(compare(alloc, claim, state)?)),
+            Rule::Age => Ok(Shortfall::Age(age_gap(alloc, claim, state)?)),
+            Rule::Ttl => Ok(Shortfall::Ttl(ttl_gap(claim, state))),
+        }
+    }
+
+    /// The rule that it breaks.
+    pub fn rule(&self) -> Rule {
+        match self {
+            Shortfall::Asked(_) => Rule::Asked,
+            Shortfall::Selected(_) => Rule::Selected,
+            Shortfall::Valid(_) => Rule::Valid,
+            Shortfall::Lifetime(_) => Rule::Lifetime,
+            Shortfall::Use(_) => Rule::Use,
+            Shortfall::Body(_) => Rule::Body,
+            Shortfall::Fields(_) => Rule::Fields,
+            Shortfall::Age(_) => Rule::Age,
+            Shortfall::Ttl(_) => Rule::Ttl,
+        }
+    }
+
+    /// By how many seconds the reply is off, and whether it tells too few, if that is what is wrong.
+    pub fn off(&self) -> Option<(u64, bool)> {
+        match self {
+            Shortfall::Age(gap) => gap.off(),
+            Shortfall::Ttl(gap) => gap.off(),
+            _ => None,
+        }
+    }
+}
