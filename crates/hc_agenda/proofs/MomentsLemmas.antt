@@ -29,19 +29,19 @@ told_is m f h leads k = let base = k.base in let counted = k.counted in cc
 
 -- and a transcript can tell it
 pub in_time : (m : Moments) → told_by m ≤ greatest_moment
-in_time m = min-le_right (m.base + m.counted / 1000) greatest_moment
+in_time m = min-le_right ((m.base + m.counted) / 1_000_000_000) greatest_moment
 
 -- ---- a look
 
 -- a reading of both clocks behind a history
 abbrev pub looked : ℕ → ℕ → History → History
-looked wall tick before = Look (record { wall = Some wall; tick = tick }) before
+looked wall monotonic before = Look (record { wall = Some wall; monotonic = monotonic }) before
 
 -- the monotonic clock was read
-pub counts : (m new : Moments) (wall : Option ℕ) (tick : ℕ) (h : History) → Tells m h
-    → new.base ≡ m.base → new.start ≡ m.start → new.counted ≡ max m.counted (tick - m.start) → new.lead ≡ m.lead
-    → Keeps new (followed_in h) (Look (record { wall = wall; tick = tick }) h) h
-counts m new wall tick h told base start counted lead =
+pub counts : (m new : Moments) (wall : Option ℕ) (monotonic : ℕ) (h : History) → Tells m h
+    → new.base ≡ m.base → new.start ≡ m.start → new.counted ≡ max m.counted (monotonic - m.start) → new.lead ≡ m.lead
+    → Keeps new (followed_in h) (Look (record { wall = wall; monotonic = monotonic }) h) h
+counts m new wall monotonic h told base start counted lead =
     let counted_before = told.keeps.counted in
     let start_before = told.keeps.start in
     let later : m.counted ≤ new.counted = omega arith in
@@ -58,10 +58,10 @@ behind_is : (wall moment : ℕ) → nat_lt wall (moment - 10) ≡ nat_lt (wall +
 behind_is wall moment = grind (arith, nat_tests)
 
 -- the wall clock was read, and followed or not
-pub tells_read : (m new : Moments) (wall tick : ℕ) (h : History) → Keeps m (followed_in (looked wall tick h)) (looked wall tick h) (looked wall tick h)
-    → new.base ≡ m.base → new.start ≡ m.start → new.counted ≡ m.counted → new.lead ≡ m.lead → new.behind ≡ nat_lt wall (told_by m - 10)
-    → Tells new (looked wall tick h)
-tells_read m new wall tick h keeps base start counted lead behind = record {
+pub tells_read : (m new : Moments) (wall monotonic : ℕ) (h : History) → Keeps m (followed_in (looked wall monotonic h)) (looked wall monotonic h) (looked wall monotonic h)
+    → new.base ≡ m.base → new.start ≡ m.start → new.counted ≡ m.counted → new.lead ≡ m.lead → new.behind ≡ nat_lt (wall / 1_000_000_000) (told_by m - 10)
+    → Tells new (looked wall monotonic h)
+tells_read m new wall monotonic h keeps base start counted lead behind = record {
   keeps = record {
     base = base ∙ keeps.base;
     start = start ∙ keeps.start;
@@ -69,5 +69,5 @@ tells_read m new wall tick h keeps base start counted lead behind = record {
     lasting = λ d now. ap (λ (l : Option Lead). lasts l d now) lead ∙ keeps.lasting d now;
     begun = subst (λ (n : ℕ). HasBegunIfAny n new.lead) (sym counted) (subst (λ (l : Option Lead). HasBegunIfAny m.counted l) (sym lead) keeps.begun);
   };
-  behind = behind ∙ ap (λ (n : ℕ). nat_lt wall (n - 10)) (told_is m (followed_in (looked wall tick h)) (looked wall tick h) (looked wall tick h) keeps) ∙ behind_is wall (moment_in (looked wall tick h));
+  behind = behind ∙ ap (λ (n : ℕ). nat_lt (wall / 1_000_000_000) (n - 10)) (told_is m (followed_in (looked wall monotonic h)) (looked wall monotonic h) (looked wall monotonic h) keeps) ∙ behind_is (wall / 1_000_000_000) (moment_in (looked wall monotonic h));
 }

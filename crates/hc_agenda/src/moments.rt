@@ -2,18 +2,19 @@
 
 ghost use Rattle.std.specs.Prelude.{◌≡◌, ◌<◌, ◌≤◌, ◌+◌, ◌-◌, ◌/◌, ◌&&◌, ◌||◌, ◌↔◌, ℕ, Option, Some, IsTrue, min, nat_le};
 ghost use Rattle.hc_transcript.specs.Limits.{greatest_moment};
-ghost use Rattle.hc_agenda.specs.Moments.{HasBeenAhead, History, IsNeverAhead, Reading, counted_in, followed_in, has_been_ahead_by, is_about, moment_in, start_second_in};
+ghost use Rattle.hc_agenda.specs.Moments.{HasBeenAhead, History, IsNeverAhead, Reading, counted_in, followed_in, has_been_ahead_by, is_about, moment_in, reading_of, start_wall_in};
 ghost use Rattle.hc_agenda.specs.Moments.History.{Look};
 ghost use Rattle.hc_agenda.specs.declared.moments.Lead.{Lead};
 ghost use Rattle.hc_agenda.specs.MomentsKept.{HasBegun, HasBegunIfAny, has_lasted, lasts};
 
 use hc_transcript::GREATEST_MOMENT;
+use std::time::Duration;
 
-/// The milliseconds of a second.
-const SECOND: u64 = 1_000;
+/// The nanoseconds of a second.
+const SECOND: u128 = 1_000_000_000;
 
-/// For so many milliseconds a wall clock has to be ahead by the same before it is followed.
-const STEADY: u64 = 5_000;
+/// For so many nanoseconds a wall clock has to be ahead by the same before it is followed.
+const STEADY: u128 = 5 * SECOND;
 
 /// By how many seconds a wall clock may be behind before that is said.
 const FAR: u64 = 10;
@@ -24,17 +25,17 @@ const FAR: u64 = 10;
 struct Lead {
     /// By how many seconds it was ahead at the last reading.
     seconds: u64,
-    /// How many milliseconds were counted when it began to be ahead by that, within a second.
-    since: u64,
+    /// How many nanoseconds were counted when it began to be ahead by that, within a second.
+    since: u128,
     /// The same of a second less.
-    less_since: u64,
+    less_since: u128,
     /// The same of a second more.
-    more_since: u64,
+    more_since: u128,
 }
 
 impl Lead {
     /// One that begins.
-    fn begun(seconds: u64, counted: u64) -> Self
+    fn begun(seconds: u64, counted: u128) -> Self
         ensures { result ≡ record { seconds = seconds; since = counted; less_since = counted; more_since = counted } }
     {
         Lead {
@@ -45,11 +46,11 @@ impl Lead {
         }
     }
 
-    /// When it began to be ahead by so many seconds, within one, if it is so at a reading when so many milliseconds are
+    /// When it began to be ahead by so many seconds, within one, if it is so at a reading when so many nanoseconds are
     /// counted.
-    fn since(self, seconds: u64, counted: u64) -> u64
+    fn since(self, seconds: u64, counted: u128) -> u128
         ensures begun { HasBegun counted self → result ≤ counted }
-        ensures since { HasBegun counted self → (now : ℕ) → nat_le (result + 5000) now ≡ (nat_le (counted + 5000) now || lasts (Some self) seconds now) }
+        ensures since { HasBegun counted self → (now : ℕ) → nat_le (result + 5_000_000_000) now ≡ (nat_le (counted + 5_000_000_000) now || lasts (Some self) seconds now) }
     {
         if seconds == self.seconds {
             self.since
@@ -62,15 +63,15 @@ impl Lead {
         }
     }
 
-    /// The lead behind one more reading, by which the wall clock is ahead by so many seconds, when so many milliseconds are
+    /// The lead behind one more reading, by which the wall clock is ahead by so many seconds, when so many nanoseconds are
     /// counted.
-    fn behind(self, seconds: u64, counted: u64) -> Self
+    fn behind(self, seconds: u64, counted: u128) -> Self
         requires some { 0 < seconds }
         requires in_time { seconds ≤ greatest_moment }
         ensures seconds { result.seconds ≡ seconds }
         ensures begun { HasBegun counted self → HasBegun counted result }
         ensures lasts { HasBegun counted self → (d now : ℕ)
-            → lasts (Some result) d now ≡ (is_about d seconds && (nat_le (counted + 5000) now || lasts (Some self) d now)) }
+            → lasts (Some result) d now ≡ (is_about d seconds && (nat_le (counted + 5_000_000_000) now || lasts (Some self) d now)) }
     {
         Lead {
             seconds,
@@ -82,10 +83,10 @@ impl Lead {
 }
 
 /// The lead behind one more reading, if the wall clock is ahead there.
-fn lead_behind(before: Option<Lead>, seconds: u64, counted: u64) -> Option<Lead>
+fn lead_behind(before: Option<Lead>, seconds: u64, counted: u128) -> Option<Lead>
     requires { seconds ≤ greatest_moment }
     ensures begun { HasBegunIfAny counted before → HasBegunIfAny counted result }
-    ensures lasts { HasBegunIfAny counted before → (d now : ℕ) → lasts result d now ≡ (is_about d seconds && (nat_le (counted + 5000) now || lasts before d now)) }
+    ensures lasts { HasBegunIfAny counted before → (d now : ℕ) → lasts result d now ≡ (is_about d seconds && (nat_le (counted + 5_000_000_000) now || lasts before d now)) }
     ensures lasted { HasBegunIfAny counted before → lasts result seconds counted ≡ has_lasted result counted }
 {
     if seconds == 0 {
@@ -98,7 +99,7 @@ fn lead_behind(before: Option<Lead>, seconds: u64, counted: u64) -> Option<Lead>
 }
 
 /// Whether the wall clock has been ahead by the same for five seconds.
-fn has_lasted(lead: Option<Lead>, counted: u64) -> bool
+fn has_lasted(lead: Option<Lead>, counted: u128) -> bool
     ensures { result ≡ has_lasted lead counted }
 {
     match lead {
@@ -109,16 +110,16 @@ fn has_lasted(lead: Option<Lead>, counted: u64) -> bool
 
 /// The moments that a cache is told. A cache takes the greater of its last moment and the one that it is told: a wall
 /// clock that jumped ahead would stay with it for good, and one that was set back would stop all ages. So a moment is the
-/// wall clock's second at the start and the whole seconds that a monotonic clock has counted since. A wall clock that has
+/// whole seconds of the wall clock's time at the start and what a monotonic clock has counted since. A wall clock that has
 /// been ahead of that by the same, within a second, for five seconds is followed; one that is behind never is.
 #[derive(Clone, Copy)]
 pub struct Moments {
-    /// The wall clock's second at the start, and by how many it was followed since.
-    base: u64,
-    /// The monotonic clock's millisecond at the start.
-    start: u64,
-    /// How many milliseconds it has counted since.
-    counted: u64,
+    /// The wall clock's nanoseconds since 1970 at the start, and by how many it was followed since.
+    base: u128,
+    /// The monotonic clock's nanosecond at the start.
+    start: u128,
+    /// How many nanoseconds it has counted since.
+    counted: u128,
     /// By how much the wall clock is ahead, if it is.
     lead: Option<Lead>,
     /// Whether it is behind by more than ten seconds.
@@ -126,18 +127,20 @@ pub struct Moments {
 }
 
 impl Moments {
+    ghost use Rattle.std.specs.Prelude.{◌^◌};
+    ghost use Rattle.std.specs.Duration.{as_nanos};
     ghost use Rattle.hc_agenda.specs.Moments.{is_behind_in};
     ghost use Rattle.hc_agenda.specs.Moments.History.{Start};
     ghost use Rattle.hc_agenda.specs.MomentsKept.{Keeps, Tells, told_by};
 
-    /// From a first reading on: the wall clock's seconds since 1970, where the system's clock can be read, and the
-    /// milliseconds of the monotonic clock.
-    pub fn new(wall: Option<u64>, tick: u64) -> Self
-        ensures { Tells result (Start (record { wall = wall; tick = tick })) }
+    /// From a first reading on: what the wall clock tells since 1970, where the system's clock can be read, and what the
+    /// monotonic clock has counted.
+    pub fn new(wall: Option<Duration>, monotonic: Duration) -> Self
+        ensures { Tells result (Start (reading_of wall monotonic)) }
     {
         Moments {
-            base: wall.unwrap_or(0),
-            start: tick,
+            base: wall.unwrap_or(Duration::ZERO).as_nanos(),
+            start: monotonic.as_nanos(),
             counted: 0,
             lead: None,
             behind: false,
@@ -150,9 +153,14 @@ impl Moments {
         ensures told { result ≡ told_by self.now }
         ensures in_time { result ≤ greatest_moment }
     {
-        self.base
-            .saturating_add(self.counted / SECOND)
-            .min(GREATEST_MOMENT)
+        (self.time() / SECOND).min(u128::from(GREATEST_MOMENT)) as u64
+    }
+
+    /// The nanoseconds since 1970 by which the moment is told.
+    fn time(&self) -> u128
+        ensures { result ≡ min (self.now.base + self.now.counted) (2 ^ 128 - 1) }
+    {
+        self.base.saturating_add(self.counted)
     }
 
     /// Whether the wall clock was behind the moment by more than ten seconds when it was last read. It isn't followed then,
@@ -164,29 +172,31 @@ impl Moments {
     }
 
     /// Takes one more reading of both clocks.
-    pub fn look(&mut self, wall: Option<u64>, tick: u64)
-        ensures tells { (history : History) → Tells self.old history → Tells self.new (Look (record { wall = wall; tick = tick }) history) }
+    pub fn look(&mut self, wall: Option<Duration>, monotonic: Duration)
+        ensures tells { (history : History) → Tells self.old history → Tells self.new (Look (reading_of wall monotonic) history) }
         ensures forward { told_by self.old ≤ told_by self.new }
     {
-        self.counted = self.counted.max(tick.saturating_sub(self.start));
+        let counted = monotonic.as_nanos().saturating_sub(self.start);
+        self.counted = self.counted.max(counted);
         if let Some(wall) = wall {
             self.follow(wall);
-            self.behind = wall < self.now().saturating_sub(FAR);
+            self.behind = wall.as_secs() < self.now().saturating_sub(FAR);
         }
     }
 
     /// Follows a wall clock that has been ahead by the same for five seconds.
-    fn follow(&mut self, wall: u64)
-        ensures keeps { (tick : ℕ) (before : History)
-            → Keeps self.old (followed_in before) (Look (record { wall = Some wall; tick = tick }) before) before
-            → Keeps self.new (followed_in (Look (record { wall = Some wall; tick = tick }) before))
-            (Look (record { wall = Some wall; tick = tick }) before) (Look (record { wall = Some wall; tick = tick }) before) }
+    fn follow(&mut self, wall: Duration)
+        ensures keeps { (monotonic : ℕ) (before : History) → let here = Look (record { wall = Some (as_nanos wall); monotonic = monotonic }) before in
+            Keeps self.old (followed_in before) here before → Keeps self.new (followed_in here) here here }
         ensures forward { told_by self.old ≤ told_by self.new }
     {
-        let ahead = wall.min(GREATEST_MOMENT).saturating_sub(self.now());
+        let ahead = wall
+            .as_secs()
+            .min(GREATEST_MOMENT)
+            .saturating_sub(self.now());
         let lead = lead_behind(self.lead, ahead, self.counted);
         if has_lasted(lead, self.counted) {
-            self.base += ahead;
+            self.base += wall.as_nanos().saturating_sub(self.time());
             self.lead = None;
         } else {
             self.lead = lead;
@@ -195,14 +205,14 @@ impl Moments {
 }
 
 /// Moments never go back, nor past the last one that a transcript can tell. Where no wall clock was ever ahead, they are
-/// the second at the start and the whole seconds that were counted since. Where a wall clock is followed, the moment is its
-/// second; and that is where at each look of the last five seconds it was ahead by as much, within a second.
+/// the whole seconds of the wall time at the start and what has passed since. Where a wall clock is followed, the moment is
+/// its second; and that is where at each look of the last five seconds it was ahead by as much, within a second.
 pub fn moments_follow_what_stays_ahead()
     ensures forward { (reading : Reading) (history : History) → moment_in history ≤ moment_in (Look reading history) }
     ensures in_time { (history : History) → moment_in history ≤ greatest_moment }
     ensures counted { (history : History) → IsNeverAhead history
-        → moment_in history ≡ min (start_second_in history + counted_in history / 1000) greatest_moment }
+        → moment_in history ≡ min ((start_wall_in history + counted_in history) / 1_000_000_000) greatest_moment }
     ensures caught_up { (reading : Reading) (history : History) (wall : ℕ) → followed_in history < followed_in (Look reading history)
-        → reading.wall ≡ Some wall → moment_in (Look reading history) ≡ min wall greatest_moment }
+        → reading.wall ≡ Some wall → moment_in (Look reading history) ≡ min (wall / 1_000_000_000) greatest_moment }
     ensures steady { (d followed now : ℕ) (history : History) → IsTrue (has_been_ahead_by d followed now history) ↔ HasBeenAhead d followed now history }
 {}

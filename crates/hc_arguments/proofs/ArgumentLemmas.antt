@@ -29,6 +29,7 @@ use Rattle.hc_arguments.specs.declared.limit.Limit.{Limit}
 use Rattle.hc_arguments.specs.declared.limit.Limit.TheVariants.{MaxConnections, OriginConnections, IdleTimeout, RequestTimeout, SendTimeout}
 use Rattle.hc_arguments.specs.declared.limit.Limit.TheVariants.{QueueTimeout, ConnectTimeout, OriginTimeout, OriginTotal, DrainTimeout}
 use Rattle.hc_arguments.specs.declared.order.AuditTerms.{AuditTerms}
+use Rattle.hc_arguments.specs.declared.order.ExplainTerms.{ExplainTerms}
 use Rattle.hc_arguments.specs.declared.order.Minimums.{Minimums}
 use Rattle.hc_arguments.specs.declared.order.Order.{Order}
 use Rattle.hc_arguments.specs.declared.order.ProxyLimits.{ProxyLimits}
@@ -46,7 +47,7 @@ use Rattle.hc_arguments.specs.Values.{bytes_by, clients_by, connections_of, flag
 use Rattle.hc_history.specs.declared.allowed.Allowed.{Allowed}
 use Rattle.hc_arguments.specs.Allowing.{AsksAllowed, allow_by, normalized_by, seconds_by}
 use Rattle.hc_arguments.specs.Positions.{len_before_hyphen, span_between, span_from, span_of}
-use Rattle.hc_arguments.specs.Values.{no_minimums, plain, plain_audit, plain_cache, plain_limits, plain_patience, plain_terms, position_by, positive_of, record_limit_by, slack_by, unmarked_by}
+use Rattle.hc_arguments.specs.Values.{explaining, no_minimums, plain, plain_audit, plain_cache, plain_limits, plain_patience, plain_terms, position_by, positive_of, record_limit_by, slack_by, unmarked_by}
 
 -- ---- the command
 
@@ -189,7 +190,7 @@ file_named (Some file) = cond (bytes_eq file (codes "-")) None (Some file)
 abbrev task_from : Command → (Text → Option Text) → Option Task
 task_from Audits value = option_map (λ p. ToAudit p.0 p.1) (both (value (codes "FILE")) (audit_terms_from value))
 task_from Reports value = option_map (λ p. ToReport p.0 p.1 (flag_by (value (codes "json")))) (both (value (codes "FILE")) (audit_terms_from value))
-task_from Explains value = option_map (λ p. ToExplain p.0 p.1.0 p.1.1)
+task_from Explains value = option_map (λ p. ToExplain p.0 record { position = p.1.0; settings = p.1.1; json = flag_by (value (codes "json")) })
     (both (file_named (value (codes "FILE"))) (both (position_by (value (codes "POSITION"))) (settings_from value)))
 task_from Shows value = option_map (λ p. ToShow p.0 p.1) (both (value (codes "FILE")) (option_and_then span_of (value (codes "POSITION[-POSITION]"))))
 task_from Replays value = option_map ToReplay (value (codes "FILE"))
@@ -272,10 +273,10 @@ values_give value (ToAudit file terms) a =
 values_give value (ToReport file terms json) a =
     let set = audit_terms_given value terms a.terms_are in
     λ i. option_map (λ p. ToReport p.0 p.1 (a.json_is i)) (both (a.file_is i) (set i))
-values_give value (ToExplain file position settings) a =
-    let set = settings_given value settings a.settings_are in
+values_give value (ToExplain file terms) a =
+    let set = settings_given value terms.settings a.settings_are in
     let named = ap file_named a.file_is ∙ ap (λ b. cond b None (Some file)) a.file_has_name in
-    λ i. option_map (λ p. ToExplain p.0 p.1.0 p.1.1) (both (named i) (both (a.position_is i) (set i)))
+    λ i. option_map (λ p. ToExplain p.0 record { position = p.1.0; settings = p.1.1; json = a.json_is i }) (both (named i) (both (a.position_is i) (set i)))
 values_give value (ToShow file span) a = λ i. option_map (λ p. ToShow p.0 p.1) (both (a.file_is i) (a.span_is i))
 values_give value (ToReplay file) a = ap (option_map ToReplay) a
 values_give value (ToConvert file) a = ap (option_map ToConvert) a
@@ -313,7 +314,7 @@ span_is_there (Some text) span is = refl
 lacks_nothing : (command : Option Command) (value : Text → Option Text) (task : Task) → AsksBy command value task → lacks command value ≡ false
 lacks_nothing command value (ToAudit file terms) asks = rw (asks.0, asks.1.file_is) refl
 lacks_nothing command value (ToReport file terms json) asks = rw (asks.0, asks.1.file_is) refl
-lacks_nothing command value (ToExplain file position settings) asks = rw (asks.0, asks.1.file_is) refl
+lacks_nothing command value (ToExplain file terms) asks = rw (asks.0, asks.1.file_is) refl
 lacks_nothing command value (ToShow file span) asks = rw (asks.0, asks.1.file_is, span_is_there (value (codes "POSITION[-POSITION]")) span asks.1.span_is) refl
 lacks_nothing command value (ToReplay file) asks = rw (asks.0, asks.1) refl
 lacks_nothing command value (ToConvert file) asks = rw (asks.0, asks.1) refl
@@ -519,7 +520,7 @@ last_is_one (Some text) span is =
 pub possible_from : (command : Option Command) (value : Text → Option Text) (task : Task) → AsksBy command value task → CanBeDone task
 possible_from command value (ToAudit file terms) asks = tt
 possible_from command value (ToReport file terms json) asks = tt
-possible_from command value (ToExplain file position settings) asks = tt
+possible_from command value (ToExplain file terms) asks = tt
 possible_from command value (ToShow file span) asks = last_is_one (value (codes "POSITION[-POSITION]")) span asks.1.span_is
 possible_from command value (ToReplay file) asks = tt
 possible_from command value (ToConvert file) asks = tt
@@ -713,6 +714,10 @@ module _ (name file : Text) (h : IsNoFlag file) where
   unfolding clap_on_literals
   no_position = rw (h.dashes, h.long, h.short) refl
 
+  explained_in_text : flag_by (value_in (subcommand_of hcache (name ∷ codes "explain" ∷ file ∷ [])) (codes "json")) ≡ false
+  unfolding clap_on_literals
+  explained_in_text = rw (h.dashes, h.long, h.short) refl
+
   is_explain : command_in (subcommand_of hcache (name ∷ codes "explain" ∷ file ∷ [])) ≡ Some Explains
   unfolding clap_on_literals
   is_explain = refl
@@ -751,7 +756,7 @@ no_lone_hyphen : (file : Text) → IsFileName file → bytes_eq file (codes "-")
 no_lone_hyphen [] named = refl
 no_lone_hyphen (x ∷ rest) named = rw (not_hyphen x named) refl
 
-pub explain_words : (name file : Text) → IsFileName file → AreWordsFor (name ∷ codes "explain" ∷ file ∷ []) (ToExplain file None plain)
+pub explain_words : (name file : Text) → IsFileName file → AreWordsFor (name ∷ codes "explain" ∷ file ∷ []) (ToExplain file (explaining None))
 explain_words name file named = let h = no_flag file (inr named) in record {
   asks = (
     is_explain name file h,
@@ -760,6 +765,7 @@ explain_words name file named = let h = no_flag file (inr named) in record {
       file_has_name = no_lone_hyphen file named;
       position_is = no_position name file h;
       settings_are = explain_settings name file h;
+      json_is = explained_in_text name file h;
     },
   );
   no_fault = no_explain_fault name file h;
@@ -792,6 +798,10 @@ module _ (name file number : Text) (h : IsNoFlag file) (n : IsNoFlag number) whe
   unfolding clap_on_literals
   position_given = rw (h.dashes, h.long, h.short, n.dashes, n.long, n.short) refl
 
+  explained_at_in_text : flag_by (value_in (subcommand_of hcache (name ∷ codes "explain" ∷ file ∷ number ∷ [])) (codes "json")) ≡ false
+  unfolding clap_on_literals
+  explained_at_in_text = rw (h.dashes, h.long, h.short, n.dashes, n.long, n.short) refl
+
   is_explain_at : command_in (subcommand_of hcache (name ∷ codes "explain" ∷ file ∷ number ∷ [])) ≡ Some Explains
   unfolding clap_on_literals
   is_explain_at = refl
@@ -822,7 +832,7 @@ number_has_no_hyphen (x ∷ rest) position counts = λ is.
     true_is_not_false _ (subst (λ (d : ℕ). is_ascii_digit d ≡ true) hyphen digit) refl
 
 pub explain_at_words : (name file number : Text) (position : ℕ) → IsFileName file → positive_of number ≡ Some position
-    → AreWordsFor (name ∷ codes "explain" ∷ file ∷ number ∷ []) (ToExplain file (Some position) plain)
+    → AreWordsFor (name ∷ codes "explain" ∷ file ∷ number ∷ []) (ToExplain file (explaining (Some position)))
 explain_at_words name file number position named counts =
     let h = no_flag file (inr named) in
     let n = no_flag number (inr (number_has_no_hyphen number position counts)) in
@@ -834,6 +844,7 @@ explain_at_words name file number position named counts =
           file_has_name = no_lone_hyphen file named;
           position_is = ap position_by (position_given name file number h n) ∙ ap (option_map Some) counts;
           settings_are = explain_at_settings name file number h n;
+          json_is = explained_at_in_text name file number h n;
         },
       );
       no_fault = no_explain_at_fault name file number h n;

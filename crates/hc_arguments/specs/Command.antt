@@ -21,6 +21,7 @@ use Rattle.hc_arguments.specs.declared.limit.Limit.{Limit}
 use Rattle.hc_arguments.specs.declared.limit.Limit.TheVariants.{MaxConnections, OriginConnections, IdleTimeout, RequestTimeout, SendTimeout}
 use Rattle.hc_arguments.specs.declared.limit.Limit.TheVariants.{QueueTimeout, ConnectTimeout, OriginTimeout, OriginTotal, DrainTimeout}
 use Rattle.hc_arguments.specs.declared.order.AuditTerms.{AuditTerms}
+use Rattle.hc_arguments.specs.declared.order.ExplainTerms.{ExplainTerms}
 use Rattle.hc_arguments.specs.declared.order.Minimums.{Minimums}
 use Rattle.hc_arguments.specs.declared.order.Order.{Order}
 use Rattle.hc_arguments.specs.declared.order.Order.TheVariants.{Audit, Report, Explain, Show, Replay, Convert, Serve, Proxy}
@@ -84,7 +85,7 @@ abbrev pub report : App
 report = with_rule (with_terms (with_rule (new_app (codes "report")) file_rule)) (flag_rule (codes "json"))
 
 abbrev pub explain : App
-explain = with_settings (with_rule (with_rule (new_app (codes "explain")) file_rule) position_rule)
+explain = with_rule (with_settings (with_rule (with_rule (new_app (codes "explain")) file_rule) position_rule)) (flag_rule (codes "json"))
 
 abbrev pub show : App
 show = with_rule (with_rule (new_app (codes "show")) file_rule) span_rule
@@ -155,8 +156,8 @@ pub data Task : Type 0 where
   ToAudit : (file : Text) (terms : AuditTerms) → Task
   -- to report on it on those terms, by one JSON object or else in text
   ToReport : (file : Text) (terms : AuditTerms) (json : Bool) → Task
-  -- to explain the reply at that position of it, or else the first wrong one, by those settings
-  ToExplain : (file : Text) (position : Option ℕ) (settings : Settings) → Task
+  -- to explain a reply of it on those terms
+  ToExplain : (file : Text) (terms : ExplainTerms) → Task
   -- to show its records at these positions
   ToShow : (file : Text) (span : Span) → Task
   -- to replay it
@@ -172,7 +173,7 @@ pub data Task : Type 0 where
 abbrev pub command_of : Task → Command
 command_of (ToAudit file terms) = Audits
 command_of (ToReport file terms json) = Reports
-command_of (ToExplain file position settings) = Explains
+command_of (ToExplain file terms) = Explains
 command_of (ToShow file span) = Shows
 command_of (ToReplay file) = Replays
 command_of (ToConvert file) = Converts
@@ -182,7 +183,7 @@ command_of (ToProxy listen origin file terms limits settings) = Proxies
 abbrev pub task_of : Order → Task
 task_of (Audit file terms) = ToAudit file.now terms
 task_of (Report file terms json) = ToReport file.now terms json
-task_of (Explain file position settings) = ToExplain file.now position settings
+task_of (Explain file terms) = ToExplain file.now terms
 task_of (Show file span) = ToShow file.now span
 task_of (Replay file) = ToReplay file.now
 task_of (Convert file) = ToConvert file.now
@@ -218,11 +219,12 @@ pub record AsksReport (value : Text → Option Text) (file : Text) (terms : Audi
   pub json_is : flag_by (value (codes "json")) ≡ json
 
 -- and that of `explain`, which can't read standard input twice
-pub record AsksExplain (value : Text → Option Text) (file : Text) (position : Option ℕ) (settings : Settings) : Type 0 where
+pub record AsksExplain (value : Text → Option Text) (file : Text) (terms : ExplainTerms) : Type 0 where
   pub file_is : value (codes "FILE") ≡ Some file
   pub file_has_name : bytes_eq file (codes "-") ≡ false
-  pub position_is : position_by (value (codes "POSITION")) ≡ Some position
-  pub settings_are : AsksSettings value settings
+  pub position_is : position_by (value (codes "POSITION")) ≡ Some terms.position
+  pub settings_are : AsksSettings value terms.settings
+  pub json_is : flag_by (value (codes "json")) ≡ terms.json
 
 -- and that of `show`
 pub record AsksShow (value : Text → Option Text) (file : Text) (span : Span) : Type 0 where
@@ -283,7 +285,7 @@ pub record AsksProxy (value : Text → Option Text) (listen origin : Text) (file
 abbrev pub ValuesAsk : (Text → Option Text) → Task → Type 0
 ValuesAsk value (ToAudit file terms) = AsksAudit value file terms
 ValuesAsk value (ToReport file terms json) = AsksReport value file terms json
-ValuesAsk value (ToExplain file position settings) = AsksExplain value file position settings
+ValuesAsk value (ToExplain file terms) = AsksExplain value file terms
 ValuesAsk value (ToShow file span) = AsksShow value file span
 ValuesAsk value (ToReplay file) = value (codes "FILE") ≡ Some file
 ValuesAsk value (ToConvert file) = value (codes "FILE") ≡ Some file

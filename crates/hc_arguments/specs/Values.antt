@@ -19,6 +19,7 @@ use Rattle.hc_arguments.specs.declared.limit.Limit.TheVariants.{MaxConnections, 
 use Rattle.hc_arguments.specs.declared.limit.Limit.TheVariants.{QueueTimeout, ConnectTimeout, OriginTimeout, OriginTotal, DrainTimeout}
 use Rattle.hc_arguments.specs.declared.limit.NumberRange.{NumberRange}
 use Rattle.hc_arguments.specs.declared.order.AuditTerms.{AuditTerms}
+use Rattle.hc_arguments.specs.declared.order.ExplainTerms.{ExplainTerms}
 use Rattle.hc_arguments.specs.declared.order.Minimums.{Minimums}
 use Rattle.hc_arguments.specs.declared.order.ProxyLimits.{ProxyLimits}
 use Rattle.hc_arguments.specs.declared.order.ProxyPatience.{ProxyPatience}
@@ -236,6 +237,10 @@ no_minimums = record { hits = 0; judged = 0 }
 -- an audit by those settings, of any number of replies
 abbrev pub plain_audit : AuditTerms
 plain_audit = record { settings = plain; minimums = no_minimums }
+
+-- the explanation in text of the reply at that position, or else of the first wrong one, by those settings
+abbrev pub explaining : Option ℕ → ExplainTerms
+explaining position = record { position = position; settings = plain; json = false }
 
 -- ---- what private functions return
 

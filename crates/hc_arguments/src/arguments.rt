@@ -5,7 +5,7 @@ ghost use Rattle.clap.specs.Words.{HasKind, Text, fault_of, first_value, found_o
 ghost use Rattle.hc_arguments.specs.Command.{Asks, AsksAuditTerms, AsksBy, AsksCache, AsksIn, AsksLimits, AsksMinimums, AsksPatience, AsksSettings, AsksTerms, CanBeDone, Command, IsFileName, IsRefused, IsRefusedIn, IsWord, RefusesBy, RefusesIn, has_minimums, hcache, judges, limit_in, proxy_words, serves, service_words, task_of};
 ghost use Rattle.hc_arguments.specs.Command.Command.{Audits, Converts, Explains, Proxies, Replays, Reports, Serves, Shows};
 ghost use Rattle.hc_arguments.specs.Command.Task.{ToAudit, ToConvert, ToExplain, ToProxy, ToReplay, ToReport, ToServe};
-ghost use Rattle.hc_arguments.specs.Values.{clients_by, connections_of, held_by, minimum_by, plain, plain_audit, plain_cache, plain_limits, plain_terms, position_by, positive_of};
+ghost use Rattle.hc_arguments.specs.Values.{clients_by, connections_of, explaining, held_by, minimum_by, plain, plain_audit, plain_cache, plain_limits, plain_terms, position_by, positive_of};
 ghost use Rattle.hc_arguments.specs.Allowing.{AsksAllowed};
 ghost use Rattle.hc_arguments.specs.Positions.{span_of};
 ghost use Rattle.hc_arguments.specs.declared.refusal.Refusal.TheVariants.{Missing};
@@ -14,7 +14,7 @@ use crate::allowing::{allow_by, normalized_by, seconds_by};
 use crate::command::command;
 use crate::limit::Limit;
 use crate::order::{
-    AuditTerms, Minimums, Order, ProxyLimits, ProxyPatience, Proxying, RecordTerms,
+    AuditTerms, ExplainTerms, Minimums, Order, ProxyLimits, ProxyPatience, Proxying, RecordTerms,
 };
 use crate::positions::span_of;
 use crate::refusal::{Refusal, usage_error};
@@ -47,12 +47,12 @@ pub fn parsed<'a, S: AsStr>(alloc: Global, words: &'a [S]) -> Result<Order<'a>, 
     // And `explain FILE` asks for the first wrong reply, where FILE isn't `-`.
     ensures explain { (name file : Text) → IsFileName file
         → map S.text words.entry.now ≡ name ∷ codes "explain" ∷ file ∷ []
-        → MatchResult result (λ order. task_of order ≡ ToExplain file None plain)
+        → MatchResult result (λ order. task_of order ≡ ToExplain file (explaining None))
         (λ error. kind_of error ≡ ErrorKind.OutOfMemory) }
     // Or `explain FILE POSITION` for the reply at that position.
     ensures explain_at { (name file number : Text) (position : ℕ) → IsFileName file → positive_of number ≡ Some position
         → map S.text words.entry.now ≡ name ∷ codes "explain" ∷ file ∷ number ∷ []
-        → MatchResult result (λ order. task_of order ≡ ToExplain file (Some position) plain)
+        → MatchResult result (λ order. task_of order ≡ ToExplain file (explaining (Some position)))
         (λ error. kind_of error ≡ ErrorKind.OutOfMemory) }
     // `replay FILE` gives that FILE, and fails only so too.
     ensures replay { (name file : Text) → IsWord file
@@ -194,12 +194,14 @@ fn explain_in<'a>(alloc: Global, found: &ArgMatches<'a>) -> Result<Order<'a>, Re
         return Err(Refusal::StandardInput);
     }
     let position = position_in(found)?;
+    let json = flag_by(found.get_str("json"));
     let settings = settings_in(alloc, found)?;
-    Ok(Order::Explain {
-        file,
+    let terms = ExplainTerms {
         position,
         settings,
-    })
+        json,
+    };
+    Ok(Order::Explain { file, terms })
 }
 
 // The position of which `explain` is asked, if any.

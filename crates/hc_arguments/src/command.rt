@@ -27,7 +27,7 @@ const EXPLAINED_HELP: &str = "The transcript, a file that is read twice";
 const POSITION_HELP: &str =
     "The position of the reply: a decimal from 1 to 999999999999, and that of the first wrong one without it";
 
-const SHOW_ABOUT: &str = "Shows records of a transcript as text, without secrets";
+const SHOW_ABOUT: &str = "Shows records of a transcript as text, with credentials in heads hidden";
 
 const SPAN_HELP: &str =
     "The position of the record, or of the first and of the last with a hyphen between them: decimals from 1 to 999999999999";
@@ -186,7 +186,8 @@ fn explain_command<'a>(alloc: Global) -> Result<Command<'a>, AllocError>
     );
     let with_file = with_argument(bare, file_argument(alloc, EXPLAINED_HELP));
     let with_position = with_argument(with_file, position_argument(alloc));
-    with_settings(alloc, with_position)
+    let set = with_settings(alloc, with_position);
+    with_options(alloc, set, &REPORTING)
 }
 
 // The command `show`, without the one above it.

@@ -13,4 +13,6 @@ mod refusal;
 mod values;
 
 pub use arguments::{not_text, parsed};
-pub use order::{AuditTerms, Minimums, Order, ProxyLimits, ProxyPatience, Proxying, RecordTerms};
+pub use order::{
+    AuditTerms, ExplainTerms, Minimums, Order, ProxyLimits, ProxyPatience, Proxying, RecordTerms,
+};

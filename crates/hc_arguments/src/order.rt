@@ -27,10 +27,8 @@ pub enum Order<'a> {
     Explain {
         /// Where the transcript is: the name of a file, which can be read twice, and so not `-`.
         file: &'a str,
-        /// The position of the reply, from 1 to 999,999,999,999; the first wrong one without it.
-        position: Option<u64>,
-        /// What lets replies pass.
-        settings: Settings,
+        /// Which reply is explained, and how.
+        terms: ExplainTerms,
     },
     /// To show records of a transcript.
     Show {
@@ -73,6 +71,17 @@ pub struct AuditTerms {
     pub settings: Settings,
     /// How many replies it has to judge.
     pub minimums: Minimums,
+}
+
+/// Which reply an explanation is of, and how that is given.
+#[derive(Drop)]
+pub struct ExplainTerms {
+    /// The position of the reply, from 1 to 999,999,999,999; the first wrong one without it.
+    pub position: Option<u64>,
+    /// What lets replies pass.
+    pub settings: Settings,
+    /// Whether the explanation is one JSON object, in place of text.
+    pub json: bool,
 }
 
 /// How many replies of a transcript have to be judged at least, so that it tells something that they are right.

@@ -1,5 +1,5 @@
 -- How the program ends, by the task that its words ask for.
-use Rattle.std.proofs.Common.{◌≡◌, ℕ, List, Option, Some, None, inl, inr, subst}
+use Rattle.std.proofs.Common.{◌≡◌, ℕ, Bool, List, Option, Some, None, inl, inr, subst}
 use Rattle.std.specs.Io.KnownBytes.{Keeps}
 use Rattle.hc_arguments.specs.Command.{Task}
 use Rattle.hc_arguments.specs.Command.Task.{ToAudit, ToReport, ToExplain, ToShow, ToReplay, ToConvert, ToServe, ToProxy}
@@ -11,16 +11,16 @@ pub does_as : (done task : Task) (status : ℕ) (old new faults_old faults_new :
 does_as done task status old new faults_old faults_new same does = subst (λ (t : Task). Does t status old new faults_old faults_new) same does
 
 -- where memory is refused, any task may end so
-explained_with_3 : (position : Option ℕ) (status : ℕ) (old new faults_old faults_new : Option (List ℕ)) → status ≡ 3
-    → Explained position status old new faults_old faults_new
-explained_with_3 None status old new faults_old faults_new is = inl is
-explained_with_3 (Some place) status old new faults_old faults_new is = inl is
+explained_with_3 : (json : Bool) (position : Option ℕ) (status : ℕ) (old new faults_old faults_new : Option (List ℕ)) → status ≡ 3
+    → Explained json position status old new faults_old faults_new
+explained_with_3 json None status old new faults_old faults_new is = inl is
+explained_with_3 json (Some place) status old new faults_old faults_new is = inl is
 
 pub fails_with_3 : (task : Task) (status : ℕ) (old new faults_old faults_new : Option (List ℕ)) → status ≡ 3 → Keeps old new
     → Does task status old new faults_old faults_new
 fails_with_3 (ToAudit file terms) status old new faults_old faults_new is kept = inl is
 fails_with_3 (ToReport file terms json) status old new faults_old faults_new is kept = inl is
-fails_with_3 (ToExplain file position settings) status old new faults_old faults_new is kept = explained_with_3 position status old new faults_old faults_new is
+fails_with_3 (ToExplain file terms) status old new faults_old faults_new is kept = explained_with_3 terms.json terms.position status old new faults_old faults_new is
 fails_with_3 (ToShow file span) status old new faults_old faults_new is kept = inl is
 fails_with_3 (ToReplay file) status old new faults_old faults_new is kept = inl is
 fails_with_3 (ToConvert file) status old new faults_old faults_new is kept = inl is
@@ -32,7 +32,7 @@ pub does_ends : (task : Task) (status : ℕ) (old new faults_old faults_new : Op
     → Ends status old new faults_old faults_new
 does_ends (ToAudit file terms) status old new faults_old faults_new does = inl (terms.minimums, does)
 does_ends (ToReport file terms json) status old new faults_old faults_new does = inr (inl (json, terms.minimums, does))
-does_ends (ToExplain file position settings) status old new faults_old faults_new does = inr (inr (inl (position, does)))
+does_ends (ToExplain file terms) status old new faults_old faults_new does = inr (inr (inl (terms.json, terms.position, does)))
 does_ends (ToShow file span) status old new faults_old faults_new does = inr (inr (inr (inl (span, does))))
 does_ends (ToReplay file) status old new faults_old faults_new does = inr (inr (inr (inr (inl does))))
 does_ends (ToConvert file) status old new faults_old faults_new does = inr (inr (inr (inr (inr (inl does)))))

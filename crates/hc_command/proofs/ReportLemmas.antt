@@ -1,5 +1,5 @@
 -- What a survey of what was read says of all octets of an input, and what is said of it.
-use Rattle.std.proofs.Common.{◌≡◌, ◌⊎◌, inl, inr, ℕ, Bool, true, false, List, [], ◌∷◌, ◌++◌, Option, None, Some, IfSome, append-nil, append_assoc, refl, rules, subst, sym}
+use Rattle.std.proofs.Common.{◌≡◌, ◌⊎◌, inl, inr, ℕ, Bool, true, false, List, [], ◌∷◌, ◌++◌, Option, None, Some, IfSome, append-nil, append_assoc, refl, rules, subst, sym, ◌∙◌}
 use Rattle.std.specs.Prelude.{slice_get, IsSome}
 use Rattle.std.specs.Io.KnownBytes.{Consumes, IsAtEnd, Keeps}
 use Rattle.std.proofs.KnownBytes.{Consumes-trans}
@@ -8,6 +8,7 @@ use Rattle.hc_transcript.specs.Items.{Item}
 use Rattle.hc_history.specs.declared.settings.Settings.{Settings}
 use Rattle.hc_history.specs.declared.verdicts.Verdict.{Verdict}
 use Rattle.hc_history.specs.declared.verdicts.Counts.{Counts}
+use Rattle.hc_history.specs.declared.verdicts.Finding.{Finding}
 use Rattle.hc_history.specs.declared.verdicts.Verdict.TheVariants.{Yes, No, Malformed}
 use Rattle.hc_history.specs.declared.wrong.WrongReply.{WrongReply}
 use Rattle.hc_history.specs.declared.wrong.Ending.{Ending}
@@ -21,12 +22,13 @@ use Rattle.hc_audit.specs.Endings.{EndsSo}
 use Rattle.hc_audit.specs.Surveying.{Surveys}
 use Rattle.hc_audit.specs.Told.{IsToldOf}
 use Rattle.hc_audit.proofs.SurveyLemmas.{counted_whole}
+use Rattle.hc_why.specs.Seeking.{IsOfPlace, reason_in, wrong_at}
 use Rattle.hc_command.proofs.AuditLemmas.{at_end, before_end}
 use Rattle.hc_command.specs.declared.surveying.Heard.{Heard}
 use Rattle.hc_command.specs.declared.surveying.Outcome.{Outcome}
 use Rattle.hc_command.specs.declared.surveying.Outcome.TheVariants.{Whole, Broken}
 use Rattle.hc_command.specs.Line.{status_of}
-use Rattle.hc_command.specs.Report.{ExplainsAt, FeedsPieceOfSurvey, FeedsSurvey, IsSurveyed, SaysOf, SurveysFor, WritesIfSome, ending_of, settled_of}
+use Rattle.hc_command.specs.Report.{BreaksIfSome, Explained, ExplainsAt, FeedsPieceOfSurvey, FeedsSurvey, IsSurveyed, Reported, ReportsFor, SaysOf, SaysReplyIn, SurveysFor, WritesIfSome, ending_of, settled_of}
 
 -- ---- what was fed
 
@@ -208,12 +210,58 @@ keeps_same : (known : Option (List ℕ)) → Keeps known known
 keeps_same None = tt
 keeps_same (Some octets) = refl
 
-pub explains_so : (place status : ℕ) (old new faults : Option (List ℕ)) → WritesIfSome place (Some status) old new → ExplainsAt place status old new faults faults
-explains_so place status old new faults says = inr (inr (says, keeps_same faults))
+module _ (json : Bool) (settings : Settings) (input left : Option (List ℕ)) where
+  pub explains_so : (place status : ℕ) (old new faults : Option (List ℕ)) → WritesIfSome json settings input left place (Some status) old new
+      → ExplainsAt json settings input left place status old new faults faults
+  explains_so place status old new faults says = inr (inr (says, keeps_same faults))
 
-pub explains_nothing : (place status : ℕ) (old new faults_old faults_new : Option (List ℕ)) → status ≡ 64 → WritesIfSome place None old new
-    → ExplainsAt place status old new faults_old faults_new
-explains_nothing place status old new faults_old faults_new is kept = inr (inl (is, kept))
+  pub explains_nothing : (place status : ℕ) (old new faults_old faults_new : Option (List ℕ)) → status ≡ 64 → WritesIfSome json settings input left place None old new
+      → ExplainsAt json settings input left place status old new faults_old faults_new
+  explains_nothing place status old new faults_old faults_new is kept = inr (inl (is, kept))
+
+  -- what is said of a break
+  pub breaks : (place : ℕ) (status : Option ℕ) (old new : Option (List ℕ)) → BreaksIfSome json place status old new
+      → WritesIfSome json settings input left place status old new
+  breaks place None old new kept = kept
+  breaks place (Some status) old new says = inr says
+
+  -- and of what is found at a place, by who reads up to it
+  pub finds : (tells : List WrongReply → Type 0) (hears : List Item → Type 0) (enough : Type 0) (outcome : Outcome) (sought place position status : ℕ) (finding : Finding)
+      (old new : Option (List ℕ)) → SurveysFor tells hears enough settings input left outcome
+      → ((wrongs : List WrongReply) → tells wrongs → IsOfPlace sought wrongs position finding) → position ≡ place → SaysReplyIn json position finding old new status
+      → WritesIfSome json settings input left place (Some status) old new
+  finds tells hears enough outcome sought place position status finding old new told is same says =
+      let of_place = is told.wrongs told.told in
+      inl (record {
+        finding = finding;
+        is = record {
+          read = told.read;
+          consumed = told.consumed;
+          history = told.history;
+          wrongs = told.wrongs;
+          outcome = outcome;
+          are = told.are;
+          reason = subst (λ (at : ℕ). reason_in finding ≡ wrong_at at told.wrongs) (sym of_place.0 ∙ same) of_place.1;
+        };
+        says = subst (λ (at : ℕ). SaysReplyIn json at finding old new status) same says;
+      })
+
+-- ---- where the input isn't known
+
+reported_of : (json : Bool) (settings : Settings) (input : Option (List ℕ)) (status : ℕ) (old new faults_old faults_new : Option (List ℕ))
+    → ReportsFor json settings input status old new faults_old faults_new → Reported json status old new faults_old faults_new
+reported_of json settings input status old new faults_old faults_new reports = elim reports [
+  | inl is ↦ inl is
+  | inr says ↦ inr (record { verdict = says.0.verdict; says = says.0.says }, says.1)
+]
+
+pub explained_of : (json : Bool) (position : Option ℕ) (settings : Settings) (input left : Option (List ℕ)) (status : ℕ) (old new faults_old faults_new : Option (List ℕ))
+    → (position ≡ None → ReportsFor json settings input status old new faults_old faults_new)
+    → ((place : ℕ) → position ≡ Some place → ExplainsAt json settings input left place status old new faults_old faults_new)
+    → Explained json position status old new faults_old faults_new
+explained_of json None settings input left status old new faults_old faults_new first at = reported_of json settings input status old new faults_old faults_new (first refl)
+explained_of json (Some place) settings input left status old new faults_old faults_new first at =
+    inr (record { settings = settings; input = input; left = left; explains = at place refl })
 
 -- ---- what is said
 

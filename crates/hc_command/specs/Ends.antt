@@ -25,7 +25,7 @@ Proxied status old new faults_old faults_new = Keeps old new × ((status ≡ 3) 
 abbrev pub Does : Task → ℕ → Option (List ℕ) → Option (List ℕ) → Option (List ℕ) → Option (List ℕ) → Type 0
 Does (ToAudit file terms) status old new faults_old faults_new = Answers terms.minimums status old new faults_old faults_new
 Does (ToReport file terms json) status old new faults_old faults_new = ReportedBy json terms.minimums status old new faults_old faults_new
-Does (ToExplain file position settings) status old new faults_old faults_new = Explained position status old new faults_old faults_new
+Does (ToExplain file terms) status old new faults_old faults_new = Explained terms.json terms.position status old new faults_old faults_new
 Does (ToShow file span) status old new faults_old faults_new = ShownFor span status old new faults_old faults_new
 Does (ToReplay file) status old new faults_old faults_new = Played status old new faults_old faults_new
 Does (ToConvert file) status old new faults_old faults_new = Converted status old new faults_old faults_new
@@ -36,7 +36,7 @@ Does (ToProxy listen origin file terms limits settings) status old new faults_ol
 abbrev pub Ends : ℕ → Option (List ℕ) → Option (List ℕ) → Option (List ℕ) → Option (List ℕ) → Type 0
 Ends status old new faults_old faults_new = ((least : Minimums) × Answers least status old new faults_old faults_new)
     ⊎ ((json : Bool) × (least : Minimums) × ReportedBy json least status old new faults_old faults_new)
-    ⊎ ((position : Option ℕ) × Explained position status old new faults_old faults_new)
+    ⊎ ((json : Bool) × (position : Option ℕ) × Explained json position status old new faults_old faults_new)
     ⊎ ((span : Span) × ShownFor span status old new faults_old faults_new)
     ⊎ Played status old new faults_old faults_new ⊎ Converted status old new faults_old faults_new ⊎ Served status old new faults_old faults_new
     ⊎ Proxied status old new faults_old faults_new ⊎ ((status ≡ 0) × Keeps faults_old faults_new) ⊎ ((status ≡ 64) × Keeps old new)

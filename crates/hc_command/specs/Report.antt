@@ -16,6 +16,7 @@ use Rattle.hc_history.specs.Verdicts.{IsVerdict}
 use Rattle.hc_audit.specs.declared.survey.Survey.{Survey}
 use Rattle.hc_audit.specs.Endings.{EndsSo, IsSurveyOf}
 use Rattle.hc_audit.specs.Surveying.{AreCounted, Surveys}
+use Rattle.hc_why.specs.Seeking.{reason_in, wrong_at}
 use Rattle.hc_explain.specs.Heads.{IsHead}
 use Rattle.hc_command.specs.declared.surveying.Outcome.{Outcome}
 use Rattle.hc_command.specs.declared.surveying.Outcome.TheVariants.{Whole, Broken}
@@ -88,9 +89,9 @@ ReportsFor json settings input status old new faults_old faults_new =
     (status ≡ 3) ⊎ (SaysReport json settings input status old new × Keeps faults_old faults_new)
 
 -- it says so, if there is a status
-abbrev pub SaysIfSome : Settings → Option (List ℕ) → Option ℕ → Option (List ℕ) → Option (List ℕ) → Type 0
-SaysIfSome settings input None old new = ⊥
-SaysIfSome settings input (Some status) old new = SaysReport false settings input status old new
+abbrev pub SaysIfSome : Bool → Settings → Option (List ℕ) → Option ℕ → Option (List ℕ) → Option (List ℕ) → Type 0
+SaysIfSome json settings input None old new = ⊥
+SaysIfSome json settings input (Some status) old new = SaysReport json settings input status old new
 
 -- ---- what is said of the reply at a position
 
@@ -103,33 +104,71 @@ reply_status (Wrong why) = 1
 abbrev pub IsHeadLine : ℕ → Finding → List ℕ → Type 0
 IsHeadLine position finding line = (head : List ℕ) × IsHead position finding head × (line ≡ head ++ 10 ∷ [])
 
--- the writer got the line that heads the explanation of some reply, and behind it more, and this is the status of that reply
-pub record SaysReply (status : ℕ) (old new : Option (List ℕ)) : Type 0 where
-  pub position : ℕ
-  pub finding : Finding
+-- the writer got the line that heads the explanation of that reply, and behind it more, and this is its status
+pub record SaysHead (position : ℕ) (finding : Finding) (old new : Option (List ℕ)) (status : ℕ) : Type 0 where
   pub line : List ℕ
   pub more : List ℕ
   pub has_status : status ≡ reply_status finding
   pub is_line : IsHeadLine position finding line
   pub written : Appends old new (line ++ more)
 
--- the writer got the line that a record at that place or before it breaks the transcript, and nothing else, and this is its status
-pub record SaysBreak (place status : ℕ) (old new : Option (List ℕ)) : Type 0 where
+-- the writer got some text, and this is the status of a reply of that finding
+pub record SaysFinding (finding : Finding) (old new : Option (List ℕ)) (status : ℕ) : Type 0 where
+  pub text : List ℕ
+  pub has_status : status ≡ reply_status finding
+  pub written : Appends old new text
+
+-- in JSON, or as text
+abbrev pub SaysReplyIn : Bool → ℕ → Finding → Option (List ℕ) → Option (List ℕ) → ℕ → Type 0
+SaysReplyIn true position finding old new status = SaysFinding finding old new status
+SaysReplyIn false position finding old new status = SaysHead position finding old new status
+
+-- the writer got the line of that verdict, and nothing else; or some text, in JSON
+abbrev pub SaysBreakIn : Bool → Verdict → ℕ → Option (List ℕ) → Option (List ℕ) → Type 0
+SaysBreakIn true verdict status old new = SaysText verdict status old new
+SaysBreakIn false verdict status old new = SaysLine verdict status old new
+
+-- it got that a record at that place or before it breaks the transcript, and this is its status
+pub record SaysBreak (json : Bool) (place status : ℕ) (old new : Option (List ℕ)) : Type 0 where
   pub position : ℕ
   pub fault : RecordFault
   pub no_later : position ≤ place
-  pub says : SaysLine (Malformed position fault) status old new
+  pub says : SaysBreakIn json (Malformed position fault) status old new
 
--- the writer got an explanation or the line of a break, if there is a status, and else nothing
-abbrev pub WritesIfSome : ℕ → Option ℕ → Option (List ℕ) → Option (List ℕ) → Type 0
-WritesIfSome place None old new = Keeps old new
-WritesIfSome place (Some status) old new = SaysReply status old new ⊎ SaysBreak place status old new
+-- the finding is that of the reply at that place in what was read of the input: it is wrong by the reason of the wrong reply that stands there among those of the
+-- octets that were read, and right where none does
+pub record IsFindingAt (settings : Settings) (input left : Option (List ℕ)) (place : ℕ) (finding : Finding) : Type 0 where
+  pub read : List ℕ
+  pub consumed : Consumes input left read
+  pub history : List Item
+  pub wrongs : List WrongReply
+  pub outcome : Outcome
+  pub are : IsSurveyed read settings history wrongs outcome
+  pub reason : reason_in finding ≡ wrong_at place wrongs
 
--- an explanation of the reply at that place says so on the output and leaves the faults as they were; where no reply stands there, the output gets nothing and
--- the status is 64; where there is none for want of memory or by a device, the status is 3
-abbrev pub ExplainsAt : ℕ → ℕ → Option (List ℕ) → Option (List ℕ) → Option (List ℕ) → Option (List ℕ) → Type 0
-ExplainsAt place status old new faults_old faults_new =
-    (status ≡ 3) ⊎ ((status ≡ 64) × Keeps old new) ⊎ ((SaysReply status old new ⊎ SaysBreak place status old new) × Keeps faults_old faults_new)
+-- the writer got what is said of the reply at that place, of which that is found
+pub record SaysFound (json : Bool) (settings : Settings) (input left : Option (List ℕ)) (place status : ℕ) (old new : Option (List ℕ)) : Type 0 where
+  pub finding : Finding
+  pub is : IsFindingAt settings input left place finding
+  pub says : SaysReplyIn json place finding old new status
+
+-- the writer got that the transcript breaks, if there is a status, and else nothing
+abbrev pub BreaksIfSome : Bool → ℕ → Option ℕ → Option (List ℕ) → Option (List ℕ) → Type 0
+BreaksIfSome json place None old new = Keeps old new
+BreaksIfSome json place (Some status) old new = SaysBreak json place status old new
+
+-- the writer got an explanation or that the transcript breaks, if there is a status, and else nothing
+abbrev pub WritesIfSome : Bool → Settings → Option (List ℕ) → Option (List ℕ) → ℕ → Option ℕ → Option (List ℕ) → Option (List ℕ) → Type 0
+WritesIfSome json settings input left place None old new = Keeps old new
+WritesIfSome json settings input left place (Some status) old new =
+    SaysFound json settings input left place status old new ⊎ SaysBreak json place status old new
+
+-- an explanation of the reply at that place says on the output what is found there, and leaves the faults as they were; where no reply stands there, the output
+-- gets nothing and the status is 64; where there is none for want of memory or by a device, the status is 3
+abbrev pub ExplainsAt : Bool → Settings → Option (List ℕ) → Option (List ℕ) → ℕ → ℕ → Option (List ℕ) → Option (List ℕ) → Option (List ℕ) → Option (List ℕ) → Type 0
+ExplainsAt json settings input left place status old new faults_old faults_new =
+    (status ≡ 3) ⊎ ((status ≡ 64) × Keeps old new)
+    ⊎ ((SaysFound json settings input left place status old new ⊎ SaysBreak json place status old new) × Keeps faults_old faults_new)
 
 -- ---- where the input isn't known
 
@@ -143,10 +182,17 @@ abbrev pub Reported : Bool → ℕ → Option (List ℕ) → Option (List ℕ) �
 Reported json status old new faults_old faults_new =
     (status ≡ 3) ⊎ (SaysSomeReport json status old new × Keeps faults_old faults_new)
 
+-- an explanation of the reply at that place of some input
+pub record ExplainsSome (json : Bool) (place status : ℕ) (old new faults_old faults_new : Option (List ℕ)) : Type 0 where
+  pub settings : Settings
+  pub input : Option (List ℕ)
+  pub left : Option (List ℕ)
+  pub explains : ExplainsAt json settings input left place status old new faults_old faults_new
+
 -- an explanation of a reply of some input: of the first wrong one, or else of the one at that place
-abbrev pub Explained : Option ℕ → ℕ → Option (List ℕ) → Option (List ℕ) → Option (List ℕ) → Option (List ℕ) → Type 0
-Explained None status old new faults_old faults_new = Reported false status old new faults_old faults_new
-Explained (Some place) status old new faults_old faults_new = ExplainsAt place status old new faults_old faults_new
+abbrev pub Explained : Bool → Option ℕ → ℕ → Option (List ℕ) → Option (List ℕ) → Option (List ℕ) → Option (List ℕ) → Type 0
+Explained json None status old new faults_old faults_new = Reported json status old new faults_old faults_new
+Explained json (Some place) status old new faults_old faults_new = (status ≡ 3) ⊎ ExplainsSome json place status old new faults_old faults_new
 
 -- ---- what private functions promise
 

@@ -1,17 +1,23 @@
 //! The explanation of one reply of a transcript, which is read twice: from two readers to text on a writer and an exit
 //! status.
-ghost use Rattle.std.specs.Prelude.{◌≡◌, ℕ, None, Some, false, IfOk, IsSome, string_bytes};
-ghost use Rattle.hc_explain.specs.Seeking.{finding_of, first_of, position_of};
-ghost use Rattle.hc_command.specs.Report.{ExplainsAt, IsHeadLine, ReportsFor, SaysIfSome, SaysReply, SaysReport, WritesIfSome, reply_status};
+ghost use Rattle.std.specs.Prelude.{◌≡◌, ◌++◌, ℕ, List, None, Some, IfOk, IsSome, string_bytes};
+ghost use Rattle.std.specs.Io.KnownBytes.{Appends};
+ghost use Rattle.hc_history.specs.declared.verdicts.Finding.{Finding};
+ghost use Rattle.hc_why.specs.Explaining.{finding_of, position_of};
+ghost use Rattle.hc_why.specs.Seeking.{first_of};
+ghost use Rattle.hc_command.specs.Report.{BreaksIfSome, ExplainsAt, IsHeadLine, ReportsFor, SaysBreakIn, SaysIfSome, SaysOf, SaysReplyIn, SaysReport, WritesIfSome, reply_status};
 
-use crate::auditing::said;
+use crate::auditing::{said, status};
+use crate::objects::object;
 use crate::print::printed;
 use crate::saying::said_first;
 use crate::surveying::{Outcome, Reading, surveyed};
 use crate::trouble::Trouble;
-use hc_explain::{FirstWrong, Found, ReplyAt, Retracing};
+use hc_arguments::ExplainTerms;
+use hc_explain::{say, say_head};
 use hc_history::{Finding, Settings, Verdict};
 use hc_index::Index;
+use hc_why::{Explanation, FirstWrong, ReplyAt, Retracing};
 use std::alloc::{AllocError, Global};
 use std::io::{Read, Write};
 
@@ -42,7 +48,7 @@ impl<I: Index> Reading<I> for Retracing {
     }
 }
 
-/// Explains the reply at that position of the transcript that both readers give, or where no position is given the first
+/// Explains the reply at the position of the transcript that both readers give, or where no position is given the first
 /// wrong reply, and answers the exit status. `name` is what the input is called where it fails.
 ///
 /// The explanation goes to `output`. The status is that of the reply, 0 where it is right and 1 where it is wrong.
@@ -50,26 +56,28 @@ impl<I: Index> Reading<I> for Retracing {
 /// an audit. Where a record breaks the transcript before the position, `output` gets the line that says so, and the
 /// status is 2; where no reply stands there, the status is 64, and `faults` gets `error: position`. Where none of that
 /// can be said, by a read or a write that fails or by memory, the status is 3, and one line on `faults` says why.
+///
+/// In JSON all that goes to `output` is one object on one line: its `verdict` is the line of a verdict, or null, and its
+/// `reply` the explanation, or null.
 pub fn explain<R: Read, S: Read, W: Write, E: Write>(
     alloc: Global,
-    settings: Settings,
-    position: Option<u64>,
+    terms: ExplainTerms,
     name: &str,
     input: &mut R,
     again: &mut S,
     output: &mut W,
     faults: &mut E,
 ) -> u8
-    // Without a position the line of the verdict on all octets that the input had comes first.
-    ensures first { position ≡ None
-        → ReportsFor false settings (R.remaining input.old) result (W.contents output.old) (W.contents output.new)
+    // Without a position the verdict on all octets that the input had comes first.
+    ensures first { terms.position ≡ None
+        → ReportsFor terms.json terms.settings (R.remaining input.old) result (W.contents output.old) (W.contents output.new)
         (E.contents faults.old) (E.contents faults.new) }
-    // At a position the line that heads the explanation, or that of a break before it.
-    ensures at { (place : ℕ) → position ≡ Some place
-        → ExplainsAt place result (W.contents output.old) (W.contents output.new)
-        (E.contents faults.old) (E.contents faults.new) }
+    // At a position what is found there of what was read of the input, or a break before it.
+    ensures at { (place : ℕ) → terms.position ≡ Some place
+        → ExplainsAt terms.json terms.settings (R.remaining input.old) (R.remaining input.new) place result
+        (W.contents output.old) (W.contents output.new) (E.contents faults.old) (E.contents faults.new) }
 {
-    match explained(alloc, settings, position, input, again, output) {
+    match explained(alloc, terms, input, again, output) {
         Ok(Some(status)) => status,
         Ok(None) => no_reply(faults),
         Err(trouble) => trouble.told(name, faults),
@@ -87,89 +95,128 @@ fn no_reply<E: Write>(faults: &mut E) -> u8
 // Explains the reply, and answers the exit status: none where no reply stands at the position.
 fn explained<R: Read, S: Read, W: Write>(
     alloc: Global,
-    settings: Settings,
-    position: Option<u64>,
+    terms: ExplainTerms,
     input: &mut R,
     again: &mut S,
     output: &mut W,
 ) -> Result<Option<u8>, Trouble>
-    ensures first { position ≡ None
-        → IfOk result (λ status. SaysIfSome settings (R.remaining input.old) status (W.contents output.old) (W.contents output.new)) }
-    ensures at { (place : ℕ) → position ≡ Some place
-        → IfOk result (λ status. WritesIfSome place status (W.contents output.old) (W.contents output.new)) }
+    ensures first { terms.position ≡ None
+        → IfOk result (λ status. SaysIfSome terms.json terms.settings (R.remaining input.old) status (W.contents output.old) (W.contents output.new)) }
+    ensures at { (place : ℕ) → terms.position ≡ Some place
+        → IfOk result (λ status. WritesIfSome terms.json terms.settings (R.remaining input.old) (R.remaining input.new) place status
+        (W.contents output.old) (W.contents output.new)) }
 {
-    match position {
-        None => Ok(Some(first_explained(alloc, settings, input, again, output)?)),
-        Some(position) => reply_explained(alloc, settings, position, input, again, output),
+    match terms.position {
+        None => Ok(Some(first_explained(alloc, terms, input, again, output)?)),
+        Some(position) => reply_explained(alloc, position, terms, input, again, output),
     }
 }
 
 // Says the verdict, and explains the first wrong reply, if there is one. Answers the verdict's status.
 fn first_explained<R: Read, S: Read, W: Write>(
     alloc: Global,
-    settings: Settings,
+    terms: ExplainTerms,
     input: &mut R,
     again: &mut S,
     output: &mut W,
 ) -> Result<u8, Trouble>
-    ensures { IfOk result (λ status. SaysReport false settings (R.remaining input.old) status (W.contents output.old) (W.contents output.new)) }
+    ensures { IfOk result (λ status. SaysReport terms.json terms.settings (R.remaining input.old) status (W.contents output.old) (W.contents output.new)) }
 {
-    let same = settings.copy(alloc)?;
+    let json = terms.json;
+    let same = terms.settings.copy(alloc)?;
     let mut seeker = FirstWrong::new(alloc);
-    let outcome = surveyed(alloc, settings, input, &mut seeker)?;
+    let outcome = surveyed(alloc, terms.settings, input, &mut seeker)?;
     let verdict = outcome.verdict(seeker.first_wrong());
-    let text = match seeker.into_found() {
-        Some(found) => retraced(alloc, same, found, again)?,
-        None => String::new(alloc),
+    let found = match seeker.into_found() {
+        Some(found) => Some(retraced(alloc, same, found, again)?),
+        None => None,
     };
-    said_first(alloc, &verdict, text.as_str(), output)
+    verdict_said(alloc, json, &verdict, found.as_ref(), output)
+}
+
+// Says the verdict and what was found of a reply, if one was, and answers the verdict's status.
+fn verdict_said<W: Write>(
+    alloc: Global,
+    json: bool,
+    verdict: &Verdict,
+    found: Option<&Retracing>,
+    output: &mut W,
+) -> Result<u8, Trouble>
+    ensures { IfOk result (λ status. SaysOf json verdict.now status (W.contents output.old) (W.contents output.new)) }
+{
+    if json {
+        let text = object(alloc, Some(verdict), found)?;
+        written_as(text.as_str(), status(verdict), output)
+    } else {
+        let text = lines_of(alloc, found)?;
+        said_first(alloc, verdict, text.as_str(), output)
+    }
 }
 
 // Explains the reply at that position, and answers its status: none where no reply stands there.
 fn reply_explained<R: Read, S: Read, W: Write>(
     alloc: Global,
-    settings: Settings,
     position: u64,
+    terms: ExplainTerms,
     input: &mut R,
     again: &mut S,
     output: &mut W,
 ) -> Result<Option<u8>, Trouble>
-    ensures { IfOk result (λ status. WritesIfSome position status (W.contents output.old) (W.contents output.new)) }
+    ensures { IfOk result (λ status. WritesIfSome terms.json terms.settings (R.remaining input.old) (R.remaining input.new) position status
+        (W.contents output.old) (W.contents output.new)) }
 {
-    let same = settings.copy(alloc)?;
+    let json = terms.json;
+    let same = terms.settings.copy(alloc)?;
     let mut seeker = ReplyAt::new(alloc, position);
-    let outcome = surveyed(alloc, settings, input, &mut seeker)?;
-    match seeker.into_found() {
-        Some(found) => Ok(Some(found_explained(alloc, same, found, again, output)?)),
-        None => not_found(alloc, &outcome, position, output),
+    let outcome = surveyed(alloc, terms.settings, input, &mut seeker)?;
+    let Some(found) = seeker.into_found() else {
+        return not_found(alloc, json, &outcome, position, output);
+    };
+    if found.position() != position {
+        return Ok(None);
     }
+    let head = head_line(alloc, &found)?;
+    let status = status_of(found.finding());
+    let found = retraced(alloc, same, found, again)?;
+    Ok(Some(reply_said(alloc, json, head, status, &found, output)?))
 }
 
-// Explains the reply that was found, and answers its status.
-fn found_explained<S: Read, W: Write>(
+// Says what was found of the reply, in text behind the line that heads it, and answers that status.
+fn reply_said<W: Write>(
     alloc: Global,
-    settings: Settings,
-    found: Found,
-    again: &mut S,
+    json: bool,
+    head: String,
+    status: u8,
+    found: &Retracing,
     output: &mut W,
 ) -> Result<u8, Trouble>
-    ensures { IfOk result (λ status. SaysReply status (W.contents output.old) (W.contents output.new)) }
+    ensures { (position : ℕ) (finding : Finding) → IsHeadLine position finding (string_bytes head) → status ≡ reply_status finding
+        → IfOk result (SaysReplyIn json position finding (W.contents output.old) (W.contents output.new)) }
 {
-    let status = status_of(found.finding());
-    let mut text = head_line(alloc, &found)?;
-    text.push_str(retraced(alloc, settings, found, again)?.as_str())?;
-    match printed(text.as_str(), output) {
+    let text = if json {
+        object(alloc, None, Some(found))?
+    } else {
+        with_lines(alloc, head, found)?
+    };
+    written_as(text.as_str(), status, output)
+}
+
+// Writes the text, and answers that status.
+fn written_as<W: Write>(text: &str, status: u8, output: &mut W) -> Result<u8, Trouble>
+    ensures { IfOk result (λ told. (told ≡ status) × Appends (W.contents output.old) (W.contents output.new) text.now) }
+{
+    match printed(text, output) {
         Ok(()) => Ok(status),
         Err(error) => Err(Trouble::Output(error)),
     }
 }
 
 // The line that heads the explanation of what was found.
-fn head_line(alloc: Global, found: &Found) -> Result<String, AllocError>
+fn head_line(alloc: Global, found: &Explanation) -> Result<String, AllocError>
     ensures { IfOk result (λ line. IsHeadLine (position_of found.now) (finding_of found.now) (string_bytes line)) }
 {
     let mut line = String::new(alloc);
-    found.say_head(&mut line)?;
+    say_head(found, &mut line)?;
     line.push('\n')?;
     Ok(line)
 }
@@ -184,28 +231,45 @@ fn status_of(finding: Finding) -> u8
     }
 }
 
-// The explanation of what was found, for which the transcript is read again.
+// What was found, with what the transcript tells of it when it is read again.
 fn retraced<S: Read>(
     alloc: Global,
     settings: Settings,
-    found: Found,
+    found: Explanation,
     again: &mut S,
-) -> Result<String, Trouble> {
-    let mut retracing = Retracing::new(alloc, found)?;
+) -> Result<Retracing, Trouble> {
+    let mut retracing = Retracing::new(found);
     surveyed(alloc, settings, again, &mut retracing)?;
-    let mut text = String::new(alloc);
-    retracing.say(&mut text)?;
+    Ok(retracing)
+}
+
+// The text, and behind it the lines of what was found.
+fn with_lines(alloc: Global, text: String, found: &Retracing) -> Result<String, AllocError>
+    ensures { IfOk result (λ longer. (more : List ℕ) × (string_bytes longer ≡ string_bytes text ++ more)) }
+{
+    let mut text = text;
+    text.push_str(lines_of(alloc, Some(found))?.as_str())?;
     Ok(text)
+}
+
+// The lines of what was found, if anything was.
+fn lines_of(alloc: Global, found: Option<&Retracing>) -> Result<String, AllocError> {
+    let mut lines = String::new(alloc);
+    if let Some(found) = found {
+        say(alloc, found.explanation(), &mut lines)?;
+    }
+    Ok(lines)
 }
 
 // Says where the transcript breaks, if that is no later than the position.
 fn not_found<W: Write>(
     alloc: Global,
+    json: bool,
     outcome: &Outcome,
     position: u64,
     output: &mut W,
 ) -> Result<Option<u8>, Trouble>
-    ensures { IfOk result (λ status. WritesIfSome position status (W.contents output.old) (W.contents output.new)) }
+    ensures { IfOk result (λ status. BreaksIfSome json position status (W.contents output.old) (W.contents output.new)) }
 {
     let Outcome::Broken(at, fault) = *outcome else {
         return Ok(None);
@@ -213,6 +277,22 @@ fn not_found<W: Write>(
     if position < at {
         return Ok(None);
     }
-    let verdict = Verdict::Malformed(at, fault);
-    Ok(Some(said(alloc, &verdict, output)?))
+    Ok(Some(break_said(alloc, json, &Verdict::Malformed(at, fault), output)?))
+}
+
+// Says that verdict alone, and answers its status.
+fn break_said<W: Write>(
+    alloc: Global,
+    json: bool,
+    verdict: &Verdict,
+    output: &mut W,
+) -> Result<u8, Trouble>
+    ensures { IfOk result (λ status. SaysBreakIn json verdict.now status (W.contents output.old) (W.contents output.new)) }
+{
+    if json {
+        let text = object(alloc, Some(verdict), None)?;
+        written_as(text.as_str(), status(verdict), output)
+    } else {
+        said(alloc, verdict, output)
+    }
 }

@@ -9,6 +9,7 @@ mod explaining;
 mod input;
 mod line;
 mod minimums;
+mod objects;
 mod print;
 mod replaying;
 mod reporting;

@@ -25,7 +25,8 @@ use crate::trouble::Trouble;
 use clap::Error;
 use clap::error::ErrorKind;
 use hc_arguments::{
-    AuditTerms, Order, ProxyLimits, ProxyPatience, Proxying, RecordTerms, not_text, parsed,
+    AuditTerms, ExplainTerms, Order, ProxyLimits, ProxyPatience, Proxying, RecordTerms, not_text,
+    parsed,
 };
 use hc_crowd::{Limits, Patience};
 use hc_history::Settings;
@@ -102,7 +103,7 @@ where
     // And `explain FILE`, where that is no standard input, by an explanation of the first wrong reply.
     ensures explain { (name file : Text) → IsFileName file
         → map S.text words.now ≡ name ∷ codes "explain" ∷ file ∷ []
-        → Explained None result (W.contents output.old) (W.contents output.new)
+        → Explained false None result (W.contents output.old) (W.contents output.new)
         (E.contents faults.old) (E.contents faults.new) }
 
     // And `replay FILE` by a replay.
@@ -156,11 +157,7 @@ where
     match order {
         Order::Audit { file, terms } => audited(rt, file, terms, output, faults),
         Order::Report { file, terms, json } => reported(rt, file, terms, json, output, faults),
-        Order::Explain {
-            file,
-            position,
-            settings,
-        } => explained(rt, file, position, settings, output, faults),
+        Order::Explain { file, terms } => explained(rt, file, terms, output, faults),
         Order::Show { file, span } => records_shown(rt, file, span, output, faults),
         Order::Replay { file } => replayed(rt, file, output, faults),
         Order::Convert { file } => converted(rt, file, output, faults),
@@ -249,22 +246,20 @@ where
 fn explained<R, W: Write, E: Write>(
     rt: &R,
     file: &str,
-    position: Option<u64>,
-    settings: Settings,
+    terms: ExplainTerms,
     output: &mut W,
     faults: &mut E,
 ) -> u8
 where
     R: Files + AllocGlobal,
-    ensures { Explained position result (W.contents output.old) (W.contents output.new)
+    ensures { Explained terms.json terms.position result (W.contents output.old) (W.contents output.new)
         (E.contents faults.old) (E.contents faults.new) }
 {
     let alloc = rt.alloc();
     match (fs::open(rt, file), fs::open(rt, file)) {
         (Ok(mut opened), Ok(mut again)) => explain(
             alloc,
-            settings,
-            position,
+            terms,
             file,
             &mut opened,
             &mut again,

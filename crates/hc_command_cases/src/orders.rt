@@ -36,14 +36,11 @@ fn write_order(order: &Order<'_>, out: &mut String) -> Result<(), AllocError> {
             write!(out, "to report on {file} {form}")?;
             write_terms_of_audit(terms, out)
         }
-        Order::Explain {
-            file,
-            position,
-            settings,
-        } => {
-            write_reply(*position, out)?;
-            write!(out, " of {file}")?;
-            write_settings(settings, out)
+        Order::Explain { file, terms } => {
+            write_reply(terms.position, out)?;
+            let form = if terms.json { " in JSON" } else { "" };
+            write!(out, " of {file}{form}")?;
+            write_settings(&terms.settings, out)
         }
         Order::Show { file, span } => {
             let Span { first, last } = *span;

@@ -38,7 +38,7 @@ impl<W: World + Drop> Crowd<W> {
         ensures shows { IfOk result (λ crowd. ShowNoMore W.Stream.has_got crowd.traffic.peers []) }
         ensures limits { IfOk result (λ crowd. crowd.limits ≡ limits) }
     {
-        let clock = Moments::new(world.wall(), world.tick());
+        let clock = Moments::new(world.wall(), world.monotonic());
         let traffic = Traffic::new(alloc, world, limits.origin_connections)?;
         Ok(Crowd {
             limits,
@@ -165,7 +165,8 @@ impl<W: World> Batches for Crowd<W> {
     fn wait(&mut self) -> Result<(), AllocError> {
         self.traffic.wait(self.limits);
         let wall = self.traffic.world.wall();
-        self.clock.look(wall, self.traffic.tick);
+        let monotonic = self.traffic.world.monotonic();
+        self.clock.look(wall, monotonic);
         self.traffic.refusal()
     }
 

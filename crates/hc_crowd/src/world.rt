@@ -6,6 +6,7 @@ ghost use Rattle.hc_crowd.specs.Worlds.{IsFreshlyAccepted};
 
 use hc_flow::{Readiness, Stream};
 use hc_order::Receiver;
+use std::time::Duration;
 
 /// What became ready.
 #[derive(Clone, Copy)]
@@ -56,10 +57,13 @@ pub trait World {
     fn connect(&mut self, forward: u64, attempt: u32) -> Option<Self::Stream>
         ensures { IfSome result (λ stream. Self.Stream.has_given stream [] × Self.Stream.has_got stream []) };
 
-    /// The wall clock's second, since 1970; none where it can't be read.
-    fn wall(&self) -> Option<u64>;
+    /// What the wall clock tells, since 1970; none where it can't be read.
+    fn wall(&self) -> Option<Duration>;
 
-    /// The milliseconds that a clock has counted which is never set.
+    /// What a clock has counted which is never set. Moments go by it.
+    fn monotonic(&self) -> Duration;
+
+    /// Its whole milliseconds. Deadlines go by them.
     fn tick(&self) -> u64;
 
     /// Whether the program was asked to stop.

@@ -117,6 +117,7 @@ impl<'a> Drawing<'a> {
         Script {
             limits,
             wall: if dice.once_in(24) { None } else { Some(START) },
+            part: 0,
             addresses: if dice.once_in(2) { 1 } else { 2 },
             writes: if fails { dice.below(60) } else { u64::MAX },
             names: if refuses { dice.below(20) } else { u64::MAX },

@@ -75,6 +75,8 @@ pub struct Script {
     pub names: u64,
     /// The wall clock's second at the start.
     pub wall: Option<u64>,
+    /// How many nanoseconds of that second have passed by then.
+    pub part: u64,
     /// How many addresses the origin has.
     pub addresses: u32,
     /// What is to be done, and when.
@@ -96,6 +98,7 @@ impl Drop for Script {
             writes: _,
             names: _,
             wall: _,
+            part: _,
             addresses: _,
             cues,
             origin,
@@ -125,6 +128,7 @@ impl Script {
             writes: u64::MAX,
             names: u64::MAX,
             wall: Some(START),
+            part: 0,
             addresses: 1,
             cues: Cues::new(alloc),
             origin: Origin::Lines(Vec::new(alloc)),

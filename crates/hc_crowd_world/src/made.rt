@@ -5,6 +5,7 @@ use crate::strand::Strand;
 use hc_crowd::{Accepted, Ready, World};
 use hc_order::Receiver;
 use std::cell::RefCell;
+use std::time::Duration;
 
 /// A world in memory, as a crowd sees it.
 #[derive(Drop)]
@@ -86,11 +87,15 @@ impl<'a> World for Made<'a> {
         Some(self.strand(Receiver::Origin(forward)))
     }
 
-    fn wall(&self) -> Option<u64> {
+    fn wall(&self) -> Option<Duration> {
         match self.play.try_borrow() {
             Ok(play) => play.wall(),
             Err(_) => None,
         }
+    }
+
+    fn monotonic(&self) -> Duration {
+        Duration::from_millis(self.tick())
     }
 
     fn tick(&self) -> u64 {

@@ -14,6 +14,7 @@ use hc_order::Receiver;
 use std::alloc::{AllocError, Global};
 use std::collections::{BTreeMap, VecDeque};
 use std::fmt::Write;
+use std::time::Duration;
 
 /// The milliseconds of a second.
 const SECOND: u64 = 1_000;
@@ -23,8 +24,8 @@ pub struct Play {
     pub(crate) alloc: Global,
     pub(crate) script: Script,
     pub(crate) tick: u64,
-    /// The wall clock's second at millisecond 0, as it is set now.
-    wall: Option<u64>,
+    /// What the wall clock told at millisecond 0, as it is set now.
+    wall: Option<Duration>,
     pub(crate) peers: BTreeMap<u64, Peer>,
     ready: VecDeque<Ready>,
     /// For so many links at once the system has places.
@@ -75,13 +76,19 @@ pub fn is_client(key: u64) -> bool {
     key % 2 == 0
 }
 
+/// What the wall clock tells at the start.
+fn wall_at_start(script: &Script) -> Option<Duration> {
+    let part = Duration::from_nanos(script.part);
+    Some(Duration::from_secs(script.wall?).saturating_add(part))
+}
+
 impl Play {
     /// A world in which nothing has happened yet.
     pub fn new(alloc: Global, script: Script) -> Self {
         Play {
             alloc,
             tick: 0,
-            wall: script.wall,
+            wall: wall_at_start(&script),
             script,
             peers: BTreeMap::new(alloc),
             ready: VecDeque::new(alloc),
@@ -185,10 +192,10 @@ impl Play {
         }
     }
 
-    /// The wall clock is set.
+    /// The wall clock is set to that second, of which as much has passed as of the one that the other clock counts.
     fn set_wall(&mut self, second: Option<u64>) {
         self.wall = match second {
-            Some(second) => Some(second.saturating_sub(self.tick / SECOND)),
+            Some(second) => Some(Duration::from_secs(second.saturating_sub(self.tick / SECOND))),
             None => None,
         };
     }
@@ -281,10 +288,10 @@ impl Play {
         }
     }
 
-    /// The wall clock's second.
-    pub(crate) fn wall(&self) -> Option<u64> {
+    /// What the wall clock tells.
+    pub(crate) fn wall(&self) -> Option<Duration> {
         match self.wall {
-            Some(wall) => Some(wall.saturating_add(self.tick / SECOND)),
+            Some(wall) => Some(wall.saturating_add(Duration::from_millis(self.tick))),
             None => None,
         }
     }

@@ -1,17 +1,36 @@
-//! The head line of an explanation, and the line of the reply.
+//! The head line of an explanation, and the lines of the request and the reply.
 
 ghost use Rattle.std.specs.Prelude.{◌≡◌, ◌++◌, List, ℕ, OnOk, string_bytes};
 ghost use Rattle.hc_explain.specs.Heads.{IsHead};
-ghost use Rattle.hc_explain.specs.Seeking.{finding_of, position_of};
+ghost use Rattle.hc_why.specs.Explaining.{finding_of, position_of};
 
-use crate::asked::AskedReply;
-use crate::found::Found;
-use crate::layout::{begin_line, end_line, push_method};
+use crate::layout::{begin_line, end_line, push_method, push_separator};
 use crate::marking::{push_cache_status, way};
+use hc_facts::{AskedReply, ShownField};
 use hc_history::Finding;
-use hc_shown::{push_moment, push_target};
+use hc_shown::{push_moment, push_octets, push_target, push_value};
+use hc_why::Explanation;
 use std::alloc::{AllocError, Global};
 use std::fmt::Write;
+
+/// Writes the head line of an explanation, without its end: `no 444 3 Invalidated`, or `right 444 hit`.
+pub fn say_head(explanation: &Explanation, out: &mut String) -> Result<(), AllocError>
+    ensures { OnOk result ((head : List ℕ) × IsHead (position_of explanation.now) (finding_of explanation.now) head
+        × (string_bytes out.new ≡ string_bytes out.old ++ head)) }
+{
+    let position = explanation.position();
+    match explanation.finding() {
+        Finding::Right => {
+            let way = way(explanation.way);
+            write!(out, "right {position} {way}")
+        }
+        Finding::Wrong(reason) => {
+            let number = reason.number();
+            let name = reason.name();
+            write!(out, "no {position} {number} {name}")
+        }
+    }
+}
 
 /// Writes when the reply came, and what was asked.
 fn push_asked(reply: &AskedReply, out: &mut String) -> Result<(), AllocError> {
@@ -27,40 +46,50 @@ fn push_answer(reply: &AskedReply, out: &mut String) -> Result<(), AllocError> {
     write!(out, " -> {status}, {octets} octets, ")
 }
 
-impl Found {
-    /// Writes the head line of the explanation, without its end: `no 444 3 Invalidated`, or `right 444 hit`.
-    pub fn say_head(&self, out: &mut String) -> Result<(), AllocError>
-        ensures { OnOk result ((head : List ℕ) × IsHead (position_of self.now) (finding_of self.now) head
-            × (string_bytes out.new ≡ string_bytes out.old ++ head)) }
-    {
-        let position = self.position;
-        match self.finding {
-            Finding::Right => {
-                let way = way(self);
-                write!(out, "right {position} {way}")
-            }
-            Finding::Wrong(reason) => {
-                let number = reason.number();
-                let name = reason.name();
-                write!(out, "no {position} {number} {name}")
-            }
-        }
-    }
+/// Begins the line of the reply at that position, to the request at that one.
+fn begin_reply(
+    alloc: Global,
+    since: u64,
+    position: u64,
+    out: &mut String,
+) -> Result<(), AllocError> {
+    let place = format!(in alloc; "{since}-{position}")?;
+    begin_line("reply", place.as_str(), out)
+}
 
-    /// Begins the line of the reply.
-    fn begin_reply(&self, alloc: Global, out: &mut String) -> Result<(), AllocError> {
-        let since = self.since;
-        let position = self.position;
-        let place = format!(in alloc; "{since}-{position}")?;
-        begin_line("reply", place.as_str(), out)
+/// Writes the fields of the request that say what it asks besides its target, if it has any.
+fn say_fields(fields: &[ShownField], out: &mut String) -> Result<(), AllocError> {
+    if fields.is_empty() {
+        return Ok(());
     }
+    begin_line("asked", "", out)?;
+    let mut is_first = true;
+    for field in fields {
+        push_separator(is_first, "", ", ", out)?;
+        push_field(field.name.as_slice(), field.value.as_slice(), out)?;
+        is_first = false;
+    }
+    end_line(out)
+}
 
-    /// Writes the line of the reply.
-    pub(crate) fn say_reply(&self, alloc: Global, out: &mut String) -> Result<(), AllocError> {
-        self.begin_reply(alloc, out)?;
-        push_asked(&self.reply, out)?;
-        push_answer(&self.reply, out)?;
-        push_cache_status(self, out)?;
-        end_line(out)
-    }
+/// Writes a field.
+fn push_field(name: &[u8], value: &[u8], out: &mut String) -> Result<(), AllocError> {
+    push_octets(name, out)?;
+    out.push_str(" ")?;
+    push_value(name, value, out)
+}
+
+/// Writes the line of the reply, and that of what the request asks besides its target.
+pub(crate) fn say_reply(
+    alloc: Global,
+    explanation: &Explanation,
+    out: &mut String,
+) -> Result<(), AllocError> {
+    let reply = &explanation.reply;
+    begin_reply(alloc, explanation.since, explanation.position, out)?;
+    push_asked(reply, out)?;
+    push_answer(reply, out)?;
+    push_cache_status(reply, out)?;
+    end_line(out)?;
+    say_fields(reply.fields.as_slice(), out)
 }

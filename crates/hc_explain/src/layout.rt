@@ -1,12 +1,11 @@
 //! How the lines of an explanation are laid out.
 
+use hc_facts::RecordName;
 use hc_head::Method;
 use hc_shown::push_octets;
+use hc_transcript::Kind;
 use std::alloc::AllocError;
 use std::fmt::Write;
-
-/// How many things of one kind a line names at most.
-pub(crate) const LISTED: usize = 8;
 
 /// Begins a line: a word, and the records that it is about.
 pub(crate) fn begin_line(word: &str, place: &str, out: &mut String) -> Result<(), AllocError> {
@@ -31,14 +30,6 @@ pub(crate) fn push_number(
     out: &mut String,
 ) -> Result<(), AllocError> {
     write!(out, "{before}{number}{behind}")
-}
-
-/// Writes texts, one behind the other.
-pub(crate) fn push_texts(texts: &[&str], out: &mut String) -> Result<(), AllocError> {
-    for text in texts {
-        out.push_str(text)?;
-    }
-    Ok(())
 }
 
 /// Writes a method between two texts.
@@ -72,4 +63,23 @@ pub(crate) fn push_separator(
         return out.push_str(before);
     }
     out.push_str(separator)
+}
+
+/// The letter that begins a record of that kind.
+pub(crate) fn letter(kind: Kind) -> &'static str {
+    match kind {
+        Kind::ClientRequest => "q",
+        Kind::OriginRequest => "f",
+        Kind::OriginResponse => "r",
+        Kind::OriginFailure => "x",
+        Kind::ClientReply => "a",
+    }
+}
+
+/// Writes the position, the letter and the number of a record.
+pub(crate) fn push_record(record: RecordName, out: &mut String) -> Result<(), AllocError> {
+    let position = record.position;
+    let letter = letter(record.kind);
+    let number = record.number;
+    write!(out, "{position} {letter} {number}")
 }

@@ -1,36 +1,27 @@
-//! The explanation of one reply of a recording, by two readings: the first looks for the reply, the second
-//! for the records that its explanation names.
+//! The explanation of one reply of a recording, as text and as JSON.
 #![tactic(auto)]
 
 mod ages;
-mod asked;
 mod collapsing;
 mod contents;
 mod differing;
-mod ended;
-mod found;
+mod explanation_json;
+mod facts_json;
 mod freshness;
-mod furthest;
 mod heading;
 mod layout;
 mod marking;
-mod nearest;
-mod nearness;
-mod note;
-mod notes;
-mod retracing;
-mod rules;
+mod objects;
+mod records_json;
 mod saying;
-mod seeking;
 mod selection;
-mod shortlist;
+mod shortfalls;
 mod sources;
-mod taking;
-mod traces;
 mod unstored;
+mod validations;
 mod values;
 mod window;
 
-pub use found::Found;
-pub use retracing::Retracing;
-pub use seeking::{FirstWrong, ReplyAt};
+pub use explanation_json::json;
+pub use heading::say_head;
+pub use saying::say;

@@ -1,60 +1,94 @@
 //! The lines of an explanation.
 
 use crate::collapsing::say_collapsing;
-use crate::found::Found;
-use crate::marking::say_mark;
-use crate::rules::say_rule;
-use crate::sources::{say_carried, say_first, say_sources};
-use crate::traces::Traces;
-use crate::window::say_window;
-use hc_history::{Finding, Mark, Reason};
-use std::alloc::AllocError;
+use crate::heading::say_reply;
+use crate::layout::{begin_rule, end_line};
+use crate::marking::{say_both, say_unmarked};
+use crate::shortfalls::say_rule;
+use crate::sources::{say_carried, say_nearest, say_sources};
+use crate::unstored::say_unstored;
+use crate::window::{say_own, say_window};
+use hc_history::Reason;
+use hc_past::Unstored;
+use hc_why::{Explanation, Ground, Nearest, Way, Why};
+use std::alloc::{AllocError, Global};
 
 /// Writes the line of what a reply carries that went forward by itself.
-fn say_forwarded(found: &Found, traces: &Traces, out: &mut String) -> Result<(), AllocError> {
-    match &traces.carried {
-        Some(note) => say_carried(traces, note, out),
-        None => say_first(found, traces, out),
+fn say_forwarded(
+    alloc: Global,
+    explanation: &Explanation,
+    out: &mut String,
+) -> Result<(), AllocError> {
+    match &explanation.carried {
+        Some(source) => say_carried(alloc, source, out),
+        None => say_nearest(alloc, explanation, out),
     }
 }
 
 /// Writes the line of what a right reply carries.
-fn say_right(found: &Found, traces: &Traces, out: &mut String) -> Result<(), AllocError> {
-    match found.mark {
-        Mark::Hit { .. } => say_first(found, traces, out),
-        Mark::Forwarded { .. } if found.is_collapsed => say_first(found, traces, out),
-        Mark::Forwarded { .. } => say_forwarded(found, traces, out),
-        Mark::Both | Mark::Unmarked => Ok(()),
+fn say_right(alloc: Global, explanation: &Explanation, out: &mut String) -> Result<(), AllocError> {
+    match explanation.way {
+        Way::Hit | Way::Collapsed => say_nearest(alloc, explanation, out),
+        Way::Forwarded => say_forwarded(alloc, explanation, out),
+        Way::Unmarked => Ok(()),
     }
+}
+
+/// Writes the line on a reply for which nothing is stored.
+fn say_no_response(unstored: &Unstored, out: &mut String) -> Result<(), AllocError> {
+    begin_rule(Reason::NoResponse.number(), out)?;
+    say_unstored(unstored, out)?;
+    end_line(out)
+}
+
+/// Writes the line of an answer of its own window that a wrong hit carries, if there is one.
+fn say_marked(explanation: &Explanation, out: &mut String) -> Result<(), AllocError> {
+    match &explanation.carried {
+        Some(source) if explanation.way == Way::Hit => say_own(source.record, out),
+        _ => Ok(()),
+    }
+}
+
+/// Writes the lines of the responses, and that of the rule that the one that is named breaks.
+fn say_response(
+    alloc: Global,
+    explanation: &Explanation,
+    nearest: &Nearest,
+    out: &mut String,
+) -> Result<(), AllocError> {
+    say_sources(alloc, explanation, out)?;
+    say_rule(explanation, nearest, out)
 }
 
 /// Writes the lines that say why a reply is wrong.
 fn say_wrong(
-    found: &Found,
-    traces: &Traces,
-    reason: Reason,
+    alloc: Global,
+    explanation: &Explanation,
+    why: &Why,
     out: &mut String,
 ) -> Result<(), AllocError> {
-    match reason {
-        Reason::NoResponse => say_rule(found, traces, reason, out),
-        Reason::NotForwarded => say_window(found, traces, out),
-        Reason::Unmarked | Reason::BothMarks => say_mark(found, reason, out),
-        Reason::NotCollapsible => {
-            say_sources(found, traces, out)?;
-            say_collapsing(found, traces, out)
+    match why {
+        Why::NoResponse(unstored) => say_no_response(unstored, out)?,
+        Why::Response(nearest) => say_response(alloc, explanation, nearest, out)?,
+        Why::NotForwarded(window, nearest) => {
+            say_window(alloc, explanation, window, nearest.as_ref(), out)?
         }
-        _ => {
-            say_sources(found, traces, out)?;
-            say_rule(found, traces, reason, out)
+        Why::Unmarked(mark) => say_unmarked(&explanation.reply, *mark, out)?,
+        Why::BothMarks => say_both(&explanation.reply, out)?,
+        Why::NotCollapsible(unstored, nearest) => {
+            say_sources(alloc, explanation, out)?;
+            say_collapsing(explanation, unstored, nearest.as_ref(), out)?
         }
+        Why::Unasked => {}
     }
+    say_marked(explanation, out)
 }
 
-/// Writes the lines of the explanation behind its head line.
-pub(crate) fn say_all(found: &Found, traces: &Traces, out: &mut String) -> Result<(), AllocError> {
-    found.say_reply(traces.alloc, out)?;
-    match found.finding {
-        Finding::Right => say_right(found, traces, out),
-        Finding::Wrong(reason) => say_wrong(found, traces, reason, out),
+/// Writes the lines of the explanation behind its head line, each with its end.
+pub fn say(alloc: Global, explanation: &Explanation, out: &mut String) -> Result<(), AllocError> {
+    say_reply(alloc, explanation, out)?;
+    match &explanation.ground {
+        Ground::Right(_) => say_right(alloc, explanation, out),
+        Ground::Wrong(why) => say_wrong(alloc, explanation, why, out),
     }
 }

@@ -1,124 +1,110 @@
 //! The lines of the responses that a reply may carry.
 
-use crate::found::Found;
-use crate::furthest::Furthest;
-use crate::layout::{begin_line, end_line, push_number, push_texts};
-use crate::note::Note;
-use crate::traces::Traces;
-use crate::values::push_joined;
-use hc_fields::Fields;
-use hc_head::ResponseHead;
-use hc_history::{Candidate, reason_behind};
-use hc_shown::push_moment;
+use crate::layout::{begin_line, end_line, push_number, push_record};
+use hc_facts::Rule;
+use hc_fields::Octets;
+use hc_past::{Source, StatedLifetime};
+use hc_shown::{push_moment, push_value};
+use hc_why::{Explanation, Nearest};
 use std::alloc::{AllocError, Global};
 use std::fmt::Write;
 
 /// The word that begins such a line.
 const FROM: &str = "from";
 
-/// The name of the field that says how long a response is fresh.
-const CACHE_CONTROL: &[u8] = b"cache-control";
-
-/// The name of the field that says so where that doesn't.
-const EXPIRES: &[u8] = b"expires";
-
-/// What is said of a response: its status, and what it says of its lifetime.
-pub(crate) fn source_text(alloc: Global, response: &ResponseHead) -> Result<String, AllocError> {
-    let mut text = String::new(alloc);
-    push_number("", u64::from(response.status.as_u16()), "", &mut text)?;
-    push_lifetime(alloc, &response.fields, &mut text)?;
-    Ok(text)
+/// Writes a field of that name behind a text.
+fn push_field(
+    before: &str,
+    name: &[u8],
+    value: &Octets,
+    out: &mut String,
+) -> Result<(), AllocError> {
+    out.push_str(before)?;
+    push_value(name, value.as_slice(), out)
 }
 
-/// Writes what those fields say of the lifetime of a response.
-fn push_lifetime(alloc: Global, fields: &Fields, out: &mut String) -> Result<(), AllocError> {
-    if fields.contains(CACHE_CONTROL) {
-        out.push_str(" ")?;
-        return push_joined(alloc, CACHE_CONTROL, fields, out);
+/// Writes what a response says of its lifetime.
+fn push_lifetime(lifetime: &StatedLifetime, out: &mut String) -> Result<(), AllocError> {
+    match lifetime {
+        StatedLifetime::CacheControl(value) => push_field(" ", b"cache-control", value, out),
+        StatedLifetime::Expires(value) => push_field(" Expires ", b"expires", value, out),
+        StatedLifetime::Nothing => out.push_str(", no Cache-Control"),
     }
-    if !fields.contains(EXPIRES) {
-        return out.push_str(", no Cache-Control");
-    }
-    out.push_str(" Expires ")?;
-    push_joined(alloc, EXPIRES, fields, out)
 }
 
-/// Writes how far a response gets.
-fn push_reach(candidate: Candidate, out: &mut String) -> Result<(), AllocError> {
-    let Some(reason) = reason_behind(candidate.passed) else {
+/// Writes when a response came, its status, and what it says of its lifetime.
+fn push_source(source: &Source, out: &mut String) -> Result<(), AllocError> {
+    push_moment(source.record.moment, out)?;
+    push_number("  ", u64::from(source.status.as_u16()), "", out)?;
+    push_lifetime(&source.lifetime, out)
+}
+
+/// Writes which rule a response breaks first.
+pub(crate) fn push_reach(breaks: Option<Rule>, out: &mut String) -> Result<(), AllocError> {
+    let Some(rule) = breaks else {
         return out.push_str("passes all");
     };
+    let reason = rule.reason();
     let number = reason.number();
     let name = reason.name();
     write!(out, "fails {number} {name}")
 }
 
-/// Writes the position of a response behind a text, and how far it gets.
-pub(crate) fn push_candidate(
-    before: &str,
-    candidate: Candidate,
-    out: &mut String,
-) -> Result<(), AllocError> {
-    push_number(before, candidate.position, " ", out)?;
-    push_reach(candidate, out)
-}
-
-/// Writes what the records behind it made of the response that gets furthest.
-fn push_changes(furthest: &Furthest, out: &mut String) -> Result<(), AllocError> {
-    if let Some(position) = furthest.validated_at {
+/// Writes what the records behind it made of the response that is named.
+fn push_changes(nearest: &Nearest, out: &mut String) -> Result<(), AllocError> {
+    if let Some(position) = nearest.validated_at {
         push_number(", freshened by the 304 at ", position, "", out)?;
     }
-    if let Some(date) = furthest.date {
+    if let Some(date) = nearest.date {
         out.push_str(", Date ")?;
         push_moment(date, out)?;
     }
     Ok(())
 }
 
-/// Writes the moment of a record, and what is said of it.
-fn push_note(note: &Note, out: &mut String) -> Result<(), AllocError> {
-    push_moment(note.moment, out)?;
-    push_texts(&["  ", note.text.as_str()], out)
-}
-
-/// Begins the line of the response at that position, whose record is this one.
+/// Begins the line of the response at that position, of which this is the record.
 fn begin_from(
     alloc: Global,
     position: u64,
-    note: Option<&Note>,
+    source: Option<&Source>,
     out: &mut String,
 ) -> Result<(), AllocError> {
     let mut place = String::new(alloc);
-    match note {
-        Some(note) => note.push_name(&mut place)?,
+    match source {
+        Some(source) => push_record(source.record, &mut place)?,
         None => push_number("", position, "", &mut place)?,
     }
     begin_line(FROM, place.as_str(), out)
 }
 
-/// Writes the line of the response that gets furthest.
-pub(crate) fn say_first(
-    found: &Found,
-    traces: &Traces,
+/// Writes the line of the response that is named, if one is.
+pub(crate) fn say_nearest(
+    alloc: Global,
+    explanation: &Explanation,
     out: &mut String,
 ) -> Result<(), AllocError> {
-    let Some(furthest) = &found.nearest.furthest else {
+    let Some(nearest) = explanation.nearest() else {
         return Ok(());
     };
-    let note = traces.source(furthest.position);
-    begin_from(traces.alloc, furthest.position, note, out)?;
-    if let Some(note) = note {
-        push_note(note, out)?;
+    let source = explanation.source(nearest.position);
+    begin_from(alloc, nearest.position, source, out)?;
+    if let Some(source) = source {
+        push_source(source, out)?;
     }
-    push_changes(furthest, out)?;
+    push_changes(nearest, out)?;
     end_line(out)
 }
 
 /// Writes the line of one of the others.
-fn say_other(traces: &Traces, candidate: Candidate, out: &mut String) -> Result<(), AllocError> {
-    let note = traces.source(candidate.position);
-    begin_from(traces.alloc, candidate.position, note, out)?;
-    push_reach(candidate, out)?;
+fn say_other(
+    alloc: Global,
+    position: u64,
+    breaks: Option<Rule>,
+    source: Option<&Source>,
+    out: &mut String,
+) -> Result<(), AllocError> {
+    begin_from(alloc, position, source, out)?;
+    push_reach(breaks, out)?;
     end_line(out)
 }
 
@@ -131,26 +117,27 @@ fn say_more(more: u64, out: &mut String) -> Result<(), AllocError> {
     push_number("and ", more, " more\n", out)
 }
 
-/// Writes a line for each response that the reply may carry, the furthest first.
+/// Writes a line for each response that the reply may carry, the one that is named first.
 pub(crate) fn say_sources(
-    found: &Found,
-    traces: &Traces,
+    alloc: Global,
+    explanation: &Explanation,
     out: &mut String,
 ) -> Result<(), AllocError> {
-    say_first(found, traces, out)?;
-    for candidate in found.nearest.candidates.listed.iter().skip(1) {
-        say_other(traces, *candidate, out)?;
+    say_nearest(alloc, explanation, out)?;
+    for reach in explanation.reaches.named.iter().skip(1) {
+        let source = explanation.source(reach.position);
+        say_other(alloc, reach.position, reach.breaks, source, out)?;
     }
-    say_more(found.nearest.candidates.more, out)
+    say_more(explanation.reaches.more, out)
 }
 
 /// Writes the line of the answer of the window that the reply carries.
 pub(crate) fn say_carried(
-    traces: &Traces,
-    note: &Note,
+    alloc: Global,
+    source: &Source,
     out: &mut String,
 ) -> Result<(), AllocError> {
-    begin_from(traces.alloc, note.position, Some(note), out)?;
-    push_note(note, out)?;
+    begin_from(alloc, source.record.position, Some(source), out)?;
+    push_source(source, out)?;
     end_line(out)
 }

@@ -1,15 +1,16 @@
 //! What came between a request and its reply.
 
-use crate::ended::EndedForward;
-use crate::found::Found;
-use crate::layout::{begin_line, end_line, push_method, push_number};
-use crate::nearness::{Apart, apart_in};
-use crate::rules::say_failing;
-use crate::traces::Traces;
-use hc_framing::Message;
-use hc_head::{ResponseHead, Target};
+use crate::layout::{
+    begin_line, end_line, push_method, push_more, push_number, push_record, push_separator,
+};
+use crate::shortfalls::say_failing;
+use hc_facts::{BodyGap, RecordName};
+use hc_fields::Octets;
+use hc_head::StatusCode;
+use hc_past::{Apart, NearAnswer, Window, WindowEnd};
 use hc_shown::push_octets;
 use hc_transcript::ToldCause;
+use hc_why::{Explanation, Nearest};
 use std::alloc::{AllocError, Global};
 
 /// Writes for which exchange a forward was made, where that is told.
@@ -21,67 +22,67 @@ fn push_cause(cause: ToldCause, out: &mut String) -> Result<(), AllocError> {
     }
 }
 
-/// Writes in what the response differs from what the reply carries.
-fn push_apart(
-    found: &Found,
-    ended: &EndedForward<'_>,
-    response: &Message<ResponseHead>,
-    out: &mut String,
-) -> Result<(), AllocError> {
-    match apart_in(found, ended, response) {
-        Apart::Cause | Apart::Status => {
-            let status = response.head.status.as_u16();
-            push_number(" is ", u64::from(status), "", out)
+/// Writes a status.
+fn push_status(status: StatusCode, out: &mut String) -> Result<(), AllocError> {
+    push_number(" is ", u64::from(status.as_u16()), "", out)
+}
+
+/// Writes that a body is another one, and where both first differ.
+fn push_body(gap: Option<BodyGap>, out: &mut String) -> Result<(), AllocError> {
+    out.push_str(" has another body")?;
+    let Some(gap) = gap else {
+        return Ok(());
+    };
+    push_number(" (", gap.due, " octets, the reply's ", out)?;
+    push_number("", gap.told, "", out)?;
+    if gap.agreed != 0 {
+        push_number("; the first ", gap.agreed, " agree", out)?;
+    }
+    out.push_str(")")
+}
+
+/// Writes in what the end of a forward differs from what the reply carries.
+fn push_apart(apart: &Apart, out: &mut String) -> Result<(), AllocError> {
+    match apart {
+        Apart::Failure => Ok(()),
+        Apart::Cause(status) | Apart::Status(status) | Apart::Part(status) => {
+            push_status(*status, out)
         }
-        Apart::Method => push_method(" answers ", &ended.forward.request.method, "", out),
-        Apart::Body => out.push_str(" has another body"),
+        Apart::NotModified => push_status(StatusCode::NOT_MODIFIED, out),
+        Apart::Method(method) => push_method(" answers ", method, "", out),
+        Apart::Body(gap) => push_body(*gap, out),
         Apart::Nothing => out.push_str(" is carried"),
     }
 }
 
-/// What is said of the end of a forward in the window.
-pub(crate) fn window_text(
-    alloc: Global,
-    found: &Found,
-    ended: &EndedForward<'_>,
-) -> Result<String, AllocError> {
-    let mut text = String::new(alloc);
-    push_cause(ended.cause, &mut text)?;
-    if let Some(response) = ended.response {
-        push_apart(found, ended, response, &mut text)?;
+/// Writes the end of a forward in the window.
+fn push_end(end: &WindowEnd, out: &mut String) -> Result<(), AllocError> {
+    push_record(end.record, out)?;
+    push_cause(end.cause, out)?;
+    push_apart(&end.apart, out)
+}
+
+/// Writes each end of a forward in the window.
+fn push_ends(window: &Window, out: &mut String) -> Result<(), AllocError> {
+    let mut is_first = true;
+    for end in window.ends.named.iter() {
+        push_separator(is_first, "", ", ", out)?;
+        push_end(end, out)?;
+        is_first = false;
     }
-    Ok(text)
-}
-
-/// Writes the host of a target behind a text.
-fn push_host(before: &str, target: &Target, out: &mut String) -> Result<(), AllocError> {
-    out.push_str(before)?;
-    push_octets(target.host.as_slice(), out)
-}
-
-/// What is said of a response of the same path under another host.
-pub(crate) fn near_text(
-    alloc: Global,
-    found: &Found,
-    ended: &EndedForward<'_>,
-) -> Result<String, AllocError> {
-    let mut text = String::new(alloc);
-    let before = "agrees in path, status and body: its host is ";
-    push_host(before, &ended.forward.target, &mut text)?;
-    push_host(", asked is ", &found.reply.target, &mut text)?;
-    Ok(text)
+    push_more(window.ends.older, out)
 }
 
 /// Writes what ended in the window.
-fn push_window(traces: &Traces, out: &mut String) -> Result<(), AllocError> {
-    if traces.window.is_empty() {
+fn push_window(window: &Window, out: &mut String) -> Result<(), AllocError> {
+    if window.ends.is_empty() {
         return out.push_str("no forward of the target ended between request and reply");
     }
-    traces.window.push_all("", "", ", ", out)?;
-    if traces.has_response {
+    push_ends(window, out)?;
+    if window.has_response {
         return Ok(());
     }
-    if traces.window.is_one() {
+    if window.ends.is_one() {
         out.push_str(": a failure, no response")
     } else {
         out.push_str(": failures, no response")
@@ -89,23 +90,74 @@ fn push_window(traces: &Traces, out: &mut String) -> Result<(), AllocError> {
 }
 
 /// Writes what is stored of the target.
-fn push_stored(found: &Found, traces: &Traces, out: &mut String) -> Result<(), AllocError> {
+fn push_stored(
+    explanation: &Explanation,
+    nearest: Option<&Nearest>,
+    out: &mut String,
+) -> Result<(), AllocError> {
     out.push_str("; stored: ")?;
-    match &found.nearest.furthest {
-        Some(furthest) => say_failing(found, traces, furthest, out),
+    match nearest {
+        Some(nearest) => say_failing(explanation, nearest, out),
         None => out.push_str("nothing"),
     }
 }
 
+/// Begins a line about a record.
+fn begin_record(
+    alloc: Global,
+    word: &str,
+    record: RecordName,
+    out: &mut String,
+) -> Result<(), AllocError> {
+    let mut place = String::new(alloc);
+    push_record(record, &mut place)?;
+    begin_line(word, place.as_str(), out)
+}
+
+/// Writes a host behind a text.
+fn push_host(before: &str, host: &Octets, out: &mut String) -> Result<(), AllocError> {
+    out.push_str(before)?;
+    push_octets(host.as_slice(), out)
+}
+
+/// Writes the line of a response of the same path under another host.
+fn say_near(
+    alloc: Global,
+    near: &NearAnswer,
+    host: &Octets,
+    out: &mut String,
+) -> Result<(), AllocError> {
+    begin_record(alloc, "near", near.record, out)?;
+    let before = "agrees in path, status and body: its host is ";
+    push_host(before, &near.host, out)?;
+    push_host(", asked is ", host, out)?;
+    end_line(out)
+}
+
 /// Writes the line of the window, and those of what comes near.
 pub(crate) fn say_window(
-    found: &Found,
-    traces: &Traces,
+    alloc: Global,
+    explanation: &Explanation,
+    window: &Window,
+    nearest: Option<&Nearest>,
     out: &mut String,
 ) -> Result<(), AllocError> {
     begin_line("window", "", out)?;
-    push_window(traces, out)?;
-    push_stored(found, traces, out)?;
+    push_window(window, out)?;
+    push_stored(explanation, nearest, out)?;
     end_line(out)?;
-    traces.near.say_lines("near", out)
+    for near in window.near.named.iter() {
+        say_near(alloc, near, &explanation.reply.target.host, out)?;
+    }
+    Ok(())
+}
+
+/// Writes the line of the answer of its own window that a reply carries which is marked as a hit.
+pub(crate) fn say_own(record: RecordName, out: &mut String) -> Result<(), AllocError> {
+    begin_line("window", "", out)?;
+    push_record(record, out)?;
+    out.push_str(
+        " is carried: the reply is an answer of its own window, though it is marked as a hit",
+    )?;
+    end_line(out)
 }

@@ -1,8 +1,8 @@
 //! The verdict on a recording, and how it ends, as JSON.
 
-use crate::members::{object, put_numbers, put_text};
 use hc_audit::RecordFault;
 use hc_history::{Ending, WrongReply};
+use hc_why::{object, put_numbers, put_text};
 use serde_json::{Map, Value, put};
 use std::alloc::{AllocError, Global};
 

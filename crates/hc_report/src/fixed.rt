@@ -1,18 +1,35 @@
 //! What the wrong replies would be with other settings that are known from the start.
 
+use crate::asking::Asks;
 use hc_audit::JudgedReply;
-use hc_history::{Finding, Settings, UnmarkedReplies};
+use hc_history::{Allowed, Finding, Settings, UnmarkedReplies};
 use hc_index::Index;
 use std::alloc::AllocError;
 use std::fmt::Write;
 
 /// What is let pass besides.
-#[derive(Clone, Copy)]
-enum Allowance {
+#[derive(Clone, Copy, PartialEq, Eq)]
+pub(crate) enum Allowance {
     /// So many seconds.
     Slack(u32),
     /// Every reply without a mark.
     Unmarked,
+    /// Fields of a reply that the stored response lacks.
+    AddedFields,
+    /// Lines of a name that were joined, or parted.
+    JoinedLines,
+    /// Parts of what the origin answered.
+    Ranges,
+    /// All three.
+    All,
+    /// Staleness of so many seconds.
+    Grace(u32),
+    /// An Age that is off by so many seconds.
+    AgeSlack(u32),
+    /// A lifetime of so many seconds for what states none.
+    DefaultLifetime(u32),
+    /// A mark that is inferred where a reply has none.
+    InferredMarks,
 }
 
 /// How many replies are wrong where something more is let pass.
@@ -23,38 +40,102 @@ pub(crate) struct FixedTry {
     pub(crate) wrong: u64,
 }
 
+impl Allowance {
+    /// Whether it lets nothing pass beside what is allowed.
+    pub(crate) fn is_given(
+        &self,
+        slack: u32,
+        unmarked: UnmarkedReplies,
+        allowed: &Allowed,
+    ) -> bool {
+        match self {
+            Allowance::Slack(seconds) => *seconds <= slack,
+            Allowance::Unmarked => unmarked == UnmarkedReplies::Allow,
+            Allowance::AddedFields => allowed.added_fields,
+            Allowance::JoinedLines => allowed.joined_lines,
+            Allowance::Ranges => allowed.ranges,
+            Allowance::All => allowed.added_fields && allowed.joined_lines && allowed.ranges,
+            Allowance::Grace(seconds) => Some(*seconds) <= allowed.grace,
+            Allowance::AgeSlack(seconds) => *seconds <= slack.max(allowed.age_slack),
+            Allowance::DefaultLifetime(seconds) => Some(*seconds) <= allowed.default_lifetime,
+            Allowance::InferredMarks => allowed.inferred_marks,
+        }
+    }
+
+    // Whether it may make a reply right that asks for that.
+    fn serves(&self, asks: &Asks) -> bool {
+        match self {
+            Allowance::Slack(_) => asks.for_use || asks.for_age || asks.for_seconds,
+            Allowance::Unmarked | Allowance::InferredMarks => asks.for_mark,
+            Allowance::AddedFields | Allowance::JoinedLines => asks.for_fields,
+            Allowance::Ranges => asks.for_part,
+            Allowance::All => asks.for_fields || asks.for_part,
+            Allowance::Grace(_) => asks.for_use,
+            Allowance::AgeSlack(_) => asks.for_age,
+            Allowance::DefaultLifetime(_) => asks.for_use || asks.for_seconds,
+        }
+    }
+
+    // Lets it pass.
+    fn allow(&self, settings: &mut Settings) {
+        let allowed = &mut settings.allowed;
+        match self {
+            Allowance::Slack(seconds) => settings.slack = *seconds,
+            Allowance::Unmarked => settings.unmarked = UnmarkedReplies::Allow,
+            Allowance::AddedFields => allowed.added_fields = true,
+            Allowance::JoinedLines => allowed.joined_lines = true,
+            Allowance::Ranges => allowed.ranges = true,
+            Allowance::All => {
+                allowed.added_fields = true;
+                allowed.joined_lines = true;
+                allowed.ranges = true;
+            }
+            Allowance::Grace(seconds) => allowed.grace = Some(*seconds),
+            Allowance::AgeSlack(seconds) => allowed.age_slack = *seconds,
+            Allowance::DefaultLifetime(seconds) => allowed.default_lifetime = Some(*seconds),
+            Allowance::InferredMarks => allowed.inferred_marks = true,
+        }
+    }
+}
+
+// Makes settings those, but for the names of fields.
+fn reset(settings: &mut Settings, given: &Settings) {
+    settings.slack = given.slack;
+    settings.unmarked = given.unmarked;
+    let (allowed, given) = (&mut settings.allowed, &given.allowed);
+    allowed.added_fields = given.added_fields;
+    allowed.joined_lines = given.joined_lines;
+    allowed.ranges = given.ranges;
+    allowed.default_lifetime = given.default_lifetime;
+    allowed.grace = given.grace;
+    allowed.inferred_marks = given.inferred_marks;
+    allowed.age_slack = given.age_slack;
+}
+
 impl FixedTry {
-    /// With so many seconds of slack.
-    pub(crate) fn with_slack(seconds: u32) -> Self {
+    /// With that.
+    pub(crate) fn new(allowance: Allowance) -> Self {
         FixedTry {
-            allowance: Allowance::Slack(seconds),
+            allowance,
             wrong: 0,
         }
     }
 
-    /// With every reply without a mark.
-    pub(crate) fn with_unmarked() -> Self {
-        FixedTry {
-            allowance: Allowance::Unmarked,
-            wrong: 0,
-        }
-    }
-
-    /// Judges a wrong reply once more, by settings that ignore what the audit ignores.
+    /// Judges a wrong reply once more that asks for that, by settings that ignore what the audit ignores.
     pub(crate) fn judge<I: Index>(
         &mut self,
         judged: &JudgedReply<'_, I>,
+        asks: &Asks,
         settings: &mut Settings,
     ) -> Result<(), AllocError> {
-        settings.slack = judged.settings.slack;
-        settings.unmarked = judged.settings.unmarked;
-        match self.allowance {
-            Allowance::Slack(seconds) => settings.slack = seconds,
-            Allowance::Unmarked => settings.unmarked = UnmarkedReplies::Allow,
+        if self.allowance.serves(asks) {
+            reset(settings, judged.settings);
+            self.allowance.allow(settings);
+            if judged.found_with(settings)? == Finding::Right {
+                return Ok(());
+            }
         }
-        if judged.found_with(settings)? != Finding::Right {
-            self.wrong = self.wrong.saturating_add(1);
-        }
+        self.wrong = self.wrong.saturating_add(1);
         Ok(())
     }
 
@@ -62,7 +143,23 @@ impl FixedTry {
     pub(crate) fn say(&self, out: &mut String) -> Result<(), AllocError> {
         match self.allowance {
             Allowance::Slack(seconds) => write!(out, "--slack {seconds}"),
-            Allowance::Unmarked => out.push_str("without --errors-only"),
+            Allowance::Grace(seconds) => write!(out, "--grace {seconds}"),
+            Allowance::AgeSlack(seconds) => write!(out, "--age-slack {seconds}"),
+            Allowance::DefaultLifetime(seconds) => write!(out, "--default-ttl {seconds}"),
+            _ => out.push_str(self.words()),
+        }
+    }
+
+    // What has to be asked for, where that has no number.
+    fn words(&self) -> &'static str {
+        match self.allowance {
+            Allowance::Unmarked => "without --errors-only",
+            Allowance::AddedFields => "--allow added-fields",
+            Allowance::JoinedLines => "--allow joined-lines",
+            Allowance::Ranges => "--allow ranges",
+            Allowance::All => "--allow all",
+            Allowance::InferredMarks => "--infer-marks",
+            _ => "",
         }
     }
 }

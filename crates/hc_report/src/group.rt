@@ -1,8 +1,8 @@
 //! Wrong replies of one kind.
 
 use crate::targets::NamedTargets;
-use hc_details::Detail;
 use hc_history::Reason;
+use hc_why::Why;
 use std::alloc::{AllocError, Global};
 
 /// A wrong reply, and what in it is wrong.
@@ -12,7 +12,7 @@ pub(crate) struct WrongOfKind {
     /// Why it is wrong.
     pub(crate) reason: Reason,
     /// What in it is.
-    pub(crate) detail: Detail,
+    pub(crate) why: Why,
     /// Its target, as it is shown.
     pub(crate) target: String,
 }
@@ -22,10 +22,10 @@ impl Drop for WrongOfKind {
         let WrongOfKind {
             position: _,
             reason: _,
-            detail,
+            why,
             target,
         } = self;
-        drop(detail);
+        drop(why);
         drop(target);
     }
 }
@@ -33,11 +33,8 @@ impl Drop for WrongOfKind {
 impl WrongOfKind {
     /// By how many seconds it is off, if that is what is wrong.
     fn seconds_off(&self) -> Option<u64> {
-        match &self.detail {
-            Detail::AgeOff { told, due } => Some(u64::from(told.abs_diff(*due))),
-            Detail::SecondsOff { told, due } => Some(told.abs_diff(*due)),
-            _ => None,
-        }
+        let (seconds, _) = self.why.shortfall()?.off()?;
+        Some(seconds)
     }
 
     /// Its target, as it is shown.
@@ -45,7 +42,7 @@ impl WrongOfKind {
         let WrongOfKind {
             position: _,
             reason: _,
-            detail: _,
+            why: _,
             target,
         } = self;
         target
@@ -60,12 +57,12 @@ impl WrongOfKind {
         let WrongOfKind {
             position,
             reason,
-            detail,
+            why,
             target,
         } = self;
         Ok(Group {
             reason,
-            detail,
+            why,
             count: 1,
             first: position,
             targets: NamedTargets::of(alloc, target)?,
@@ -98,7 +95,7 @@ pub(crate) struct Group {
     /// Why they are wrong.
     pub(crate) reason: Reason,
     /// What in them is, as in the first.
-    pub(crate) detail: Detail,
+    pub(crate) why: Why,
     /// How many there are, or the greatest number.
     pub(crate) count: u64,
     /// The position of the first.
@@ -113,13 +110,13 @@ impl Drop for Group {
     fn drop(self) {
         let Group {
             reason: _,
-            detail,
+            why,
             count: _,
             first: _,
             targets,
             spread: _,
         } = self;
-        drop(detail);
+        drop(why);
         drop(targets);
     }
 }
@@ -127,7 +124,7 @@ impl Drop for Group {
 impl Group {
     /// Whether a wrong reply belongs to it.
     pub(crate) fn has_kind_of(&self, wrong: &WrongOfKind) -> bool {
-        self.reason == wrong.reason && self.detail.is_as(&wrong.detail)
+        self.reason == wrong.reason && self.why.is_as(&wrong.why)
     }
 
     /// Takes in a further reply of it.

@@ -5,10 +5,10 @@ ghost use Rattle.hc_report.specs.declared.groups.TheConstants.{MOST_GROUPS};
 
 use crate::group::{Group, WrongOfKind};
 use hc_audit::JudgedReply;
-use hc_details::{Past, detail};
 use hc_history::Reason;
 use hc_index::Index;
 use hc_shown::push_target;
+use hc_why::Why;
 use std::alloc::{AllocError, Global};
 
 /// How many groups are kept at most.
@@ -50,15 +50,24 @@ impl Groups {
         &mut self,
         judged: &JudgedReply<'_, I>,
         reason: Reason,
-        past: &Past,
+        why: Why,
     ) -> Result<(), AllocError> {
         let wrong = WrongOfKind {
             position: judged.position,
             reason,
-            detail: detail(self.alloc, judged, reason, past)?,
+            why,
             target: shown_target(self.alloc, judged)?,
         };
         self.take(wrong)
+    }
+
+    /// How many replies are of targets of which nothing is recorded.
+    pub(crate) fn unrecorded(&self) -> u64 {
+        let group = self.groups.iter().find(|group| group.why.is_unrecorded());
+        match group {
+            Some(group) => group.count,
+            None => 0,
+        }
     }
 
     // Puts a wrong reply into its group, or into a new one.

@@ -4,24 +4,18 @@ ghost use Rattle.std.specs.Prelude.{◌≤◌, ◌+◌, IfOk, IfSome, length};
 ghost use Rattle.hc_report.specs.declared.ignoring.TheConstants.{MOST_NAMES};
 
 use hc_audit::JudgedReply;
-use hc_details::{Differences, differences};
-use hc_fields::Octets;
-use hc_history::{Candidate, Finding, Reason, Settings};
+use hc_facts::{Change, Differences};
+use hc_history::{Finding, Settings};
 use hc_index::Index;
 use hc_shown::push_octets;
+use hc_why::{Shortfall, Why};
 use std::alloc::{AllocError, Global};
 
 /// How many names are ignored besides at most.
 const MOST_NAMES: usize = 20;
 
-/// How many filters a response passes that lacks nothing before its fields.
-const BEFORE_FIELDS: u32 = 6;
-
-/// The position behind which every response lies.
-const ANYWHERE: u64 = 0;
-
-/// How many replies are wrong where more fields are ignored. Names are added where they help, so the replies before
-/// were judged with fewer of them.
+/// How many replies are wrong where more fields are ignored that they alone have. Names are added where they help, so
+/// the replies before were judged with fewer of them.
 pub(crate) struct IgnoringTry {
     alloc: Global,
     /// How many names the audit ignores.
@@ -60,9 +54,9 @@ impl IgnoringTry {
     pub(crate) fn judge<I: Index>(
         &mut self,
         judged: &JudgedReply<'_, I>,
-        reason: Reason,
+        why: &Why,
     ) -> Result<(), AllocError> {
-        if !self.serves(judged, reason)? {
+        if !self.serves(judged, why)? {
             self.wrong = self.wrong.saturating_add(1);
         }
         Ok(())
@@ -72,15 +66,23 @@ impl IgnoringTry {
     fn serves<I: Index>(
         &mut self,
         judged: &JudgedReply<'_, I>,
-        reason: Reason,
+        why: &Why,
     ) -> Result<bool, AllocError> {
-        if judged.found_with(&self.settings)? == Finding::Right {
+        let Some(added) = added_by(why) else {
+            return Ok(false);
+        };
+        if self.ignores_more() && judged.found_with(&self.settings)? == Finding::Right {
             return Ok(true);
         }
-        match self.settings_with(judged, reason)? {
+        match self.settings_without(added)? {
             Some(settings) => self.serves_with(judged, settings),
             None => Ok(false),
         }
+    }
+
+    // Whether a name is ignored that the audit doesn't ignore.
+    fn ignores_more(&self) -> bool {
+        self.given < self.settings.ignored.names().len()
     }
 
     // Whether it is right by those settings, which are kept then.
@@ -96,21 +98,6 @@ impl IgnoringTry {
             self.settings = settings;
         }
         Ok(serves)
-    }
-
-    // The settings with the names in which it differs, if only these keep back the response that gets furthest, and
-    // they are not too many.
-    fn settings_with<I: Index>(
-        &self,
-        judged: &JudgedReply<'_, I>,
-        reason: Reason,
-    ) -> Result<Option<Settings>, AllocError>
-        ensures { IfOk result (λ found. IfSome found (λ settings. length settings.ignored ≤ self.now.given + MOST_NAMES)) }
-    {
-        match differences_of(self.alloc, judged, reason)? {
-            Some(differences) => self.settings_without(&differences),
-            None => Ok(None),
-        }
     }
 
     // The settings with those names, if they are not too many.
@@ -144,61 +131,23 @@ fn ignore_all(
     settings: &mut Settings,
     differences: &Differences,
 ) -> Result<(), AllocError> {
-    ignore(alloc, settings, differences.added.as_slice())?;
-    ignore(alloc, settings, differences.dropped.as_slice())?;
-    ignore(alloc, settings, differences.changed.as_slice())
-}
-
-// Ignores those names too.
-fn ignore(alloc: Global, settings: &mut Settings, names: &[Octets]) -> Result<(), AllocError> {
-    for name in names {
-        if !settings.ignored.contains(name.as_slice()) {
-            settings.ignored.push(name.copy(alloc)?)?;
+    for gap in differences.listed.iter() {
+        if !settings.ignored.contains(gap.name.as_slice()) {
+            settings.ignored.push(gap.name.copy(alloc)?)?;
         }
     }
     Ok(())
 }
 
-// The fields in which a wrong reply differs from the response that gets furthest, if that passes the filters before
-// that of the fields, and not that one.
-fn differences_of<I: Index>(
-    alloc: Global,
-    judged: &JudgedReply<'_, I>,
-    reason: Reason,
-) -> Result<Option<Differences>, AllocError> {
-    let Some(claim) = judged.claim() else {
-        return Ok(None);
+// The fields in which a reply differs from the response that is named, if that is what is wrong, and only added ones
+// are among them.
+fn added_by(why: &Why) -> Option<&Differences> {
+    let Some(Shortfall::Fields(found)) = why.nearest()?.shortfall.as_ref() else {
+        return None;
     };
-    let since = match reason {
-        Reason::NotCollapsible => claim.since,
-        _ => ANYWHERE,
-    };
-    let Some(position) = stopped_at(judged, since)? else {
-        return Ok(None);
-    };
-    match judged.index.response(claim.target, position) {
-        Some(state) => Ok(Some(differences(alloc, &claim, state)?)),
-        None => Ok(None),
-    }
-}
-
-// The same of its candidates.
-fn stopped_at<I: Index>(
-    judged: &JudgedReply<'_, I>,
-    since: u64,
-) -> Result<Option<u64>, AllocError> {
-    let candidates = judged.candidates()?;
-    Ok(stopped_by_fields(candidates.as_slice(), since))
-}
-
-// The position of the one that gets furthest of those behind a position, if it passes the filters before that of the
-// fields, and not that one.
-fn stopped_by_fields(candidates: &[Candidate], since: u64) -> Option<u64> {
-    let furthest = candidates
-        .iter()
-        .find(|candidate| since < candidate.position)?;
-    if furthest.passed == BEFORE_FIELDS {
-        Some(furthest.position)
+    let are_added = found.listed.iter().all(|gap| gap.change == Change::Added);
+    if are_added && found.more == 0 {
+        Some(found)
     } else {
         None
     }

@@ -7,12 +7,13 @@ use crate::group::Group;
 use crate::groups::Groups;
 use crate::ignoring::IgnoringTry;
 use crate::listed::ListedReplies;
-use crate::members::{array, object, push_made, put_made, put_number, put_text};
-use crate::replies_json::{group_json, octets_json, replies_json};
+use crate::replies_json::{group_json, octets_json, replies_json, shown_name};
 use crate::report::Report;
 use crate::saying::NO_MARK;
+use crate::suspects::{Suspect, Suspects};
 use crate::tries::Tries;
 use hc_history::{Counts, Ending, WrongReply};
+use hc_why::{array, object, push_made, put_made, put_number, put_text};
 use serde_json::{Map, Value, put};
 use std::alloc::{AllocError, Global};
 
@@ -77,6 +78,12 @@ fn put_wrongs(
 ) -> Result<(), AllocError> {
     put_made(alloc, "wrong", wrong_json(alloc, &report.wrongs), members)?;
     put_groups(alloc, &report.groups, members)?;
+    put_made(
+        alloc,
+        "suspected",
+        suspects_json(alloc, &report.suspects),
+        members,
+    )?;
     let tries = tries_json(alloc, &report.tries, report.wrongs.count);
     put_made(alloc, "tries", tries, members)
 }
@@ -88,7 +95,42 @@ fn put_groups(
 ) -> Result<(), AllocError> {
     let kept = groups_json(alloc, groups.groups.as_slice());
     put_made(alloc, "groups", kept, members)?;
+    put_number(alloc, "unrecorded", groups.unrecorded(), members)?;
     put_number(alloc, "ungrouped", groups.elsewhere, members)
+}
+
+fn suspects_json(alloc: Global, suspects: &Suspects) -> Result<Value, AllocError> {
+    let mut values = Vec::new(alloc);
+    let filled = push_suspects(alloc, suspects.named.as_slice(), &mut values);
+    array(values, filled)
+}
+
+fn push_suspects(
+    alloc: Global,
+    suspects: &[Suspect],
+    values: &mut Vec<Value>,
+) -> Result<(), AllocError> {
+    for suspect in suspects {
+        push_made(suspect_json(alloc, suspect), values)?;
+    }
+    Ok(())
+}
+
+fn suspect_json(alloc: Global, suspect: &Suspect) -> Result<Value, AllocError> {
+    let mut members = Map::new(alloc);
+    let filled = put_suspect(alloc, suspect, &mut members);
+    object(members, filled)
+}
+
+fn put_suspect(
+    alloc: Global,
+    suspect: &Suspect,
+    members: &mut Map<String, Value>,
+) -> Result<(), AllocError> {
+    let name = shown_name(alloc, suspect.name.as_slice());
+    put_made(alloc, "name", name, members)?;
+    put_text(alloc, "change", suspect.change.word(), members)?;
+    put_number(alloc, "count", suspect.count, members)
 }
 
 fn records_json(counts: Option<Counts>) -> Value {

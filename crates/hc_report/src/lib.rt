@@ -2,6 +2,7 @@
 //! what could be let pass so that fewer are. It takes memory of bounded size, however many replies there are.
 #![tactic(auto)]
 
+mod asking;
 mod counts;
 mod endings_json;
 mod fixed;
@@ -10,12 +11,12 @@ mod groups;
 mod ignoring;
 mod json;
 mod listed;
-mod members;
 mod numbers;
 mod replies_json;
 mod report;
 mod rows;
 mod saying;
+mod suspects;
 mod targets;
 mod tries;
 

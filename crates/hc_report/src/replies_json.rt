@@ -2,12 +2,11 @@
 
 use crate::counts::ReplyCounts;
 use crate::group::{Group, Spread};
-use crate::members::{array, object, push_made, put_made, put_number, put_numbers, put_text};
 use crate::rows::what_of;
 use crate::targets::NamedTargets;
-use hc_details::{Detail, Differences};
-use hc_fields::Octets;
+use hc_facts::{Change, Differences};
 use hc_shown::push_octets;
+use hc_why::{Shortfall, array, object, push_made, put_made, put_number, put_numbers, put_text};
 use serde_json::{Map, Value};
 use std::alloc::{AllocError, Global};
 
@@ -52,7 +51,7 @@ fn put_group(
     members: &mut Map<String, Value>,
 ) -> Result<(), AllocError> {
     put_kind(alloc, group, members)?;
-    put_differences(alloc, &group.detail, members)?;
+    put_differences(alloc, group.why.shortfall(), members)?;
     put_spread(alloc, group.spread, members)?;
     let numbers = [("count", group.count), ("first", group.first)];
     put_numbers(alloc, &numbers, members)?;
@@ -66,29 +65,26 @@ fn put_kind(
 ) -> Result<(), AllocError> {
     put_number(alloc, "reason", u64::from(group.reason.number()), members)?;
     put_text(alloc, "name", group.reason.name(), members)?;
-    put_text(alloc, "detail", group.detail.kind(), members)?;
+    put_text(alloc, "detail", group.why.kind(), members)?;
     let what = what_of(alloc, group)?;
     put_text(alloc, "what", what.as_str(), members)
 }
 
 fn put_differences(
     alloc: Global,
-    detail: &Detail,
+    shortfall: Option<&Shortfall>,
     members: &mut Map<String, Value>,
 ) -> Result<(), AllocError> {
-    if let Detail::Fields(differences) = detail {
-        let Differences {
-            added,
-            dropped,
-            changed,
-            more,
-        } = differences;
-        put_made(alloc, "added", names_json(alloc, added), members)?;
-        put_made(alloc, "dropped", names_json(alloc, dropped), members)?;
-        put_made(alloc, "changed", names_json(alloc, changed), members)?;
-        put_number(alloc, "more_names", *more, members)?;
-    }
-    Ok(())
+    let Some(Shortfall::Fields(found)) = shortfall else {
+        return Ok(());
+    };
+    let added = names_json(alloc, found, Change::Added);
+    put_made(alloc, "added", added, members)?;
+    let dropped = names_json(alloc, found, Change::Dropped);
+    put_made(alloc, "dropped", dropped, members)?;
+    let changed = names_json(alloc, found, Change::Changed);
+    put_made(alloc, "changed", changed, members)?;
+    put_number(alloc, "more_names", found.more, members)
 }
 
 fn put_spread(
@@ -132,21 +128,30 @@ fn push_targets(
     Ok(())
 }
 
-fn names_json(alloc: Global, names: &[Octets]) -> Result<Value, AllocError> {
+// The names of those that became so.
+fn names_json(alloc: Global, found: &Differences, change: Change) -> Result<Value, AllocError> {
     let mut shown = Vec::new(alloc);
-    let filled = push_names(alloc, names, &mut shown);
+    let filled = push_names(alloc, found, change, &mut shown);
     array(shown, filled)
 }
 
-fn push_names(alloc: Global, names: &[Octets], shown: &mut Vec<Value>) -> Result<(), AllocError> {
-    for name in names {
-        push_made(shown_name(alloc, name), shown)?;
+fn push_names(
+    alloc: Global,
+    found: &Differences,
+    change: Change,
+    shown: &mut Vec<Value>,
+) -> Result<(), AllocError> {
+    for gap in found.listed.iter() {
+        if gap.change == change {
+            push_made(shown_name(alloc, gap.name.as_slice()), shown)?;
+        }
     }
     Ok(())
 }
 
-fn shown_name(alloc: Global, name: &Octets) -> Result<Value, AllocError> {
+/// A name as it is shown.
+pub(crate) fn shown_name(alloc: Global, name: &[u8]) -> Result<Value, AllocError> {
     let mut text = String::new(alloc);
-    push_octets(name.as_slice(), &mut text)?;
+    push_octets(name, &mut text)?;
     Ok(Value::String(text))
 }

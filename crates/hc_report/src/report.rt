@@ -9,11 +9,13 @@ use crate::groups::Groups;
 use crate::json::report_json;
 use crate::listed::ListedReplies;
 use crate::saying::say_report;
+use crate::suspects::Suspects;
 use crate::tries::Tries;
 use hc_audit::{JudgedReply, PassedRecord, Witness};
-use hc_details::Past;
 use hc_history::{Counts, Ending, Finding, Reason, Settings, WrongReply};
 use hc_index::Index;
+use hc_past::Past;
+use hc_why::why;
 use std::alloc::{AllocError, Global};
 
 /// What is said of a recording: what its replies say of themselves, which of them are wrong and by what, and what
@@ -24,6 +26,7 @@ pub struct Report {
     pub(crate) replies: ReplyCounts,
     pub(crate) wrongs: ListedReplies,
     pub(crate) groups: Groups,
+    pub(crate) suspects: Suspects,
     pub(crate) tries: Tries,
 }
 
@@ -35,11 +38,13 @@ impl Drop for Report {
             replies: _,
             wrongs,
             groups,
+            suspects,
             tries,
         } = self;
         drop(past);
         drop(wrongs);
         drop(groups);
+        drop(suspects);
         drop(tries);
     }
 }
@@ -76,6 +81,7 @@ impl Report {
             replies: ReplyCounts::new(),
             wrongs: ListedReplies::new(alloc),
             groups: Groups::new(alloc),
+            suspects: Suspects::new(alloc),
             tries: Tries::new(alloc, settings)?,
         })
     }
@@ -93,8 +99,21 @@ impl Report {
             position: judged.position,
             reason,
         })?;
-        self.groups.note(judged, reason, &self.past)?;
-        self.tries.judge(judged, reason)
+        self.group(judged, reason)
+    }
+
+    // Puts a wrong reply where it belongs by what is wrong with it.
+    fn group<I: Index>(
+        &mut self,
+        judged: &JudgedReply<'_, I>,
+        reason: Reason,
+    ) -> Result<(), AllocError>
+        ensures { (wrongs : List WrongReply) → TellsOf self.old wrongs → OnOk result (TellsOf self.new wrongs) }
+    {
+        let why = why(self.alloc, judged, reason, &self.past)?;
+        self.tries.judge(judged, reason, &why)?;
+        self.suspects.note(&why)?;
+        self.groups.note(judged, reason, why)
     }
 
     /// The first wrong reply.

@@ -106,7 +106,7 @@ fn reason_of(alloc: Global, group: &Group) -> Result<String, AllocError> {
 /// What is wrong in the replies of a group, and by how much.
 pub(crate) fn what_of(alloc: Global, group: &Group) -> Result<String, AllocError> {
     let mut text = String::new(alloc);
-    group.detail.say(&mut text)?;
+    group.why.say(&mut text)?;
     push_spread(group.spread, &mut text)?;
     Ok(text)
 }

@@ -39,6 +39,8 @@ fn say_wrongs(alloc: Global, report: &Report, out: &mut String) -> Result<(), Al
         return Ok(());
     }
     say_groups(alloc, &report.groups, out)?;
+    report.suspects.say(out)?;
+    say_warm(report.groups.unrecorded(), out)?;
     say_tries(&report.tries, wrong, out)
 }
 
@@ -128,6 +130,16 @@ fn say_share(part: u64, all: u64, out: &mut String) -> Result<(), AllocError> {
 // How many thousandths of all a part is, rounded down. None where all is nothing.
 fn share_of(part: u64, all: u64) -> Option<u64> {
     part.saturating_mul(1_000).checked_div(all)
+}
+
+// Says how many replies are of targets of which nothing is recorded, if any are.
+fn say_warm(unrecorded: u64, out: &mut String) -> Result<(), AllocError> {
+    if unrecorded == 0 {
+        return Ok(());
+    }
+    let behind =
+        " of targets of which nothing is recorded: was the cache empty when the recording began?\n";
+    push_number("warm       ", unrecorded, behind, out)
 }
 
 // Writes what could be let pass so that fewer replies are wrong.

@@ -1,10 +1,12 @@
 //! What the wrong replies would be with other settings, each of them judged once more.
 
-use crate::fixed::FixedTry;
+use crate::asking::Asks;
+use crate::fixed::{Allowance, FixedTry};
 use crate::ignoring::IgnoringTry;
 use hc_audit::JudgedReply;
-use hc_history::{Reason, Settings, UnmarkedReplies};
+use hc_history::{Reason, Settings};
 use hc_index::Index;
+use hc_why::Why;
 use std::alloc::{AllocError, Global};
 
 /// Other settings that wrong replies are judged by.
@@ -13,7 +15,8 @@ pub(crate) struct Tries {
     settings: Settings,
     /// Fields that are ignored besides.
     pub(crate) ignoring: IgnoringTry,
-    /// Seconds of slack, and every reply without a mark, where the audit takes errors alone.
+    /// Seconds of slack, every reply without a mark, and what may be allowed beside the strict rules, as far as the audit
+    /// doesn't allow it.
     pub(crate) fixed: Vec<FixedTry>,
 }
 
@@ -30,16 +33,32 @@ impl Drop for Tries {
     }
 }
 
-// Adds what is tried beside so much slack and what is asked of replies without a mark.
-fn push_fixed(
-    slack: u32,
-    unmarked: UnmarkedReplies,
-    fixed: &mut Vec<FixedTry>,
-) -> Result<(), AllocError> {
-    fixed.push(FixedTry::with_slack(slack.saturating_add(1)))?;
-    fixed.push(FixedTry::with_slack(slack.saturating_add(5)))?;
-    if unmarked == UnmarkedReplies::ErrorsOnly {
-        fixed.push(FixedTry::with_unmarked())?;
+// What is tried beside so much slack.
+fn allowances(slack: u32) -> [Allowance; 14] {
+    [
+        Allowance::Slack(slack.saturating_add(1)),
+        Allowance::Slack(slack.saturating_add(5)),
+        Allowance::Unmarked,
+        Allowance::AddedFields,
+        Allowance::JoinedLines,
+        Allowance::Ranges,
+        Allowance::All,
+        Allowance::Grace(10),
+        Allowance::Grace(60),
+        Allowance::AgeSlack(1),
+        Allowance::AgeSlack(5),
+        Allowance::DefaultLifetime(60),
+        Allowance::DefaultLifetime(86_400),
+        Allowance::InferredMarks,
+    ]
+}
+
+// Adds what is tried beside those settings.
+fn push_fixed(settings: &Settings, fixed: &mut Vec<FixedTry>) -> Result<(), AllocError> {
+    for allowance in allowances(settings.slack) {
+        if !allowance.is_given(settings.slack, settings.unmarked, &settings.allowed) {
+            fixed.push(FixedTry::new(allowance))?;
+        }
     }
     Ok(())
 }
@@ -48,7 +67,7 @@ impl Tries {
     /// What is tried beside those settings.
     pub(crate) fn new(alloc: Global, settings: Settings) -> Result<Self, AllocError> {
         let mut fixed = Vec::new(alloc);
-        push_fixed(settings.slack, settings.unmarked, &mut fixed)?;
+        push_fixed(&settings, &mut fixed)?;
         Ok(Tries {
             ignoring: IgnoringTry::new(alloc, settings.copy(alloc)?),
             settings,
@@ -56,15 +75,17 @@ impl Tries {
         })
     }
 
-    /// Judges a wrong reply once more by each.
+    /// Judges a wrong reply once more by each that may help.
     pub(crate) fn judge<I: Index>(
         &mut self,
         judged: &JudgedReply<'_, I>,
         reason: Reason,
+        why: &Why,
     ) -> Result<(), AllocError> {
-        self.ignoring.judge(judged, reason)?;
+        self.ignoring.judge(judged, why)?;
+        let asks = Asks::read(judged, reason)?;
         for fixed in &mut self.fixed {
-            fixed.judge(judged, &mut self.settings)?;
+            fixed.judge(judged, &asks, &mut self.settings)?;
         }
         Ok(())
     }

@@ -1,4 +1,4 @@
-//! The records of a transcript as text: those from one position to another, escaped, without secrets.
+//! The records of a transcript as text: those from one position to another, escaped, with credentials in heads hidden.
 #![tactic(auto)]
 
 mod body;

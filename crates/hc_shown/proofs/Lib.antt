@@ -1,2 +1,3 @@
+pub mod HiddenLemmas
 pub mod MomentLemmas
 pub mod ShownLemmas

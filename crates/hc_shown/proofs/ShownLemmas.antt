@@ -1,5 +1,5 @@
 -- What is shown of octets is printable, and not much.
-use Rattle.std.proofs.Common.{zero, suc, ◌-◌, ◌^◌, ◌≡◌, ◌<◌, ◌≤◌, ◌+◌, ◌*◌, ◌%◌, ◌/◌, ◌==◌, ℕ, true, nat_lt, nat_le, List, [], ◌∷◌, ◌++◌, length, take, refl, arith, rules, sym, ap, append_assoc, length-append, Result, Ok, Err, OnOk}
+use Rattle.std.proofs.Common.{◌-◌, ◌^◌, ◌≡◌, ◌<◌, ◌≤◌, ◌+◌, ◌*◌, ◌%◌, ◌/◌, ◌==◌, ℕ, Bool, true, nat_lt, nat_le, List, [], ◌∷◌, ◌++◌, length, take, refl, arith, rules, sym, append_assoc, Result, Ok, Err, OnOk}
 use Rattle.std.proofs.lemmas.Bool.{cond_both, le-leb, leb-true, ltb-true, ltb-false, and_from, and_parts}
 use Rattle.std.proofs.lemmas.Grind.{common_steps}
 use Rattle.std.proofs.lemmas.Str.{encode_ascii}
@@ -11,10 +11,14 @@ use Rattle.std.specs.List.{flat_map, list_all}
 use Rattle.std.specs.Prelude.{codes}
 use Rattle.std.specs.Char.{digit_char, encode_utf8}
 use Rattle.std.specs.Char.Escape.{escape_ascii, short_escape, backslash, hex_digit_at}
-use Rattle.std.proofs.lemmas.Grind.{flat_map-append}
-use Rattle.hc_head.specs.declared.head.Target.{Target}
-use Rattle.hc_shown.specs.Octets.{IsShown, cut_text, first_text, is_printable, length_text, most_shown, octet_text, octets_text}
-use Rattle.hc_shown.specs.Values.{is_credential, target_text, value_text}
+use Rattle.hc_shown.specs.declared.piece.Piece.{Piece}
+use Rattle.hc_shown.specs.declared.piece.Piece.TheVariants.{Hidden, Octet}
+use Rattle.hc_shown.specs.declared.place.Place.{Place}
+use Rattle.hc_shown.specs.Hidden.{front, hidden_run, is_hidden, pieces_behind, pieces_of, place_behind}
+use Rattle.hc_shown.specs.Octets.{IsShown, all_text, cut_text, first_text, is_printable, length_text, octet_text, octets_text}
+use Rattle.hc_shown.specs.Pieces.{both_text, fitting_text, piece_room, piece_text}
+use Rattle.hc_shown.specs.Secrets.{is_credential}
+use Rattle.hc_shown.specs.Values.{value_text}
 
 printable_between : (n : ℕ) → 32 ≤ n → n ≤ 126 → is_printable n ≡ true
 printable_between n low high = and_from _ _ (le-leb 32 n low) (le-leb n 126 high)
@@ -121,43 +125,66 @@ octets_are_shown octets few =
 pub count_is_shown : (n : ℕ) → n < 2 ^ 64 → IsShown (length_text n)
 count_is_shown n few = let text = count_is_text n few in record { printable = text.printable; short = omega (arith, text.short) }
 
-pub quoted_is_shown : (octets : List ℕ) → length octets < 2 ^ 64 → IsShown (codes "\"" ++ (octets_text octets ++ codes "\""))
+-- ---- pieces
+
+widen : (text : List ℕ) (m n : ℕ) → IsTextOf text m → m ≤ n → IsTextOf text n
+widen text m n t less = record { printable = t.printable; short = omega (arith, t.short, less) }
+
+abbrev is_few : ℕ → Piece → Bool
+is_few n (Octet octet) = true
+is_few n (Hidden count) = nat_le count n
+
+run_is_few : (n run : ℕ) → run ≤ n → list_all (is_few n) (hidden_run run) ≡ true
+run_is_few n run less = cond_both (run == 0) [] (Hidden run ∷ []) (λ pieces. list_all (is_few n) pieces ≡ true) (λ _. refl) (λ _. and_from _ _ (le-leb run n less) refl)
+
+pieces_are_few : (n run : ℕ) (place : Place) (octets : List ℕ) → run + length octets ≤ n → list_all (is_few n) (pieces_behind run place octets) ≡ true
+pieces_are_few n run place [] less = run_is_few n run (omega (arith, less))
+pieces_are_few n run place (octet ∷ rest) less =
+    let behind = place_behind place octet rest in
+    cond_both (is_hidden place octet) (pieces_behind (run + 1) behind rest) (hidden_run run ++ (Octet octet ∷ pieces_behind 0 behind rest))
+    (λ pieces. list_all (is_few n) pieces ≡ true)
+    (λ _. pieces_are_few n (run + 1) behind rest (omega (arith, less)))
+    (λ _. rw (list_all-append (is_few n) (hidden_run run) (Octet octet ∷ pieces_behind 0 behind rest))
+    (and_from _ _ (run_is_few n run (omega (arith, less))) (pieces_are_few n 0 behind rest (omega (arith, less)))))
+
+piece_is_text : (piece : Piece) → is_few (2 ^ 64 - 1) piece ≡ true → IsTextOf (piece_text piece) (4 * piece_room piece)
+piece_is_text (Octet octet) few = record { printable = (octet_is_text octet).0; short = (octet_is_text octet).1 }
+piece_is_text (Hidden count) few = widen (length_text count) 29 32 (count_is_text count (omega (arith, leb-true count (2 ^ 64 - 1) few))) (omega arith)
+
+all_is_text : (n : ℕ) → n < 2 ^ 64 → IsTextOf (all_text n) 32
+all_is_text n few = both (codes "...") (length_text n) 3 29 (record { printable = refl; short = omega arith }) (count_is_text n few)
+
+fitting_is_text : (count room : ℕ) (pieces : List Piece) → count < 2 ^ 64 → list_all (is_few (2 ^ 64 - 1)) pieces ≡ true → IsTextOf (fitting_text count room pieces) (4 * room + 32)
+fitting_is_text count room [] few all = record { printable = refl; short = omega arith }
+fitting_is_text count room (piece ∷ rest) few all =
+    let parts = and_parts (is_few (2 ^ 64 - 1) piece) (list_all (is_few (2 ^ 64 - 1)) rest) all in
+    let left = room - piece_room piece in
+    cond_both (nat_le (piece_room piece) room) (piece_text piece ++ fitting_text count left rest) (all_text count) (λ text. IsTextOf text (4 * room + 32))
+    (λ fits. widen _ (4 * piece_room piece + (4 * left + 32)) (4 * room + 32)
+    (both (piece_text piece) (fitting_text count left rest) (4 * piece_room piece) (4 * left + 32) (piece_is_text piece parts.0) (fitting_is_text count left rest few parts.1))
+    (omega (arith, leb-true (piece_room piece) room fits)))
+    (λ _. widen (all_text count) 32 (4 * room + 32) (all_is_text count few) (omega arith))
+
+both_is_text : (one other : List ℕ) → length one + length other < 2 ^ 64 → IsTextOf (both_text one other) 832
+both_is_text one other few =
+    let all : list_all (is_few (2 ^ 64 - 1)) (pieces_of one ++ pieces_of other) ≡ true =
+    rw (list_all-append (is_few (2 ^ 64 - 1)) (pieces_of one) (pieces_of other))
+    (and_from _ _ (pieces_are_few (2 ^ 64 - 1) 0 front one (omega (arith, few))) (pieces_are_few (2 ^ 64 - 1) 0 front other (omega (arith, few)))) in
+    fitting_is_text (length one + length other) 200 (pieces_of one ++ pieces_of other) few all
+
+pub both_are_shown : (one other : List ℕ) → length one + length other < 2 ^ 64 → IsShown (both_text one other)
+both_are_shown one other few = let text = both_is_text one other few in record { printable = text.printable; short = omega (arith, text.short) }
+
+quoted_is_shown : (octets : List ℕ) → length octets < 2 ^ 64 → IsShown (codes "\"" ++ (both_text octets [] ++ codes "\""))
 quoted_is_shown octets few =
     let quote : IsTextOf (codes "\"") 1 = record { printable = refl; short = omega arith } in
-    let text = both (first_text 200 octets) (cut_text (length octets)) 800 32 (first_is_text 200 octets) (cut_is_text (length octets) few) in
-    let quoted = both (codes "\"") (octets_text octets ++ codes "\"") 1 833 quote (both (octets_text octets) (codes "\"") 832 1 text quote) in
+    let none : length octets + 0 < 2 ^ 64 = omega (arith, few) in
+    let quoted = both (codes "\"") (both_text octets [] ++ codes "\"") 1 833 quote (both (both_text octets []) (codes "\"") 832 1 (both_is_text octets [] none) quote) in
     record { printable = quoted.printable; short = omega (arith, quoted.short) }
 
 pub value_is_shown : (name value : List ℕ) → length value < 2 ^ 64 → IsShown (value_text name value)
-value_is_shown name value few = cond_both (is_credential name) (length_text (length value)) (codes "\"" ++ (octets_text value ++ codes "\"")) IsShown
+value_is_shown name value few = cond_both (is_credential name) (length_text (length value)) (codes "\"" ++ (both_text value [] ++ codes "\"")) IsShown
     (λ _. count_is_shown (length value) few) (λ _. quoted_is_shown value few)
-
--- ---- two runs that are shown as one
-
-take_of_both : (n : ℕ) (xs ys : List ℕ) → take n (xs ++ ys) ≡ take n xs ++ take (n - length xs) ys
-take_of_both zero [] ys = refl
-take_of_both (suc n) [] ys =
-    let all : suc n - 0 ≡ suc n = omega arith in
-    rw all refl
-take_of_both zero (x ∷ xs) ys =
-    let none : 0 - length (x ∷ xs) ≡ 0 = omega arith in
-    rw none refl
-take_of_both (suc n) (x ∷ xs) ys =
-    let less : suc n - length (x ∷ xs) ≡ n - length xs = omega arith in
-    rw less (ap (λ rest. x ∷ rest) (take_of_both n xs ys))
-
-first_of_both : (most : ℕ) (one other : List ℕ) → first_text most (one ++ other) ≡ first_text most one ++ first_text (most - length one) other
-first_of_both most one other = rw (take_of_both most one other) (flat_map-append octet_text (take most one) (take (most - length one) other))
-
-pub target_is_shown : (target : Target) → length target.host < 2 ^ 63 → length target.path < 2 ^ 63 → IsShown (target_text target)
-target_is_shown target host path = octets_are_shown (target.host ++ target.path) (grind (arith, common_steps, host, path))
-
-pub target_written : (old host_end path_end new host path : List ℕ) (target : Target) (room count : ℕ) → host ≡ target.host → path ≡ target.path
-    → host_end ≡ old ++ first_text most_shown host → room ≡ most_shown - length host → path_end ≡ host_end ++ first_text room path
-    → count ≡ length host + length path → new ≡ path_end ++ cut_text count → new ≡ old ++ target_text target
-target_written old host_end path_end new host path target room count is_host is_path first left second all last =
-    rw (last, second, first, left, all, is_host, is_path, first_of_both most_shown target.host target.path, length-append target.host target.path)
-    (simp append_assoc refl)
 
 pub on_ok : {T E P : Type 0} (result : Result T E) → P → OnOk result P
 on_ok (Ok x) p = p

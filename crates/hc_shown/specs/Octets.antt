@@ -24,9 +24,13 @@ length_text count = codes "(" ++ (decimal count ++ codes " octets)")
 abbrev pub most_shown : ℕ
 most_shown = 200
 
+-- what is said behind octets that aren't all of so many
+abbrev pub all_text : ℕ → List ℕ
+all_text count = codes "..." ++ length_text count
+
 -- what is said behind the octets that are shown, of so many
 abbrev pub cut_text : ℕ → List ℕ
-cut_text count = if nat_le count most_shown then [] else codes "..." ++ length_text count
+cut_text count = if nat_le count most_shown then [] else all_text count
 
 -- octets
 abbrev pub octets_text : List ℕ → List ℕ

@@ -1,8 +1,12 @@
-//! What a terminal may be shown of octets that others have written: printable ASCII alone, and never more than some.
+//! What a terminal may be shown of octets that others have written: printable ASCII alone, never more than some, and
+//! no secrets.
 #![tactic(auto)]
 
 mod moment;
 mod octets;
+mod piece;
+mod place;
+mod secrets;
 mod target;
 mod value;
 

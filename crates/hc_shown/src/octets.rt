@@ -2,7 +2,7 @@
 
 ghost use Rattle.std.specs.Prelude.{◌≡◌, ◌++◌, take, OnOk, string_bytes};
 ghost use Rattle.std.specs.Char.Escape.{escape_ascii};
-ghost use Rattle.hc_shown.specs.Octets.{IsShown, cut_text, first_text, length_text, octet_text, octets_text};
+ghost use Rattle.hc_shown.specs.Octets.{IsShown, all_text, cut_text, first_text, length_text, octet_text, octets_text};
 
 use std::alloc::AllocError;
 use std::fmt::Write;
@@ -22,7 +22,7 @@ fn push_escaped(octet: u8, out: &mut String) -> Result<(), AllocError>
 
 /// Puts an octet at the end: printable ASCII as it is, but a double quote or a backslash behind a backslash; any other
 /// by what stands for it behind a backslash.
-fn push_octet(octet: u8, out: &mut String) -> Result<(), AllocError>
+pub(crate) fn push_octet(octet: u8, out: &mut String) -> Result<(), AllocError>
     ensures { OnOk result (string_bytes out.new ≡ string_bytes out.old ++ octet_text octet) }
 {
     if octet == b'\'' {
@@ -32,7 +32,7 @@ fn push_octet(octet: u8, out: &mut String) -> Result<(), AllocError>
 }
 
 /// At most so many of the octets, the first ones.
-fn first(octets: &[u8], most: usize) -> &[u8]
+pub(crate) fn first(octets: &[u8], most: usize) -> &[u8]
     ensures { result.now ≡ take most octets.now }
 {
     if octets.len() <= most {
@@ -59,15 +59,22 @@ pub(crate) fn push_length(length: usize, out: &mut String) -> Result<(), AllocEr
     write!(out, "({length} octets)")
 }
 
+/// Says the length of what was cut.
+pub(crate) fn push_all(length: usize, out: &mut String) -> Result<(), AllocError>
+    ensures { OnOk result (string_bytes out.new ≡ string_bytes out.old ++ all_text length) }
+{
+    out.push_str("...")?;
+    push_length(length, out)
+}
+
 /// Says the length of what was cut, if there are more octets than are shown.
-pub(crate) fn push_cut(length: usize, out: &mut String) -> Result<(), AllocError>
+fn push_cut(length: usize, out: &mut String) -> Result<(), AllocError>
     ensures { OnOk result (string_bytes out.new ≡ string_bytes out.old ++ cut_text length) }
 {
     if length <= SHOWN {
         return Ok(());
     }
-    out.push_str("...")?;
-    push_length(length, out)
+    push_all(length, out)
 }
 
 /// Puts octets at the end: printable ASCII as it is, but `"` and `\` behind a `\`; a line feed, a carriage return and

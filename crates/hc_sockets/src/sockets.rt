@@ -194,18 +194,16 @@ impl<'a, R: Net + Files + Clock> World for Sockets<'a, R> {
         Some(wire)
     }
 
-    fn wall(&self) -> Option<u64> {
-        match self.rt.since_1970() {
-            Ok(since) => Some(since.as_secs()),
-            Err(_) => None,
-        }
+    fn wall(&self) -> Option<Duration> {
+        self.rt.since_1970().ok()
+    }
+
+    fn monotonic(&self) -> Duration {
+        self.rt.monotonic().unwrap_or(Duration::ZERO)
     }
 
     fn tick(&self) -> u64 {
-        match self.rt.monotonic() {
-            Ok(since) => u64::try_from(since.as_millis()).unwrap_or(u64::MAX),
-            Err(_) => 0,
-        }
+        u64::try_from(self.monotonic().as_millis()).unwrap_or(u64::MAX)
     }
 
     fn stops(&mut self) -> bool {

@@ -77,15 +77,9 @@ fn done(
         Order::Report { file, terms, json } => {
             Ok(report(alloc, terms, json, file, &mut input, output, faults))
         }
-        Order::Explain {
-            file,
-            position,
-            settings,
-        } => {
+        Order::Explain { file, terms } => {
             let mut again = Pieces::new(&pieces);
-            Ok(explain(
-                alloc, settings, position, file, &mut input, &mut again, output, faults,
-            ))
+            Ok(explain(alloc, terms, file, &mut input, &mut again, output, faults))
         }
         _ => Err(Unanswered::Unknown),
     }

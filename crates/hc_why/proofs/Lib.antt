@@ -1,3 +1,1 @@
 pub mod SeekingLemmas
-pub mod StoringLemmas
-pub mod ListedLemmas

@@ -3,15 +3,15 @@
 ghost use Rattle.std.specs.Prelude.{◌≡◌, IfOk, IfSome};
 ghost use Rattle.hc_why.specs.Explaining.{finding_of, position_of};
 
-use crate::asking::AskedReply;
-use crate::ends::EndedForward;
 use crate::naming::{Nearest, Reaches, named, nearest_of};
 use crate::reading::why_by;
-use crate::sources::Source;
 use crate::whys::Why;
 use hc_audit::JudgedReply;
+use hc_facts::AskedReply;
 use hc_history::{Candidate, Finding, Mark, ReplyClaim, is_judged_collapsed};
 use hc_index::Index;
+use hc_past::{EndedForward, Source};
+use hc_update::Stored;
 use std::alloc::{AllocError, Global};
 
 /// The way that a reply went, by the mark by which it is judged.
@@ -226,9 +226,27 @@ impl Explanation {
             .find(|source| source.record.position == position)
     }
 
-    /// Takes in what the end of a forward before the reply tells of what is named.
-    pub(crate) fn take(&mut self, ended: &EndedForward<'_>) -> Result<(), AllocError> {
+    /// The state before a 304 of the response that is named, if there is one then.
+    pub(crate) fn state_before<'a, I: Index>(
+        &self,
+        ended: &EndedForward<'_>,
+        index: &'a I,
+    ) -> Option<&'a Stored> {
+        if !ended.is_not_modified() {
+            return None;
+        }
+        let nearest = self.nearest()?;
+        index.response(&self.reply.target, nearest.position)
+    }
+
+    /// Takes in what the end of a forward before the reply tells of what is named, which is in that state before it,
+    /// if it is there.
+    pub(crate) fn take(
+        &mut self,
+        ended: &EndedForward<'_>,
+        state: Option<&Stored>,
+    ) -> Result<(), AllocError> {
         self.take_source(ended)?;
-        self.take_ground(ended)
+        self.take_ground(ended, state)
     }
 }

@@ -1,10 +1,8 @@
 //! The responses that a reply may carry, and the one of them that is named.
 
-use crate::bodies::has_body;
-use crate::records::NAMED;
-use crate::rules::{Rule, rule_behind};
-use crate::shortfalls::Shortfall;
+use crate::shortfalls::{NotAbout, Shortfall};
 use hc_audit::JudgedReply;
+use hc_facts::{NAMED, Newest, Rule, has_body, rule_behind};
 use hc_history::{Candidate, ReplyClaim};
 use hc_index::Index;
 use hc_update::Stored;
@@ -72,6 +70,9 @@ pub struct Nearest {
     pub date: Option<u64>,
     /// In what it falls short; nothing where it keeps all rules.
     pub shortfall: Option<Shortfall>,
+    /// The 304s that aren't about it, as far as they were looked for: of the window, since one was about it; of an
+    /// invalidated one those since.
+    pub not_about: Newest<NotAbout>,
 }
 
 impl Drop for Nearest {
@@ -81,8 +82,10 @@ impl Drop for Nearest {
             validated_at: _,
             date: _,
             shortfall,
+            not_about,
         } = self;
         drop(shortfall);
+        drop(not_about);
     }
 }
 
@@ -110,6 +113,7 @@ impl Nearest {
             validated_at: state.validated_at,
             date: date_of(state),
             shortfall: shortfall(alloc, claim, state, rule_behind(candidate.passed))?,
+            not_about: Newest::new(alloc),
         })
     }
 }

@@ -1,14 +1,12 @@
 //! What is wrong with a reply, by what is known of the records before it.
 
 use crate::naming::{Nearest, nearest_behind};
-use crate::past::Past;
-use crate::unstored::Unstored;
 use crate::whys::{NoMark, Why};
-use crate::windows::{Wanted, Window};
 use hc_audit::JudgedReply;
 use hc_head::StatusCode;
 use hc_history::{Mark, Reason, ReplyClaim};
 use hc_index::Index;
+use hc_past::{Past, Unstored, Wanted, Window};
 use hc_status::{MarkFault, mark};
 use std::alloc::{AllocError, Global};
 

@@ -2,20 +2,16 @@
 
 ghost use Rattle.std.specs.Prelude.{◌≡◌};
 
-use crate::asking::AskedReply;
-use crate::ends::{EndedForward, ended};
 use crate::explaining::{Explanation, Ground};
 use crate::naming::Nearest;
-use crate::past::unstorable;
-use crate::shortfalls::{Invalidation, Invalidator, Shortfall, UseGap};
-use crate::sources::Source;
-use crate::unstored::Unstored;
+use crate::shortfalls::{Invalidator, NotAbout, OriginError, Shortfall, UseGap};
 use crate::whys::Why;
-use crate::windows::Wanted;
 use hc_audit::{JudgedReply, PassedRecord, Witness};
-use hc_head::{StatusCode, is_error_status, same_target};
+use hc_facts::{Against, AskedReply, Newest, first_against};
+use hc_head::{is_error_status, same_target};
 use hc_index::Index;
-use hc_update::invalidates;
+use hc_past::{EndedForward, Source, Unstored, Wanted, ended, unstorable};
+use hc_update::{Stored, invalidates};
 use std::alloc::{AllocError, Global};
 
 /// A witness that looks for the records that the explanation of a reply names. It is to read the transcript in
@@ -70,7 +66,10 @@ impl<I: Index> Witness<I> for Retracing {
             return Ok(());
         }
         match ended(passed) {
-            Some(ended) => self.explanation.take(&ended),
+            Some(ended) => {
+                let state = self.explanation.state_before(&ended, passed.index);
+                self.explanation.take(&ended, state)
+            }
             None => Ok(()),
         }
     }
@@ -97,6 +96,8 @@ struct Place<'a> {
     reply: &'a AskedReply,
     standing: Standing,
     ended: &'a EndedForward<'a>,
+    // The state before a 304 of the response that is named, if it is there then.
+    state: Option<&'a Stored>,
 }
 
 // What a reply to that exchange, whose request stands at that position, was asked for, and what it carries.
@@ -133,23 +134,34 @@ impl Explanation {
     }
 
     // Takes in what it tells of what is wrong.
-    pub(crate) fn take_ground(&mut self, ended: &EndedForward<'_>) -> Result<(), AllocError> {
+    pub(crate) fn take_ground(
+        &mut self,
+        ended: &EndedForward<'_>,
+        state: Option<&Stored>,
+    ) -> Result<(), AllocError> {
         let alloc = self.alloc;
         let standing = Standing {
             exchange: self.exchange,
             since: self.since,
             bound: self.bound(),
         };
-        take_in(alloc, &self.reply, standing, ended, &mut self.ground)
+        take_in(
+            alloc,
+            &self.reply,
+            standing,
+            (ended, state),
+            &mut self.ground,
+        )
     }
 }
 
-// Takes in what the end of a forward tells of what is wrong with a reply that stands so.
+// Takes in what the end of a forward tells of what is wrong with a reply that stands so; before it the response that is
+// named was in that state, if it was there.
 fn take_in(
     alloc: Global,
     reply: &AskedReply,
     standing: Standing,
-    ended: &EndedForward<'_>,
+    (ended, state): (&EndedForward<'_>, Option<&Stored>),
     ground: &mut Ground,
 ) -> Result<(), AllocError> {
     let place = Place {
@@ -157,6 +169,7 @@ fn take_in(
         reply: &*reply,
         standing,
         ended: &*ended,
+        state,
     };
     match ground {
         Ground::Right(_) => Ok(()),
@@ -168,14 +181,14 @@ impl Why {
     // Takes in what the end of a forward tells of it.
     fn take(&mut self, place: &Place<'_>) -> Result<(), AllocError> {
         match self {
-            Why::NoResponse(unstored) => unstored.take(place),
+            Why::NoResponse(unstored) => take_unstored(unstored, place),
             Why::Response(nearest) => nearest.take(place),
             Why::NotForwarded(window, nearest) => {
                 window.take(place.alloc, &place.wanted(), &place.ended.end())?;
                 take_nearest(nearest, place)
             }
             Why::NotCollapsible(unstored, nearest) => {
-                unstored.take(place)?;
+                take_unstored(unstored, place)?;
                 take_nearest(nearest, place)
             }
             Why::Unmarked(_) | Why::BothMarks | Why::Unasked => Ok(()),
@@ -207,14 +220,6 @@ impl<'a> Place<'a> {
         self.standing.since < self.ended.record.position
     }
 
-    // Whether it is a 304.
-    fn is_not_modified(&self) -> bool {
-        match self.ended.response {
-            Some(response) => response.head.status == StatusCode::NOT_MODIFIED,
-            None => false,
-        }
-    }
-
     // What it invalidates its target by, if it does.
     fn invalidator(&self) -> Result<Option<Invalidator>, AllocError> {
         let Some(response) = self.ended.response else {
@@ -232,16 +237,43 @@ impl<'a> Place<'a> {
     }
 }
 
-impl Unstored {
-    // Takes in a response of the target that may not be stored.
-    fn take(&mut self, place: &Place<'_>) -> Result<(), AllocError> {
-        if place.ended.record.position <= place.standing.bound || !place.is_of_target() {
-            return Ok(());
+// Takes in a response of the target that may not be stored.
+fn take_unstored(unstored: &mut Unstored, place: &Place<'_>) -> Result<(), AllocError> {
+    if place.ended.record.position <= place.standing.bound || !place.is_of_target() {
+        return Ok(());
+    }
+    match unstorable(place.ended) {
+        Some(unstorable) => unstored.recorded.push(unstorable),
+        None => Ok(()),
+    }
+}
+
+impl<'a> Place<'a> {
+    // The first thing that stands against that it is a 304 about the response; nothing where it is none, or is about it.
+    fn against(&self) -> Result<Option<Against>, AllocError> {
+        let Some(response) = self.ended.response else {
+            return Ok(None);
+        };
+        if !self.ended.is_not_modified() {
+            return Ok(None);
         }
-        match unstorable(place.ended) {
-            Some(unstorable) => self.recorded.push(unstorable),
-            None => Ok(()),
+        let forward = &self.ended.forward.request;
+        match self.state {
+            Some(state) => first_against(self.alloc, state, forward, &response.head),
+            None => Ok(Some(Against::Earlier)),
         }
+    }
+
+    // The error of the origin that it is, if it is one.
+    fn error(&self) -> Option<OriginError> {
+        let response = self.ended.response?;
+        if !is_error_status(response.head.status) {
+            return None;
+        }
+        Some(OriginError {
+            position: self.ended.record.position,
+            status: response.head.status,
+        })
     }
 }
 
@@ -255,10 +287,14 @@ impl Nearest {
             self.renew(place);
         }
         let is_settled = place.ended.record.position <= self.settled_at();
-        match &mut self.shortfall {
-            Some(shortfall) => shortfall.take(place, is_settled),
-            None => Ok(()),
+        let is_anew = match &mut self.shortfall {
+            Some(shortfall) => shortfall.take(place, is_settled)?,
+            None => false,
+        };
+        if is_anew {
+            self.not_about.clear();
         }
+        self.take_not_about(place, is_settled)
     }
 
     // Takes in which fields the 304 has that freshened it last.
@@ -270,55 +306,65 @@ impl Nearest {
             differences.renew(&response.head.fields);
         }
     }
+
+    // Whether a 304 might have been about it: one of the window, but for those before one that was; or, where it is
+    // invalidated, any since it is as it is.
+    fn awaits(&self, place: &Place<'_>, is_settled: bool) -> bool {
+        match &self.shortfall {
+            Some(Shortfall::Valid(_)) => !is_settled,
+            _ => place.is_in_window() && (!is_settled || self.validated_at.is_none()),
+        }
+    }
+
+    // Takes in a 304 that isn't about it.
+    fn take_not_about(&mut self, place: &Place<'_>, is_settled: bool) -> Result<(), AllocError> {
+        if !self.awaits(place, is_settled) {
+            return Ok(());
+        }
+        let Some(against) = place.against()? else {
+            return Ok(());
+        };
+        self.not_about.push(NotAbout {
+            record: place.ended.record,
+            against,
+        })
+    }
 }
 
 impl Shortfall {
-    // Takes in what the end of a forward of the target tells, which has settled before the response was as it is.
-    fn take(&mut self, place: &Place<'_>, is_settled: bool) -> Result<(), AllocError> {
+    // Takes in what the end of a forward of the target tells, which has settled before the response was as it is, and
+    // answers whether it invalidates it.
+    fn take(&mut self, place: &Place<'_>, is_settled: bool) -> Result<bool, AllocError> {
         match self {
-            Shortfall::Valid(invalidation) if !is_settled => invalidation.take(place),
-            Shortfall::Lifetime(gap) | Shortfall::Use(gap) => gap.take(place, is_settled),
-            _ => Ok(()),
+            Shortfall::Valid(by) if !is_settled => take_invalidator(by, place),
+            Shortfall::Lifetime(gap) | Shortfall::Use(gap) => {
+                gap.take(place);
+                Ok(false)
+            }
+            _ => Ok(false),
         }
     }
 }
 
-impl Invalidation {
-    // Takes in what invalidated the response, or a 304.
-    fn take(&mut self, place: &Place<'_>) -> Result<(), AllocError> {
-        if let Some(invalidator) = place.invalidator()? {
-            self.validating.clear();
-            return self.by.push(invalidator);
-        }
-        if place.is_not_modified() {
-            self.validating.push(place.ended.record)?;
-        }
-        Ok(())
-    }
+// Takes in what invalidated the response, and answers whether it did.
+fn take_invalidator(by: &mut Newest<Invalidator>, place: &Place<'_>) -> Result<bool, AllocError> {
+    let Some(invalidator) = place.invalidator()? else {
+        return Ok(false);
+    };
+    by.push(invalidator)?;
+    Ok(true)
 }
 
 impl UseGap {
-    // Takes in a 304, an error or a failure of the window.
-    fn take(&mut self, place: &Place<'_>, is_settled: bool) -> Result<(), AllocError> {
+    // Takes in an error or a failure of the window.
+    fn take(&mut self, place: &Place<'_>) {
         if !place.is_in_window() {
-            return Ok(());
+            return;
         }
-        self.take_trouble(place);
-        if place.is_not_modified() && !is_settled {
-            self.validating.push(place.ended.record)?;
-        }
-        Ok(())
-    }
-
-    // Takes in an error or a failure.
-    fn take_trouble(&mut self, place: &Place<'_>) {
-        let position = place.ended.record.position;
-        match place.ended.response {
-            Some(response) if is_error_status(response.head.status) => {
-                self.error = Some(position);
-            }
-            Some(_) => {}
-            None => self.failure = Some(position),
+        if place.ended.response.is_none() {
+            self.failure = Some(place.ended.record.position);
+        } else if let Some(error) = place.error() {
+            self.error = Some(error);
         }
     }
 }

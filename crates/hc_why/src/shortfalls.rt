@@ -1,12 +1,9 @@
 //! In what a stored response falls short of what a reply carries: one thing for each rule.
 
-use crate::aging::{AgeGap, TtlGap, age_gap, ttl_gap};
-use crate::bodies::{ContentGap, content_gap};
-use crate::differing::{Differences, compare};
-use crate::records::{Newest, RecordName};
-use crate::rules::Rule;
-use crate::selecting::{Selection, unmet_members};
-use crate::usage::{Usage, usage_at};
+use hc_facts::{
+    Against, AgeGap, ContentGap, Differences, Newest, RecordName, Rule, Selection, TtlGap, Usage,
+    age_gap, compare, content_gap, ttl_gap, unmet_members, usage_at,
+};
 use hc_head::{Method, StatusCode};
 use hc_history::ReplyClaim;
 use hc_update::Stored;
@@ -33,54 +30,49 @@ impl Drop for Invalidator {
     }
 }
 
-/// What invalidated a response since it is as it is, as far as that was looked for.
-pub struct Invalidation {
-    /// What invalidated it.
-    pub by: Newest<Invalidator>,
-    /// The 304s since, of which none is about it.
-    pub validating: Newest<RecordName>,
-}
-
-impl Drop for Invalidation {
-    fn drop(self) {
-        let Invalidation { by, validating } = self;
-        drop(by);
-        drop(validating);
-    }
+/// An error of the origin.
+#[derive(Clone, Copy)]
+pub struct OriginError {
+    /// The position of its record.
+    pub position: u64,
+    /// Its status.
+    pub status: StatusCode,
 }
 
 /// Why a response may not be used.
+#[derive(Clone, Copy)]
 pub struct UseGap {
     /// How old it is, and what forbids to use it.
     pub usage: Usage,
-    /// The positions of the latest error and of the latest failure in the window, as far as they were looked for.
-    pub error: Option<u64>,
+    /// The latest error in the window, as far as it was looked for.
+    pub error: Option<OriginError>,
+    /// The position of the latest failure in the window, as far as it was looked for.
     pub failure: Option<u64>,
-    /// The 304s of the window, of which none is about it.
-    pub validating: Newest<RecordName>,
-}
-
-impl Drop for UseGap {
-    fn drop(self) {
-        let UseGap {
-            usage: _,
-            error: _,
-            failure: _,
-            validating,
-        } = self;
-        drop(validating);
-    }
 }
 
 impl UseGap {
     /// What the state of the response tells.
-    fn read(alloc: Global, claim: &ReplyClaim<'_>, state: &Stored) -> Self {
+    fn read(claim: &ReplyClaim<'_>, state: &Stored) -> Self {
         UseGap {
             usage: usage_at(claim, state),
             error: None,
             failure: None,
-            validating: Newest::new(alloc),
         }
+    }
+}
+
+/// A 304 of the response's target that isn't about it.
+pub struct NotAbout {
+    /// Its record.
+    pub record: RecordName,
+    /// The first thing that stands against it.
+    pub against: Against,
+}
+
+impl Drop for NotAbout {
+    fn drop(self) {
+        let NotAbout { record: _, against } = self;
+        drop(against);
     }
 }
 
@@ -91,8 +83,8 @@ pub enum Shortfall {
     Asked(Method),
     /// Its Vary doesn't select the request.
     Selected(Selection),
-    /// It is invalidated.
-    Valid(Invalidation),
+    /// It is invalidated: by these since it is as it is, as far as they were looked for.
+    Valid(Newest<Invalidator>),
     /// It states no lifetime, and may not be used without.
     Lifetime(UseGap),
     /// It may not be used.
@@ -118,12 +110,9 @@ impl Shortfall {
         match rule {
             Rule::Asked => Ok(Shortfall::Asked(claim.request.method.clone()?)),
             Rule::Selected => Ok(Shortfall::Selected(unmet_members(alloc, claim, state)?)),
-            Rule::Valid => Ok(Shortfall::Valid(Invalidation {
-                by: Newest::new(alloc),
-                validating: Newest::new(alloc),
-            })),
-            Rule::Lifetime => Ok(Shortfall::Lifetime(UseGap::read(alloc, claim, state))),
-            Rule::Use => Ok(Shortfall::Use(UseGap::read(alloc, claim, state))),
+            Rule::Valid => Ok(Shortfall::Valid(Newest::new(alloc))),
+            Rule::Lifetime => Ok(Shortfall::Lifetime(UseGap::read(claim, state))),
+            Rule::Use => Ok(Shortfall::Use(UseGap::read(claim, state))),
             Rule::Body => Ok(Shortfall::Body(content_gap(alloc, claim, state)?)),
             Rule::Fields => Ok(Shortfall::Fields(compare(alloc, claim, state)?)),
             Rule::Age => Ok(Shortfall::Age(age_gap(alloc, claim, state)?)),

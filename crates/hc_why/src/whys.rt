@@ -2,9 +2,8 @@
 
 use crate::naming::Nearest;
 use crate::shortfalls::Shortfall;
-use crate::unstored::Unstored;
-use crate::windows::{Held, Window, WindowKind};
 use hc_history::Reason;
+use hc_past::{Unstored, Window};
 
 /// Why a reply counts as one without a mark.
 #[derive(Clone, Copy, PartialEq, Eq)]
@@ -61,46 +60,6 @@ impl Nearest {
         match self.breaks() {
             Some(rule) => rule.reason(),
             None => Reason::NotCollapsible,
-        }
-    }
-}
-
-impl Unstored {
-    // Whether both have the same cause.
-    fn is_as(&self, other: &Unstored) -> bool {
-        if self.other_method.is_some() || other.other_method.is_some() {
-            return self.other_method.is_some() && other.other_method.is_some();
-        }
-        match (self.recorded.last(), other.recorded.last()) {
-            (Some(one), Some(other)) => one.forbids == other.forbids,
-            (None, None) => self.is_forgotten == other.is_forgotten,
-            (Some(_), None) | (None, Some(_)) => false,
-        }
-    }
-}
-
-impl Window {
-    // Whether both hold things of the same kind.
-    fn is_as(&self, other: &Window) -> bool {
-        match (self.near.last(), other.near.last()) {
-            (Some(one), Some(other)) => one.host == other.host,
-            (None, None) => self.kind() == other.kind(),
-            (Some(_), None) | (None, Some(_)) => false,
-        }
-    }
-
-    /// What it holds.
-    pub fn kind(&self) -> WindowKind {
-        if !self.near.is_empty() {
-            return WindowKind::OtherHost;
-        }
-        match self.held {
-            Held::Part => WindowKind::Part,
-            Held::NotModified => WindowKind::NotModified,
-            Held::Responses => WindowKind::OtherAnswer,
-            Held::Nothing | Held::Failures if self.is_forgotten => WindowKind::Forgotten,
-            Held::Failures => WindowKind::OnlyFailures,
-            Held::Nothing => WindowKind::NoAnswer,
         }
     }
 }
@@ -201,26 +160,6 @@ impl Nearest {
         match &self.shortfall {
             Some(shortfall) => shortfall.kind(),
             None => "nothing",
-        }
-    }
-}
-
-impl Unstored {
-    // Whether nothing is recorded.
-    fn is_unrecorded(&self) -> bool {
-        self.other_method.is_none() && self.recorded.is_empty() && !self.is_forgotten
-    }
-
-    // A word for it.
-    fn kind(&self) -> &'static str {
-        if self.other_method.is_some() {
-            "other_method"
-        } else if !self.recorded.is_empty() {
-            "not_stored"
-        } else if self.is_forgotten {
-            "forgotten"
-        } else {
-            "nothing_recorded"
         }
     }
 }

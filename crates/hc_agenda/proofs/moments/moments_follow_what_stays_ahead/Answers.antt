@@ -8,7 +8,7 @@ pub returns-clause-counted : goal.returns-clause-counted
 returns-clause-counted c = as_counted
 
 pub returns-clause-caught_up : goal.returns-clause-caught_up
-returns-clause-caught_up c = λ reading history wall more is. catches_up reading.wall reading.tick wall history more is
+returns-clause-caught_up c = λ reading history wall more is. catches_up reading.wall reading.monotonic wall history more is
 
 pub returns-clause-steady : goal.returns-clause-steady
 returns-clause-steady c = steady_test

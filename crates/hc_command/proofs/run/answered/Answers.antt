@@ -2,7 +2,7 @@ use Rattle.std.proofs.Common.{false, inl, map, None, subst}
 use Rattle.clap.specs.declared.error.ErrorKind.{ErrorKind}
 use Rattle.hc_arguments.specs.Command.{IsErrorStatus, task_of}
 use Rattle.hc_arguments.specs.Command.Task.{ToAudit, ToReport, ToExplain, ToReplay, ToConvert, ToServe, ToProxy}
-use Rattle.hc_arguments.specs.Values.{plain, plain_audit, plain_cache, plain_limits, plain_terms}
+use Rattle.hc_arguments.specs.Values.{explaining, plain, plain_audit, plain_cache, plain_limits, plain_terms}
 use Rattle.hc_arguments.proofs.ArgumentLemmas.{asked_from, one_task}
 use Rattle.hc_command.proofs.EndLemmas.{does_as, does_ends, fails_with_3}
 use Rattle.hc_command.proofs.run.answered.Goals as goal
@@ -17,7 +17,7 @@ returns-in-Ok-clause-report g c = λ name file word same.
 
 pub returns-in-Ok-clause-explain : goal.returns-in-Ok-clause-explain
 returns-in-Ok-clause-explain g c = λ name file word same.
-    does_as (task_of c.in-Ok.order) (ToExplain file None plain) _ _ _ _ _ (c.in-Ok.ensures.explain name file word same) c.done.ensures
+    does_as (task_of c.in-Ok.order) (ToExplain file (explaining None)) _ _ _ _ _ (c.in-Ok.ensures.explain name file word same) c.done.ensures
 
 pub returns-in-Ok-clause-replay : goal.returns-in-Ok-clause-replay
 returns-in-Ok-clause-replay g c = λ name file word same.

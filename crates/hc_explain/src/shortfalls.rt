@@ -1,0 +1,92 @@
+//! Why a response can't be what a reply carries.
+
+use crate::ages::{say_age, say_ttl};
+use crate::contents::say_contents;
+use crate::differing::say_differences;
+use crate::freshness::{say_setting, say_use};
+use crate::layout::{
+    begin_rule, end_line, push_method, push_more, push_number, push_record, push_separator,
+};
+use crate::selection::say_selection;
+use crate::sources::push_reach;
+use crate::unstored::NO_GET;
+use crate::validations::say_validations;
+use hc_facts::Newest;
+use hc_why::{Explanation, Invalidator, Nearest, Shortfall};
+use std::alloc::AllocError;
+
+/// Writes a response that invalidated another one.
+fn push_invalidator(invalidator: &Invalidator, out: &mut String) -> Result<(), AllocError> {
+    push_record(invalidator.record, out)?;
+    push_number(": ", u64::from(invalidator.status.as_u16()), "", out)?;
+    push_method(" to ", &invalidator.method, " of the same target", out)
+}
+
+/// Writes what invalidated the response.
+fn say_invalidators(by: &Newest<Invalidator>, out: &mut String) -> Result<(), AllocError> {
+    let mut is_first = true;
+    for invalidator in by.named.iter() {
+        push_separator(is_first, "", "; ", out)?;
+        push_invalidator(invalidator, out)?;
+        is_first = false;
+    }
+    push_more(by.older, out)
+}
+
+/// Writes what is due, and what came.
+fn push_gap(nearest: &Nearest, shortfall: &Shortfall, out: &mut String) -> Result<(), AllocError> {
+    match shortfall {
+        Shortfall::Asked(method) => push_method("", method, NO_GET, out),
+        Shortfall::Selected(selection) => say_selection(selection, out),
+        Shortfall::Valid(by) => say_invalidators(by, out),
+        Shortfall::Lifetime(gap) | Shortfall::Use(gap) => say_use(gap, out),
+        Shortfall::Body(gap) => say_contents(gap, out),
+        Shortfall::Fields(found) => say_differences(found, nearest.validated_at, out),
+        Shortfall::Age(gap) => say_age(gap, out),
+        Shortfall::Ttl(gap) => say_ttl(*gap, out),
+    }
+}
+
+/// Writes in what the response that is named falls short.
+fn push_shortfall(
+    explanation: &Explanation,
+    nearest: &Nearest,
+    shortfall: &Shortfall,
+    out: &mut String,
+) -> Result<(), AllocError> {
+    push_gap(nearest, shortfall, out)?;
+    say_validations(explanation, nearest, shortfall, out)?;
+    match shortfall {
+        Shortfall::Lifetime(gap) | Shortfall::Use(gap) => say_setting(gap, out),
+        _ => Ok(()),
+    }
+}
+
+/// Writes which rule the response that is named breaks, and how.
+pub(crate) fn say_failing(
+    explanation: &Explanation,
+    nearest: &Nearest,
+    out: &mut String,
+) -> Result<(), AllocError> {
+    push_number("", nearest.position, " ", out)?;
+    push_reach(nearest.breaks(), out)?;
+    let Some(shortfall) = &nearest.shortfall else {
+        return Ok(());
+    };
+    out.push_str(": ")?;
+    push_shortfall(explanation, nearest, shortfall, out)
+}
+
+/// Writes the line of the rule that the response that is named breaks, if it breaks one.
+pub(crate) fn say_rule(
+    explanation: &Explanation,
+    nearest: &Nearest,
+    out: &mut String,
+) -> Result<(), AllocError> {
+    let Some(shortfall) = &nearest.shortfall else {
+        return Ok(());
+    };
+    begin_rule(shortfall.rule().reason().number(), out)?;
+    push_shortfall(explanation, nearest, shortfall, out)?;
+    end_line(out)
+}

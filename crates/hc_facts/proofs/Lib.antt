@@ -1,0 +1,4 @@
+pub mod StoringLemmas
+pub mod ListedLemmas
+pub mod AgainstLemmas
+pub mod NameLemmas

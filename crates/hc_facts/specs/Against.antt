@@ -1,0 +1,73 @@
+-- Why a 304 isn't about a stored response (after RFC 9111 section 4.3.4).
+use Rattle.std.specs.Prelude.{ℕ, not, List, Option, Some, None, is_some, codes, if◌then◌else◌}
+use Rattle.std.specs.Option.{option_or}
+use Rattle.hc_fields.specs.declared.fields.Field.{Field}
+use Rattle.hc_fields.specs.Values.{has_name, joined_values, values_of}
+use Rattle.hc_head.specs.declared.head.RequestHead.{RequestHead}
+use Rattle.hc_head.specs.declared.head.ResponseHead.{ResponseHead}
+use Rattle.hc_head.specs.Methods.{is_get}
+use Rattle.hc_fresh.specs.Lifetimes.{says}
+use Rattle.hc_rules.specs.Selecting.{selects}
+use Rattle.hc_rules.specs.Validators.{tag_of, last_modified_of}
+use Rattle.hc_update.specs.declared.stored.Stored.{Stored}
+use Rattle.hc_update.specs.Identifying.{validators_agree}
+use Rattle.hc_facts.specs.declared.against.Against.{Against}
+use Rattle.hc_facts.specs.declared.against.Against.TheVariants as against
+use Rattle.hc_facts.specs.declared.against.Telling.{Telling}
+use Rattle.hc_facts.specs.declared.against.Telling.TheVariants.{Tag, Modified, AskedTag, AskedModified}
+use Rattle.hc_facts.specs.declared.against.ValidatorGap.{ValidatorGap}
+
+-- ---- the field that tells which response a 304 is about
+
+-- its tag, else its Last-Modified, else what its forward asked for
+abbrev pub telling_of : List Field → List Field → Telling
+telling_of forwarded received =
+    if is_some (tag_of received) then Tag else
+    (if is_some (last_modified_of received) then Modified else
+    (if has_name (codes "if-none-match") forwarded then AskedTag else AskedModified))
+
+-- what those fields have of a name
+abbrev pub all_of : List ℕ → List Field → Option (List ℕ)
+all_of name fields = joined_values (values_of name fields)
+
+-- what it tells
+abbrev pub told_of : Telling → List Field → List Field → Option (List ℕ)
+told_of Tag forwarded received = all_of (codes "etag") received
+told_of Modified forwarded received = all_of (codes "last-modified") received
+told_of AskedTag forwarded received = all_of (codes "if-none-match") forwarded
+told_of AskedModified forwarded received = all_of (codes "if-modified-since") forwarded
+
+-- what the response has for it
+abbrev pub due_of : Telling → List Field → Option (List ℕ)
+due_of Tag stored = all_of (codes "etag") stored
+due_of Modified stored = all_of (codes "last-modified") stored
+due_of AskedTag stored = all_of (codes "etag") stored
+due_of AskedModified stored = all_of (codes "last-modified") stored
+
+abbrev pub gap_of : List Field → List Field → List Field → ValidatorGap
+gap_of stored forwarded received = record {
+  telling = telling_of forwarded received;
+  told = told_of (telling_of forwarded received) forwarded received;
+  due = due_of (telling_of forwarded received) stored;
+}
+
+-- ---- what stands against a 304
+
+-- what the forward or the 304 says
+abbrev pub said_of : RequestHead → ResponseHead → Option Against
+said_of forward response =
+    if not (is_get forward.method) then Some against.Method else
+    (if says (codes "no-store") forward.fields then Some against.ForwardNoStore else
+    (if says (codes "private") response.fields then Some against.Private else
+    (if says (codes "no-store") response.fields then Some against.NoStore else None)))
+
+-- what the response says: that it doesn't select the forward, or that it has other validators
+abbrev pub had_of : Stored → RequestHead → ResponseHead → Option Against
+had_of state forward response =
+    if not (selects state.fields state.request.fields forward.fields) then Some against.Unselected else
+    (if validators_agree state.fields forward.fields response.fields then None else
+    Some (against.Validators (gap_of state.fields forward.fields response.fields)))
+
+-- the first of these
+abbrev pub against_of : Stored → RequestHead → ResponseHead → Option Against
+against_of state forward response = option_or (said_of forward response) (had_of state forward response)

@@ -1,0 +1,207 @@
+//! In what the status or the body of a reply differs from a stored response's.
+
+use hc_fields::{Fields, Octets};
+use hc_head::{Method, StatusCode, is_head};
+use hc_history::ReplyClaim;
+use hc_update::Stored;
+use std::alloc::{AllocError, Global};
+
+/// How the body of a reply differs from the one that is due.
+#[derive(Clone, Copy, PartialEq, Eq)]
+pub struct BodyGap {
+    /// Whether the request is HEAD, so that no body is due.
+    pub is_head: bool,
+    /// How many octets the response's body has.
+    pub due: u64,
+    /// How many the reply's has.
+    pub told: u64,
+    /// How many octets both begin with: behind these they first differ.
+    pub agreed: u64,
+}
+
+/// Why no condition of the request earns a 304 (RFC 9111 section 4.3.2).
+#[derive(Drop)]
+pub enum Unearned {
+    /// The response has another status than 200.
+    Status(StatusCode),
+    /// The request has no condition.
+    NoCondition,
+    /// The If-None-Match of the request, and the ETag of the response.
+    Tags {
+        asked: Option<Octets>,
+        due: Option<Octets>,
+    },
+    /// The If-Modified-Since of the request, and the Last-Modified of the response.
+    Moments {
+        asked: Option<Octets>,
+        due: Option<Octets>,
+    },
+}
+
+/// The condition of a request that a reply of status 412 says to have failed, and what the response has for it (RFC
+/// 9110 section 13.2.2).
+#[derive(Drop)]
+pub enum Failed {
+    /// The If-Match of the request, and the ETag of the response.
+    Match {
+        asked: Option<Octets>,
+        due: Option<Octets>,
+    },
+    /// The If-Unmodified-Since of the request, and the Last-Modified of the response.
+    UnmodifiedSince {
+        asked: Option<Octets>,
+        due: Option<Octets>,
+    },
+    /// The If-None-Match of the request, and the ETag of the response.
+    NoneMatch {
+        asked: Option<Octets>,
+        due: Option<Octets>,
+    },
+}
+
+/// In what the status or the body of a reply differs from a stored response's.
+#[derive(Drop)]
+pub enum ContentGap {
+    /// It is a 304 that nothing earns.
+    Unearned(Unearned),
+    /// The statuses, the bodies where these differ, and of a 412 the condition.
+    Other {
+        due: StatusCode,
+        told: StatusCode,
+        bodies: Option<BodyGap>,
+        failed: Option<Failed>,
+    },
+}
+
+/// How many octets both begin with.
+fn octets_in_common(one: &[u8], other: &[u8]) -> u64 {
+    let mut common: u64 = 0;
+    for (one, other) in one.iter().zip(other.iter()) {
+        if one != other {
+            return common;
+        }
+        common = common.saturating_add(1);
+    }
+    common
+}
+
+/// Whether the reply to a request of that method has the body that is due, or none where the request is HEAD.
+pub fn has_body(method: &Method, told: &[u8], due: &[u8]) -> bool {
+    if is_head(method) {
+        told.is_empty()
+    } else {
+        told == due
+    }
+}
+
+/// How the body of the reply to a request of that method differs from the one that is due, if it does.
+pub fn body_gap(method: &Method, told: &[u8], due: &[u8]) -> Option<BodyGap> {
+    if has_body(method, told, due) {
+        return None;
+    }
+    Some(BodyGap {
+        is_head: is_head(method),
+        due: due.len() as u64,
+        told: told.len() as u64,
+        agreed: octets_in_common(told, due),
+    })
+}
+
+/// Why the condition of a request of those fields earns no 304 from a response of those fields.
+fn why_unearned(alloc: Global, asked: &Fields, stored: &Fields) -> Result<Unearned, AllocError> {
+    if asked.contains(b"if-none-match") {
+        return Ok(Unearned::Tags {
+            asked: asked.joined(alloc, b"if-none-match")?,
+            due: stored.joined(alloc, b"etag")?,
+        });
+    }
+    if asked.contains(b"if-modified-since") {
+        return Ok(Unearned::Moments {
+            asked: asked.joined(alloc, b"if-modified-since")?,
+            due: stored.joined(alloc, b"last-modified")?,
+        });
+    }
+    Ok(Unearned::NoCondition)
+}
+
+/// The condition of a request of those fields that may have failed of a response of those fields, if it has one.
+fn condition_failed(
+    alloc: Global,
+    asked: &Fields,
+    stored: &Fields,
+) -> Result<Option<Failed>, AllocError> {
+    if asked.contains(b"if-match") {
+        return Ok(Some(Failed::Match {
+            asked: asked.joined(alloc, b"if-match")?,
+            due: stored.joined(alloc, b"etag")?,
+        }));
+    }
+    if asked.contains(b"if-unmodified-since") {
+        return Ok(Some(Failed::UnmodifiedSince {
+            asked: asked.joined(alloc, b"if-unmodified-since")?,
+            due: stored.joined(alloc, b"last-modified")?,
+        }));
+    }
+    if asked.contains(b"if-none-match") {
+        return Ok(Some(Failed::NoneMatch {
+            asked: asked.joined(alloc, b"if-none-match")?,
+            due: stored.joined(alloc, b"etag")?,
+        }));
+    }
+    Ok(None)
+}
+
+/// The condition of the request that the reply says to have failed, if it is a 412 and the request has one.
+fn failed_condition(
+    alloc: Global,
+    claim: &ReplyClaim<'_>,
+    state: &Stored,
+) -> Result<Option<Failed>, AllocError> {
+    if claim.reply.head.status == StatusCode::PRECONDITION_FAILED {
+        condition_failed(alloc, &claim.request.fields, &state.fields)
+    } else {
+        Ok(None)
+    }
+}
+
+/// In what the status or the body of the reply differs from the response's.
+pub fn content_gap(
+    alloc: Global,
+    claim: &ReplyClaim<'_>,
+    state: &Stored,
+) -> Result<ContentGap, AllocError> {
+    let told = claim.reply.head.status;
+    if told != StatusCode::NOT_MODIFIED || !claim.reply.body.is_empty() {
+        let (method, body) = (&claim.request.method, claim.reply.body.as_slice());
+        return Ok(ContentGap::Other {
+            due: state.status,
+            told,
+            bodies: body_gap(method, body, state.body.as_slice()),
+            failed: failed_condition(alloc, claim, state)?,
+        });
+    }
+    if state.status != StatusCode::OK {
+        return Ok(ContentGap::Unearned(Unearned::Status(state.status)));
+    }
+    let why = why_unearned(alloc, &claim.request.fields, &state.fields)?;
+    Ok(ContentGap::Unearned(why))
+}
+
+impl ContentGap {
+    /// Whether it is the body alone that differs.
+    pub fn is_of_body(&self) -> bool {
+        match self {
+            ContentGap::Unearned(_) => false,
+            ContentGap::Other { due, told, .. } => due == told,
+        }
+    }
+
+    /// A word for it, as `other_body`.
+    pub fn kind(&self) -> &'static str {
+        if self.is_of_body() {
+            "other_body"
+        } else {
+            "other_status"
+        }
+    }
+}

@@ -1,0 +1,251 @@
+//! The fields of which a reply has other values than a stored response.
+
+ghost use Rattle.std.specs.Prelude.{◌≡◌, ◌||◌, List, ℕ, true, bytes_eq, IfOk, OnOk};
+ghost use Rattle.std.specs.List.{list_any};
+ghost use Rattle.hc_fields.specs.Values.{values_of};
+ghost use Rattle.hc_history.specs.Filters.{compared_names};
+ghost use Rattle.hc_facts.specs.Differing.{AreDifferences, AreListed, IsGap, change_of, differs, is_told};
+
+use hc_fields::{Field, Fields, Octets, is_among};
+use hc_head::StatusCode;
+use hc_history::{ReplyClaim, differs};
+use hc_rules::REPEATED_NAMES;
+use hc_update::Stored;
+use std::alloc::{AllocError, Global};
+
+/// How many fields are listed at most.
+const MOST_LISTED: usize = 20;
+
+/// What became of a field.
+#[derive(Clone, Copy, PartialEq, Eq)]
+pub enum Change {
+    /// The reply alone has it.
+    Added,
+    /// The response alone has it.
+    Dropped,
+    /// Both have it.
+    Changed,
+}
+
+/// A field of which a reply has other values than a stored response.
+pub struct FieldGap {
+    /// Its name, in lower case.
+    pub name: Octets,
+    /// What became of it.
+    pub change: Change,
+    /// The values that the response has, a line each.
+    pub due: Vec<Octets>,
+    /// Those that the reply has.
+    pub told: Vec<Octets>,
+    /// Whether the 304 that freshened the response last has it, as far as that is known.
+    pub is_renewed: bool,
+}
+
+impl Drop for FieldGap {
+    fn drop(self) {
+        let FieldGap {
+            name,
+            change: _,
+            due,
+            told,
+            is_renewed: _,
+        } = self;
+        drop(name);
+        drop(due);
+        drop(told);
+    }
+}
+
+/// The fields of which a reply has other values than a stored response, each once, in the order of the reply and
+/// then of the response; at most 20.
+pub struct Differences {
+    /// The first of them.
+    pub listed: Vec<FieldGap>,
+    /// How many more there are.
+    pub more: u64,
+}
+
+impl Drop for Differences {
+    fn drop(self) {
+        let Differences { listed, more: _ } = self;
+        drop(listed);
+    }
+}
+
+// Puts a name at the end, if it isn't there.
+fn push_new<'a>(names: &mut Vec<&'a [u8]>, name: &'a [u8]) -> Result<(), AllocError>
+    ensures { OnOk result ((n : List ℕ) → list_any (λ known. bytes_eq known.now n) names.new.items
+        ≡ (list_any (λ known. bytes_eq known.now n) names.old.items || bytes_eq name.now n)) }
+{
+    if !is_among(names.as_slice(), name) {
+        names.push(name)?;
+    }
+    Ok(())
+}
+
+// Puts the names of the lines at the end that aren't there.
+fn push_names<'a>(names: &mut Vec<&'a [u8]>, lines: &'a [Field]) -> Result<(), AllocError>
+    ensures { OnOk result ((n : List ℕ) → list_any (λ known. bytes_eq known.now n) names.new.items
+        ≡ (list_any (λ known. bytes_eq known.now n) names.old.items || list_any (λ line. bytes_eq line.name n) lines.now)) }
+{
+    for line in lines {
+        push_new(names, line.name.as_slice())?;
+    }
+    Ok(())
+}
+
+// Puts those of these names at the end that aren't there.
+fn push_each<'a>(names: &mut Vec<&'a [u8]>, more: &[&'a [u8]]) -> Result<(), AllocError>
+    ensures { OnOk result ((n : List ℕ) → list_any (λ known. bytes_eq known.now n) names.new.items
+        ≡ (list_any (λ known. bytes_eq known.now n) names.old.items || list_any (λ known. bytes_eq known.now n) more.now)) }
+{
+    for name in more {
+        push_new(names, name)?;
+    }
+    Ok(())
+}
+
+// The names of the reply, and those of the stored response behind them, each once; of a 304 those behind them
+// that it has to repeat.
+#[tactic(auto, using(crate::proofs::NameLemmas::of_304, crate::proofs::NameLemmas::of_other))]
+fn compared_names<'a>(
+    alloc: Global,
+    claim: &ReplyClaim<'a>,
+    state: &'a Stored,
+) -> Result<Vec<&'a [u8]>, AllocError>
+    ensures { IfOk result (λ names. (n : List ℕ) → list_any (λ known. bytes_eq known.now n) names.items
+        ≡ list_any (λ known. bytes_eq known n) (compared_names claim.now state.now)) }
+{
+    let mut names = Vec::new(alloc);
+    push_names(&mut names, claim.reply.head.fields.lines())?;
+    if claim.reply.head.status == StatusCode::NOT_MODIFIED {
+        push_each(&mut names, &REPEATED_NAMES)?;
+        return Ok(names);
+    }
+    push_names(&mut names, state.fields.lines())?;
+    Ok(names)
+}
+
+// The values that those fields have of a name.
+fn values_of(alloc: Global, name: &[u8], fields: &Fields) -> Result<Vec<Octets>, AllocError>
+    ensures { IfOk result (λ values. values.items ≡ values_of name.now fields.now) }
+{
+    let mut values = Vec::new(alloc);
+    for value in fields.values(name) {
+        values.push(Octets::from_slice(alloc, value)?)?;
+    }
+    Ok(values)
+}
+
+// What became of a field, of which the values differ.
+fn change_of(claim: &ReplyClaim<'_>, state: &Stored, name: &[u8]) -> Change
+    ensures { result ≡ change_of claim.now state.now name.now }
+{
+    if !claim.reply.head.fields.contains(name) {
+        Change::Dropped
+    } else if state.fields.contains(name) {
+        Change::Changed
+    } else {
+        Change::Added
+    }
+}
+
+impl FieldGap {
+    // What both have of a name of which the values differ.
+    fn read(
+        alloc: Global,
+        claim: &ReplyClaim<'_>,
+        state: &Stored,
+        name: &[u8],
+    ) -> Result<Self, AllocError>
+        requires { differs claim.now state.now name.now ≡ true }
+        ensures is { IfOk result (IsGap claim.now state.now) }
+        ensures name { IfOk result (λ gap. gap.name ≡ name.now) }
+    {
+        Ok(FieldGap {
+            name: Octets::from_slice(alloc, name)?,
+            change: change_of(claim, state, name),
+            due: values_of(alloc, name, &state.fields)?,
+            told: values_of(alloc, name, &claim.reply.head.fields)?,
+            is_renewed: false,
+        })
+    }
+}
+
+impl Differences {
+    // Takes in a name of which the values differ.
+    fn note(
+        &mut self,
+        alloc: Global,
+        claim: &ReplyClaim<'_>,
+        state: &Stored,
+        name: &[u8],
+    ) -> Result<(), AllocError>
+        requires { differs claim.now state.now name.now ≡ true }
+        ensures listed { AreListed claim.now state.now self.old → OnOk result (AreListed claim.now state.now self.new) }
+        ensures told { OnOk result (is_told self.new name.now ≡ true) }
+        ensures still { OnOk result ((n : List ℕ) → is_told self.old n ≡ true → is_told self.new n ≡ true) }
+    {
+        if MOST_LISTED <= self.listed.len() {
+            self.more = self.more.saturating_add(1);
+            return Ok(());
+        }
+        self.listed
+            .push(FieldGap::read(alloc, claim, state, name)?)?;
+        Ok(())
+    }
+
+    // Takes in a name, if the values differ.
+    fn take(
+        &mut self,
+        alloc: Global,
+        claim: &ReplyClaim<'_>,
+        state: &Stored,
+        name: &[u8],
+    ) -> Result<(), AllocError>
+        ensures listed { AreListed claim.now state.now self.old → OnOk result (AreListed claim.now state.now self.new) }
+        ensures told { OnOk result (differs claim.now state.now name.now ≡ true → is_told self.new name.now ≡ true) }
+        ensures still { OnOk result ((n : List ℕ) → is_told self.old n ≡ true → is_told self.new n ≡ true) }
+    {
+        if differs(alloc, claim, state, name)? {
+            self.note(alloc, claim, state, name)?;
+        }
+        Ok(())
+    }
+
+    /// Whether both have the same fields, each with the same change, in the same order.
+    pub fn is_as(&self, other: &Differences) -> bool {
+        self.more == other.more
+            && self.listed.len() == other.listed.len()
+            && self.listed.iter().zip(other.listed.iter()).all(|(one, other)| one.change
+                == other.change
+                && one.name == other.name)
+    }
+
+    /// Takes in which of them the 304 has that freshened the response last.
+    pub fn renew(&mut self, fields: &Fields) {
+        for gap in self.listed.iter_mut() {
+            gap.is_renewed = fields.contains(gap.name.as_slice());
+        }
+    }
+}
+
+/// The fields that are compared, and of which the reply has other values than the stored response, and none that
+/// are allowed in their place.
+pub fn compare(
+    alloc: Global,
+    claim: &ReplyClaim<'_>,
+    state: &Stored,
+) -> Result<Differences, AllocError>
+    // Each that is listed is what is said of it, and each that differs is listed where they are few.
+    ensures { IfOk result (AreDifferences claim.now state.now) }
+{
+    let mut found = Differences {
+        listed: Vec::new(alloc),
+        more: 0,
+    };
+    for name in compared_names(alloc, claim, state)?.as_slice() {
+        found.take(alloc, claim, state, name)?;
+    }
+    Ok(found)
+}

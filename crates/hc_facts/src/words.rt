@@ -1,0 +1,123 @@
+//! Short words for what forbids, and for fields that differ.
+
+use crate::differing::{Change, Differences};
+use crate::forbidding::{Forbids, Unusable};
+use hc_shown::push_octets;
+use std::alloc::AllocError;
+use std::fmt::Write;
+
+// Puts words at the end, with what separates them from those before.
+fn push_further(is_first: bool, words: &str, out: &mut String) -> Result<(), AllocError> {
+    if !is_first {
+        out.push_str(" and ")?;
+    }
+    out.push_str(words)
+}
+
+impl Forbids {
+    // The words for each that forbids.
+    fn words(&self) -> [(bool, &'static str); 8] {
+        [
+            (self.method, "the request is no GET"),
+            (self.request_no_store, "the request says no-store"),
+            (self.status, "its status may not be stored"),
+            (
+                self.must_understand,
+                "must-understand, and its status is not understood",
+            ),
+            (self.no_store, "it says no-store"),
+            (self.private, "it says private"),
+            (
+                self.authorization,
+                "the request is authorized, and nothing permits to share it",
+            ),
+            (self.uninvited, "nothing invites to store it"),
+        ]
+    }
+
+    /// Puts words for each that forbids at the end.
+    pub fn say(&self, out: &mut String) -> Result<(), AllocError> {
+        let mut is_first = true;
+        for (forbids, words) in self.words() {
+            if forbids {
+                push_further(is_first, words, out)?;
+                is_first = false;
+            }
+        }
+        Ok(())
+    }
+}
+
+impl Unusable {
+    /// The words for it.
+    pub fn words(&self) -> &'static str {
+        match self {
+            Unusable::NoCache => "no-cache forbids use without validation",
+            Unusable::MustRevalidate => "must-revalidate forbids stale",
+            Unusable::ProxyRevalidate => "proxy-revalidate forbids stale",
+            Unusable::SMaxage => "s-maxage forbids stale",
+            Unusable::NothingPermits => "nothing permits stale",
+        }
+    }
+}
+
+impl Change {
+    /// The word for it.
+    pub fn word(&self) -> &'static str {
+        match self {
+            Change::Added => "added",
+            Change::Dropped => "dropped",
+            Change::Changed => "changed",
+        }
+    }
+}
+
+// Says how many more there are, if any.
+fn say_more(more: u64, out: &mut String) -> Result<(), AllocError> {
+    if more == 0 {
+        return Ok(());
+    }
+    write!(out, ", and {more} more")
+}
+
+impl Differences {
+    // Says of each with that change what it is, with a comma behind whatever stands before it.
+    fn say_each(
+        &self,
+        change: Change,
+        is_first: bool,
+        out: &mut String,
+    ) -> Result<bool, AllocError> {
+        let mut is_first = is_first;
+        for gap in self.listed.iter() {
+            if gap.change == change {
+                say_changed(is_first, change, gap.name.as_slice(), out)?;
+                is_first = false;
+            }
+        }
+        Ok(is_first)
+    }
+
+    /// Puts words for them at the end, as `dropped x-validated, changed date`.
+    pub fn say(&self, out: &mut String) -> Result<(), AllocError> {
+        let is_first = self.say_each(Change::Added, true, out)?;
+        let is_first = self.say_each(Change::Dropped, is_first, out)?;
+        self.say_each(Change::Changed, is_first, out)?;
+        say_more(self.more, out)
+    }
+}
+
+// Says what became of a field.
+fn say_changed(
+    is_first: bool,
+    change: Change,
+    name: &[u8],
+    out: &mut String,
+) -> Result<(), AllocError> {
+    if !is_first {
+        out.push_str(", ")?;
+    }
+    out.push_str(change.word())?;
+    out.push_str(" ")?;
+    push_octets(name, out)
+}

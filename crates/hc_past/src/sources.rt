@@ -1,0 +1,65 @@
+//! The records of the responses that a reply may carry.
+
+use crate::ends::EndedForward;
+use hc_facts::RecordName;
+use hc_fields::{Fields, Octets};
+use hc_head::{ResponseHead, StatusCode};
+use std::alloc::{AllocError, Global};
+
+/// What a response says of its lifetime.
+#[derive(Drop)]
+pub enum StatedLifetime {
+    /// Its Cache-Control.
+    CacheControl(Octets),
+    /// Its Expires, where it has no Cache-Control.
+    Expires(Octets),
+    /// Nothing.
+    Nothing,
+}
+
+/// The record of a response.
+pub struct Source {
+    /// Its record.
+    pub record: RecordName,
+    /// Its status.
+    pub status: StatusCode,
+    /// What it says of its lifetime.
+    pub lifetime: StatedLifetime,
+}
+
+impl Drop for Source {
+    fn drop(self) {
+        let Source {
+            record: _,
+            status: _,
+            lifetime,
+        } = self;
+        drop(lifetime);
+    }
+}
+
+// What those fields say of the lifetime of a response.
+fn lifetime_in(alloc: Global, fields: &Fields) -> Result<StatedLifetime, AllocError> {
+    if let Some(value) = fields.joined(alloc, b"cache-control")? {
+        return Ok(StatedLifetime::CacheControl(value));
+    }
+    match fields.joined(alloc, b"expires")? {
+        Some(value) => Ok(StatedLifetime::Expires(value)),
+        None => Ok(StatedLifetime::Nothing),
+    }
+}
+
+impl Source {
+    /// The response with which that forward ended.
+    pub fn read(
+        alloc: Global,
+        ended: &EndedForward<'_>,
+        response: &ResponseHead,
+    ) -> Result<Self, AllocError> {
+        Ok(Source {
+            record: ended.record,
+            status: response.status,
+            lifetime: lifetime_in(alloc, &response.fields)?,
+        })
+    }
+}

@@ -1,0 +1,81 @@
+//! What a wrong reply asks for, so that what can't help isn't tried.
+
+use hc_audit::JudgedReply;
+use hc_facts::{Rule, rule_behind};
+use hc_history::{Candidate, Reason};
+use hc_index::Index;
+use std::alloc::AllocError;
+
+/// What a wrong reply asks for: the rules that are broken by responses which it may carry, or a mark.
+#[derive(Clone, Copy)]
+pub(crate) struct Asks {
+    /// One that states no lifetime, or may not be used.
+    pub(crate) for_use: bool,
+    /// One of which it has other fields.
+    pub(crate) for_fields: bool,
+    /// One of which it has another Age.
+    pub(crate) for_age: bool,
+    /// One of which its mark tells other seconds.
+    pub(crate) for_seconds: bool,
+    /// One of which it may be a part.
+    pub(crate) for_part: bool,
+    /// It has no mark.
+    pub(crate) for_mark: bool,
+}
+
+impl Asks {
+    // For nothing.
+    fn nothing() -> Self {
+        Asks {
+            for_use: false,
+            for_fields: false,
+            for_age: false,
+            for_seconds: false,
+            for_part: false,
+            for_mark: false,
+        }
+    }
+
+    /// What a reply asks for that is wrong for that reason.
+    pub(crate) fn read<I: Index>(
+        judged: &JudgedReply<'_, I>,
+        reason: Reason,
+    ) -> Result<Self, AllocError> {
+        let mut asks = Asks::nothing();
+        match reason {
+            Reason::NoResponse | Reason::BothMarks => {}
+            Reason::Unmarked => asks.for_mark = true,
+            _ => {
+                asks.for_part = asks_for_part(judged);
+                asks.take_all(judged.candidates()?.as_slice());
+            }
+        }
+        Ok(asks)
+    }
+
+    // Takes in what those break.
+    fn take_all(&mut self, candidates: &[Candidate]) {
+        for candidate in candidates {
+            self.take(rule_behind(candidate.passed));
+        }
+    }
+
+    // Takes in a rule that is broken.
+    fn take(&mut self, rule: Option<Rule>) {
+        match rule {
+            Some(Rule::Lifetime | Rule::Use) => self.for_use = true,
+            Some(Rule::Fields) => self.for_fields = true,
+            Some(Rule::Age) => self.for_age = true,
+            Some(Rule::Ttl) => self.for_seconds = true,
+            _ => {}
+        }
+    }
+}
+
+// Whether the request asks for a part.
+fn asks_for_part<I: Index>(judged: &JudgedReply<'_, I>) -> bool {
+    match judged.claim() {
+        Some(claim) => claim.request.fields.contains(b"range"),
+        None => false,
+    }
+}

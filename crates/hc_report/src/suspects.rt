@@ -1,0 +1,136 @@
+//! Fields that were dropped or changed, which are rather faults than anything to be ignored.
+
+ghost use Rattle.std.specs.Prelude.{◌≤◌, vec_len};
+ghost use Rattle.hc_report.specs.declared.suspects.TheConstants.{MOST_SUSPECTS};
+
+use hc_facts::{Change, FieldGap};
+use hc_fields::Octets;
+use hc_shown::push_octets;
+use hc_why::{Shortfall, Why};
+use std::alloc::{AllocError, Global};
+use std::fmt::Write;
+
+/// How many fields are named at most.
+const MOST_SUSPECTS: usize = 20;
+
+/// A field that was dropped or changed.
+pub(crate) struct Suspect {
+    /// Its name.
+    pub(crate) name: Octets,
+    /// What became of it.
+    pub(crate) change: Change,
+    /// In how many wrong replies, or the greatest number.
+    pub(crate) count: u64,
+}
+
+impl Drop for Suspect {
+    fn drop(self) {
+        let Suspect {
+            name,
+            change: _,
+            count: _,
+        } = self;
+        drop(name);
+    }
+}
+
+/// The fields that were dropped or changed in wrong replies which differ in fields.
+pub(crate) struct Suspects {
+    alloc: Global,
+    /// The first that were met, each once.
+    pub(crate) named: Vec<Suspect>,
+    /// How often there was another one.
+    pub(crate) others: u64,
+    ghost few: { vec_len named ≤ MOST_SUSPECTS },
+}
+
+impl Drop for Suspects {
+    fn drop(self) {
+        let Suspects {
+            alloc: _,
+            named,
+            others: _,
+        } = self;
+        drop(named);
+    }
+}
+
+impl Suspects {
+    /// None.
+    pub(crate) fn new(alloc: Global) -> Self {
+        Suspects {
+            alloc,
+            named: Vec::new(alloc),
+            others: 0,
+        }
+    }
+
+    /// Takes in what is wrong with a reply.
+    pub(crate) fn note(&mut self, why: &Why) -> Result<(), AllocError> {
+        let Some(Shortfall::Fields(found)) = why.shortfall() else {
+            return Ok(());
+        };
+        for gap in found.listed.iter() {
+            if gap.change != Change::Added {
+                self.take(gap)?;
+            }
+        }
+        Ok(())
+    }
+
+    // Takes in a field.
+    fn take(&mut self, gap: &FieldGap) -> Result<(), AllocError> {
+        let place = self.named.iter().position(|known| known.change == gap.change
+            && known.name == gap.name);
+        match place {
+            Some(place) => {
+                let count = self.named[place].count;
+                self.named[place].count = count.saturating_add(1);
+                Ok(())
+            }
+            None => self.begin(gap),
+        }
+    }
+
+    // Names a field, where there is room for it.
+    fn begin(&mut self, gap: &FieldGap) -> Result<(), AllocError> {
+        if MOST_SUSPECTS <= self.named.len() {
+            self.others = self.others.saturating_add(1);
+            return Ok(());
+        }
+        self.named.push(Suspect {
+            name: gap.name.copy(self.alloc)?,
+            change: gap.change,
+            count: 1,
+        })?;
+        Ok(())
+    }
+
+    /// Writes a line for each.
+    pub(crate) fn say(&self, out: &mut String) -> Result<(), AllocError> {
+        if self.named.is_empty() {
+            return Ok(());
+        }
+        out.push_str("suspected faults, in how many of these replies\n")?;
+        for suspect in self.named.iter() {
+            suspect.say(out)?;
+        }
+        if self.others == 0 {
+            return Ok(());
+        }
+        let others = self.others;
+        write!(out, "  others: {others}\n")
+    }
+}
+
+impl Suspect {
+    // Writes its line.
+    fn say(&self, out: &mut String) -> Result<(), AllocError> {
+        out.push_str("  ")?;
+        out.push_str(self.change.word())?;
+        out.push_str(" ")?;
+        push_octets(self.name.as_slice(), out)?;
+        let count = self.count;
+        write!(out, ": {count}\n")
+    }
+}
