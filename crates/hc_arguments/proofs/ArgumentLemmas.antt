@@ -189,7 +189,7 @@ file_named (Some file) = cond (bytes_eq file (codes "-")) None (Some file)
 
 abbrev task_from : Command → (Text → Option Text) → Option Task
 task_from Audits value = option_map (λ p. ToAudit p.0 p.1) (both (value (codes "FILE")) (audit_terms_from value))
-task_from Reports value = option_map (λ p. ToReport p.0 p.1 (flag_by (value (codes "json")))) (both (value (codes "FILE")) (audit_terms_from value))
+task_from Reports value = option_map (λ p. ToReport p.0 p.1 (flag_by (value (codes "json"))) (value (codes "baseline"))) (both (value (codes "FILE")) (audit_terms_from value))
 task_from Explains value = option_map (λ p. ToExplain p.0 record { position = p.1.0; settings = p.1.1; json = flag_by (value (codes "json")) })
     (both (file_named (value (codes "FILE"))) (both (position_by (value (codes "POSITION"))) (settings_from value)))
 task_from Shows value = option_map (λ p. ToShow p.0 p.1) (both (value (codes "FILE")) (option_and_then span_of (value (codes "POSITION[-POSITION]"))))
@@ -270,9 +270,9 @@ values_give : (value : Text → Option Text) (task : Task) → ValuesAsk value t
 values_give value (ToAudit file terms) a =
     let set = audit_terms_given value terms a.terms_are in
     λ i. option_map (λ p. ToAudit p.0 p.1) (both (a.file_is i) (set i))
-values_give value (ToReport file terms json) a =
+values_give value (ToReport file terms json baseline) a =
     let set = audit_terms_given value terms a.terms_are in
-    λ i. option_map (λ p. ToReport p.0 p.1 (a.json_is i)) (both (a.file_is i) (set i))
+    λ i. option_map (λ p. ToReport p.0 p.1 (a.json_is i) (a.baseline_is i)) (both (a.file_is i) (set i))
 values_give value (ToExplain file terms) a =
     let set = settings_given value terms.settings a.settings_are in
     let named = ap file_named a.file_is ∙ ap (λ b. cond b None (Some file)) a.file_has_name in
@@ -313,7 +313,7 @@ span_is_there (Some text) span is = refl
 
 lacks_nothing : (command : Option Command) (value : Text → Option Text) (task : Task) → AsksBy command value task → lacks command value ≡ false
 lacks_nothing command value (ToAudit file terms) asks = rw (asks.0, asks.1.file_is) refl
-lacks_nothing command value (ToReport file terms json) asks = rw (asks.0, asks.1.file_is) refl
+lacks_nothing command value (ToReport file terms json baseline) asks = rw (asks.0, asks.1.file_is) refl
 lacks_nothing command value (ToExplain file terms) asks = rw (asks.0, asks.1.file_is) refl
 lacks_nothing command value (ToShow file span) asks = rw (asks.0, asks.1.file_is, span_is_there (value (codes "POSITION[-POSITION]")) span asks.1.span_is) refl
 lacks_nothing command value (ToReplay file) asks = rw (asks.0, asks.1) refl
@@ -519,7 +519,7 @@ last_is_one (Some text) span is =
 
 pub possible_from : (command : Option Command) (value : Text → Option Text) (task : Task) → AsksBy command value task → CanBeDone task
 possible_from command value (ToAudit file terms) asks = tt
-possible_from command value (ToReport file terms json) asks = tt
+possible_from command value (ToReport file terms json baseline) asks = tt
 possible_from command value (ToExplain file terms) asks = tt
 possible_from command value (ToShow file span) asks = last_is_one (value (codes "POSITION[-POSITION]")) span asks.1.span_is
 possible_from command value (ToReplay file) asks = tt
@@ -682,6 +682,10 @@ module _ (name file : Text) (h : IsNoFlag file) where
   unfolding clap_on_literals
   no_json = rw (h.dashes, h.long, h.short) refl
 
+  no_baseline : value_in (subcommand_of hcache (name ∷ codes "report" ∷ file ∷ [])) (codes "baseline") ≡ None
+  unfolding clap_on_literals
+  no_baseline = rw (h.dashes, h.long, h.short) refl
+
   is_report : command_in (subcommand_of hcache (name ∷ codes "report" ∷ file ∷ [])) ≡ Some Reports
   unfolding clap_on_literals
   is_report = refl
@@ -738,7 +742,7 @@ audit_words name file is = let h = no_flag file is in record {
   no_fault = no_audit_fault name file h;
 }
 
-pub report_words : (name file : Text) → IsWord file → AreWordsFor (name ∷ codes "report" ∷ file ∷ []) (ToReport file plain_audit false)
+pub report_words : (name file : Text) → IsWord file → AreWordsFor (name ∷ codes "report" ∷ file ∷ []) (ToReport file plain_audit false None)
 report_words name file is = let h = no_flag file is in record {
   asks = (
     is_report name file h,
@@ -746,6 +750,7 @@ report_words name file is = let h = no_flag file is in record {
       file_is = reported name file h;
       terms_are = record { settings_are = report_settings name file h; minimums_are = report_minimums name file h };
       json_is = no_json name file h;
+      baseline_is = no_baseline name file h;
     },
   );
   no_fault = no_report_fault name file h;

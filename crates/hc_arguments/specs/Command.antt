@@ -82,7 +82,7 @@ abbrev pub audit : App
 audit = with_terms (with_rule (new_app (codes "audit")) file_rule)
 
 abbrev pub report : App
-report = with_rule (with_terms (with_rule (new_app (codes "report")) file_rule)) (flag_rule (codes "json"))
+report = with_rules (with_terms (with_rule (new_app (codes "report")) file_rule)) (flag_rule (codes "json") ∷ option_rule (codes "baseline") ∷ [])
 
 abbrev pub explain : App
 explain = with_rule (with_settings (with_rule (with_rule (new_app (codes "explain")) file_rule) position_rule)) (flag_rule (codes "json"))
@@ -154,8 +154,8 @@ command_named name = if bytes_eq name (codes "audit") then Some Audits
 pub data Task : Type 0 where
   -- to audit that file on those terms
   ToAudit : (file : Text) (terms : AuditTerms) → Task
-  -- to report on it on those terms, by one JSON object or else in text
-  ToReport : (file : Text) (terms : AuditTerms) (json : Bool) → Task
+  -- to report on it on those terms, by one JSON object or else in text, and not to hold against it what an earlier report has, if one is named
+  ToReport : (file : Text) (terms : AuditTerms) (json : Bool) (baseline : Option Text) → Task
   -- to explain a reply of it on those terms
   ToExplain : (file : Text) (terms : ExplainTerms) → Task
   -- to show its records at these positions
@@ -172,7 +172,7 @@ pub data Task : Type 0 where
 
 abbrev pub command_of : Task → Command
 command_of (ToAudit file terms) = Audits
-command_of (ToReport file terms json) = Reports
+command_of (ToReport file terms json baseline) = Reports
 command_of (ToExplain file terms) = Explains
 command_of (ToShow file span) = Shows
 command_of (ToReplay file) = Replays
@@ -182,7 +182,7 @@ command_of (ToProxy listen origin file terms limits settings) = Proxies
 
 abbrev pub task_of : Order → Task
 task_of (Audit file terms) = ToAudit file.now terms
-task_of (Report file terms json) = ToReport file.now terms json
+task_of (Report file terms json baseline) = ToReport file.now terms json (option_map (λ name. name.now) baseline)
 task_of (Explain file terms) = ToExplain file.now terms
 task_of (Show file span) = ToShow file.now span
 task_of (Replay file) = ToReplay file.now
@@ -213,9 +213,10 @@ pub record AsksAudit (value : Text → Option Text) (file : Text) (terms : Audit
   pub terms_are : AsksAuditTerms value terms
 
 -- and that of `report`
-pub record AsksReport (value : Text → Option Text) (file : Text) (terms : AuditTerms) (json : Bool) : Type 0 where
+pub record AsksReport (value : Text → Option Text) (file : Text) (terms : AuditTerms) (json : Bool) (baseline : Option Text) : Type 0 where
   pub file_is : value (codes "FILE") ≡ Some file
   pub terms_are : AsksAuditTerms value terms
+  pub baseline_is : value (codes "baseline") ≡ baseline
   pub json_is : flag_by (value (codes "json")) ≡ json
 
 -- and that of `explain`, which can't read standard input twice
@@ -284,7 +285,7 @@ pub record AsksProxy (value : Text → Option Text) (listen origin : Text) (file
 
 abbrev pub ValuesAsk : (Text → Option Text) → Task → Type 0
 ValuesAsk value (ToAudit file terms) = AsksAudit value file terms
-ValuesAsk value (ToReport file terms json) = AsksReport value file terms json
+ValuesAsk value (ToReport file terms json baseline) = AsksReport value file terms json baseline
 ValuesAsk value (ToExplain file terms) = AsksExplain value file terms
 ValuesAsk value (ToShow file span) = AsksShow value file span
 ValuesAsk value (ToReplay file) = value (codes "FILE") ≡ Some file

@@ -42,7 +42,7 @@ pub fn parsed<'a, S: AsStr>(alloc: Global, words: &'a [S]) -> Result<Order<'a>, 
     // `report FILE` asks for text, and gives that FILE and those settings too.
     ensures report { (name file : Text) → IsWord file
         → map S.text words.entry.now ≡ name ∷ codes "report" ∷ file ∷ []
-        → MatchResult result (λ order. task_of order ≡ ToReport file plain_audit false)
+        → MatchResult result (λ order. task_of order ≡ ToReport file plain_audit false None)
         (λ error. kind_of error ≡ ErrorKind.OutOfMemory) }
     // And `explain FILE` asks for the first wrong reply, where FILE isn't `-`.
     ensures explain { (name file : Text) → IsFileName file
@@ -155,7 +155,12 @@ fn report_in<'a>(alloc: Global, found: &ArgMatches<'a>) -> Result<Order<'a>, Ref
     let file = required(found, "FILE")?;
     let json = flag_by(found.get_str("json"));
     let terms = audit_terms_in(alloc, found)?;
-    Ok(Order::Report { file, terms, json })
+    Ok(Order::Report {
+        file,
+        terms,
+        json,
+        baseline: found.get_str("baseline"),
+    })
 }
 
 // On what terms a command that judges all replies says yes.

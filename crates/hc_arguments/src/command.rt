@@ -4,7 +4,9 @@ ghost use Rattle.std.specs.Prelude.{◌≡◌, false, map};
 ghost use Rattle.clap.specs.Words.{App, new_app, rule_of, with_rule, with_subcommand};
 ghost use Rattle.hc_arguments.specs.Command.{IsMade, audit, convert, explain, file_rule, hcache, judging, position_rule, program, proxy, replay, report, serve, show, span_rule, wanted_rule, with_cache, with_proxy, with_rules, with_service, with_settings, with_terms};
 
-use crate::options::{CACHING, COUNTING, JUDGING, PROXYING, REPORTING, SERVING, Wanted};
+use crate::options::{
+    CACHING, COUNTING, EXPLAINING, JUDGING, PROXYING, REPORTING, SERVING, Wanted,
+};
 use clap::{Arg, ArgAction, Command};
 use std::alloc::{AllocError, Global};
 
@@ -59,6 +61,15 @@ Exit status:
   3   no verdict: standard error says `error: memory` or `error: device`
   4   too few: it is yes, but fewer replies were judged than is asked for, as standard error says
   64  the command line is wrong: standard error says how";
+
+const REPORT_STATUSES: &str = "\
+Exit status:
+  0   yes: the transcript keeps to the format, and every reply in it is right, or --baseline has each that is wrong
+  1   no: the reply at this position is wrong, by this reason
+  2   malformed: the transcript breaks at this position, by this fault
+  3   no verdict: standard error says `error: memory` or `error: device`
+  4   too few: it is yes, or --baseline makes it so, but fewer replies were judged than is asked for, as standard error says
+  64  the command line is wrong, or --baseline names no such report: standard error says how";
 
 const EXPLAIN_STATUSES: &str = "\
 Exit status:
@@ -167,7 +178,13 @@ fn audit_command<'a>(alloc: Global) -> Result<Command<'a>, AllocError>
 fn report_command<'a>(alloc: Global) -> Result<Command<'a>, AllocError>
     ensures { IsMade report result }
 {
-    let bare = begun(alloc, "report", "hcache report", REPORT_ABOUT, STATUSES);
+    let bare = begun(
+        alloc,
+        "report",
+        "hcache report",
+        REPORT_ABOUT,
+        REPORT_STATUSES,
+    );
     let with_file = with_argument(bare, file_argument(alloc, AUDITED_HELP));
     let set = with_terms(alloc, with_file);
     with_options(alloc, set, &REPORTING)
@@ -187,7 +204,7 @@ fn explain_command<'a>(alloc: Global) -> Result<Command<'a>, AllocError>
     let with_file = with_argument(bare, file_argument(alloc, EXPLAINED_HELP));
     let with_position = with_argument(with_file, position_argument(alloc));
     let set = with_settings(alloc, with_position);
-    with_options(alloc, set, &REPORTING)
+    with_options(alloc, set, &EXPLAINING)
 }
 
 // The command `show`, without the one above it.

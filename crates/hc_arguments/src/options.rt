@@ -94,13 +94,27 @@ pub(crate) const COUNTING: [Wanted; 2] = [
     },
 ];
 
-/// In which form it reports.
-pub(crate) const REPORTING: [Wanted; 1] = [Wanted {
+const JSON: Wanted = Wanted {
     name: "json",
     value: None,
     help: "One JSON object in place of text",
     required: false,
-}];
+};
+
+/// In which form it explains.
+pub(crate) const EXPLAINING: [Wanted; 1] = [JSON];
+
+/// In which form it reports, and what isn't held against a recording.
+pub(crate) const REPORTING: [Wanted; 2] = [
+    JSON,
+    Wanted {
+        name: "baseline",
+        value: Some("FILE"),
+        help: "What `report --json` wrote before: wrong replies that it has aren't held against the transcript, as many of each \
+            reason, method and target",
+        required: false,
+    },
+];
 
 const LISTEN: Wanted = Wanted {
     name: "listen",

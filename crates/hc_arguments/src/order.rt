@@ -22,6 +22,8 @@ pub enum Order<'a> {
         terms: AuditTerms,
         /// Whether the report is one JSON object, in place of text.
         json: bool,
+        /// The name of the file that has the JSON of an earlier report, whose wrong replies aren't held against it.
+        baseline: Option<&'a str>,
     },
     /// To explain a reply of a transcript.
     Explain {

@@ -1,5 +1,5 @@
 -- What a survey of what was read says of all octets of an input, and what is said of it.
-use Rattle.std.proofs.Common.{◌≡◌, ◌⊎◌, inl, inr, ℕ, Bool, true, false, List, [], ◌∷◌, ◌++◌, Option, None, Some, IfSome, append-nil, append_assoc, refl, rules, subst, sym, ◌∙◌}
+use Rattle.std.proofs.Common.{◌≡◌, ◌⊎◌, inl, inr, ℕ, Bool, List, [], ◌∷◌, ◌++◌, Option, None, Some, IfSome, append-nil, append_assoc, refl, rules, subst, sym, ◌∙◌}
 use Rattle.std.specs.Prelude.{slice_get, IsSome}
 use Rattle.std.specs.Io.KnownBytes.{Consumes, IsAtEnd, Keeps}
 use Rattle.std.proofs.KnownBytes.{Consumes-trans}
@@ -28,7 +28,7 @@ use Rattle.hc_command.specs.declared.surveying.Heard.{Heard}
 use Rattle.hc_command.specs.declared.surveying.Outcome.{Outcome}
 use Rattle.hc_command.specs.declared.surveying.Outcome.TheVariants.{Whole, Broken}
 use Rattle.hc_command.specs.Line.{status_of}
-use Rattle.hc_command.specs.Report.{BreaksIfSome, Explained, ExplainsAt, FeedsPieceOfSurvey, FeedsSurvey, IsSurveyed, Reported, ReportsFor, SaysOf, SaysReplyIn, SurveysFor, WritesIfSome, ending_of, settled_of}
+use Rattle.hc_command.specs.Report.{BreaksIfSome, Explained, ExplainsAt, FeedsPieceOfSurvey, FeedsSurvey, IsSurveyed, Reported, ReportsFor, SaysLineFirst, SaysReplyIn, SurveysFor, WritesIfSome, ending_of, settled_of}
 
 -- ---- what was fed
 
@@ -266,6 +266,5 @@ explained_of json (Some place) settings input left status old new faults_old fau
 -- ---- what is said
 
 -- what is said of a verdict is said with its own status
-pub says_own : (json : Bool) (verdict : Verdict) (status : ℕ) (old new : Option (List ℕ)) → SaysOf json verdict status old new → SaysOf json verdict (status_of verdict) old new
-says_own true verdict status old new s = record { text = s.text; has_status = refl; written = s.written }
-says_own false verdict status old new s = record { line = s.line; more = s.more; has_status = refl; is_line = s.is_line; written = s.written }
+pub says_own : (verdict : Verdict) (status : ℕ) (old new : Option (List ℕ)) → SaysLineFirst verdict status old new → SaysLineFirst verdict (status_of verdict) old new
+says_own verdict status old new s = record { line = s.line; more = s.more; has_status = refl; is_line = s.is_line; written = s.written }

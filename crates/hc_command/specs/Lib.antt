@@ -1,4 +1,5 @@
 pub mod Audit
+pub mod Baseline
 pub mod Ends
 pub mod Line
 pub mod Minimums

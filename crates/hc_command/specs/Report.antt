@@ -4,6 +4,7 @@ use Rattle.std.specs.Io.KnownBytes.{Appends, Consumes, Keeps}
 use Rattle.hc_transcript.specs.declared.fault.RecordFault.{RecordFault}
 use Rattle.hc_transcript.specs.Items.{Item}
 use Rattle.hc_history.specs.declared.settings.Settings.{Settings}
+use Rattle.hc_history.specs.declared.verdicts.Counts.{Counts}
 use Rattle.hc_history.specs.declared.verdicts.Finding.{Finding}
 use Rattle.hc_history.specs.declared.verdicts.Finding.TheVariants.{Right, Wrong}
 use Rattle.hc_history.specs.declared.verdicts.Verdict.{Verdict}
@@ -31,6 +32,11 @@ use Rattle.hc_command.specs.Line.{IsVerdictLine, status_of}
 abbrev pub ending_of : Outcome → Ending
 ending_of (Whole counts) = ending.Whole
 ending_of (Broken position fault) = ending.Broken position fault
+
+-- what was counted, where they are whole
+abbrev pub whole_counts : Outcome → Option Counts
+whole_counts (Whole counts) = Some counts
+whole_counts (Broken position fault) = None
 
 -- where the octets are whole, what is counted is that of their items, right or wrong
 abbrev pub CountsAll : List ℕ → Settings → List Item → Outcome → Type 0

@@ -4,6 +4,7 @@
 #![tactic(auto)]
 
 mod auditing;
+mod baseline;
 mod converting;
 mod explaining;
 mod input;
@@ -20,10 +21,11 @@ mod surveying;
 mod trouble;
 
 pub use auditing::audit;
+pub use baseline::{BaselineTrouble, baseline_of};
 pub use converting::convert;
 pub use explaining::explain;
 pub use line::verdict_line;
 pub use replaying::replay;
-pub use reporting::report;
+pub use reporting::{ReportForm, report};
 pub use run::{answered, shown, status};
 pub use showing::show;

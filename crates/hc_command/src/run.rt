@@ -1,25 +1,26 @@
 //! What the program does, over any system and any two writers.
-ghost use Rattle.std.specs.Prelude.{◌≡◌, ◌⊎◌, ◌<◌, ◌∷◌, [], ℕ, None, Some, codes, false, map};
+ghost use Rattle.std.specs.Prelude.{◌≡◌, ◌⊎◌, ◌<◌, ◌∷◌, [], ℕ, None, Some, codes, false, map, option_map};
 ghost use Rattle.std.specs.Io.KnownBytes.{Keeps};
 ghost use Rattle.clap.specs.Words.{Text, fault_of, kind_of};
 ghost use Rattle.hc_arguments.specs.Command.{Asks, CanBeDone, IsErrorStatus, IsFileName, IsWord, Task, hcache, proxy_words, service_words, task_of};
-ghost use Rattle.hc_arguments.specs.Values.{connections_of, no_minimums};
+ghost use Rattle.hc_arguments.specs.Values.{connections_of, no_minimums, plain_audit};
 ghost use Rattle.hc_command.specs.Audit.{Answers};
 ghost use Rattle.hc_command.specs.Convert.{Converted};
 ghost use Rattle.hc_command.specs.Ends.{Does, Ends, Proxied, Served};
 ghost use Rattle.hc_command.specs.Replay.{Played};
 ghost use Rattle.hc_command.specs.Show.{ShownFor};
 ghost use Rattle.hc_command.specs.Report.{Explained};
-ghost use Rattle.hc_command.specs.Reporting.{ReportedBy};
+ghost use Rattle.hc_command.specs.Reporting.{ReportedBy, ReportedIn, ReportedOn};
 ghost use Rattle.hc_service.specs.Settings.{AreGood};
 ghost use Rattle.hc_notices.specs.Notices.{SaysSome};
 
 use crate::auditing::audit;
+use crate::baseline::{BaselineTrouble, baseline_of};
 use crate::converting::convert;
 use crate::explaining::explain;
 use crate::print::printed;
 use crate::replaying::replay;
-use crate::reporting::report;
+use crate::reporting::{ReportForm, report};
 use crate::showing::show;
 use crate::trouble::Trouble;
 use clap::Error;
@@ -28,6 +29,7 @@ use hc_arguments::{
     AuditTerms, ExplainTerms, Order, ProxyLimits, ProxyPatience, Proxying, RecordTerms, not_text,
     parsed,
 };
+use hc_baseline::Baseline;
 use hc_crowd::{Limits, Patience};
 use hc_history::Settings;
 use hc_service::CoreSettings;
@@ -97,7 +99,7 @@ where
     // And `report FILE` by a report in text.
     ensures report { (name file : Text) → IsWord file
         → map S.text words.now ≡ name ∷ codes "report" ∷ file ∷ []
-        → ReportedBy false no_minimums result (W.contents output.old) (W.contents output.new)
+        → ReportedBy false plain_audit result (W.contents output.old) (W.contents output.new)
         (E.contents faults.old) (E.contents faults.new) }
 
     // And `explain FILE`, where that is no standard input, by an explanation of the first wrong reply.
@@ -151,12 +153,19 @@ where
     R: Files + Input + Net + Clock + RandomSource + AllocGlobal,
     R::File: Claim,
     requires { CanBeDone (task_of order) }
-    ensures { Does (task_of order.entry) result (W.contents output.old) (W.contents output.new)
-        (E.contents faults.old) (E.contents faults.new) }
+    ensures { Does (task_of order.entry) result (W.contents output.old) (W.contents output.new) (E.contents faults.old) (E.contents faults.new) }
 {
     match order {
         Order::Audit { file, terms } => audited(rt, file, terms, output, faults),
-        Order::Report { file, terms, json } => reported(rt, file, terms, json, output, faults),
+        Order::Report {
+            file,
+            terms,
+            json,
+            baseline,
+        } => {
+            let form = AskedForm { json, baseline };
+            report_asked(rt, file, terms, form, output, faults)
+        }
         Order::Explain { file, terms } => explained(rt, file, terms, output, faults),
         Order::Show { file, span } => records_shown(rt, file, span, output, faults),
         Order::Replay { file } => replayed(rt, file, output, faults),
@@ -209,18 +218,69 @@ where
     }
 }
 
-// Reports on the file, or standard input for `-`.
-fn reported<R, W: Write, E: Write>(
+// In which form a report is asked for.
+#[derive(Clone, Copy)]
+struct AskedForm<'a> {
+    // As one JSON object, in place of text.
+    json: bool,
+    // The name of the file of the baseline, if one is named.
+    baseline: Option<&'a str>,
+}
+
+// Reports on the file as is asked, if the baseline that is named is there.
+fn report_asked<R, W: Write, E: Write>(
     rt: &R,
     file: &str,
     terms: AuditTerms,
-    json: bool,
+    form: AskedForm<'_>,
     output: &mut W,
     faults: &mut E,
 ) -> u8
 where
     R: Files + Input + AllocGlobal,
-    ensures { ReportedBy json terms.minimums result (W.contents output.old) (W.contents output.new)
+    ensures { ReportedOn form.entry.json (option_map (λ name. name.now) form.entry.baseline) terms result (W.contents output.old) (W.contents output.new)
+        (E.contents faults.old) (E.contents faults.new) }
+{
+    let AskedForm { json, baseline } = form;
+    let Some(name) = baseline else {
+        let form = ReportForm {
+            json,
+            baseline: None,
+        };
+        return reported(rt, file, terms, form, output, faults);
+    };
+    match baseline_in(rt, name) {
+        Ok(known) => {
+            let form = ReportForm {
+                json,
+                baseline: Some(known),
+            };
+            reported(rt, file, terms, form, output, faults)
+        }
+        Err(trouble) => trouble.told(name, faults),
+    }
+}
+
+// The baseline in the file of that name.
+fn baseline_in<R: Files + AllocGlobal>(rt: &R, name: &str) -> Result<Baseline, BaselineTrouble> {
+    match fs::open(rt, name) {
+        Ok(mut opened) => baseline_of(rt.alloc(), &mut opened),
+        Err(error) => Err(BaselineTrouble::Trouble(Trouble::Device(error))),
+    }
+}
+
+// Reports on the file, or standard input for `-`.
+fn reported<R, W: Write, E: Write>(
+    rt: &R,
+    file: &str,
+    terms: AuditTerms,
+    form: ReportForm,
+    output: &mut W,
+    faults: &mut E,
+) -> u8
+where
+    R: Files + Input + AllocGlobal,
+    ensures { ReportedIn form.json form.baseline terms result (W.contents output.old) (W.contents output.new)
         (E.contents faults.old) (E.contents faults.new) }
 {
     let alloc = rt.alloc();
@@ -229,7 +289,7 @@ where
         return report(
             alloc,
             terms,
-            json,
+            form,
             "standard input",
             &mut input,
             output,
@@ -237,7 +297,7 @@ where
         );
     }
     match fs::open(rt, file) {
-        Ok(mut opened) => report(alloc, terms, json, file, &mut opened, output, faults),
+        Ok(mut opened) => report(alloc, terms, form, file, &mut opened, output, faults),
         Err(error) => Trouble::Device(error).told(file, faults),
     }
 }

@@ -8,7 +8,8 @@ ghost use Rattle.hc_history.specs.declared.verdicts.Verdict.TheVariants.{No};
 ghost use Rattle.hc_history.specs.Verdicts.{IsVerdict};
 ghost use Rattle.hc_audit.specs.Surveying.{Surveys};
 ghost use Rattle.hc_audit.specs.Told.{IsToldOf};
-ghost use Rattle.hc_command.specs.Report.{FeedsPieceOfSurvey, FeedsSurvey, IsSurveyed, SurveysFor, ending_at, ending_of, settled_of};
+ghost use Rattle.hc_command.specs.Report.{FeedsPieceOfSurvey, FeedsSurvey, IsSurveyed, SurveysFor, ending_at, ending_of, settled_of, whole_counts};
+ghost use Rattle.hc_command.specs.Reporting.{verdict_without};
 ghost use Rattle.hc_command.specs.Trouble.{is_of_output};
 
 use crate::auditing::{READS, buffer};
@@ -42,7 +43,9 @@ impl Outcome {
     }
 
     /// What was counted, where they are whole.
-    pub(crate) fn counts(&self) -> Option<Counts> {
+    pub(crate) fn counts(&self) -> Option<Counts>
+        ensures { result ≡ whole_counts self.now }
+    {
         match self {
             Outcome::Whole(counts) => Some(*counts),
             Outcome::Broken(_, _) => None,
@@ -61,9 +64,10 @@ impl Outcome {
         }
     }
 
-    // The verdict, where no reply is wrong.
-    fn verdict_without(&self) -> Verdict
-        ensures { (octets : List ℕ) (settings : Settings) (h : List Item) → IsSurveyed octets settings h [] self.now
+    /// The verdict, where no reply is wrong.
+    pub(crate) fn verdict_without(&self) -> Verdict
+        ensures outcome { result ≡ verdict_without self.now }
+        ensures verdict { (octets : List ℕ) (settings : Settings) (h : List Item) → IsSurveyed octets settings h [] self.now
             → IsVerdict octets settings result }
     {
         match self {

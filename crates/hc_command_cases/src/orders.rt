@@ -31,10 +31,19 @@ fn write_order(order: &Order<'_>, out: &mut String) -> Result<(), AllocError> {
             write!(out, "to audit {file}")?;
             write_terms_of_audit(terms, out)
         }
-        Order::Report { file, terms, json } => {
+        Order::Report {
+            file,
+            terms,
+            json,
+            baseline,
+        } => {
             let form = if *json { "in JSON" } else { "in text" };
             write!(out, "to report on {file} {form}")?;
-            write_terms_of_audit(terms, out)
+            write_terms_of_audit(terms, out)?;
+            match baseline {
+                Some(baseline) => write!(out, ", but for {baseline}"),
+                None => Ok(()),
+            }
         }
         Order::Explain { file, terms } => {
             write_reply(terms.position, out)?;

@@ -3,7 +3,7 @@
 
 use crate::freshness::push_slack;
 use crate::layout::push_number;
-use hc_facts::{AgeGap, AgeTold, TtlGap};
+use hc_facts::{AgeGap, AgeParts, AgeTold, TtlGap};
 use hc_fresh::Times;
 use hc_shown::push_value;
 use std::alloc::AllocError;
@@ -31,26 +31,32 @@ fn push_first_age(times: Times, out: &mut String) -> Result<(), AllocError> {
         return push_number("", apparent, " (Date)", out);
     }
     if told == 0 && delay == 0 {
-        return out.push_str("0");
+        return out.push_str("0 (on its way)");
     }
     write!(out, "{told} (Age) + {delay} (on its way)")
 }
 
-/// Writes the Age that is due for a response of those times, and of what it is the sum.
-fn push_due(due: u64, times: Times, resident: u64, out: &mut String) -> Result<(), AllocError> {
-    push_number(", due ", due, " = ", out)?;
-    push_first_age(times, out)?;
-    push_number(" + ", resident, "", out)?;
-    if due == resident {
+/// Writes of what an age is the sum, behind what stands for the age.
+pub(crate) fn push_sum(parts: AgeParts, out: &mut String) -> Result<(), AllocError> {
+    out.push_str(" = ")?;
+    push_first_age(parts.times, out)?;
+    push_number(" + ", parts.resident, " (stored)", out)
+}
+
+/// Writes the age that is due, and of what it is the sum.
+fn push_due(due: u64, parts: AgeParts, out: &mut String) -> Result<(), AllocError> {
+    push_number(", due ", due, "", out)?;
+    push_sum(parts, out)?;
+    if due == parts.resident {
         return Ok(());
     }
-    push_number("; by its arrival alone ", resident, "", out)
+    push_number("; by its arrival alone ", parts.resident, "", out)
 }
 
 /// Writes the Age that the reply tells, and the one that is due.
 pub(crate) fn say_age(gap: &AgeGap, out: &mut String) -> Result<(), AllocError> {
     push_told(&gap.told, out)?;
-    push_due(u64::from(gap.due), gap.times, gap.resident, out)?;
+    push_due(u64::from(gap.due), gap.parts, out)?;
     push_slack(gap.slack, out)
 }
 

@@ -21,7 +21,7 @@ fn push_behind(
     }
     let before = "no response that may be stored came behind the request at ";
     push_number(before, explanation.since, "", out)?;
-    push_unstorables(": ", unstored, out)
+    push_unstorables(": ", unstored, explanation.unstored.named.as_slice(), out)
 }
 
 /// Writes how far the responses get that came before the request, if any did.

@@ -2,7 +2,7 @@
 
 use crate::layout::push_number;
 use crate::values::push_some;
-use hc_facts::{BodyGap, ContentGap, Failed, Unearned};
+use hc_facts::{BodyGap, ContentGap, Failed, RangeGap, Unearned};
 use hc_fields::Octets;
 use hc_head::StatusCode;
 use std::alloc::AllocError;
@@ -68,7 +68,34 @@ fn say_failed(failed: Option<&Failed>, out: &mut String) -> Result<(), AllocErro
         return Ok(());
     };
     out.push_str("; ")?;
-    push_condition(failed.asked(), failed.due(), out)
+    push_condition(failed.asked(), failed.due(), out)?;
+    if failed.is_for_origins() {
+        return out.push_str("; a cache must not evaluate that (RFC 9111 section 4.3.2)");
+    }
+    Ok(())
+}
+
+/// Writes what is told of a part, where that was looked at.
+fn say_range(
+    told: StatusCode,
+    range: Option<&RangeGap>,
+    out: &mut String,
+) -> Result<(), AllocError> {
+    let Some(range) = range else {
+        return Ok(());
+    };
+    if told == StatusCode::RANGE_NOT_SATISFIABLE {
+        push_number(
+            "; a 416 of it has content-range \"bytes */",
+            range.whole,
+            "\"",
+            out,
+        )?;
+        out.push_str(" (RFC 9110 section 15.5.17), this one ")?;
+    } else {
+        out.push_str("; content-range ")?;
+    }
+    push_some(b"content-range", range.told.as_ref(), out)
 }
 
 /// Writes how the statuses and the bodies differ.
@@ -100,8 +127,10 @@ pub(crate) fn say_contents(gap: &ContentGap, out: &mut String) -> Result<(), All
             told,
             bodies,
             failed,
+            range,
         } => {
             say_other(*due, *told, *bodies, out)?;
+            say_range(*told, range.as_ref(), out)?;
             say_failed(failed.as_ref(), out)
         }
     }

@@ -3,13 +3,13 @@
 use crate::marking::way;
 use crate::objects::{Told, object_of, octets_json, put_object, put_objects, value_json};
 use crate::records_json::put_status;
-use hc_facts::{AskedReply, ShownField};
+use hc_facts::{AskedReply, Demand, ShownField, demand_of};
+use hc_head::StatusCode;
 use hc_history::Finding;
+use hc_json::{put_made, put_number, put_numbers, put_text};
 use hc_past::{Unstored, Window};
 use hc_shown::push_target;
-use hc_why::{
-    Explanation, Ground, Nearest, NoMark, Why, put_made, put_number, put_numbers, put_text,
-};
+use hc_why::{Explanation, Ground, Nearest, NoMark, Why};
 use serde_json::{Map, Value};
 use std::alloc::{AllocError, Global};
 
@@ -26,7 +26,8 @@ impl Told for Explanation {
             ("exchange", self.exchange),
         ];
         put_numbers(alloc, &numbers, members)?;
-        put_finding(alloc, self.finding, members)?;
+        put_finding(alloc, self.finding, self.reply.status, members)?;
+        put_with_setting(alloc, self.with_setting, members)?;
         put_text(alloc, "way", way(self.way), members)?;
         put_object(alloc, "reply", &self.reply, members)?;
         put_responses(alloc, self, members)?;
@@ -38,6 +39,7 @@ impl Told for Explanation {
 fn put_finding(
     alloc: Global,
     finding: Finding,
+    status: StatusCode,
     members: &mut Map<String, Value>,
 ) -> Result<(), AllocError> {
     match finding {
@@ -45,8 +47,24 @@ fn put_finding(
         Finding::Wrong(reason) => {
             put_text(alloc, "finding", "wrong", members)?;
             put_number(alloc, "reason", u64::from(reason.number()), members)?;
-            put_text(alloc, "name", reason.name(), members)
+            put_text(alloc, "name", reason.name(), members)?;
+            let Demand { words, sections } = demand_of(reason, status);
+            put_text(alloc, "means", words, members)?;
+            put_text(alloc, "sections", sections, members)
         }
+    }
+}
+
+// Adds what would be found with the setting by which the response that is named may be used, if there is one.
+fn put_with_setting(
+    alloc: Global,
+    found: Option<Finding>,
+    members: &mut Map<String, Value>,
+) -> Result<(), AllocError> {
+    match found {
+        None => Ok(()),
+        Some(Finding::Right) => put_text(alloc, "with_setting", "right", members),
+        Some(Finding::Wrong(reason)) => put_text(alloc, "with_setting", reason.name(), members),
     }
 }
 
@@ -62,6 +80,8 @@ fn put_responses(
     put_objects(alloc, "before", before.named.as_slice(), members)?;
     let sources = explanation.sources.as_slice();
     put_objects(alloc, "sources", sources, members)?;
+    let unstored = explanation.unstored.named.as_slice();
+    put_objects(alloc, "unstored", unstored, members)?;
     match &explanation.carried {
         Some(source) => put_object(alloc, "carried", source, members),
         None => Ok(()),

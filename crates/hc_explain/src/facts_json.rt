@@ -1,15 +1,14 @@
 //! In what a response falls short, as JSON.
 
 use crate::objects::{Told, octets_json, put_objects, value_json, values_json};
-use crate::records_json::{put_broken, put_status};
+use crate::records_json::{put_broken, put_some_record, put_status};
 use hc_facts::{
-    AgeGap, AgeTold, BodyGap, ContentGap, Failed, FieldGap, Setting, StaleSaid, TtlGap, Unearned,
-    UnmetMember, Usage,
+    AgeGap, AgeTold, BodyGap, ContentGap, Failed, FieldGap, RangeGap, Setting, StaleSaid, TtlGap,
+    Unearned, UnmetMember, Usage,
 };
 use hc_fields::Octets;
-use hc_why::{
-    Nearest, OriginError, Shortfall, UseGap, put_made, put_number, put_numbers, put_some, put_text,
-};
+use hc_json::{put_made, put_number, put_numbers, put_some, put_text};
+use hc_why::{Nearest, OriginError, Shortfall, UseGap};
 use serde_json::{Map, Value, put};
 use std::alloc::{AllocError, Global};
 
@@ -17,6 +16,7 @@ impl Told for Nearest {
     fn put(&self, alloc: Global, members: &mut Map<String, Value>) -> Result<(), AllocError> {
         put_number(alloc, "position", self.position, members)?;
         put_some(alloc, "validated_at", self.validated_at, members)?;
+        put_some_record(alloc, "validator", self.validator, members)?;
         put_some(alloc, "date", self.date, members)?;
         put_broken(alloc, self.breaks(), members)?;
         let not_about = &self.not_about;
@@ -70,7 +70,8 @@ impl Told for UseGap {
     fn put(&self, alloc: Global, members: &mut Map<String, Value>) -> Result<(), AllocError> {
         self.usage.put(alloc, members)?;
         put_error(alloc, self.error, members)?;
-        put_some(alloc, "failure", self.failure, members)
+        let failure = self.failure.map(|failure| failure.position);
+        put_some(alloc, "failure", failure, members)
     }
 }
 
@@ -83,7 +84,7 @@ fn put_error(
     let Some(error) = error else {
         return put(members, alloc, "error", Value::Null);
     };
-    put_number(alloc, "error", error.position, members)?;
+    put_number(alloc, "error", error.record.position, members)?;
     put_status(alloc, "error_status", error.status, members)
 }
 
@@ -118,6 +119,7 @@ impl Told for Usage {
         put_some(alloc, "lifetime", seconds(self.lifetime), members)?;
         put_some(alloc, "stale_by", seconds(self.stale_by), members)?;
         put_number(alloc, "age", u64::from(self.age), members)?;
+        put_numbers(alloc, &self.parts.numbers(), members)?;
         put_text(alloc, "forbidden", self.forbidden.words(), members)?;
         put_said(alloc, self.said, members)?;
         put_setting(alloc, self.setting, members)
@@ -140,14 +142,29 @@ impl Told for ContentGap {
                 told,
                 bodies,
                 failed,
+                range,
             } => {
                 put_status(alloc, "due_status", *due, members)?;
                 put_status(alloc, "told_status", *told, members)?;
                 put_bodies(alloc, *bodies, members)?;
+                put_range(alloc, range.as_ref(), members)?;
                 put_failed(alloc, failed.as_ref(), members)
             }
         }
     }
+}
+
+// Adds what is told of a part, and how many octets the whole has, where that was looked at.
+fn put_range(
+    alloc: Global,
+    range: Option<&RangeGap>,
+    members: &mut Map<String, Value>,
+) -> Result<(), AllocError> {
+    let Some(range) = range else {
+        return Ok(());
+    };
+    put_value(alloc, "content-range", range.told.as_ref(), members)?;
+    put_number(alloc, "whole_octets", range.whole, members)
 }
 
 // Adds the condition that failed, and what the response has for it, if there is one.
@@ -227,9 +244,9 @@ impl Told for AgeGap {
             AgeTold::Missing | AgeTold::Several | AgeTold::Unreadable(_) => None,
         };
         put_some(alloc, "told", told, members)?;
+        put_numbers(alloc, &self.parts.numbers(), members)?;
         let numbers = [
             ("due", u64::from(self.due)),
-            ("resident", self.resident),
             ("slack", u64::from(self.slack)),
         ];
         put_numbers(alloc, &numbers, members)

@@ -1,8 +1,8 @@
 //! What is written as JSON objects, and arrays of such.
 
 use hc_fields::Octets;
+use hc_json::{array, object, push_made, put_made};
 use hc_shown::{push_octets, push_value};
-use hc_why::{array, object, push_made, put_made};
 use serde_json::{Map, Value};
 use std::alloc::{AllocError, Global};
 

@@ -2,12 +2,13 @@
 
 use crate::facts_json::put_bodies;
 use crate::layout::letter;
-use crate::objects::{Told, octets_json, value_json};
+use crate::objects::{Told, octets_json, put_object, value_json};
 use hc_facts::{Against, RecordName, Rule, ValidatorGap};
 use hc_head::StatusCode;
+use hc_json::{put_made, put_number, put_numbers, put_some, put_text};
 use hc_past::{Apart, NearAnswer, Source, StatedLifetime, Unstorable, WindowEnd};
 use hc_transcript::ToldCause;
-use hc_why::{Invalidator, NotAbout, Reach, put_made, put_number, put_numbers, put_some, put_text};
+use hc_why::{Invalidator, NotAbout, Reach};
 use serde_json::{Map, Value, put};
 use std::alloc::{AllocError, Global};
 
@@ -45,6 +46,19 @@ impl Told for RecordName {
     }
 }
 
+/// Adds a record, if it is known.
+pub(crate) fn put_some_record(
+    alloc: Global,
+    name: &str,
+    record: Option<RecordName>,
+    members: &mut Map<String, Value>,
+) -> Result<(), AllocError> {
+    match record {
+        Some(record) => put_object(alloc, name, &record, members),
+        None => Ok(()),
+    }
+}
+
 impl Told for Reach {
     fn put(&self, alloc: Global, members: &mut Map<String, Value>) -> Result<(), AllocError> {
         put_number(alloc, "position", self.position, members)?;
@@ -55,6 +69,7 @@ impl Told for Reach {
 impl Told for Source {
     fn put(&self, alloc: Global, members: &mut Map<String, Value>) -> Result<(), AllocError> {
         self.record.put(alloc, members)?;
+        put_some_record(alloc, "forward", self.sent, members)?;
         put_status(alloc, "status", self.status, members)?;
         let (name, value) = match &self.lifetime {
             StatedLifetime::CacheControl(value) => ("cache-control", value),

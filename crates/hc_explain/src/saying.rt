@@ -2,16 +2,18 @@
 
 use crate::collapsing::say_collapsing;
 use crate::heading::say_reply;
-use crate::layout::{begin_rule, end_line};
+use crate::layout::{begin_line, begin_rule, end_line};
 use crate::marking::{say_both, say_unmarked};
 use crate::shortfalls::say_rule;
 use crate::sources::{say_carried, say_nearest, say_sources};
 use crate::unstored::say_unstored;
 use crate::window::{say_own, say_window};
-use hc_history::Reason;
-use hc_past::Unstored;
+use hc_facts::{Demand, demand_of};
+use hc_history::{Finding, Reason};
+use hc_past::{Unstored, Window};
 use hc_why::{Explanation, Ground, Nearest, Way, Why};
 use std::alloc::{AllocError, Global};
+use std::fmt::Write;
 
 /// Writes the line of what a reply carries that went forward by itself.
 fn say_forwarded(
@@ -35,10 +37,46 @@ fn say_right(alloc: Global, explanation: &Explanation, out: &mut String) -> Resu
 }
 
 /// Writes the line on a reply for which nothing is stored.
-fn say_no_response(unstored: &Unstored, out: &mut String) -> Result<(), AllocError> {
+fn say_no_response(
+    explanation: &Explanation,
+    unstored: &Unstored,
+    out: &mut String,
+) -> Result<(), AllocError> {
     begin_rule(Reason::NoResponse.number(), out)?;
-    say_unstored(unstored, out)?;
+    say_unstored(unstored, explanation.unstored.named.as_slice(), out)?;
     end_line(out)
+}
+
+/// Writes the lines of what came between request and reply, of the stored response that is named, if one is, and of
+/// the rule that it breaks.
+fn say_not_forwarded(
+    alloc: Global,
+    explanation: &Explanation,
+    window: &Window,
+    nearest: Option<&Nearest>,
+    out: &mut String,
+) -> Result<(), AllocError> {
+    say_window(alloc, explanation, window, nearest, out)?;
+    let Some(nearest) = nearest else {
+        return Ok(());
+    };
+    say_nearest(alloc, explanation, out)?;
+    say_rule(explanation, nearest, out)?;
+    match nearest.breaks() {
+        Some(rule) => say_demand(explanation, rule.reason(), out),
+        None => Ok(()),
+    }
+}
+
+/// Writes the line of what is asked of a reply that is wrong for that reason.
+fn say_demand(
+    explanation: &Explanation,
+    reason: Reason,
+    out: &mut String,
+) -> Result<(), AllocError> {
+    begin_line("means", "", out)?;
+    let Demand { words, sections } = demand_of(reason, explanation.reply.status);
+    write!(out, "{words} ({sections})\n")
 }
 
 /// Writes the line of an answer of its own window that a wrong hit carries, if there is one.
@@ -68,10 +106,10 @@ fn say_wrong(
     out: &mut String,
 ) -> Result<(), AllocError> {
     match why {
-        Why::NoResponse(unstored) => say_no_response(unstored, out)?,
+        Why::NoResponse(unstored) => say_no_response(explanation, unstored, out)?,
         Why::Response(nearest) => say_response(alloc, explanation, nearest, out)?,
         Why::NotForwarded(window, nearest) => {
-            say_window(alloc, explanation, window, nearest.as_ref(), out)?
+            say_not_forwarded(alloc, explanation, window, nearest.as_ref(), out)?
         }
         Why::Unmarked(mark) => say_unmarked(&explanation.reply, *mark, out)?,
         Why::BothMarks => say_both(&explanation.reply, out)?,
@@ -88,7 +126,11 @@ fn say_wrong(
 pub fn say(alloc: Global, explanation: &Explanation, out: &mut String) -> Result<(), AllocError> {
     say_reply(alloc, explanation, out)?;
     match &explanation.ground {
-        Ground::Right(_) => say_right(alloc, explanation, out),
-        Ground::Wrong(why) => say_wrong(alloc, explanation, why, out),
+        Ground::Right(_) => say_right(alloc, explanation, out)?,
+        Ground::Wrong(why) => say_wrong(alloc, explanation, why, out)?,
+    }
+    match explanation.finding {
+        Finding::Right => Ok(()),
+        Finding::Wrong(reason) => say_demand(explanation, reason, out),
     }
 }

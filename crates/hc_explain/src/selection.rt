@@ -1,46 +1,64 @@
 //! In what a request differs from the one that a response answers (RFC 9111 section 4.1).
 
-use crate::layout::{push_more, push_number, push_separator};
+use crate::layout::{push_more, push_record, push_separator};
 use crate::values::push_some;
-use hc_facts::{Selection, UnmetMember};
+use hc_facts::{RecordName, Selection, UnmetMember};
 use hc_fields::Octets;
 use hc_shown::push_value;
 use std::alloc::AllocError;
 
-/// Writes what both requests have of what that member names.
-fn push_both(
+/// Writes what the forward that the response answers, of which this is the record, has of what that member names.
+fn push_answered(
     member: &[u8],
     answered: Option<&Octets>,
-    asked: Option<&Octets>,
+    sent: Option<RecordName>,
     out: &mut String,
 ) -> Result<(), AllocError> {
-    out.push_str(": it answers ")?;
-    push_some(member, answered, out)?;
-    out.push_str(", asked is ")?;
-    push_some(member, asked, out)
+    out.push_str(": its forward ")?;
+    if let Some(sent) = sent {
+        push_record(sent, out)?;
+        out.push_str(" ")?;
+    }
+    out.push_str("has ")?;
+    push_some(member, answered, out)
 }
 
 /// Writes what a member of the Vary finds in both requests.
-fn say_member(unmet: &UnmetMember, out: &mut String) -> Result<(), AllocError> {
+fn say_member(
+    unmet: &UnmetMember,
+    sent: Option<RecordName>,
+    out: &mut String,
+) -> Result<(), AllocError> {
     let member = unmet.member.as_slice();
     push_value(b"vary", member, out)?;
     if !unmet.is_name {
-        return out.push_str(" selects no request");
+        return out.push_str(", which selects no request");
     }
-    push_both(member, unmet.answered.as_ref(), unmet.asked.as_ref(), out)
+    push_answered(member, unmet.answered.as_ref(), sent, out)?;
+    out.push_str(", the request ")?;
+    push_some(member, unmet.asked.as_ref(), out)
 }
 
 /// Writes by which members of its Vary the response doesn't answer the request.
-pub(crate) fn say_selection(selection: &Selection, out: &mut String) -> Result<(), AllocError> {
+pub(crate) fn say_selection(
+    selection: &Selection,
+    sent: Option<RecordName>,
+    validator: Option<RecordName>,
+    out: &mut String,
+) -> Result<(), AllocError> {
     let mut is_first = true;
     for unmet in selection.unmet.iter() {
-        push_separator(is_first, "Vary ", "; ", out)?;
-        say_member(unmet, out)?;
+        push_separator(is_first, "Vary names ", "; ", out)?;
+        say_member(unmet, sent, out)?;
         is_first = false;
     }
     push_more(selection.more, out)?;
-    match selection.validated_at {
-        Some(position) => push_number(", though the 304 at ", position, " validated it", out),
-        None => Ok(()),
+    match (selection.validated_at, validator) {
+        (Some(_), Some(validator)) => {
+            out.push_str(", though the 304 ")?;
+            push_record(validator, out)?;
+            out.push_str(" validated it")
+        }
+        _ => Ok(()),
     }
 }

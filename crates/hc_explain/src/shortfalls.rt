@@ -34,14 +34,23 @@ fn say_invalidators(by: &Newest<Invalidator>, out: &mut String) -> Result<(), Al
 }
 
 /// Writes what is due, and what came.
-fn push_gap(nearest: &Nearest, shortfall: &Shortfall, out: &mut String) -> Result<(), AllocError> {
+fn push_gap(
+    explanation: &Explanation,
+    nearest: &Nearest,
+    shortfall: &Shortfall,
+    out: &mut String,
+) -> Result<(), AllocError> {
     match shortfall {
         Shortfall::Asked(method) => push_method("", method, NO_GET, out),
-        Shortfall::Selected(selection) => say_selection(selection, out),
+        Shortfall::Selected(selection) => {
+            let source = explanation.source(nearest.position);
+            let sent = source.and_then(|source| source.sent);
+            say_selection(selection, sent, nearest.validator, out)
+        }
         Shortfall::Valid(by) => say_invalidators(by, out),
         Shortfall::Lifetime(gap) | Shortfall::Use(gap) => say_use(gap, out),
         Shortfall::Body(gap) => say_contents(gap, out),
-        Shortfall::Fields(found) => say_differences(found, nearest.validated_at, out),
+        Shortfall::Fields(found) => say_differences(found, nearest.validator, out),
         Shortfall::Age(gap) => say_age(gap, out),
         Shortfall::Ttl(gap) => say_ttl(*gap, out),
     }
@@ -54,10 +63,12 @@ fn push_shortfall(
     shortfall: &Shortfall,
     out: &mut String,
 ) -> Result<(), AllocError> {
-    push_gap(nearest, shortfall, out)?;
+    push_gap(explanation, nearest, shortfall, out)?;
     say_validations(explanation, nearest, shortfall, out)?;
     match shortfall {
-        Shortfall::Lifetime(gap) | Shortfall::Use(gap) => say_setting(gap, out),
+        Shortfall::Lifetime(gap) | Shortfall::Use(gap) => {
+            say_setting(gap, explanation.with_setting, out)
+        }
         _ => Ok(()),
     }
 }

@@ -24,7 +24,7 @@ fn push_field(
 }
 
 /// Writes what a response says of its lifetime.
-fn push_lifetime(lifetime: &StatedLifetime, out: &mut String) -> Result<(), AllocError> {
+pub(crate) fn push_lifetime(lifetime: &StatedLifetime, out: &mut String) -> Result<(), AllocError> {
     match lifetime {
         StatedLifetime::CacheControl(value) => push_field(" ", b"cache-control", value, out),
         StatedLifetime::Expires(value) => push_field(" Expires ", b"expires", value, out),
@@ -52,8 +52,9 @@ pub(crate) fn push_reach(breaks: Option<Rule>, out: &mut String) -> Result<(), A
 
 /// Writes what the records behind it made of the response that is named.
 fn push_changes(nearest: &Nearest, out: &mut String) -> Result<(), AllocError> {
-    if let Some(position) = nearest.validated_at {
-        push_number(", freshened by the 304 at ", position, "", out)?;
+    if let Some(validator) = nearest.validator {
+        out.push_str(", freshened by ")?;
+        push_record(validator, out)?;
     }
     if let Some(date) = nearest.date {
         out.push_str(", Date ")?;

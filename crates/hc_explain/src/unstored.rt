@@ -1,36 +1,71 @@
 //! Why nothing of a target is stored (RFC 9111 section 3).
 
 use crate::layout::{push_method, push_more, push_number, push_record, push_separator};
-use hc_past::{Unstorable, Unstored};
+use crate::sources::push_lifetime;
+use hc_facts::RecordName;
+use hc_past::{Source, Unstorable, Unstored};
 use std::alloc::AllocError;
 
 /// What is said of a method whose replies come from no store.
 pub(crate) const NO_GET: &str = " is neither GET nor HEAD";
 
-/// Writes a response that may not be stored, and what forbids it.
-fn push_unstorable(unstorable: &Unstorable, out: &mut String) -> Result<(), AllocError> {
-    push_record(unstorable.record, out)?;
-    push_number(": ", u64::from(unstorable.status.as_u16()), ", ", out)?;
-    unstorable.forbids.say(out)
+/// Writes the record of a response, and that of its forward, if it is known.
+fn push_exchanged(
+    record: RecordName,
+    sent: Option<RecordName>,
+    out: &mut String,
+) -> Result<(), AllocError> {
+    push_record(record, out)?;
+    let Some(sent) = sent else {
+        return Ok(());
+    };
+    out.push_str(" to ")?;
+    push_record(sent, out)
+}
+
+/// Writes a response that may not be stored, what it says of its lifetime, and what forbids it.
+fn push_unstorable(
+    unstorable: &Unstorable,
+    source: Option<&Source>,
+    out: &mut String,
+) -> Result<(), AllocError> {
+    let sent = source.and_then(|source| source.sent);
+    push_exchanged(unstorable.record, sent, out)?;
+    push_number(": ", u64::from(unstorable.status.as_u16()), "", out)?;
+    if let Some(source) = source {
+        push_lifetime(&source.lifetime, out)?;
+    }
+    out.push_str(", ")?;
+    unstorable.forbids.say_with_sections(out)
+}
+
+/// The record of that response, if it is among those.
+fn source_of<'a>(unstorable: &Unstorable, sources: &'a [Source]) -> Option<&'a Source> {
+    sources.iter().find(|source| source.record.position == unstorable.record.position)
 }
 
 /// Writes the responses that may not be stored behind a text, if there are any.
 pub(crate) fn push_unstorables(
     before: &str,
     unstored: &Unstored,
+    sources: &[Source],
     out: &mut String,
 ) -> Result<(), AllocError> {
     let mut is_first = true;
     for unstorable in unstored.recorded.named.iter() {
         push_separator(is_first, before, "; ", out)?;
-        push_unstorable(unstorable, out)?;
+        push_unstorable(unstorable, source_of(unstorable, sources), out)?;
         is_first = false;
     }
     push_more(unstored.recorded.older, out)
 }
 
 /// Writes why no response of the target comes out of a store.
-pub(crate) fn say_unstored(unstored: &Unstored, out: &mut String) -> Result<(), AllocError> {
+pub(crate) fn say_unstored(
+    unstored: &Unstored,
+    sources: &[Source],
+    out: &mut String,
+) -> Result<(), AllocError> {
     if let Some(method) = &unstored.other_method {
         return push_method("", method, NO_GET, out);
     }
@@ -40,5 +75,5 @@ pub(crate) fn say_unstored(unstored: &Unstored, out: &mut String) -> Result<(), 
         );
     }
     let before = "what is recorded of the target may not be stored: ";
-    push_unstorables(before, unstored, out)
+    push_unstorables(before, unstored, sources, out)
 }

@@ -3,7 +3,7 @@
 use crate::layout::{
     begin_line, end_line, push_method, push_more, push_number, push_record, push_separator,
 };
-use crate::shortfalls::say_failing;
+use crate::sources::push_reach;
 use hc_facts::{BodyGap, RecordName};
 use hc_fields::Octets;
 use hc_head::StatusCode;
@@ -89,17 +89,13 @@ fn push_window(window: &Window, out: &mut String) -> Result<(), AllocError> {
     }
 }
 
-/// Writes what is stored of the target.
-fn push_stored(
-    explanation: &Explanation,
-    nearest: Option<&Nearest>,
-    out: &mut String,
-) -> Result<(), AllocError> {
-    out.push_str("; stored: ")?;
-    match nearest {
-        Some(nearest) => say_failing(explanation, nearest, out),
-        None => out.push_str("nothing"),
-    }
+/// Writes which response of the target is stored, if one is, and which rule it breaks.
+fn push_stored(nearest: Option<&Nearest>, out: &mut String) -> Result<(), AllocError> {
+    let Some(nearest) = nearest else {
+        return out.push_str("; stored: nothing");
+    };
+    push_number("; stored: ", nearest.position, " ", out)?;
+    push_reach(nearest.breaks(), out)
 }
 
 /// Begins a line about a record.
@@ -144,7 +140,7 @@ pub(crate) fn say_window(
 ) -> Result<(), AllocError> {
     begin_line("window", "", out)?;
     push_window(window, out)?;
-    push_stored(explanation, nearest, out)?;
+    push_stored(nearest, out)?;
     end_line(out)?;
     for near in window.near.named.iter() {
         say_near(alloc, near, &explanation.reply.target.host, out)?;

@@ -1,4 +1,7 @@
-pub mod StoringLemmas
-pub mod ListedLemmas
 pub mod AgainstLemmas
+pub mod FirstLemmas
+pub mod ListedLemmas
 pub mod NameLemmas
+pub mod SettingLemmas
+pub mod StoringLemmas
+pub mod UnmetLemmas

@@ -1,11 +1,9 @@
 -- Names among those that are compared, and among those that are listed.
-use Rattle.std.proofs.Common.{◌≡◌, ◌==◌, ◌||◌, ◌++◌, ◌+◌, ◌<◌, Bool, Bor, true, false, ℕ, List, [], ◌∷◌, if◌then◌else◌, get_or, length, take, refl, ap, subst, sym, ◌∙◌}
+use Rattle.std.proofs.Common.{◌≡◌, ◌==◌, ◌||◌, ◌<◌, ◌++◌, ◌+◌, Bool, Bor, true, false, ℕ, List, [], ◌∷◌, if◌then◌else◌, length, drop, get_or, map, refl, ap, sym, subst, ◌∙◌}
 use Rattle.std.specs.List.{list_any}
-use Rattle.std.specs.Prelude.{nat_lt}
+use Rattle.std.specs.Prelude.{filter}
 use Rattle.std.specs.Str.{bytes_eq}
-use Rattle.std.proofs.lemmas.List.Folds.{list_any-append, list_any_more}
-use Rattle.std.proofs.lemmas.Slice.Eq.{bytes_eq-Decides}
-use Rattle.hc_fields.specs.declared.fields.Field.{Field}
+use Rattle.std.proofs.lemmas.List.{drop_more, map-append, length-map}
 use Rattle.hc_head.specs.Statuses.{not_modified}
 use Rattle.hc_rules.specs.Conditions.{repeated_names}
 use Rattle.hc_update.specs.declared.stored.Stored.{Stored}
@@ -13,67 +11,71 @@ use Rattle.hc_history.specs.Claims.{Claim}
 use Rattle.hc_history.specs.Filters.{compared_names, names_of}
 use Rattle.hc_facts.specs.declared.differing.Differences.{Differences}
 use Rattle.hc_facts.specs.declared.differing.FieldGap.{FieldGap}
-use Rattle.hc_facts.specs.Differing.{differs, is_told}
+use Rattle.hc_facts.specs.Differing.{AreListed, IsGap, most_listed, with_name, with_names}
+use Rattle.hc_facts.proofs.FirstLemmas.{goes_on, one_named}
+use Rattle.hc_facts.proofs.ListedLemmas.{all_more}
 
 -- ---- those that are compared
 
-any_lines : (n : List ℕ) (lines : List Field) → list_any (λ known. bytes_eq known n) (names_of lines) ≡ list_any (λ (line : Field). bytes_eq line.name n) lines
-any_lines n [] = refl
-any_lines n (f ∷ lines) = ap (λ (b : Bool). bytes_eq f.name n || b) (any_lines n lines)
+abbrev pub plain : List (Bor (List ℕ)) → List (List ℕ)
+plain names = map (λ (known : Bor (List ℕ)). known.now) names
 
-in_two : (claim : Claim) (state : Stored) (n : List ℕ) (others : List (List ℕ)) → (if claim.reply.head.status == not_modified then repeated_names else names_of state.fields) ≡ others
-    → list_any (λ known. bytes_eq known n) (compared_names claim state)
-    ≡ (list_any (λ (line : Field). bytes_eq line.name n) claim.reply.head.fields || list_any (λ known. bytes_eq known n) others)
-in_two claim state n others is =
-    list_any-append (λ known. bytes_eq known n) (names_of claim.reply.head.fields) (if claim.reply.head.status == not_modified then repeated_names else names_of state.fields)
-    ∙ ap (λ (b : Bool). b || list_any (λ known. bytes_eq known n) (if claim.reply.head.status == not_modified then repeated_names else names_of state.fields)) (any_lines n claim.reply.head.fields)
-    ∙ ap (λ (rest : List (List ℕ)). list_any (λ (line : Field). bytes_eq line.name n) claim.reply.head.fields || list_any (λ known. bytes_eq known n) rest) is
+any_plain : (n : List ℕ) (names : List (Bor (List ℕ))) → list_any (λ known. bytes_eq known n) (plain names) ≡ list_any (λ (known : Bor (List ℕ)). bytes_eq known.now n) names
+any_plain n [] = refl
+any_plain n (known ∷ names) = ap (λ (b : Bool). bytes_eq known.now n || b) (any_plain n names)
+
+-- a name that is there already, and one that isn't
+pub stays : (names : List (Bor (List ℕ))) (n : List ℕ) → list_any (λ (known : Bor (List ℕ)). bytes_eq known.now n) names ≡ true
+    → plain names ≡ with_name (plain names) n
+unfolding with_name
+stays names n there = sym (ap (λ (b : Bool). if b then plain names else plain names ++ n ∷ []) (any_plain n names ∙ there))
+
+pub grows : (names new : List (Bor (List ℕ))) (name : Bor (List ℕ)) → list_any (λ (known : Bor (List ℕ)). bytes_eq known.now name.now) names ≡ false
+    → new ≡ names ++ name ∷ [] → plain new ≡ with_name (plain names) name.now
+unfolding with_name
+grows names new name other is =
+    ap plain is ∙ map-append (λ (known : Bor (List ℕ)). known.now) names (name ∷ [])
+    ∙ sym (ap (λ (b : Bool). if b then plain names else plain names ++ name.now ∷ []) (any_plain name.now names ∙ other))
+
+in_two : (names one other : List (List ℕ)) → with_names (with_names names one) other ≡ with_names names (one ++ other)
+in_two names [] other = refl
+in_two names (n ∷ one) other = in_two (with_name names n) one other
 
 -- of a 304, and of another reply
-pub of_304 : (claim : Claim) (state : Stored) (n : List ℕ) → (claim.reply.head.status == not_modified) ≡ true
-    → (list_any (λ (line : Field). bytes_eq line.name n) claim.reply.head.fields || list_any (λ known. bytes_eq known n) repeated_names)
-    ≡ list_any (λ known. bytes_eq known n) (compared_names claim state)
-of_304 claim state n is =
-    sym (in_two claim state n repeated_names (ap (λ (b : Bool). if b then repeated_names else names_of state.fields) is))
+pub of_304 : (claim : Claim) (state : Stored) → (claim.reply.head.status == not_modified) ≡ true
+    → with_names (with_names [] (names_of claim.reply.head.fields)) repeated_names ≡ with_names [] (compared_names claim state)
+of_304 claim state is =
+    in_two [] (names_of claim.reply.head.fields) repeated_names
+    ∙ ap (λ (b : Bool). with_names [] (names_of claim.reply.head.fields ++ (if b then repeated_names else names_of state.fields))) (sym is)
 
-pub of_other : (claim : Claim) (state : Stored) (n : List ℕ) → (claim.reply.head.status == not_modified) ≡ false
-    → (list_any (λ (line : Field). bytes_eq line.name n) claim.reply.head.fields || list_any (λ (line : Field). bytes_eq line.name n) state.fields)
-    ≡ list_any (λ known. bytes_eq known n) (compared_names claim state)
-of_other claim state n is =
-    sym (in_two claim state n (names_of state.fields) (ap (λ (b : Bool). if b then repeated_names else names_of state.fields) is)
-    ∙ ap (λ (b : Bool). list_any (λ (line : Field). bytes_eq line.name n) claim.reply.head.fields || b) (any_lines n state.fields))
+pub of_other : (claim : Claim) (state : Stored) → (claim.reply.head.status == not_modified) ≡ false
+    → with_names (with_names [] (names_of claim.reply.head.fields)) (names_of state.fields) ≡ with_names [] (compared_names claim state)
+of_other claim state is =
+    in_two [] (names_of claim.reply.head.fields) (names_of state.fields)
+    ∙ ap (λ (b : Bool). with_names [] (names_of claim.reply.head.fields ++ (if b then repeated_names else names_of state.fields))) (sym is)
 
 -- ---- those that are listed
 
-or_true : (one other : Bool) → other ≡ true → (one || other) ≡ true
-or_true true other is = refl
-or_true false other is = is
+abbrev listed : List FieldGap → List (List ℕ)
+listed gaps = map (λ (gap : FieldGap). gap.name) gaps
 
-any_last : (n : List ℕ) (old : List FieldGap) (gap : FieldGap) → gap.name ≡ n → list_any (λ (g : FieldGap). bytes_eq g.name n) (old ++ gap ∷ []) ≡ true
-any_last n [] gap is = ap (λ (b : Bool). b || false) ((bytes_eq-Decides gap.name n).1 is)
-any_last n (g ∷ old) gap is = or_true (bytes_eq g.name n) (list_any (λ (g : FieldGap). bytes_eq g.name n) (old ++ gap ∷ [])) (any_last n old gap is)
+-- one more is listed, where there is room
+pub one_listed : (claim : Claim) (state : Stored) (names : List (List ℕ)) (name : List ℕ) (found new : Differences) (gap : FieldGap)
+    → length found.listed.items < most_listed → new.listed.items ≡ found.listed.items ++ gap ∷ [] → new.more ≡ found.more
+    → IsGap claim state gap → gap.name ≡ name
+    → AreListed claim state names found → AreListed claim state (names ++ name ∷ []) new
+one_listed claim state names name found new gap room items more is name-is are =
+    let same = ap listed items ∙ map-append (λ (g : FieldGap). g.name) found.listed.items (gap ∷ [])
+    ∙ ap (λ (m : List ℕ). listed found.listed.items ++ m ∷ []) name-is in
+    let first = one_named most_listed names (listed found.listed.items) found.more name
+    (subst (λ (n : ℕ). n < most_listed) (sym (length-map found.listed.items (λ (g : FieldGap). g.name))) room) are.first in
+    record {
+      each = all_more (IsGap claim state) found.listed.items new.listed.items gap items is are.each;
+      first = record { first = same ∙ first.first; others = more ∙ first.others };
+    }
 
-pub told_now : (more : ℕ) (old new : List FieldGap) (gap : FieldGap) (n : List ℕ) → new ≡ old ++ gap ∷ [] → gap.name ≡ n
-    → (nat_lt 0 more || list_any (λ (g : FieldGap). bytes_eq g.name n) new) ≡ true
-told_now more old new gap n is same =
-    or_true (nat_lt 0 more) (list_any (λ (g : FieldGap). bytes_eq g.name n) new)
-    (ap (λ (gaps : List FieldGap). list_any (λ (g : FieldGap). bytes_eq g.name n) gaps) is ∙ any_last n old gap same)
-
--- ---- a name more
-
--- it stood among the names before, or is the one that is taken in
-one_more_told : (was same told : Bool) → (was ≡ true → told ≡ true) → (same ≡ true → told ≡ true) → (was || same) ≡ true → told ≡ true
-one_more_told true same told before now is = before refl
-one_more_told false same told before now is = now is
-
-pub told_behind : (claim : Claim) (state : Stored) (old new : Differences) (items : List (Bor (List ℕ))) (i : ℕ) (d : Bor (List ℕ)) → i < length items
-    → ((n : List ℕ) → list_any (λ known. bytes_eq known.now n) (take i items) ≡ true → differs claim state n ≡ true → is_told old n ≡ true)
-    → (differs claim state (get_or items i d).now ≡ true → is_told new (get_or items i d).now ≡ true)
-    → ((n : List ℕ) → is_told old n ≡ true → is_told new n ≡ true)
-    → (n : List ℕ) → list_any (λ known. bytes_eq known.now n) (take (i + 1) items) ≡ true → differs claim state n ≡ true → is_told new n ≡ true
-told_behind claim state old new items i d within before now still n there is =
-    one_more_told (list_any (λ known. bytes_eq known.now n) (take i items)) (bytes_eq (get_or items i d).now n) (is_told new n)
-    (λ was. still n (before n was is))
-    (λ same. let eq = (bytes_eq-Decides (get_or items i d).now n).0 same in
-    subst (λ (m : List ℕ). is_told new m ≡ true) eq (now (subst (λ (m : List ℕ). differs claim state m ≡ true) (sym eq) is)))
-    (sym (list_any_more (λ known. bytes_eq known.now n) items i d within) ∙ there)
+-- those so far, and those that are left behind a name more
+pub on_to : (p : List ℕ → Bool) (so_far all : List (List ℕ)) (items : List (Bor (List ℕ))) (i : ℕ) (d : Bor (List ℕ)) → i < length items
+    → so_far ++ filter p (plain (drop i items)) ≡ all → (so_far ++ filter p ((get_or items i d).now ∷ [])) ++ filter p (plain (drop (i + 1) items)) ≡ all
+on_to p so_far all items i d within is =
+    goes_on p so_far (plain (drop i items)) (plain (drop (i + 1) items)) all (get_or items i d).now (ap plain (drop_more items i d within)) is

@@ -1,5 +1,5 @@
 -- The fields of which a reply has other values than a stored response.
-use Rattle.std.specs.Prelude.{◌≡◌, ◌≤◌, ◌||◌, ℕ, Bool, true, not, nat_lt, List, length, All, bytes_eq, if◌then◌else◌}
+use Rattle.std.specs.Prelude.{◌≡◌, ◌++◌, ℕ, Bool, true, false, not, List, [], ◌∷◌, filter, map, All, bytes_eq, if◌then◌else◌}
 use Rattle.std.specs.List.{list_any}
 use Rattle.hc_fields.specs.Values.{has_name, values_of}
 use Rattle.hc_update.specs.declared.stored.Stored.{Stored}
@@ -10,6 +10,7 @@ use Rattle.hc_facts.specs.declared.differing.Change.{Change}
 use Rattle.hc_facts.specs.declared.differing.Change.TheVariants.{Added, Dropped, Changed}
 use Rattle.hc_facts.specs.declared.differing.FieldGap.{FieldGap}
 use Rattle.hc_facts.specs.declared.differing.Differences.{Differences}
+use Rattle.hc_facts.specs.Firsts.{AreFirst}
 
 -- a name is compared, and the values are others, and none that are allowed in their place
 abbrev pub differs : Claim → Stored → List ℕ → Bool
@@ -21,29 +22,38 @@ change_of claim state name =
     if not (has_name name claim.reply.head.fields) then Dropped else
     (if has_name name state.fields then Changed else Added)
 
--- a field that differs, with what became of it and what both have of it
+-- a field that differs, with what became of it and what both have of it; whether a 304 renewed it isn't known so far
 pub record IsGap (claim : Claim) (state : Stored) (gap : FieldGap) : Type 0 where
   pub differs_is : differs claim state gap.name ≡ true
   pub change_is : gap.change ≡ change_of claim state gap.name
   pub due_is : gap.due.items ≡ values_of gap.name state.fields
   pub told_is : gap.told.items ≡ values_of gap.name claim.reply.head.fields
+  pub renewed_is : gap.is_renewed ≡ false
+
+-- ---- which fields differ
+
+-- a name behind others, if it isn't among them
+unfoldable pub with_name : List (List ℕ) → List ℕ → List (List ℕ)
+with_name names name = if list_any (λ known. bytes_eq known name) names then names else names ++ name ∷ []
+
+-- the same of several, one after another
+abbrev pub with_names : List (List ℕ) → List (List ℕ) → List (List ℕ)
+with_names names [] = names
+with_names names (name ∷ more) = with_names (with_name names name) more
+
+-- the names that are compared and of which the values differ, each once, in their order
+abbrev pub differing_in : Claim → Stored → List (List ℕ)
+differing_in claim state = filter (differs claim state) (with_names [] (compared_names claim state))
 
 -- how many are listed at most
 abbrev pub most_listed : ℕ
 most_listed = 20
 
--- each that is listed is such a field, and more are counted only where as many are listed as may be
-pub record AreListed (claim : Claim) (state : Stored) (found : Differences) : Type 0 where
+-- the first of those names are listed, with what both have of them, and the others are counted
+pub record AreListed (claim : Claim) (state : Stored) (names : List (List ℕ)) (found : Differences) : Type 0 where
   pub each : All (IsGap claim state) found.listed.items
-  pub few : length found.listed.items ≤ most_listed
-  pub full : 1 ≤ found.more → length found.listed.items ≡ most_listed
+  pub first : AreFirst most_listed names (map (λ (gap : FieldGap). gap.name) found.listed.items) found.more
 
--- a name is listed, or counted among the others
-abbrev pub is_told : Differences → List ℕ → Bool
-is_told found name = nat_lt 0 found.more || list_any (λ gap. bytes_eq gap.name name) found.listed.items
-
--- so each that is compared and differs is told: where nothing more is counted, it is listed
-pub record AreDifferences (claim : Claim) (state : Stored) (found : Differences) : Type 0 where
-  pub listed : AreListed claim state found
-  pub told : (name : List ℕ) → list_any (λ known. bytes_eq known name) (compared_names claim state) ≡ true → differs claim state name ≡ true
-      → is_told found name ≡ true
+-- all that differ are told so
+abbrev pub AreDifferences : Claim → Stored → Differences → Type 0
+AreDifferences claim state found = AreListed claim state (differing_in claim state) found

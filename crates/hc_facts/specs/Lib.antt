@@ -1,7 +1,9 @@
 pub mod Against
 pub mod Aging
 pub mod Differing
+pub mod Firsts
 pub mod Forbidding
+pub mod Laws
 pub mod Rules
 pub mod Selecting
 pub mod Stale

@@ -1,11 +1,12 @@
 -- How stale a response may be served (RFC 9111 section 4.2.4, RFC 5861), and which setting of an audit would permit more.
-use Rattle.std.specs.Prelude.{ℕ, Bool, ◌&&◌, ◌||◌, ◌+◌, ◌-◌, not, max, Option, Some, None, codes, if◌then◌else◌}
+use Rattle.std.specs.Prelude.{ℕ, Bool, ◌&&◌, ◌||◌, ◌+◌, ◌-◌, ◌^◌, not, max, min, Option, Some, None, codes, if◌then◌else◌}
 use Rattle.hc_directives.specs.declared.cache_control.Seconds.{Seconds}
 use Rattle.hc_directives.specs.declared.cache_control.Seconds.TheVariants.{Absent, Bare, Value, Unreadable}
 use Rattle.hc_fresh.specs.Ages.{staleness}
 use Rattle.hc_fresh.specs.Lifetimes.{explicit, says, seconds_said, stale_forbidden}
 use Rattle.hc_rules.specs.Storing.{is_heuristically_cacheable}
 use Rattle.hc_update.specs.declared.stored.Stored.{Stored}
+use Rattle.hc_history.specs.declared.settings.Settings.{Settings}
 use Rattle.hc_history.specs.Claims.{Claim}
 use Rattle.hc_history.specs.Usable.{age_of, lifetime_of}
 use Rattle.hc_facts.specs.declared.stale.Setting.{Setting}
@@ -72,3 +73,14 @@ setting_of claim state =
     if says (codes "no-cache") state.fields then None else
     (if takes_lifetime state then Some (DefaultLifetime (least_lifetime claim state)) else
     (if stale_forbidden state.fields then None else Some (Grace (least_grace claim state))))
+
+-- as many seconds as settings may have at most
+abbrev pub most_seconds : ℕ
+most_seconds = 2 ^ 32 - 1
+
+-- the settings with that one
+abbrev pub settings_with : Setting → Settings → Settings
+settings_with (DefaultLifetime seconds) settings =
+    record settings { allowed = record settings.allowed { default_lifetime = Some (min seconds most_seconds) } }
+settings_with (Grace seconds) settings =
+    record settings { allowed = record settings.allowed { grace = Some (min seconds most_seconds) } }

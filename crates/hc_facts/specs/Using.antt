@@ -6,6 +6,7 @@ use Rattle.hc_update.specs.declared.stored.Stored.{Stored}
 use Rattle.hc_history.specs.Claims.{Claim}
 use Rattle.hc_history.specs.Usable.{age_of, lifetime_of}
 use Rattle.hc_facts.specs.declared.usage.Usage.{Usage}
+use Rattle.hc_facts.specs.Aging.{parts_of}
 use Rattle.hc_facts.specs.Forbidding.{unusable_by}
 use Rattle.hc_facts.specs.Stale.{setting_of, stale_said_of}
 
@@ -21,6 +22,7 @@ abbrev pub usage_of : Claim → Stored → Usage
 usage_of claim state = record {
   lifetime = stated_lifetime state;
   age = age_of claim state;
+  parts = parts_of claim state;
   stale_by = stale_by (lifetime_of state) (age_of claim state);
   forbidden = unusable_by state.fields;
   slack = claim.settings.slack;

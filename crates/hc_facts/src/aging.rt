@@ -2,7 +2,7 @@
 
 ghost use Rattle.std.specs.Prelude.{◌≡◌, [], ◌∷◌, codes, IfOk};
 ghost use Rattle.hc_fields.specs.Values.{values_of};
-ghost use Rattle.hc_facts.specs.Aging.{IsAgeGap, IsAgeTold, ttl_gap_of};
+ghost use Rattle.hc_facts.specs.Aging.{IsAgeGap, IsAgeTold, age_off, parts_of, ttl_due, ttl_gap_of, ttl_off};
 
 use hc_fields::{Fields, Octets, number};
 use hc_fresh::Times;
@@ -23,6 +23,15 @@ pub enum AgeTold {
     Seconds(u32),
 }
 
+/// What the age of a response at a reply is reckoned from (RFC 9111 section 4.2.3).
+#[derive(Clone, Copy, PartialEq, Eq)]
+pub struct AgeParts {
+    /// When it was asked for, when it came, and what its Date and its Age tell.
+    pub times: Times,
+    /// For how many seconds it was stored.
+    pub resident: u64,
+}
+
 /// The Age that a reply tells, and the one that is due.
 pub struct AgeGap {
     /// What the reply tells.
@@ -30,9 +39,7 @@ pub struct AgeGap {
     /// The age that the response has at the reply.
     pub due: u32,
     /// What that is reckoned from.
-    pub times: Times,
-    /// How many seconds of it the response was stored.
-    pub resident: u64,
+    pub parts: AgeParts,
     /// By how many seconds the Age may be off.
     pub slack: u32,
 }
@@ -42,8 +49,7 @@ impl Drop for AgeGap {
         let AgeGap {
             told,
             due: _,
-            times: _,
-            resident: _,
+            parts: _,
             slack: _,
         } = self;
         drop(told);
@@ -87,6 +93,16 @@ fn age_told(alloc: Global, fields: &Fields) -> Result<AgeTold, AllocError>
     told_by(alloc, value)
 }
 
+/// What the age of the response at the reply is reckoned from.
+pub(crate) fn age_parts(claim: &ReplyClaim<'_>, state: &Stored) -> AgeParts
+    ensures { result ≡ parts_of claim.now state.now }
+{
+    AgeParts {
+        times: state.times,
+        resident: claim.moment.saturating_sub(state.times.response_time),
+    }
+}
+
 /// The Age that the reply tells, and the one that is due.
 pub fn age_gap(alloc: Global, claim: &ReplyClaim<'_>, state: &Stored) -> Result<AgeGap, AllocError>
     ensures { IfOk result (IsAgeGap claim.now state.now) }
@@ -94,8 +110,7 @@ pub fn age_gap(alloc: Global, claim: &ReplyClaim<'_>, state: &Stored) -> Result<
     Ok(AgeGap {
         told: age_told(alloc, &claim.reply.head.fields)?,
         due: age_of(claim, state),
-        times: state.times,
-        resident: claim.moment.saturating_sub(state.times.response_time),
+        parts: age_parts(claim, state),
         slack: claim.settings.slack.max(claim.settings.allowed.age_slack),
     })
 }
@@ -112,9 +127,25 @@ pub fn ttl_gap(claim: &ReplyClaim<'_>, state: &Stored) -> TtlGap
     }
 }
 
+impl AgeParts {
+    /// Its numbers, by their names in RFC 9111 section 4.2.3.
+    pub fn numbers(&self) -> [(&'static str, u64); 5] {
+        let times = self.times;
+        [
+            ("request_time", times.request_time),
+            ("response_time", times.response_time),
+            ("date_value", times.date),
+            ("age_value", u64::from(times.age_value)),
+            ("resident_time", self.resident),
+        ]
+    }
+}
+
 impl AgeGap {
     /// By how many seconds the Age is off, and whether it is too low: none where it tells no seconds.
-    pub fn off(&self) -> Option<(u64, bool)> {
+    pub fn off(&self) -> Option<(u64, bool)>
+        ensures { result ≡ age_off self.now.told self.now.due }
+    {
         match self.told {
             AgeTold::Seconds(told) => Some((u64::from(told.abs_diff(self.due)), told < self.due)),
             AgeTold::Missing | AgeTold::Several | AgeTold::Unreadable(_) => None,
@@ -124,12 +155,16 @@ impl AgeGap {
 
 impl TtlGap {
     /// The seconds that are due.
-    pub fn due(&self) -> i64 {
+    pub fn due(&self) -> i64
+        ensures { result ≡ ttl_due self.now }
+    {
         i64::from(self.lifetime) - i64::from(self.age)
     }
 
     /// By how many seconds it is off, and whether it is too low: none where it tells none.
-    pub fn off(&self) -> Option<(u64, bool)> {
+    pub fn off(&self) -> Option<(u64, bool)>
+        ensures { result ≡ ttl_off (ttl_due self.now) self.now.told }
+    {
         let told = self.told?;
         Some((told.abs_diff(self.due()), told < self.due()))
     }

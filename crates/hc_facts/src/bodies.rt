@@ -59,17 +59,27 @@ pub enum Failed {
     },
 }
 
+/// What a reply tells of a part of a response, where an audit allows ranges (RFC 9110 section 14.4).
+#[derive(Drop)]
+pub struct RangeGap {
+    /// Its Content-Range.
+    pub told: Option<Octets>,
+    /// How many octets the response's body has.
+    pub whole: u64,
+}
+
 /// In what the status or the body of a reply differs from a stored response's.
 #[derive(Drop)]
 pub enum ContentGap {
     /// It is a 304 that nothing earns.
     Unearned(Unearned),
-    /// The statuses, the bodies where these differ, and of a 412 the condition.
+    /// The statuses, the bodies where these differ, of a 412 the condition, and what is told of a part.
     Other {
         due: StatusCode,
         told: StatusCode,
         bodies: Option<BodyGap>,
         failed: Option<Failed>,
+        range: Option<RangeGap>,
     },
 }
 
@@ -164,6 +174,24 @@ fn failed_condition(
     }
 }
 
+/// What the reply tells of a part, if it is a 206 or a 416, and the audit allows ranges.
+fn range_gap(
+    alloc: Global,
+    claim: &ReplyClaim<'_>,
+    state: &Stored,
+) -> Result<Option<RangeGap>, AllocError> {
+    let status = claim.reply.head.status;
+    let is_part = status == StatusCode::PARTIAL_CONTENT
+        || status == StatusCode::RANGE_NOT_SATISFIABLE;
+    if !is_part || !claim.settings.allowed.ranges {
+        return Ok(None);
+    }
+    Ok(Some(RangeGap {
+        told: claim.reply.head.fields.joined(alloc, b"content-range")?,
+        whole: state.body.len() as u64,
+    }))
+}
+
 /// In what the status or the body of the reply differs from the response's.
 pub fn content_gap(
     alloc: Global,
@@ -178,6 +206,7 @@ pub fn content_gap(
             told,
             bodies: body_gap(method, body, state.body.as_slice()),
             failed: failed_condition(alloc, claim, state)?,
+            range: range_gap(alloc, claim, state)?,
         });
     }
     if state.status != StatusCode::OK {

@@ -1,10 +1,9 @@
 //! The fields of which a reply has other values than a stored response.
 
-ghost use Rattle.std.specs.Prelude.{◌≡◌, ◌||◌, List, ℕ, true, bytes_eq, IfOk, OnOk};
-ghost use Rattle.std.specs.List.{list_any};
+ghost use Rattle.std.specs.Prelude.{◌≡◌, ◌++◌, List, ℕ, [], ◌∷◌, true, filter, map, IfOk, OnOk};
 ghost use Rattle.hc_fields.specs.Values.{values_of};
-ghost use Rattle.hc_history.specs.Filters.{compared_names};
-ghost use Rattle.hc_facts.specs.Differing.{AreDifferences, AreListed, IsGap, change_of, differs, is_told};
+ghost use Rattle.hc_history.specs.Filters.{compared_names, names_of};
+ghost use Rattle.hc_facts.specs.Differing.{AreDifferences, AreListed, IsGap, change_of, differs, with_name, with_names};
 
 use hc_fields::{Field, Fields, Octets, is_among};
 use hc_head::StatusCode;
@@ -74,19 +73,19 @@ impl Drop for Differences {
 
 // Puts a name at the end, if it isn't there.
 fn push_new<'a>(names: &mut Vec<&'a [u8]>, name: &'a [u8]) -> Result<(), AllocError>
-    ensures { OnOk result ((n : List ℕ) → list_any (λ known. bytes_eq known.now n) names.new.items
-        ≡ (list_any (λ known. bytes_eq known.now n) names.old.items || bytes_eq name.now n)) }
+    ensures { OnOk result (map (λ known. known.now) names.new.items ≡ with_name (map (λ known. known.now) names.old.items) name.now) }
 {
-    if !is_among(names.as_slice(), name) {
-        names.push(name)?;
+    if is_among(names.as_slice(), name) {
+        return Ok(());
     }
+    names.push(name)?;
     Ok(())
 }
 
 // Puts the names of the lines at the end that aren't there.
 fn push_names<'a>(names: &mut Vec<&'a [u8]>, lines: &'a [Field]) -> Result<(), AllocError>
-    ensures { OnOk result ((n : List ℕ) → list_any (λ known. bytes_eq known.now n) names.new.items
-        ≡ (list_any (λ known. bytes_eq known.now n) names.old.items || list_any (λ line. bytes_eq line.name n) lines.now)) }
+    ensures { OnOk result (map (λ known. known.now) names.new.items
+        ≡ with_names (map (λ known. known.now) names.old.items) (names_of lines.now)) }
 {
     for line in lines {
         push_new(names, line.name.as_slice())?;
@@ -96,8 +95,8 @@ fn push_names<'a>(names: &mut Vec<&'a [u8]>, lines: &'a [Field]) -> Result<(), A
 
 // Puts those of these names at the end that aren't there.
 fn push_each<'a>(names: &mut Vec<&'a [u8]>, more: &[&'a [u8]]) -> Result<(), AllocError>
-    ensures { OnOk result ((n : List ℕ) → list_any (λ known. bytes_eq known.now n) names.new.items
-        ≡ (list_any (λ known. bytes_eq known.now n) names.old.items || list_any (λ known. bytes_eq known.now n) more.now)) }
+    ensures { OnOk result (map (λ known. known.now) names.new.items
+        ≡ with_names (map (λ known. known.now) names.old.items) (map (λ known. known.now) more.now)) }
 {
     for name in more {
         push_new(names, name)?;
@@ -107,14 +106,13 @@ fn push_each<'a>(names: &mut Vec<&'a [u8]>, more: &[&'a [u8]]) -> Result<(), All
 
 // The names of the reply, and those of the stored response behind them, each once; of a 304 those behind them
 // that it has to repeat.
-#[tactic(auto, using(crate::proofs::NameLemmas::of_304, crate::proofs::NameLemmas::of_other))]
+#[tactic(auto, using(crate::proofs::NameLemmas::of_other))]
 fn compared_names<'a>(
     alloc: Global,
     claim: &ReplyClaim<'a>,
     state: &'a Stored,
 ) -> Result<Vec<&'a [u8]>, AllocError>
-    ensures { IfOk result (λ names. (n : List ℕ) → list_any (λ known. bytes_eq known.now n) names.items
-        ≡ list_any (λ known. bytes_eq known n) (compared_names claim.now state.now)) }
+    ensures { IfOk result (λ names. map (λ known. known.now) names.items ≡ with_names [] (compared_names claim.now state.now)) }
 {
     let mut names = Vec::new(alloc);
     push_names(&mut names, claim.reply.head.fields.lines())?;
@@ -182,9 +180,8 @@ impl Differences {
         name: &[u8],
     ) -> Result<(), AllocError>
         requires { differs claim.now state.now name.now ≡ true }
-        ensures listed { AreListed claim.now state.now self.old → OnOk result (AreListed claim.now state.now self.new) }
-        ensures told { OnOk result (is_told self.new name.now ≡ true) }
-        ensures still { OnOk result ((n : List ℕ) → is_told self.old n ≡ true → is_told self.new n ≡ true) }
+        ensures { (names : List (List ℕ)) → AreListed claim.now state.now names self.old
+            → OnOk result (AreListed claim.now state.now (names ++ name.now ∷ []) self.new) }
     {
         if MOST_LISTED <= self.listed.len() {
             self.more = self.more.saturating_add(1);
@@ -203,13 +200,13 @@ impl Differences {
         state: &Stored,
         name: &[u8],
     ) -> Result<(), AllocError>
-        ensures listed { AreListed claim.now state.now self.old → OnOk result (AreListed claim.now state.now self.new) }
-        ensures told { OnOk result (differs claim.now state.now name.now ≡ true → is_told self.new name.now ≡ true) }
-        ensures still { OnOk result ((n : List ℕ) → is_told self.old n ≡ true → is_told self.new n ≡ true) }
+        ensures { (names : List (List ℕ)) → AreListed claim.now state.now names self.old
+            → OnOk result (AreListed claim.now state.now (names ++ filter (differs claim.now state.now) (name.now ∷ [])) self.new) }
     {
-        if differs(alloc, claim, state, name)? {
-            self.note(alloc, claim, state, name)?;
+        if !differs(alloc, claim, state, name)? {
+            return Ok(());
         }
+        self.note(alloc, claim, state, name)?;
         Ok(())
     }
 
@@ -237,7 +234,7 @@ pub fn compare(
     claim: &ReplyClaim<'_>,
     state: &Stored,
 ) -> Result<Differences, AllocError>
-    // Each that is listed is what is said of it, and each that differs is listed where they are few.
+    // The first of them are listed, each as what it is, and all others are counted.
     ensures { IfOk result (AreDifferences claim.now state.now) }
 {
     let mut found = Differences {

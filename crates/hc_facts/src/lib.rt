@@ -6,8 +6,10 @@ mod against;
 mod aging;
 mod asking;
 mod bodies;
+mod demands;
 mod differing;
 mod forbidding;
+mod laws;
 mod records;
 mod rules;
 mod saying;
@@ -18,11 +20,15 @@ mod usage;
 mod words;
 
 pub use against::{Against, Telling, ValidatorGap, first_against};
-pub use aging::{AgeGap, AgeTold, TtlGap, age_gap, ttl_gap};
+pub use aging::{AgeGap, AgeParts, AgeTold, TtlGap, age_gap, ttl_gap};
 pub use asking::{AskedReply, ShownField};
-pub use bodies::{BodyGap, ContentGap, Failed, Unearned, body_gap, content_gap, has_body};
+pub use bodies::{
+    BodyGap, ContentGap, Failed, RangeGap, Unearned, body_gap, content_gap, has_body,
+};
+pub use demands::{Demand, demand_of};
 pub use differing::{Change, Differences, FieldGap, compare};
 pub use forbidding::{Forbids, Unusable};
+pub use laws::{least_setting_permits, no_setting_permits};
 pub use records::{NAMED, Newest, RecordName};
 pub use rules::{Rule, rule_behind};
 pub use selecting::{Selection, UnmetMember, unmet_members};

@@ -84,6 +84,14 @@ impl Failed {
         }
     }
 
+    /// Whether it is one that origins alone evaluate (RFC 9111 section 4.3.2).
+    pub fn is_for_origins(&self) -> bool {
+        match self {
+            Failed::Match { .. } | Failed::UnmodifiedSince { .. } => true,
+            Failed::NoneMatch { .. } => false,
+        }
+    }
+
     /// The name and the value of what the response has for it.
     pub fn due(&self) -> (&'static str, Option<&Octets>) {
         match self {

@@ -1,14 +1,11 @@
 //! In what a request differs from the one that a stored response answers (RFC 9111 section 4.1).
 
-ghost use Rattle.std.specs.Prelude.{◌≡◌, false, IfOk, OnOk};
-ghost use Rattle.hc_history.specs.Allowed.{is_named};
-ghost use Rattle.hc_history.specs.Allowing.{is_met_or_normalized, is_normalized};
-ghost use Rattle.hc_facts.specs.Selecting.{AreUnmet};
+ghost use Rattle.std.specs.Prelude.{◌≡◌, ◌++◌, List, ℕ, [], ◌∷◌, filter, IfOk, OnOk};
+ghost use Rattle.hc_facts.specs.Selecting.{AreNamed, AreUnmet, is_unmet, validated_in_window};
 
 use crate::records::NAMED;
 use hc_fields::{Fields, Octets, is_token};
-use hc_history::{FieldNames, ReplyClaim};
-use hc_rules::is_met;
+use hc_history::{ReplyClaim, is_met_or_normalized};
 use hc_update::Stored;
 use std::alloc::{AllocError, Global};
 
@@ -62,38 +59,6 @@ impl Drop for Selection {
     }
 }
 
-/// Whether one of the names is that member, in any case.
-fn is_named(names: &FieldNames, member: &[u8]) -> bool
-    ensures { result ≡ is_named names.now member.now }
-{
-    names
-        .names()
-        .iter()
-        .any(|name| member.eq_ignore_ascii_case(name.as_slice()))
-}
-
-/// Whether a cache normalizes what that member names before it selects; `*` names nothing.
-fn is_normalized(claim: &ReplyClaim<'_>, member: &[u8]) -> bool
-    ensures { result ≡ is_normalized claim.now.settings.allowed member.now }
-{
-    is_named(&claim.settings.allowed.normalized, member) && member != b"*".as_slice()
-}
-
-/// Whether a member selects the request, or is passed over.
-fn selects(
-    alloc: Global,
-    claim: &ReplyClaim<'_>,
-    state: &Stored,
-    member: &[u8],
-) -> Result<bool, AllocError>
-    ensures { IfOk result (λ met. met ≡ is_met_or_normalized claim.now state.now member.now) }
-{
-    if is_met(alloc, member, &state.request.fields, &claim.request.fields)? {
-        return Ok(true);
-    }
-    Ok(is_normalized(claim, member))
-}
-
 impl UnmetMember {
     ghost use Rattle.hc_facts.specs.Selecting.{IsMember};
 
@@ -117,10 +82,13 @@ impl UnmetMember {
 }
 
 /// The position of the 304 that validated the response in the reply's window, if one did.
-fn validated_in_window(claim: &ReplyClaim<'_>, state: &Stored) -> Option<u64> {
-    state
-        .validated_at
-        .filter(|position| claim.since < *position)
+fn validated_in_window(claim: &ReplyClaim<'_>, state: &Stored) -> Option<u64>
+    ensures { result ≡ validated_in_window claim.now state.now }
+{
+    match state.validated_at {
+        Some(position) if claim.since < position => Some(position),
+        Some(_) | None => None,
+    }
 }
 
 /// By which members of its Vary the response doesn't answer the request.
@@ -129,7 +97,8 @@ pub fn unmet_members(
     claim: &ReplyClaim<'_>,
     state: &Stored,
 ) -> Result<Selection, AllocError>
-    ensures { IfOk result (λ found. AreUnmet claim.now state.now found) }
+    // The first of them are named, and all others are counted.
+    ensures { IfOk result (AreUnmet claim.now state.now) }
 {
     let mut found = Selection {
         unmet: Vec::new(alloc),
@@ -137,9 +106,7 @@ pub fn unmet_members(
         validated_at: validated_in_window(claim, state),
     };
     for member in state.fields.members(VARY) {
-        if !selects(alloc, claim, state, member)? {
-            found.note(alloc, claim, state, member)?;
-        }
+        found.take(alloc, claim, state, member)?;
     }
     Ok(found)
 }
@@ -153,8 +120,9 @@ impl Selection {
         state: &Stored,
         member: &[u8],
     ) -> Result<(), AllocError>
-        requires { is_met_or_normalized claim.now state.now member.now ≡ false }
-        ensures { AreUnmet claim.now state.now self.old → OnOk result (AreUnmet claim.now state.now self.new) }
+        ensures named { (members : List (List ℕ)) → AreNamed claim.now state.now members self.old
+            → OnOk result (AreNamed claim.now state.now (members ++ member.now ∷ []) self.new) }
+        ensures window { OnOk result (self.new.validated_at ≡ self.old.validated_at) }
     {
         if NAMED <= self.unmet.len() {
             self.more = self.more.saturating_add(1);
@@ -164,5 +132,35 @@ impl Selection {
         self.unmet
             .push(UnmetMember::read(alloc, member, answered, asked)?)?;
         Ok(())
+    }
+
+    /// Takes in a member, if it doesn't select the request.
+    fn take(
+        &mut self,
+        alloc: Global,
+        claim: &ReplyClaim<'_>,
+        state: &Stored,
+        member: &[u8],
+    ) -> Result<(), AllocError>
+        ensures named { (members : List (List ℕ)) → AreNamed claim.now state.now members self.old
+            → OnOk result (AreNamed claim.now state.now (members ++ filter (is_unmet claim.now state.now) (member.now ∷ [])) self.new) }
+        ensures window { OnOk result (self.new.validated_at ≡ self.old.validated_at) }
+    {
+        if is_met_or_normalized(alloc, claim, state, member)? {
+            return Ok(());
+        }
+        self.note(alloc, claim, state, member)?;
+        Ok(())
+    }
+
+    /// Whether the same members are named of both, in the same order.
+    pub fn is_as(&self, other: &Selection) -> bool {
+        self.more == other.more
+            && self.unmet.len() == other.unmet.len()
+            && self
+                .unmet
+                .iter()
+                .zip(other.unmet.iter())
+                .all(|(one, other)| one.member == other.member)
     }
 }

@@ -1,12 +1,12 @@
 //! How stale a response may be served (RFC 9111 sections 4.2.4 and 5.2.1.2, RFC 5861), and which setting of an audit
 //! would permit more.
 
-ghost use Rattle.std.specs.Prelude.{◌≡◌};
-ghost use Rattle.hc_facts.specs.Stale.{greater, least_grace, least_lifetime, seconds_in, setting_of, stale_said_of, takes_lifetime, tolerated};
+ghost use Rattle.std.specs.Prelude.{◌≡◌, min};
+ghost use Rattle.hc_facts.specs.Stale.{greater, least_grace, least_lifetime, most_seconds, seconds_in, setting_of, settings_with, stale_said_of, takes_lifetime, tolerated};
 
 use hc_directives::Seconds;
 use hc_fresh::{explicit, says, seconds_said, stale_forbidden, staleness};
-use hc_history::{ReplyClaim, age_of, lifetime_of};
+use hc_history::{ReplyClaim, Settings, age_of, lifetime_of};
 use hc_rules::is_heuristically_cacheable;
 use hc_update::Stored;
 
@@ -127,5 +127,27 @@ pub(crate) fn helping_setting(claim: &ReplyClaim<'_>, state: &Stored) -> Option<
         None
     } else {
         Some(Setting::Grace(least_grace(claim, state)))
+    }
+}
+
+// Those seconds, or as many as settings may have.
+fn fitting(seconds: u64) -> u32
+    ensures { result ≡ min seconds most_seconds }
+{
+    u32::try_from(seconds).unwrap_or(u32::MAX)
+}
+
+impl Setting {
+    /// Sets it in those settings.
+    pub fn allow(&self, settings: &mut Settings)
+        ensures { settings.new ≡ settings_with self.now settings.old }
+    {
+        let allowed = &mut settings.allowed;
+        match self {
+            Setting::DefaultLifetime(seconds) => {
+                allowed.default_lifetime = Some(fitting(*seconds));
+            }
+            Setting::Grace(seconds) => allowed.grace = Some(fitting(*seconds)),
+        }
     }
 }

@@ -4,6 +4,7 @@ ghost use Rattle.std.specs.Prelude.{◌≡◌};
 ghost use Rattle.hc_facts.specs.Forbidding.{unusable_by};
 ghost use Rattle.hc_facts.specs.Using.{stale_by, stated_lifetime, usage_of};
 
+use crate::aging::{AgeParts, age_parts};
 use crate::forbidding::Unusable;
 use crate::stale::{Setting, StaleSaid, helping_setting, stale_said};
 use hc_directives::Directives;
@@ -18,6 +19,8 @@ pub struct Usage {
     pub lifetime: Option<u32>,
     /// Its age at the reply.
     pub age: u32,
+    /// What that is reckoned from.
+    pub parts: AgeParts,
     /// By how many seconds it is stale then, if it isn't fresh.
     pub stale_by: Option<u32>,
     /// What forbids to use it.
@@ -78,6 +81,7 @@ pub fn usage_at(claim: &ReplyClaim<'_>, state: &Stored) -> Usage
     Usage {
         lifetime: stated_lifetime(state),
         age: age_of(claim, state),
+        parts: age_parts(claim, state),
         stale_by: stale_by(lifetime_of(state), age_of(claim, state)),
         forbidden: unusable(state),
         slack: claim.settings.slack,

@@ -2,6 +2,7 @@
 
 use crate::differing::{Change, Differences};
 use crate::forbidding::{Forbids, Unusable};
+use crate::selecting::Selection;
 use hc_shown::push_octets;
 use std::alloc::AllocError;
 use std::fmt::Write;
@@ -15,32 +16,51 @@ fn push_further(is_first: bool, words: &str, out: &mut String) -> Result<(), All
 }
 
 impl Forbids {
-    // The words for each that forbids.
-    fn words(&self) -> [(bool, &'static str); 8] {
+    // The words for each that forbids, and the section of RFC 9111 that says so.
+    fn words(&self) -> [(bool, &'static str, &'static str); 8] {
         [
-            (self.method, "the request is no GET"),
-            (self.request_no_store, "the request says no-store"),
-            (self.status, "its status may not be stored"),
+            (self.method, "its forward is no GET", "3"),
+            (
+                self.request_no_store,
+                "its forward says no-store",
+                "5.2.1.5",
+            ),
+            (self.status, "its status may not be stored", "3"),
             (
                 self.must_understand,
                 "must-understand, and its status is not understood",
+                "5.2.2.3",
             ),
-            (self.no_store, "it says no-store"),
-            (self.private, "it says private"),
+            (self.no_store, "it says no-store", "5.2.2.5"),
+            (self.private, "it says private", "5.2.2.7"),
             (
                 self.authorization,
-                "the request is authorized, and nothing permits to share it",
+                "its forward has Authorization, and none of public, s-maxage and must-revalidate permits to share it",
+                "3.5",
             ),
-            (self.uninvited, "nothing invites to store it"),
+            (self.uninvited, "nothing invites to store it", "3"),
         ]
     }
 
     /// Puts words for each that forbids at the end.
     pub fn say(&self, out: &mut String) -> Result<(), AllocError> {
         let mut is_first = true;
-        for (forbids, words) in self.words() {
+        for (forbids, words, _section) in self.words() {
             if forbids {
                 push_further(is_first, words, out)?;
+                is_first = false;
+            }
+        }
+        Ok(())
+    }
+
+    /// Puts words for each that forbids at the end, with the section that says so.
+    pub fn say_with_sections(&self, out: &mut String) -> Result<(), AllocError> {
+        let mut is_first = true;
+        for (forbids, words, section) in self.words() {
+            if forbids {
+                push_further(is_first, words, out)?;
+                write!(out, " (RFC 9111 section {section})")?;
                 is_first = false;
             }
         }
@@ -78,6 +98,19 @@ fn say_more(more: u64, out: &mut String) -> Result<(), AllocError> {
         return Ok(());
     }
     write!(out, ", and {more} more")
+}
+
+impl Selection {
+    /// Puts words for it at the end, as `Vary accept, cookie`.
+    pub fn say(&self, out: &mut String) -> Result<(), AllocError> {
+        let mut is_first = true;
+        for unmet in self.unmet.iter() {
+            out.push_str(if is_first { "Vary " } else { ", " })?;
+            push_octets(unmet.member.as_slice(), out)?;
+            is_first = false;
+        }
+        say_more(self.more, out)
+    }
 }
 
 impl Differences {

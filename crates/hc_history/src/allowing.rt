@@ -31,8 +31,8 @@ fn is_normalized(allowed: &Allowed, member: &[u8]) -> bool
     is_named(&allowed.normalized, member) && member != b"*".as_slice()
 }
 
-/// Whether a member of Vary is met, or passed over by its name.
-fn is_met_or_normalized(
+/// Whether a member of Vary is met, or passed over by its name (RFC 9111 section 4.1).
+pub fn is_met_or_normalized(
     alloc: Global,
     claim: &ReplyClaim<'_>,
     state: &Stored,

@@ -23,6 +23,7 @@ mod verdicts;
 mod wrong;
 
 pub use allowed::Allowed;
+pub use allowing::is_met_or_normalized;
 pub use among::{Among, is_looked_at};
 pub use candidates::Candidate;
 pub use claim::{ReplyClaim, ttl_of};

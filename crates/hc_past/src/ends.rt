@@ -29,6 +29,8 @@ pub struct End<'a> {
 pub struct EndedForward<'a> {
     /// Its record.
     pub record: RecordName,
+    /// The position of the record of the forward, as far as it was looked for.
+    pub sent_at: Option<u64>,
     /// The forward.
     pub forward: &'a OpenForward,
     /// What is told of its cause.
@@ -53,6 +55,7 @@ pub fn ended<'a, I: Index>(passed: &PassedRecord<'a, I>) -> Option<EndedForward<
     };
     Some(EndedForward {
         record,
+        sent_at: None,
         forward,
         cause: ToldCause::told_in(passed.format, forward.cause),
         response,
@@ -66,6 +69,16 @@ impl<'a> EndedForward<'a> {
             Some(response) => response.head.status == StatusCode::NOT_MODIFIED,
             None => false,
         }
+    }
+
+    /// The record of the forward, where that was looked for.
+    pub fn sent(&self) -> Option<RecordName> {
+        Some(RecordName {
+            position: self.sent_at?,
+            kind: Kind::OriginRequest,
+            number: self.record.number,
+            moment: self.forward.moment,
+        })
     }
 
     /// All that is known of it.

@@ -21,6 +21,8 @@ pub enum StatedLifetime {
 pub struct Source {
     /// Its record.
     pub record: RecordName,
+    /// The record of its forward, where that was looked for.
+    pub sent: Option<RecordName>,
     /// Its status.
     pub status: StatusCode,
     /// What it says of its lifetime.
@@ -31,6 +33,7 @@ impl Drop for Source {
     fn drop(self) {
         let Source {
             record: _,
+            sent: _,
             status: _,
             lifetime,
         } = self;
@@ -58,6 +61,7 @@ impl Source {
     ) -> Result<Self, AllocError> {
         Ok(Source {
             record: ended.record,
+            sent: ended.sent(),
             status: response.status,
             lifetime: lifetime_in(alloc, &response.fields)?,
         })

@@ -1,1 +1,2 @@
-pub mod ListedLemmas
+mod JsonLemmas
+mod KindLemmas

@@ -1,2 +1,5 @@
-pub mod Listed
+pub mod Counting
+pub mod Held
+pub mod Json
+pub mod Kinds
 pub mod Told

@@ -4,11 +4,6 @@ ghost use Rattle.std.specs.Prelude.{◌≤◌, vec_len};
 ghost use Rattle.hc_report.specs.declared.groups.TheConstants.{MOST_GROUPS};
 
 use crate::group::{Group, WrongOfKind};
-use hc_audit::JudgedReply;
-use hc_history::Reason;
-use hc_index::Index;
-use hc_shown::push_target;
-use hc_why::Why;
 use std::alloc::{AllocError, Global};
 
 /// How many groups are kept at most.
@@ -45,22 +40,6 @@ impl Groups {
         }
     }
 
-    /// Takes in a wrong reply.
-    pub(crate) fn note<I: Index>(
-        &mut self,
-        judged: &JudgedReply<'_, I>,
-        reason: Reason,
-        why: Why,
-    ) -> Result<(), AllocError> {
-        let wrong = WrongOfKind {
-            position: judged.position,
-            reason,
-            why,
-            target: shown_target(self.alloc, judged)?,
-        };
-        self.take(wrong)
-    }
-
     /// How many replies are of targets of which nothing is recorded.
     pub(crate) fn unrecorded(&self) -> u64 {
         let group = self.groups.iter().find(|group| group.why.is_unrecorded());
@@ -70,8 +49,8 @@ impl Groups {
         }
     }
 
-    // Puts a wrong reply into its group, or into a new one.
-    fn take(&mut self, wrong: WrongOfKind) -> Result<(), AllocError> {
+    /// Takes in a wrong reply: puts it into its group, or into a new one.
+    pub(crate) fn note(&mut self, wrong: WrongOfKind) -> Result<(), AllocError> {
         let place = self
             .groups
             .iter()
@@ -91,16 +70,4 @@ impl Groups {
         }
         Ok(())
     }
-}
-
-// The target of a reply, as it is shown.
-fn shown_target<I: Index>(
-    alloc: Global,
-    judged: &JudgedReply<'_, I>,
-) -> Result<String, AllocError> {
-    let mut text = String::new(alloc);
-    if let Some(claim) = judged.claim() {
-        push_target(claim.target, &mut text)?;
-    }
-    Ok(text)
 }

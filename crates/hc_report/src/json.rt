@@ -1,89 +1,56 @@
 //! A report as JSON.
 
-use crate::counts::ReplyCounts;
-use crate::endings_json::{ends_json, verdict_json, wrong_reply_json};
+ghost use Rattle.std.specs.Prelude.{IfOk, OnOk};
+ghost use Rattle.serde_json.specs.View.{members_view};
+ghost use Rattle.hc_json.specs.Nesting.{MembersNestTo, NestsTo, ValuesNestTo};
+ghost use Rattle.hc_figures.specs.Figures.{HaveFigures, LeavesFigures, deepest};
+
 use crate::fixed::FixedTry;
 use crate::group::Group;
+use crate::group_json::{group_json, shown_name};
 use crate::groups::Groups;
 use crate::ignoring::IgnoringTry;
-use crate::listed::ListedReplies;
-use crate::replies_json::{group_json, octets_json, replies_json, shown_name};
 use crate::report::Report;
-use crate::saying::NO_MARK;
 use crate::suspects::{Suspect, Suspects};
 use crate::tries::Tries;
-use hc_history::{Counts, Ending, WrongReply};
-use hc_why::{array, object, push_made, put_made, put_number, put_text};
-use serde_json::{Map, Value, put};
+use hc_figures::put_figures;
+use hc_history::{Counts, Ending};
+use hc_json::{array, object, push_made, put_flag, put_made, put_number, put_text};
+use serde_json::{Map, Value};
 use std::alloc::{AllocError, Global};
 
-/// The whole report.
-pub(crate) fn report_json(
-    alloc: Global,
-    report: &Report,
-    ending: Ending,
-    counts: Option<Counts>,
-) -> Result<Value, AllocError> {
-    let mut members = Map::new(alloc);
-    let filled = put_all(alloc, report, ending, counts, &mut members);
-    object(members, filled)
-}
-
-fn put_all(
+/// Adds all members of the report.
+pub(crate) fn put_all(
     alloc: Global,
     report: &Report,
     ending: Ending,
     counts: Option<Counts>,
     members: &mut Map<String, Value>,
-) -> Result<(), AllocError> {
-    put_endings(alloc, report.wrongs.first, ending, members)?;
-    put(members, alloc, "records", records_json(counts))?;
-    put_replies(alloc, &report.replies, members)?;
-    put_wrongs(alloc, report, members)
-}
-
-// Adds the verdict, and how the recording ends.
-fn put_endings(
-    alloc: Global,
-    first: Option<WrongReply>,
-    ending: Ending,
-    members: &mut Map<String, Value>,
-) -> Result<(), AllocError> {
-    put_made(
+) -> Result<(), AllocError>
+    ensures { MembersNestTo deepest members.old → OnOk result (HaveFigures report.now.replies report.now.wrongs ending counts (members_view members.new.entries)) }
+{
+    put_figures(
         alloc,
-        "verdict",
-        verdict_json(alloc, first, ending),
+        &report.replies,
+        &report.wrongs,
+        ending,
+        counts,
         members,
     )?;
-    put_made(alloc, "ends", ends_json(alloc, ending), members)
+    put_found(alloc, report, members)
 }
 
-// Adds what is counted of the replies.
-fn put_replies(
-    alloc: Global,
-    replies: &ReplyCounts,
-    members: &mut Map<String, Value>,
-) -> Result<(), AllocError> {
-    put_made(alloc, "replies", replies_json(alloc, replies), members)?;
-    put_made(alloc, "octets", octets_json(alloc, replies), members)?;
-    put_number(alloc, "judged", replies.judged(), members)?;
-    put_made(alloc, "warning", warning_json(alloc, replies), members)
-}
-
-// Adds the wrong replies, their groups, and what to try.
-fn put_wrongs(
+// Adds the groups of the wrong replies, and what to try.
+fn put_found(
     alloc: Global,
     report: &Report,
     members: &mut Map<String, Value>,
-) -> Result<(), AllocError> {
-    put_made(alloc, "wrong", wrong_json(alloc, &report.wrongs), members)?;
+) -> Result<(), AllocError>
+    ensures { OnOk result (LeavesFigures (members_view members.old.entries) (members_view members.new.entries)) }
+{
     put_groups(alloc, &report.groups, members)?;
-    put_made(
-        alloc,
-        "suspected",
-        suspects_json(alloc, &report.suspects),
-        members,
-    )?;
+    let suspected = suspects_json(alloc, &report.suspects);
+    put_made(alloc, "suspected", suspected, members)?;
     let tries = tries_json(alloc, &report.tries, report.wrongs.count);
     put_made(alloc, "tries", tries, members)
 }
@@ -92,14 +59,18 @@ fn put_groups(
     alloc: Global,
     groups: &Groups,
     members: &mut Map<String, Value>,
-) -> Result<(), AllocError> {
+) -> Result<(), AllocError>
+    ensures { OnOk result (LeavesFigures (members_view members.old.entries) (members_view members.new.entries)) }
+{
     let kept = groups_json(alloc, groups.groups.as_slice());
     put_made(alloc, "groups", kept, members)?;
     put_number(alloc, "unrecorded", groups.unrecorded(), members)?;
     put_number(alloc, "ungrouped", groups.elsewhere, members)
 }
 
-fn suspects_json(alloc: Global, suspects: &Suspects) -> Result<Value, AllocError> {
+fn suspects_json(alloc: Global, suspects: &Suspects) -> Result<Value, AllocError>
+    ensures { IfOk result (NestsTo 3) }
+{
     let mut values = Vec::new(alloc);
     let filled = push_suspects(alloc, suspects.named.as_slice(), &mut values);
     array(values, filled)
@@ -109,14 +80,18 @@ fn push_suspects(
     alloc: Global,
     suspects: &[Suspect],
     values: &mut Vec<Value>,
-) -> Result<(), AllocError> {
+) -> Result<(), AllocError>
+    ensures { ValuesNestTo 2 values.old → OnOk result (ValuesNestTo 2 values.new) }
+{
     for suspect in suspects {
         push_made(suspect_json(alloc, suspect), values)?;
     }
     Ok(())
 }
 
-fn suspect_json(alloc: Global, suspect: &Suspect) -> Result<Value, AllocError> {
+fn suspect_json(alloc: Global, suspect: &Suspect) -> Result<Value, AllocError>
+    ensures { IfOk result (NestsTo 2) }
+{
     let mut members = Map::new(alloc);
     let filled = put_suspect(alloc, suspect, &mut members);
     object(members, filled)
@@ -126,69 +101,26 @@ fn put_suspect(
     alloc: Global,
     suspect: &Suspect,
     members: &mut Map<String, Value>,
-) -> Result<(), AllocError> {
+) -> Result<(), AllocError>
+    ensures { MembersNestTo 1 members.old → OnOk result (MembersNestTo 1 members.new) }
+{
     let name = shown_name(alloc, suspect.name.as_slice());
     put_made(alloc, "name", name, members)?;
     put_text(alloc, "change", suspect.change.word(), members)?;
     put_number(alloc, "count", suspect.count, members)
 }
 
-fn records_json(counts: Option<Counts>) -> Value {
-    match counts {
-        Some(counts) => Value::from(counts.records),
-        None => Value::Null,
-    }
-}
-
-fn warning_json(alloc: Global, replies: &ReplyCounts) -> Result<Value, AllocError> {
-    if replies.has_no_mark() {
-        Value::try_from_str(alloc, NO_MARK)
-    } else {
-        Ok(Value::Null)
-    }
-}
-
-fn wrong_json(alloc: Global, wrongs: &ListedReplies) -> Result<Value, AllocError> {
-    let mut members = Map::new(alloc);
-    let filled = put_listed(alloc, wrongs, &mut members);
-    object(members, filled)
-}
-
-fn put_listed(
-    alloc: Global,
-    wrongs: &ListedReplies,
-    members: &mut Map<String, Value>,
-) -> Result<(), AllocError> {
-    put_number(alloc, "count", wrongs.count, members)?;
-    let listed = listed_json(alloc, wrongs.listed.as_slice());
-    put_made(alloc, "listed", listed, members)?;
-    put_number(alloc, "unlisted", wrongs.unlisted(), members)
-}
-
-fn listed_json(alloc: Global, wrongs: &[WrongReply]) -> Result<Value, AllocError> {
-    let mut listed = Vec::new(alloc);
-    let filled = push_listed(alloc, wrongs, &mut listed);
-    array(listed, filled)
-}
-
-fn push_listed(
-    alloc: Global,
-    wrongs: &[WrongReply],
-    listed: &mut Vec<Value>,
-) -> Result<(), AllocError> {
-    for wrong in wrongs {
-        push_made(wrong_reply_json(alloc, *wrong), listed)?;
-    }
-    Ok(())
-}
-
-fn groups_json(alloc: Global, groups: &[Group]) -> Result<Value, AllocError> {
+fn groups_json(alloc: Global, groups: &[Group]) -> Result<Value, AllocError>
+    ensures { IfOk result (NestsTo 3) }
+{
     let mut kept = Vec::new(alloc);
     let filled = push_groups(alloc, groups, &mut kept);
     array(kept, filled)
 }
 
-fn push_groups(alloc: Global, groups: &[Group], kept: &mut Vec<Value>) -> Result<(), AllocError> {
+fn push_groups(alloc: Global, groups: &[Group], kept: &mut Vec<Value>) -> Result<(), AllocError>
+    ensures { ValuesNestTo 2 kept.old → OnOk result (ValuesNestTo 2 kept.new) }
+{
     for group in groups {
         push_made(group_json(alloc, group), kept)?;
     }
@@ -196,7 +128,9 @@ fn push_groups(alloc: Global, groups: &[Group], kept: &mut Vec<Value>) -> Result
 }
 
 // The tries that help.
-fn tries_json(alloc: Global, tries: &Tries, wrong: u64) -> Result<Value, AllocError> {
+fn tries_json(alloc: Global, tries: &Tries, wrong: u64) -> Result<Value, AllocError>
+    ensures { IfOk result (NestsTo 3) }
+{
     let mut helpful = Vec::new(alloc);
     let filled = push_tries(alloc, tries, wrong, &mut helpful);
     array(helpful, filled)
@@ -207,7 +141,9 @@ fn push_tries(
     tries: &Tries,
     wrong: u64,
     helpful: &mut Vec<Value>,
-) -> Result<(), AllocError> {
+) -> Result<(), AllocError>
+    ensures { ValuesNestTo 2 helpful.old → OnOk result (ValuesNestTo 2 helpful.new) }
+{
     push_ignoring(alloc, &tries.ignoring, wrong, helpful)?;
     for fixed in &tries.fixed {
         push_fixed(alloc, fixed, wrong, helpful)?;
@@ -220,7 +156,9 @@ fn push_ignoring(
     ignoring: &IgnoringTry,
     wrong: u64,
     helpful: &mut Vec<Value>,
-) -> Result<(), AllocError> {
+) -> Result<(), AllocError>
+    ensures { ValuesNestTo 2 helpful.old → OnOk result (ValuesNestTo 2 helpful.new) }
+{
     if wrong <= ignoring.wrong {
         return Ok(());
     }
@@ -235,7 +173,9 @@ fn push_fixed(
     fixed: &FixedTry,
     wrong: u64,
     helpful: &mut Vec<Value>,
-) -> Result<(), AllocError> {
+) -> Result<(), AllocError>
+    ensures { ValuesNestTo 2 helpful.old → OnOk result (ValuesNestTo 2 helpful.new) }
+{
     if wrong <= fixed.wrong {
         return Ok(());
     }
@@ -246,7 +186,9 @@ fn push_fixed(
 }
 
 // A try by those options, with which so many replies are wrong, or at most so many.
-fn try_json(alloc: Global, options: &str, wrong: u64, is_exact: bool) -> Result<Value, AllocError> {
+fn try_json(alloc: Global, options: &str, wrong: u64, is_exact: bool) -> Result<Value, AllocError>
+    ensures { IfOk result (NestsTo 2) }
+{
     let mut members = Map::new(alloc);
     let filled = put_try(alloc, options, wrong, is_exact, &mut members);
     object(members, filled)
@@ -258,8 +200,10 @@ fn put_try(
     wrong: u64,
     is_exact: bool,
     members: &mut Map<String, Value>,
-) -> Result<(), AllocError> {
+) -> Result<(), AllocError>
+    ensures { MembersNestTo 1 members.old → OnOk result (MembersNestTo 1 members.new) }
+{
     put_text(alloc, "options", options, members)?;
     put_number(alloc, "wrong", wrong, members)?;
-    put(members, alloc, "exact", Value::Bool(is_exact))
+    put_flag(alloc, "exact", is_exact, members)
 }

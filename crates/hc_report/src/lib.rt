@@ -1,23 +1,25 @@
 //! A report on a recording: what its replies say of themselves, which are wrong, grouped by what is wrong in them, and
-//! what could be let pass so that fewer are. It takes memory of bounded size, however many replies there are.
+//! what could be let pass so that fewer are. It takes memory of bounded size, however many replies there are, but where it
+//! counts all wrong replies by their kind.
 #![tactic(auto)]
 
 mod asking;
-mod counts;
-mod endings_json;
+mod counting;
 mod fixed;
 mod group;
+mod group_json;
 mod groups;
 mod ignoring;
 mod json;
-mod listed;
+mod new_json;
 mod numbers;
-mod replies_json;
 mod report;
+mod requests;
 mod rows;
 mod saying;
 mod suspects;
 mod targets;
 mod tries;
 
+pub use counting::CountingReport;
 pub use report::Report;

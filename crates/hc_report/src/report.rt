@@ -1,21 +1,27 @@
 //! The report as a witness.
 
-ghost use Rattle.std.specs.Prelude.{◌≡◌, ◌++◌, List, [], ◌∷◌, IfOk, OnOk, slice_get};
+ghost use Rattle.std.specs.Prelude.{◌≡◌, ◌++◌, List, [], ◌∷◌, IfOk, OnOk, slice_get, string_bytes};
+ghost use Rattle.hc_transcript.specs.Items.{Item};
 ghost use Rattle.hc_history.specs.declared.wrong.WrongReply.{WrongReply};
+ghost use Rattle.hc_audit.specs.Hearing.{IsReplyBehind, item_judged};
+ghost use Rattle.hc_report.specs.Json.{WritesReport};
+ghost use Rattle.hc_report.specs.Kinds.{AreShownIn};
 ghost use Rattle.hc_report.specs.Told.{TellsOf};
 
-use crate::counts::ReplyCounts;
+use crate::group::WrongOfKind;
 use crate::groups::Groups;
-use crate::json::report_json;
-use crate::listed::ListedReplies;
+use crate::json::put_all;
+use crate::requests::shown_request;
 use crate::saying::say_report;
 use crate::suspects::Suspects;
 use crate::tries::Tries;
 use hc_audit::{JudgedReply, PassedRecord, Witness};
+use hc_figures::{ListedReplies, ReplyCounts};
 use hc_history::{Counts, Ending, Finding, Reason, Settings, WrongReply};
 use hc_index::Index;
 use hc_past::Past;
 use hc_why::why;
+use serde_json::{Map, Value};
 use std::alloc::{AllocError, Global};
 
 /// What is said of a recording: what its replies say of themselves, which of them are wrong and by what, and what
@@ -52,8 +58,8 @@ impl Drop for Report {
 impl<I: Index> Witness<I> for Report {
     ghost tells = { λ report wrongs. TellsOf report wrongs };
 
-    // It keeps no list of all records.
-    ghost hears = { λ report h. Unit {0} };
+    // Of the records it keeps what is shown of the requests of those that it lists.
+    ghost hears = { λ report h. AreShownIn h report.wrongs.listed.items };
 
     fn pass(&mut self, passed: &PassedRecord<'_, I>) -> Result<(), AllocError> {
         self.past.pass(passed)
@@ -63,17 +69,18 @@ impl<I: Index> Witness<I> for Report {
         let octets = judged.reply.reply().body.len() as u64;
         let is_right = judged.finding == Finding::Right;
         self.replies.count(judged.mark, octets, is_right);
-        if let Finding::Wrong(reason) = judged.finding {
-            self.take_wrong(judged, reason)?;
+        match judged.finding {
+            Finding::Right => Ok(()),
+            Finding::Wrong(reason) => self.take_wrong(judged, reason),
         }
-        Ok(())
     }
 }
 
 impl Report {
     /// The report on an audit by those settings that has read nothing yet.
     pub fn new(alloc: Global, settings: Settings) -> Result<Self, AllocError>
-        ensures { IfOk result (λ report. TellsOf report []) }
+        ensures tells { IfOk result (λ report. TellsOf report []) }
+        ensures hears { IfOk result (λ report. AreShownIn [] report.wrongs.listed.items) }
     {
         Ok(Report {
             alloc,
@@ -92,28 +99,38 @@ impl Report {
         judged: &JudgedReply<'_, I>,
         reason: Reason,
     ) -> Result<(), AllocError>
-        ensures { (wrongs : List WrongReply) → TellsOf self.old wrongs
+        ensures told { (wrongs : List WrongReply) → TellsOf self.old wrongs
             → OnOk result (TellsOf self.new (wrongs ++ record { position = judged.now.position; reason = reason } ∷ [])) }
+        ensures shown { (h : List Item) → AreShownIn h self.old.wrongs.listed.items → IsReplyBehind I.seen h judged.now
+            → OnOk result (AreShownIn (item_judged judged.now ∷ h) self.new.wrongs.listed.items) }
     {
-        self.wrongs.note(WrongReply {
+        let wrong = WrongReply {
             position: judged.position,
             reason,
-        })?;
-        self.group(judged, reason)
+        };
+        let request = shown_request(self.alloc, judged)?;
+        self.wrongs.note(wrong, &request)?;
+        self.group(judged, reason, request.into_target())
     }
 
-    // Puts a wrong reply where it belongs by what is wrong with it.
+    // Puts a wrong reply, of which that target is shown, where it belongs by what is wrong with it.
     fn group<I: Index>(
         &mut self,
         judged: &JudgedReply<'_, I>,
         reason: Reason,
+        target: String,
     ) -> Result<(), AllocError>
-        ensures { (wrongs : List WrongReply) → TellsOf self.old wrongs → OnOk result (TellsOf self.new wrongs) }
+        ensures { self.new.wrongs ≡ self.old.wrongs }
     {
         let why = why(self.alloc, judged, reason, &self.past)?;
         self.tries.judge(judged, reason, &why)?;
         self.suspects.note(&why)?;
-        self.groups.note(judged, reason, why)
+        self.groups.note(WrongOfKind {
+            position: judged.position,
+            reason,
+            why,
+            target,
+        })
     }
 
     /// The first wrong reply.
@@ -134,7 +151,12 @@ impl Report {
     }
 
     /// The whole report as a JSON object, on one line.
-    pub fn json(&self, ending: Ending, counts: Option<Counts>) -> Result<String, AllocError> {
-        report_json(self.alloc, self, ending, counts)?.to_string(self.alloc)
+    pub fn json(&self, ending: Ending, counts: Option<Counts>) -> Result<String, AllocError>
+        ensures { IfOk result (λ text. WritesReport (string_bytes text) self.now.wrongs self.now.replies ending counts) }
+    {
+        let mut members = Map::new(self.alloc);
+        let filled = put_all(self.alloc, self, ending, counts, &mut members);
+        filled?;
+        Value::Object(members).to_string(self.alloc)
     }
 }

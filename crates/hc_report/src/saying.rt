@@ -1,20 +1,15 @@
 //! The text of a report.
 
-use crate::counts::ReplyCounts;
 use crate::fixed::FixedTry;
 use crate::ignoring::IgnoringTry;
 use crate::numbers::push_number;
 use crate::report::Report;
 use crate::rows::say_groups;
 use crate::tries::Tries;
+use hc_figures::{NO_MARK, ReplyCounts};
 use hc_history::{Counts, Ending};
 use std::alloc::{AllocError, Global};
 use std::fmt::Write;
-
-/// What is said where no reply has a mark.
-pub(crate) const NO_MARK: &str =
-    "no reply was held against a response, since none says by Cache-Status whether it is a \
-hit or was forwarded";
 
 /// Writes what stands behind the verdict.
 pub(crate) fn say_report(

@@ -26,6 +26,9 @@ pub use passing::{
     passed_response_is_writable, plain_head_is_writable, received_heads,
 };
 pub use selecting::{is_met, selects};
-pub use storing::{asks_for_storable, is_heuristically_cacheable, may_store};
+pub use storing::{
+    asks_for_storable, invites_storing, is_heuristically_cacheable, is_storable, is_understood,
+    may_store, permits_authorized,
+};
 pub use tags::{last_modified, tag, validator};
 pub use validators::Validator;

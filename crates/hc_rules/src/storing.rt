@@ -24,7 +24,9 @@ const HEURISTICALLY_CACHEABLE: [StatusCode; 11] = [
     StatusCode::NOT_IMPLEMENTED,
 ];
 
-fn is_storable(status: StatusCode) -> bool
+/// Whether a response of that status may be stored at all: one from 200 to 599, but a 206, which is a part (RFC
+/// 9111 section 3.3), and a 304, which updates what is stored (section 4.3.4).
+pub fn is_storable(status: StatusCode) -> bool
     ensures { result ≡ is_storable status }
 {
     let number = status.as_u16();
@@ -41,7 +43,8 @@ pub fn is_heuristically_cacheable(status: StatusCode) -> bool
     HEURISTICALLY_CACHEABLE.contains(&status)
 }
 
-fn is_understood(status: StatusCode) -> bool
+/// Whether that status is one that the cache understands, as `must-understand` asks (RFC 9111 section 5.2.2.3).
+pub fn is_understood(status: StatusCode) -> bool
     ensures { result ≡ is_understood status }
 {
     is_heuristically_cacheable(status)
@@ -77,15 +80,15 @@ fn no_store_permits(known: &KnownDirectives) -> bool
     !known.no_store || known.must_understand
 }
 
-/// Whether what answers an authorized request may be shared.
-fn permits_authorized(known: &KnownDirectives) -> bool
+/// Whether what answers an authorized request may be shared (RFC 9111 section 3.5).
+pub fn permits_authorized(known: &KnownDirectives) -> bool
     ensures { result ≡ (known.now.must_revalidate || known.now.public || is_there known.now.s_maxage) }
 {
     known.must_revalidate || known.public || known.s_maxage.is_there()
 }
 
-/// Whether the response says that it may be stored, or its status does.
-fn invites_storing(known: &KnownDirectives, response: &ResponseHead) -> bool
+/// Whether the response says that it may be stored, or its status does (RFC 9111 section 3).
+pub fn invites_storing(known: &KnownDirectives, response: &ResponseHead) -> bool
     ensures { result ≡ (known.now.public || is_heuristically_cacheable response.now.status || explicit response.now.fields) }
 {
     known.public || is_heuristically_cacheable(response.status) || explicit(&response.fields)

@@ -3,8 +3,9 @@
 use crate::pieces::Pieces;
 use crate::words::words_for;
 use hc_arguments::{Order, parsed};
+use hc_baseline::Baseline;
 use hc_cases::Unanswered;
-use hc_command::{explain, report, shown};
+use hc_command::{BaselineTrouble, ReportForm, baseline_of, explain, report, shown};
 use std::alloc::{AllocError, Global};
 use std::fmt::Write;
 
@@ -74,9 +75,18 @@ fn done(
     let mut input = Pieces::new(&pieces);
     let (output, faults) = (&mut written.output, &mut written.faults);
     match order {
-        Order::Report { file, terms, json } => {
-            Ok(report(alloc, terms, json, file, &mut input, output, faults))
-        }
+        Order::Report {
+            file,
+            terms,
+            json,
+            baseline,
+        } => match known(alloc, baseline) {
+            Ok(baseline) => {
+                let form = ReportForm { json, baseline };
+                Ok(report(alloc, terms, form, file, &mut input, output, faults))
+            }
+            Err(trouble) => Ok(trouble.told("baseline", faults)),
+        },
         Order::Explain { file, terms } => {
             let mut again = Pieces::new(&pieces);
             Ok(explain(alloc, terms, file, &mut input, &mut again, output, faults))
@@ -85,10 +95,19 @@ fn done(
     }
 }
 
+// The baseline that a word is, which a command line has for the name of a file.
+fn known(alloc: Global, word: Option<&str>) -> Result<Option<Baseline>, BaselineTrouble> {
+    let Some(word) = word else {
+        return Ok(None);
+    };
+    let pieces = [word.as_bytes()];
+    Ok(Some(baseline_of(alloc, &mut Pieces::new(&pieces))?))
+}
+
 /// Writes whether the report on so many wrong replies, of as many targets and of as many names, keeps to its bounds.
 pub fn say_many(alloc: Global, count: &[u8], out: &mut String) -> Result<(), Unanswered> {
     let octets = many(alloc, number_of(count)?)?;
-    for (what, most) in [("report", 32_768), ("json", 1_048_576)] {
+    for (what, most) in [("report", 32_768), ("json", 4_194_304)] {
         let words = words_of_many(what);
         let written = written_by(alloc, &words, octets.as_bytes())?;
         let length = written.output.len();

@@ -1,6 +1,8 @@
 -- What is known of one reply.
-use Rattle.std.specs.Prelude.{ℕ}
+use Rattle.std.specs.Prelude.{◌≡◌, ℕ, true, Option, Some, None, is_some}
 use Rattle.hc_history.specs.declared.verdicts.Finding.{Finding}
+use Rattle.hc_history.specs.declared.verdicts.Finding.TheVariants.{Right, Wrong}
+use Rattle.hc_history.specs.declared.wrong.WrongReply.{WrongReply}
 use Rattle.hc_why.specs.declared.explaining.Explanation.{Explanation}
 
 -- where it stands
@@ -10,3 +12,12 @@ position_of explanation = explanation.position
 -- that it is right, or why it is wrong
 abbrev pub finding_of : Explanation → Finding
 finding_of explanation = explanation.finding
+
+-- the wrong reply that a reply of that position is, by what is found of it: none where it is right
+abbrev pub wrong_in : ℕ → Finding → Option WrongReply
+wrong_in position Right = None
+wrong_in position (Wrong why) = Some record { position = position; reason = why }
+
+-- it is wrong, and is this wrong reply
+abbrev pub IsThat : Option WrongReply → ℕ → Finding → Type 0
+IsThat wrong position finding = (is_some wrong ≡ true) × (wrong ≡ wrong_in position finding)

@@ -4,7 +4,7 @@ use Rattle.hc_history.specs.declared.reasons.Reason.{Reason}
 use Rattle.hc_history.specs.declared.verdicts.Finding.{Finding}
 use Rattle.hc_history.specs.declared.verdicts.Finding.TheVariants.{Right, Wrong}
 use Rattle.hc_history.specs.declared.wrong.WrongReply.{WrongReply}
-use Rattle.hc_why.specs.declared.seeking.FirstWrong.{FirstWrong}
+use Rattle.hc_why.specs.declared.first.FirstWrong.{FirstWrong}
 use Rattle.hc_why.specs.declared.seeking.ReplyAt.{ReplyAt}
 use Rattle.hc_why.specs.Explaining.{finding_of, position_of}
 

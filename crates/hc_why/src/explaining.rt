@@ -1,13 +1,18 @@
 //! What is known of one reply, right or wrong.
 
-ghost use Rattle.std.specs.Prelude.{◌≡◌, IfOk, IfSome};
+ghost use Rattle.std.specs.Prelude.{◌≡◌, List, IfOk, IfSome};
+ghost use Rattle.hc_transcript.specs.History.{exchange_of};
+ghost use Rattle.hc_transcript.specs.Items.{Item};
+ghost use Rattle.hc_history.specs.Right.{IsFinding};
+ghost use Rattle.hc_history.specs.Seen.{IsSeenAs};
+ghost use Rattle.hc_facts.specs.Stale.{settings_with};
 ghost use Rattle.hc_why.specs.Explaining.{finding_of, position_of};
 
 use crate::naming::{Nearest, Reaches, named, nearest_of};
 use crate::reading::why_by;
 use crate::whys::Why;
 use hc_audit::JudgedReply;
-use hc_facts::AskedReply;
+use hc_facts::{AskedReply, Newest, Setting};
 use hc_history::{Candidate, Finding, Mark, ReplyClaim, is_judged_collapsed};
 use hc_index::Index;
 use hc_past::{EndedForward, Source};
@@ -51,6 +56,8 @@ pub struct Explanation {
     pub way: Way,
     /// That it is right, or why it is wrong.
     pub finding: Finding,
+    /// What would be found with the setting by which the response that is named may be used, where there is one.
+    pub with_setting: Option<Finding>,
     /// What is found of it.
     pub ground: Ground,
     /// The responses that it may carry, but for those before its request where it was collapsed.
@@ -59,6 +66,8 @@ pub struct Explanation {
     pub before: Reaches,
     /// The records of the responses that it may carry, as far as they are named.
     pub sources: Vec<Source>,
+    /// The records of the responses that may not be stored, as far as what is wrong names them.
+    pub unstored: Newest<Source>,
     /// The latest answer of its window that it carries.
     pub carried: Option<Source>,
 }
@@ -73,10 +82,12 @@ impl Drop for Explanation {
             reply,
             way: _,
             finding: _,
+            with_setting: _,
             ground,
             reaches,
             before,
             sources,
+            unstored,
             carried,
         } = self;
         drop(reply);
@@ -84,6 +95,7 @@ impl Drop for Explanation {
         drop(reaches);
         drop(before);
         drop(sources);
+        drop(unstored);
         drop(carried);
     }
 }
@@ -108,6 +120,33 @@ fn ground_of(
     match finding {
         Finding::Right => Ok(Ground::Right(nearest)),
         Finding::Wrong(reason) => Ok(Ground::Wrong(why_by(alloc, claim, reason, nearest)?)),
+    }
+}
+
+// What an audit would find of a reply with that setting.
+fn found_with<I: Index>(
+    alloc: Global,
+    judged: &JudgedReply<'_, I>,
+    setting: Setting,
+) -> Result<Finding, AllocError>
+    ensures { (h : List Item) → IsSeenAs judged.now.format (I.seen judged.now.index.now) h
+        → IfOk result (IsFinding judged.now.format (settings_with setting judged.now.settings.now)
+        (exchange_of judged.now.exchange h) judged.now.moment judged.now.reply h) }
+{
+    let mut settings = judged.settings.copy(alloc)?;
+    setting.allow(&mut settings);
+    judged.found_with(&settings)
+}
+
+// The same with the setting by which the response that is named may be used, if there is one.
+fn found_with_setting<I: Index>(
+    alloc: Global,
+    judged: &JudgedReply<'_, I>,
+    nearest: Option<&Nearest>,
+) -> Result<Option<Finding>, AllocError> {
+    match nearest.and_then(|nearest| nearest.setting()) {
+        Some(setting) => Ok(Some(found_with(alloc, judged, setting)?)),
+        None => Ok(None),
     }
 }
 
@@ -164,10 +203,12 @@ impl Explanation {
             reply: AskedReply::read(alloc, &claim)?,
             way,
             finding: judged.finding,
+            with_setting: found_with_setting(alloc, judged, nearest.as_ref())?,
             ground: ground_of(alloc, &claim, judged.finding, nearest)?,
             reaches: Reaches::new(alloc),
             before: Reaches::new(alloc),
             sources: Vec::new(alloc),
+            unstored: Newest::new(alloc),
             carried: None,
         };
         explanation.list(candidates.as_slice(), candidate, bound)?;
@@ -247,6 +288,7 @@ impl Explanation {
         state: Option<&Stored>,
     ) -> Result<(), AllocError> {
         self.take_source(ended)?;
-        self.take_ground(ended, state)
+        self.take_ground(ended, state)?;
+        self.take_unstored(ended)
     }
 }

@@ -3,7 +3,7 @@
 #![tactic(auto)]
 
 mod explaining;
-mod members;
+mod first;
 mod naming;
 mod reading;
 mod retracing;
@@ -13,12 +13,10 @@ mod whys;
 mod words;
 
 pub use explaining::{Explanation, Ground, Way};
-pub use members::{
-    array, object, push_made, put_made, put_number, put_numbers, put_some, put_text,
-};
+pub use first::FirstWrong;
 pub use naming::{Nearest, Reach, Reaches};
 pub use reading::why;
 pub use retracing::Retracing;
-pub use seeking::{FirstWrong, ReplyAt};
+pub use seeking::ReplyAt;
 pub use shortfalls::{Invalidator, NotAbout, OriginError, Shortfall, UseGap};
 pub use whys::{NoMark, Why};

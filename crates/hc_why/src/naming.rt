@@ -2,7 +2,7 @@
 
 use crate::shortfalls::{NotAbout, Shortfall};
 use hc_audit::JudgedReply;
-use hc_facts::{NAMED, Newest, Rule, has_body, rule_behind};
+use hc_facts::{NAMED, Newest, RecordName, Rule, Setting, has_body, rule_behind};
 use hc_history::{Candidate, ReplyClaim};
 use hc_index::Index;
 use hc_update::Stored;
@@ -66,6 +66,8 @@ pub struct Nearest {
     pub position: u64,
     /// The position of the 304 that freshened it last.
     pub validated_at: Option<u64>,
+    /// The record of that, as far as it was looked for.
+    pub validator: Option<RecordName>,
     /// The moment that its Date shows, where that isn't the one at which it came.
     pub date: Option<u64>,
     /// In what it falls short; nothing where it keeps all rules.
@@ -80,6 +82,7 @@ impl Drop for Nearest {
         let Nearest {
             position: _,
             validated_at: _,
+            validator: _,
             date: _,
             shortfall,
             not_about,
@@ -93,6 +96,14 @@ impl Nearest {
     /// The first rule that it breaks; none where it keeps all.
     pub fn breaks(&self) -> Option<Rule> {
         self.shortfall.as_ref().map(|shortfall| shortfall.rule())
+    }
+
+    /// The setting by which it may be used, where it may not be used without, and there is one.
+    pub(crate) fn setting(&self) -> Option<Setting> {
+        match &self.shortfall {
+            Some(Shortfall::Lifetime(gap) | Shortfall::Use(gap)) => gap.usage.setting,
+            _ => None,
+        }
     }
 
     /// The position of the record from which on it is as it is: its own, or that of the 304 that freshened it
@@ -111,6 +122,7 @@ impl Nearest {
         Ok(Nearest {
             position: candidate.position,
             validated_at: state.validated_at,
+            validator: None,
             date: date_of(state),
             shortfall: shortfall(alloc, claim, state, rule_behind(candidate.passed))?,
             not_about: Newest::new(alloc),

@@ -11,13 +11,17 @@ use hc_facts::{Against, AskedReply, Newest, first_against};
 use hc_head::{is_error_status, same_target};
 use hc_index::Index;
 use hc_past::{EndedForward, Source, Unstored, Wanted, ended, unstorable};
+use hc_transcript::{Meaning, OwnedItem};
 use hc_update::{Stored, invalidates};
 use std::alloc::{AllocError, Global};
+use std::collections::BTreeMap;
 
 /// A witness that looks for the records that the explanation of a reply names. It is to read the transcript in
 /// which the reply was found, from its beginning on and at least up to the reply.
 pub struct Retracing {
     explanation: Explanation,
+    // The open forwards of the reply's target by their numbers: the positions of their records.
+    sent: BTreeMap<u64, u64>,
     is_behind: bool,
 }
 
@@ -25,17 +29,21 @@ impl Drop for Retracing {
     fn drop(self) {
         let Retracing {
             explanation,
+            sent,
             is_behind: _,
         } = self;
         drop(explanation);
+        drop(sent);
     }
 }
 
 impl Retracing {
     /// Looks for what that explanation names.
     pub fn new(explanation: Explanation) -> Self {
+        let sent = BTreeMap::new(explanation.alloc);
         Retracing {
             explanation,
+            sent,
             is_behind: false,
         }
     }
@@ -54,6 +62,16 @@ impl Retracing {
     fn has_passed(&self, position: u64) -> bool {
         self.explanation.position <= position
     }
+
+    // Takes in a record that may be a forward of the reply's target.
+    fn take_sent(&mut self, position: u64, item: &OwnedItem) -> Result<(), AllocError> {
+        if let Meaning::OriginRequest { target, .. } = &item.of {
+            if same_target(target, &self.explanation.reply.target) {
+                self.sent.insert(item.number, position)?;
+            }
+        }
+        Ok(())
+    }
 }
 
 impl<I: Index> Witness<I> for Retracing {
@@ -65,8 +83,10 @@ impl<I: Index> Witness<I> for Retracing {
         if self.has_passed(passed.position) {
             return Ok(());
         }
+        self.take_sent(passed.position, passed.item)?;
         match ended(passed) {
-            Some(ended) => {
+            Some(mut ended) => {
+                ended.sent_at = self.sent.remove(&ended.record.number);
                 let state = self.explanation.state_before(&ended, passed.index);
                 self.explanation.take(&ended, state)
             }
@@ -133,6 +153,18 @@ impl Explanation {
         Ok(())
     }
 
+    // Takes in the record of a response that may not be stored, where what is wrong names it.
+    pub(crate) fn take_unstored(&mut self, ended: &EndedForward<'_>) -> Result<(), AllocError> {
+        let Some(response) = ended.response else {
+            return Ok(());
+        };
+        if self.ground.ends_at(ended.record.position) {
+            let source = Source::read(self.alloc, ended, &response.head)?;
+            self.unstored.push(source)?;
+        }
+        Ok(())
+    }
+
     // Takes in what it tells of what is wrong.
     pub(crate) fn take_ground(
         &mut self,
@@ -174,6 +206,20 @@ fn take_in(
     match ground {
         Ground::Right(_) => Ok(()),
         Ground::Wrong(why) => why.take(&place),
+    }
+}
+
+impl Ground {
+    // Whether the latest response that may not be stored, of those that it names, stands at that position.
+    fn ends_at(&self, position: u64) -> bool {
+        let Ground::Wrong(Why::NoResponse(unstored) | Why::NotCollapsible(unstored, _)) = self
+        else {
+            return false;
+        };
+        match unstored.recorded.last() {
+            Some(latest) => latest.record.position == position,
+            None => false,
+        }
     }
 }
 
@@ -271,7 +317,7 @@ impl<'a> Place<'a> {
             return None;
         }
         Some(OriginError {
-            position: self.ended.record.position,
+            record: self.ended.record,
             status: response.head.status,
         })
     }
@@ -297,8 +343,9 @@ impl Nearest {
         self.take_not_about(place, is_settled)
     }
 
-    // Takes in which fields the 304 has that freshened it last.
+    // Takes in the 304 that freshened it last, and which fields that has.
     fn renew(&mut self, place: &Place<'_>) {
+        self.validator = Some(place.ended.record);
         if let (Some(Shortfall::Fields(differences)), Some(response)) = (
             &mut self.shortfall,
             place.ended.response,
@@ -362,7 +409,7 @@ impl UseGap {
             return;
         }
         if place.ended.response.is_none() {
-            self.failure = Some(place.ended.record.position);
+            self.failure = Some(place.ended.record);
         } else if let Some(error) = place.error() {
             self.error = Some(error);
         }

@@ -7,27 +7,11 @@ ghost use Rattle.hc_why.specs.Explaining.{finding_of, position_of};
 ghost use Rattle.hc_why.specs.Seeking.{IsFoundAt, IsOfPlace, first_of, place_of, reason_in};
 
 use crate::explaining::Explanation;
+use crate::first::FirstWrong;
 use hc_audit::{JudgedReply, PassedRecord, Witness};
 use hc_history::{Finding, Reason, WrongReply};
 use hc_index::Index;
 use std::alloc::{AllocError, Global};
-/// A witness that looks for the first wrong reply.
-pub struct FirstWrong {
-    alloc: Global,
-    first: Option<WrongReply>,
-    found: Option<Explanation>,
-}
-
-impl Drop for FirstWrong {
-    fn drop(self) {
-        let FirstWrong {
-            alloc: _,
-            first: _,
-            found,
-        } = self;
-        drop(found);
-    }
-}
 
 impl FirstWrong {
     /// It has seen no reply.
@@ -48,16 +32,6 @@ impl FirstWrong {
         self.first
     }
 
-    /// What was found of it, which is moved.
-    pub fn into_found(self) -> Option<Explanation> {
-        let FirstWrong {
-            alloc: _,
-            first: _,
-            found,
-        } = self;
-        found
-    }
-
     /// Whether it was found, so that no further record tells more of it.
     pub fn is_behind(&self) -> bool
         ensures { result ≡ true → IsSome (first_of self.now) }
@@ -65,13 +39,22 @@ impl FirstWrong {
         self.first.is_some()
     }
 
-    // Takes in what was found of the reply at that position.
-    fn take(&mut self, position: u64, finding: Finding)
+    // Takes in a reply.
+    fn take<I: Index>(&mut self, judged: &JudgedReply<'_, I>) -> Result<(), AllocError>
         ensures { (wrongs : List WrongReply) → self.old.first ≡ slice_get wrongs 0
-            → self.new.first ≡ slice_get (wrongs ++ wrong_of position finding) 0 }
+            → OnOk result (self.new.first ≡ slice_get (wrongs ++ wrong_of judged.now.position judged.now.finding) 0) }
     {
-        if let (Finding::Wrong(reason), None) = (finding, self.first) {
-            self.first = Some(WrongReply { position, reason });
+        match (judged.finding, self.first) {
+            (Finding::Wrong(reason), None) => {
+                let found = Explanation::read(self.alloc, judged)?;
+                self.first = Some(WrongReply {
+                    position: judged.position,
+                    reason,
+                });
+                self.found = found;
+                Ok(())
+            }
+            (Finding::Wrong(_), Some(_)) | (Finding::Right, _) => Ok(()),
         }
     }
 }
@@ -86,11 +69,7 @@ impl<I: Index> Witness<I> for FirstWrong {
     }
 
     fn see(&mut self, judged: &JudgedReply<'_, I>) -> Result<(), AllocError> {
-        if self.first.is_none() && judged.finding != Finding::Right {
-            self.found = Explanation::read(self.alloc, judged)?;
-        }
-        self.take(judged.position, judged.finding);
-        Ok(())
+        self.take(judged)
     }
 }
 

@@ -33,8 +33,8 @@ impl Drop for Invalidator {
 /// An error of the origin.
 #[derive(Clone, Copy)]
 pub struct OriginError {
-    /// The position of its record.
-    pub position: u64,
+    /// Its record.
+    pub record: RecordName,
     /// Its status.
     pub status: StatusCode,
 }
@@ -46,8 +46,8 @@ pub struct UseGap {
     pub usage: Usage,
     /// The latest error in the window, as far as it was looked for.
     pub error: Option<OriginError>,
-    /// The position of the latest failure in the window, as far as it was looked for.
-    pub failure: Option<u64>,
+    /// The record of the latest failure in the window, as far as it was looked for.
+    pub failure: Option<RecordName>,
 }
 
 impl UseGap {

@@ -65,10 +65,11 @@ impl Nearest {
 }
 
 impl Shortfall {
-    // Whether both are of one kind: what is too low or too high goes by that, fields by the same names with the same
-    // changes in the same order.
+    // Whether both are of one kind: what is too low or too high goes by that, what doesn't select by its members, fields
+    // by the same names with the same changes in the same order.
     fn is_as(&self, other: &Shortfall) -> bool {
         match (self, other) {
+            (Shortfall::Selected(one), Shortfall::Selected(other)) => one.is_as(other),
             (Shortfall::Fields(one), Shortfall::Fields(other)) => one.is_as(other),
             (Shortfall::Lifetime(one), Shortfall::Lifetime(other))
             | (Shortfall::Use(one), Shortfall::Use(other)) => {
@@ -87,7 +88,8 @@ impl Shortfall {
     pub(crate) fn kind(&self) -> &'static str {
         match self {
             Shortfall::Asked(_) => "other_method",
-            Shortfall::Selected(_) | Shortfall::Valid(_) => "nothing",
+            Shortfall::Selected(_) => "unselected",
+            Shortfall::Valid(_) => "invalidated",
             Shortfall::Lifetime(_) | Shortfall::Use(_) => "unusable",
             Shortfall::Body(gap) => gap.kind(),
             Shortfall::Fields(_) => "fields",
@@ -99,8 +101,8 @@ impl Shortfall {
 }
 
 impl Why {
-    /// Whether both belong in one group: what is too low or too high goes by that, fields by the same names with the
-    /// same changes in the same order, and another host by which it is.
+    /// Whether both belong in one group: what is too low or too high goes by that, what doesn't select by its members,
+    /// fields by the same names with the same changes in the same order, and another host by which it is.
     pub fn is_as(&self, other: &Why) -> bool {
         match (self, other) {
             (Why::NoResponse(one), Why::NoResponse(other)) => one.is_as(other),

@@ -25,7 +25,8 @@ impl Shortfall {
     fn say(&self, out: &mut String) -> Result<(), AllocError> {
         match self {
             Shortfall::Asked(_) => out.push_str("the request is neither GET nor HEAD"),
-            Shortfall::Selected(_) | Shortfall::Valid(_) => Ok(()),
+            Shortfall::Selected(selection) => selection.say(out),
+            Shortfall::Valid(_) => out.push_str("no 304 since"),
             Shortfall::Lifetime(gap) | Shortfall::Use(gap) => {
                 out.push_str(gap.usage.forbidden.words())
             }

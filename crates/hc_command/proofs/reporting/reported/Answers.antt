@@ -1,11 +1,5 @@
-use Rattle.hc_report.specs.Told.{TellsOf}
-use Rattle.hc_command.proofs.ReportLemmas.{says_own, verdict_of_all}
+use Rattle.hc_command.proofs.HeldLemmas.{says_as}
 use Rattle.hc_command.proofs.reporting.reported.Goals as goal
 
-pub returns : goal.returns
-returns g c = record {
-  is = verdict_of_all (TellsOf c.surveyed.new.witness) (λ h. Unit {0}) c.args.settings _ _ c.in_ok-outcome.outcome c.verdict-verdict.result
-      (c.in_ok-outcome.ensures.surveyed c.in_ok-report.ensures tt)
-      (λ octets h wrongs told surveyed. c.verdict-verdict.ensures.verdict octets c.args.settings h wrongs surveyed (c.first_wrong.ensures wrongs told));
-  says = says_own c.args.json c.verdict-verdict.result _ _ _ c.in_ok-said_in.ensures;
-}
+pub returns-in-None : goal.returns-in-None
+returns-in-None g c = says_as c.args.form.now.json c.args.form.now.baseline c.grouped.result c.args.settings _ _ _ _ c.if-form.false c.in-None.is c.grouped.ensures

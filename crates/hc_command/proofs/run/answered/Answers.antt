@@ -2,7 +2,7 @@ use Rattle.std.proofs.Common.{false, inl, map, None, subst}
 use Rattle.clap.specs.declared.error.ErrorKind.{ErrorKind}
 use Rattle.hc_arguments.specs.Command.{IsErrorStatus, task_of}
 use Rattle.hc_arguments.specs.Command.Task.{ToAudit, ToReport, ToExplain, ToReplay, ToConvert, ToServe, ToProxy}
-use Rattle.hc_arguments.specs.Values.{explaining, plain, plain_audit, plain_cache, plain_limits, plain_terms}
+use Rattle.hc_arguments.specs.Values.{explaining, plain_audit, plain_cache, plain_limits, plain_terms}
 use Rattle.hc_arguments.proofs.ArgumentLemmas.{asked_from, one_task}
 use Rattle.hc_command.proofs.EndLemmas.{does_as, does_ends, fails_with_3}
 use Rattle.hc_command.proofs.run.answered.Goals as goal
@@ -13,7 +13,7 @@ returns-in-Ok-clause-audit g c = λ name file word same.
 
 pub returns-in-Ok-clause-report : goal.returns-in-Ok-clause-report
 returns-in-Ok-clause-report g c = λ name file word same.
-    does_as (task_of c.in-Ok.order) (ToReport file plain_audit false) _ _ _ _ _ (c.in-Ok.ensures.report name file word same) c.done.ensures
+    does_as (task_of c.in-Ok.order) (ToReport file plain_audit false None) _ _ _ _ _ (c.in-Ok.ensures.report name file word same) c.done.ensures
 
 pub returns-in-Ok-clause-explain : goal.returns-in-Ok-clause-explain
 returns-in-Ok-clause-explain g c = λ name file word same.

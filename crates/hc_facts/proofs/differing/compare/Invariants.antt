@@ -1,13 +1,10 @@
-use Rattle.std.proofs.Common.{◌≡◌, List, ℕ, true, take}
-use Rattle.std.specs.List.{list_any}
-use Rattle.std.specs.Str.{bytes_eq}
-use Rattle.hc_facts.specs.Differing.{AreListed, differs, is_told}
+use Rattle.std.proofs.Common.{◌≡◌, ◌++◌, List, ℕ, drop, map}
+use Rattle.std.specs.Prelude.{filter}
+use Rattle.hc_facts.specs.Differing.{AreListed, differing_in, differs}
 use Rattle.hc_facts.proofs.differing.compare.Given as goal
 
--- of the names so far each that differs is told
+-- those so far, and those that are left
 abbrev pub invariant-loop-name : goal.invariant-loop-name
-invariant-loop-name l = record {
-  listed : AreListed l.claim l.state l.found;
-  told : (n : List ℕ) → list_any (λ known. bytes_eq known.now n) (take l.name-index l.name-items) ≡ true → differs l.claim l.state n ≡ true
-      → is_told l.found n ≡ true;
-}
+invariant-loop-name l =
+    (so_far : List (List ℕ)) × AreListed l.claim l.state so_far l.found
+    × (so_far ++ filter (differs l.claim l.state) (map (λ known. known.now) (drop l.name-index l.name-items)) ≡ differing_in l.claim l.state)

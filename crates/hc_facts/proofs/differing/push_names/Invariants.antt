@@ -1,10 +1,10 @@
-use Rattle.std.proofs.Common.{◌≡◌, ◌||◌, List, ℕ, drop}
-use Rattle.std.specs.List.{list_any}
-use Rattle.std.specs.Str.{bytes_eq}
+use Rattle.std.proofs.Common.{◌≡◌, drop, map}
+use Rattle.hc_history.specs.Filters.{names_of}
+use Rattle.hc_facts.specs.Differing.{with_names}
 use Rattle.hc_facts.proofs.differing.push_names.Given as goal
 
 -- the names so far, and those of the lines that are left
 abbrev pub invariant-loop-line : goal.invariant-loop-line
 invariant-loop-line l =
-    (n : List ℕ) → (list_any (λ known. bytes_eq known.now n) l.names.items || list_any (λ line. bytes_eq line.name n) (drop l.line-index l.lines))
-    ≡ (list_any (λ known. bytes_eq known.now n) l.initial.names.items || list_any (λ line. bytes_eq line.name n) l.lines)
+    with_names (map (λ known. known.now) l.names.items) (names_of (drop l.line-index l.lines))
+    ≡ with_names (map (λ known. known.now) l.initial.names.items) (names_of l.lines)

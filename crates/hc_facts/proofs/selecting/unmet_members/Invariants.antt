@@ -1,5 +1,12 @@
-use Rattle.hc_facts.specs.Selecting.{AreUnmet}
+use Rattle.std.proofs.Common.{◌≡◌, ◌++◌, List, ℕ}
+use Rattle.std.specs.Prelude.{filter}
+use Rattle.hc_facts.specs.Selecting.{AreNamed, is_unmet, unmet_in, validated_in_window}
 use Rattle.hc_facts.proofs.selecting.unmet_members.Given as goal
 
+-- those so far, and those that are left
 abbrev pub invariant-loop-member : goal.invariant-loop-member
-invariant-loop-member l = AreUnmet l.claim l.state l.found
+invariant-loop-member l = record {
+  named : (so_far : List (List ℕ)) × AreNamed l.claim l.state so_far l.found
+      × (so_far ++ filter (is_unmet l.claim l.state) l.member-iterator ≡ unmet_in l.claim l.state);
+  window : l.found.validated_at ≡ validated_in_window l.claim l.state;
+}

@@ -8,4 +8,4 @@ returns-in-Some-clause-verdict c = λ octets settings h wrongs is first.
 
 pub returns-in-None-clause-verdict : goal.returns-in-None-clause-verdict
 returns-in-None-clause-verdict c = λ octets settings h wrongs is first.
-    c.verdict_without.ensures octets settings h (none_wrong octets settings h wrongs c.args.self.now is (sym c.in-None.is ∙ first))
+    c.verdict_without.ensures.verdict octets settings h (none_wrong octets settings h wrongs c.args.self.now is (sym c.in-None.is ∙ first))

@@ -1,0 +1,2 @@
+pub mod KindLemmas
+mod SumLemmas

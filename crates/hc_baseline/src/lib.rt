@@ -1,0 +1,13 @@
+//! Wrong replies, counted by their kind, and which of them an earlier report has. A kind is a text, whatever it says.
+#![tactic(auto)]
+
+mod baseline;
+mod covering;
+mod fault;
+mod members;
+mod tally;
+
+pub use baseline::Baseline;
+pub use covering::{NewKind, NewKinds};
+pub use fault::BaselineFault;
+pub use tally::Tally;

@@ -1,0 +1,3 @@
+pub mod FigureLemmas
+pub mod ListedLemmas
+pub mod ReadingLemmas

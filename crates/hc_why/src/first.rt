@@ -1,0 +1,42 @@
+//! The first wrong reply, and what is found of it.
+
+ghost use Rattle.std.specs.Prelude.{IfSome};
+ghost use Rattle.std.specs.Option.{ForSome};
+ghost use Rattle.hc_why.specs.Explaining.{IsThat, finding_of, position_of};
+
+use crate::explaining::Explanation;
+use hc_history::WrongReply;
+use std::alloc::Global;
+
+/// A witness that looks for the first wrong reply.
+pub struct FirstWrong {
+    pub(crate) alloc: Global,
+    pub(crate) first: Option<WrongReply>,
+    pub(crate) found: Option<Explanation>,
+    ghost of_first: { ForSome found (λ reply. IsThat first (position_of reply) (finding_of reply)) },
+}
+
+impl Drop for FirstWrong {
+    fn drop(self) {
+        let FirstWrong {
+            alloc: _,
+            first: _,
+            found,
+        } = self;
+        drop(found);
+    }
+}
+
+impl FirstWrong {
+    /// What was found of it, which is moved.
+    pub fn into_found(self) -> Option<Explanation>
+        ensures { IfSome result (λ reply. IsThat self.first (position_of reply) (finding_of reply)) }
+    {
+        let FirstWrong {
+            alloc: _,
+            first: _,
+            found,
+        } = self;
+        found
+    }
+}
