@@ -2,8 +2,8 @@
 //! 2.4).
 
 use crate::freshness::push_slack;
-use crate::layout::push_number;
-use hc_facts::{AgeGap, AgeParts, AgeTold, TtlGap};
+use crate::layout::{push_number, push_record};
+use hc_facts::{AgeGap, AgeParts, AgeTold, RecordName, TtlGap};
 use hc_fresh::Times;
 use hc_shown::push_value;
 use std::alloc::AllocError;
@@ -30,23 +30,46 @@ fn push_first_age(times: Times, out: &mut String) -> Result<(), AllocError> {
     if u64::from(told).saturating_add(delay) < apparent {
         return push_number("", apparent, " (Date)", out);
     }
-    if told == 0 && delay == 0 {
-        return out.push_str("0 (on its way)");
+    if told == 0 {
+        return push_number("", delay, " (on its way)", out);
     }
     write!(out, "{told} (Age) + {delay} (on its way)")
 }
 
+/// Writes for how many seconds a response was stored, since that 304, if one freshened it.
+fn push_stored(
+    resident: u64,
+    validator: Option<RecordName>,
+    out: &mut String,
+) -> Result<(), AllocError> {
+    push_number(" + ", resident, " (stored", out)?;
+    if let Some(validator) = validator {
+        out.push_str(" since the 304 ")?;
+        push_record(validator, out)?;
+    }
+    out.push_str(")")
+}
+
 /// Writes of what an age is the sum, behind what stands for the age.
-pub(crate) fn push_sum(parts: AgeParts, out: &mut String) -> Result<(), AllocError> {
+pub(crate) fn push_sum(
+    parts: AgeParts,
+    validator: Option<RecordName>,
+    out: &mut String,
+) -> Result<(), AllocError> {
     out.push_str(" = ")?;
     push_first_age(parts.times, out)?;
-    push_number(" + ", parts.resident, " (stored)", out)
+    push_stored(parts.resident, validator, out)
 }
 
 /// Writes the age that is due, and of what it is the sum.
-fn push_due(due: u64, parts: AgeParts, out: &mut String) -> Result<(), AllocError> {
+fn push_due(
+    due: u64,
+    parts: AgeParts,
+    validator: Option<RecordName>,
+    out: &mut String,
+) -> Result<(), AllocError> {
     push_number(", due ", due, "", out)?;
-    push_sum(parts, out)?;
+    push_sum(parts, validator, out)?;
     if due == parts.resident {
         return Ok(());
     }
@@ -54,9 +77,13 @@ fn push_due(due: u64, parts: AgeParts, out: &mut String) -> Result<(), AllocErro
 }
 
 /// Writes the Age that the reply tells, and the one that is due.
-pub(crate) fn say_age(gap: &AgeGap, out: &mut String) -> Result<(), AllocError> {
+pub(crate) fn say_age(
+    gap: &AgeGap,
+    validator: Option<RecordName>,
+    out: &mut String,
+) -> Result<(), AllocError> {
     push_told(&gap.told, out)?;
-    push_due(u64::from(gap.due), gap.parts, out)?;
+    push_due(u64::from(gap.due), gap.parts, validator, out)?;
     push_slack(gap.slack, out)
 }
 

@@ -69,10 +69,14 @@ fn say_failed(failed: Option<&Failed>, out: &mut String) -> Result<(), AllocErro
     };
     out.push_str("; ")?;
     push_condition(failed.asked(), failed.due(), out)?;
-    if failed.is_for_origins() {
-        return out.push_str("; a cache must not evaluate that (RFC 9111 section 4.3.2)");
+    if !failed.is_for_origins() {
+        return Ok(());
     }
-    Ok(())
+    let (condition, _) = failed.asked();
+    write!(
+        out,
+        "; a cache must not evaluate {condition} (RFC 9111 section 4.3.2)"
+    )
 }
 
 /// Writes what is told of a part, where that was looked at.
@@ -86,7 +90,7 @@ fn say_range(
     };
     if told == StatusCode::RANGE_NOT_SATISFIABLE {
         push_number(
-            "; a 416 of it has content-range \"bytes */",
+            "; a 416 of it should have content-range \"bytes */",
             range.whole,
             "\"",
             out,

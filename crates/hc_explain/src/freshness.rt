@@ -33,10 +33,14 @@ fn push_staleness(stale_by: Option<u32>, out: &mut String) -> Result<(), AllocEr
 }
 
 /// Writes whether the response is fresh, and what forbids to use it.
-fn push_usage(usage: Usage, out: &mut String) -> Result<(), AllocError> {
+fn push_usage(
+    usage: Usage,
+    validator: Option<RecordName>,
+    out: &mut String,
+) -> Result<(), AllocError> {
     push_lifetime(usage.lifetime, out)?;
     push_number(", age ", u64::from(usage.age), "", out)?;
-    push_sum(usage.parts, out)?;
+    push_sum(usage.parts, validator, out)?;
     push_staleness(usage.stale_by, out)?;
     push_slack(usage.slack, out)?;
     out.push_str("; ")?;
@@ -103,8 +107,12 @@ pub(crate) fn say_setting(
 }
 
 /// Writes why the response may not be used.
-pub(crate) fn say_use(gap: &UseGap, out: &mut String) -> Result<(), AllocError> {
-    push_usage(gap.usage, out)?;
+pub(crate) fn say_use(
+    gap: &UseGap,
+    validator: Option<RecordName>,
+    out: &mut String,
+) -> Result<(), AllocError> {
+    push_usage(gap.usage, validator, out)?;
     push_trouble(gap, out)?;
     let had_error = gap.error.is_some() || gap.failure.is_some();
     gap.usage.say_over(had_error, out)

@@ -48,10 +48,10 @@ fn push_gap(
             say_selection(selection, sent, nearest.validator, out)
         }
         Shortfall::Valid(by) => say_invalidators(by, out),
-        Shortfall::Lifetime(gap) | Shortfall::Use(gap) => say_use(gap, out),
+        Shortfall::Lifetime(gap) | Shortfall::Use(gap) => say_use(gap, nearest.validator, out),
         Shortfall::Body(gap) => say_contents(gap, out),
         Shortfall::Fields(found) => say_differences(found, nearest.validator, out),
-        Shortfall::Age(gap) => say_age(gap, out),
+        Shortfall::Age(gap) => say_age(gap, nearest.validator, out),
         Shortfall::Ttl(gap) => say_ttl(*gap, out),
     }
 }

@@ -63,7 +63,7 @@ fn sections(reason: Reason) -> &'static str {
         Reason::NoExplicitFreshness => "RFC 9111 section 4.2.2",
         Reason::NotAllowed => "RFC 9111 sections 4 and 4.2.4",
         Reason::Body => "RFC 9111 sections 4 and 4.3.2",
-        Reason::Fields => "RFC 9111 sections 3.1 and 3.2",
+        Reason::Fields => "RFC 9111 sections 3.2 and 4.3.4",
         Reason::Age => "RFC 9111 sections 4 and 5.1",
         Reason::Ttl => "RFC 9211 section 2.4",
         Reason::NotForwarded => "RFC 9211 section 2.2",
