@@ -6,6 +6,7 @@ use Rattle.hc_transcript.specs.Items.{Item}
 use Rattle.hc_history.specs.declared.settings.Settings.{Settings}
 use Rattle.hc_history.specs.declared.verdicts.Verdict.{Verdict}
 use Rattle.hc_history.specs.declared.wrong.WrongReply.{WrongReply}
+use Rattle.hc_history.specs.Verdicts.{IsVerdict}
 use Rattle.hc_baseline.specs.declared.baseline.Baseline.{Baseline}
 use Rattle.hc_baseline.specs.Reports.{IsBaseline}
 use Rattle.hc_report.specs.declared.counting.CountingReport.{CountingReport}
@@ -15,10 +16,10 @@ use Rattle.hc_command.specs.declared.baseline.BaselineTrouble.{BaselineTrouble}
 use Rattle.hc_command.specs.declared.baseline.BaselineTrouble.TheVariants as trouble
 use Rattle.hc_command.specs.declared.surveying.Outcome.{Outcome}
 use Rattle.hc_command.specs.declared.trouble.Trouble.{Trouble}
-use Rattle.hc_command.specs.Baseline.{IsNoBaseline}
+use Rattle.hc_command.specs.Baseline.{IsNoBaseline, status_without}
 use Rattle.hc_command.specs.Line.{status_of}
 use Rattle.hc_command.specs.Minimums.{EndsBy}
-use Rattle.hc_command.specs.Report.{SurveysFor}
+use Rattle.hc_command.specs.Report.{IsSurveyed, SurveysFor}
 use Rattle.hc_command.specs.Reporting.{AreOfInput, EndsFor, IsLast, ReportedIn, ReportedOn, ReportsBy, SaysReportIn, SaysReportOf, WritesIn}
 use Rattle.hc_command.proofs.AuditLemmas.{at_end}
 
@@ -51,9 +52,11 @@ ends_for (Some baseline) report settings verdict last outcome old new told is = 
 -- ---- what is said
 
 pub says_report : (json : Bool) (base : Option Baseline) (report : CountingReport) (settings : Settings) (outcome : Outcome) (verdict : Verdict) (status : ℕ) (input left old new : Option (List ℕ))
-    → SurveysFor (TellsAllOf report) (HasHeardOf report) ⊥ settings input left outcome → WritesIn json report base outcome verdict status old new
-    → SaysReportIn json base settings verdict (status_of verdict) input left old new
-says_report true base report settings outcome verdict status input left old new told said = record {
+    → SurveysFor (TellsAllOf report) (HasHeardOf report) ⊥ settings input left outcome
+    → ((octets : List ℕ) (h : List Item) (wrongs : List WrongReply) → TellsAllOf report wrongs → IsSurveyed octets settings h wrongs outcome → IsVerdict octets settings verdict)
+    → WritesIn json report base outcome verdict status old new → SaysReportIn json base settings verdict (status_of verdict) input left old new
+unfolding of_input
+says_report true base report settings outcome verdict status input left old new told is said = record {
   text = said.text;
   has_status = refl;
   written = said.written;
@@ -61,12 +64,13 @@ says_report true base report settings outcome verdict status input left old new 
   wrongs = told.wrongs;
   outcome = outcome;
   of_input = of_input (TellsAllOf report) (HasHeardOf report) settings outcome input left told;
+  is = is told.read told.history told.wrongs told.told told.are;
   report = report;
   told = told.told;
   heard = told.heard;
   all = said.all told.history told.wrongs told.told told.heard.counted;
 }
-says_report false base report settings outcome verdict status input left old new told said =
+says_report false base report settings outcome verdict status input left old new told is said =
     record { line = said.line; more = said.more; has_status = refl; is_line = said.is_line; written = said.written }
 
 -- ---- the baseline in an input
@@ -121,3 +125,8 @@ pub refused_on : {A : Type 0} (asked : Option A) (name : A → List ℕ) (one : 
     → (status ≡ 64) ⊎ (status ≡ 3) → ReportedOn json (option_map name asked) terms status out out faults_old faults_new
 refused_on None name one json terms status out faults_old faults_new is ends = absurd cc
 refused_on (Some other) name one json terms status out faults_old faults_new is ends = inl (ends, keeps_same out)
+
+-- where there is no baseline the status is one of two
+pub one_of_both : (why : BaselineTrouble) (status : ℕ) → status ≡ status_without why → (status ≡ 64) ⊎ (status ≡ 3)
+one_of_both trouble.NoReport status is = inl is
+one_of_both (trouble.Trouble why) status is = inr is

@@ -1,5 +1,5 @@
 -- What a survey of what was read says of all octets of an input, and what is said of it.
-use Rattle.std.proofs.Common.{◌≡◌, ◌⊎◌, inl, inr, ℕ, Bool, List, [], ◌∷◌, ◌++◌, Option, None, Some, IfSome, append-nil, append_assoc, refl, rules, subst, sym, ◌∙◌}
+use Rattle.std.proofs.Common.{◌≡◌, ◌≤◌, ◌⊎◌, inl, inr, ℕ, Bool, true, length, List, [], ◌∷◌, ◌++◌, Option, None, Some, IfSome, append-nil, append_assoc, refl, rules, subst, sym}
 use Rattle.std.specs.Prelude.{slice_get, IsSome}
 use Rattle.std.specs.Io.KnownBytes.{Consumes, IsAtEnd, Keeps}
 use Rattle.std.proofs.KnownBytes.{Consumes-trans}
@@ -22,13 +22,14 @@ use Rattle.hc_audit.specs.Endings.{EndsSo}
 use Rattle.hc_audit.specs.Surveying.{Surveys}
 use Rattle.hc_audit.specs.Told.{IsToldOf}
 use Rattle.hc_audit.proofs.SurveyLemmas.{counted_whole}
-use Rattle.hc_why.specs.Seeking.{IsOfPlace, reason_in, wrong_at}
+use Rattle.hc_why.specs.Seeking.{IsOfPlace, wrong_at}
+use Rattle.hc_why.specs.Standing.{stands_at}
 use Rattle.hc_command.proofs.AuditLemmas.{at_end, before_end}
 use Rattle.hc_command.specs.declared.surveying.Heard.{Heard}
 use Rattle.hc_command.specs.declared.surveying.Outcome.{Outcome}
 use Rattle.hc_command.specs.declared.surveying.Outcome.TheVariants.{Whole, Broken}
 use Rattle.hc_command.specs.Line.{status_of}
-use Rattle.hc_command.specs.Report.{BreaksIfSome, Explained, ExplainsAt, FeedsPieceOfSurvey, FeedsSurvey, IsSurveyed, Reported, ReportsFor, SaysLineFirst, SaysReplyIn, SurveysFor, WritesIfSome, ending_of, settled_of}
+use Rattle.hc_command.specs.Report.{BreaksIfSome, Explained, ExplainsAt, FeedsPieceOfSurvey, FeedsSurvey, HasNoWrongAt, IsReadOf, IsSurveyed, Reported, ReportsFor, SaysLineFirst, SaysReplyIn, SurveysFor, WritesIfSome, ending_of, settled_of}
 
 -- ---- what was fed
 
@@ -217,34 +218,54 @@ module _ (json : Bool) (settings : Settings) (input left : Option (List ℕ)) wh
 
   pub explains_nothing : (place status : ℕ) (old new faults_old faults_new : Option (List ℕ)) → status ≡ 64 → WritesIfSome json settings input left place None old new
       → ExplainsAt json settings input left place status old new faults_old faults_new
-  explains_nothing place status old new faults_old faults_new is kept = inr (inl (is, kept))
+  explains_nothing place status old new faults_old faults_new is nothing = inr (inl (is, nothing))
 
-  -- what is said of a break
-  pub breaks : (place : ℕ) (status : Option ℕ) (old new : Option (List ℕ)) → BreaksIfSome json place status old new
-      → WritesIfSome json settings input left place status old new
-  breaks place None old new kept = kept
-  breaks place (Some status) old new says = inr says
+  -- what was read, by who reads up to a place
+  module _ (tells : List WrongReply → Type 0) (hears : List Item → Type 0) (enough : Type 0) (outcome : Outcome) (told : SurveysFor tells hears enough settings input left outcome) where
+    is_read : IsReadOf settings input left told.history told.wrongs outcome
+    is_read = record { read = told.read; consumed = told.consumed; are = told.are }
 
-  -- and of what is found at a place, by who reads up to it
-  pub finds : (tells : List WrongReply → Type 0) (hears : List Item → Type 0) (enough : Type 0) (outcome : Outcome) (sought place position status : ℕ) (finding : Finding)
-      (old new : Option (List ℕ)) → SurveysFor tells hears enough settings input left outcome
-      → ((wrongs : List WrongReply) → tells wrongs → IsOfPlace sought wrongs position finding) → position ≡ place → SaysReplyIn json position finding old new status
-      → WritesIfSome json settings input left place (Some status) old new
-  finds tells hears enough outcome sought place position status finding old new told is same says =
-      let of_place = is told.wrongs told.told in
-      inl (record {
-        finding = finding;
-        is = record {
-          read = told.read;
-          consumed = told.consumed;
-          history = told.history;
-          wrongs = told.wrongs;
-          outcome = outcome;
-          are = told.are;
-          reason = subst (λ (at : ℕ). reason_in finding ≡ wrong_at at told.wrongs) (sym of_place.0 ∙ same) of_place.1;
-        };
-        says = subst (λ (at : ℕ). SaysReplyIn json at finding old new status) same says;
-      })
+    no_wrong : (place : ℕ) → ((h : List Item) (wrongs : List WrongReply) → hears h → tells wrongs → wrong_at place wrongs ≡ None)
+        → (enough → (h : List Item) → hears h → place ≤ length h) → HasNoWrongAt settings input left place
+    no_wrong place none passed = record {
+      history = told.history;
+      wrongs = told.wrongs;
+      outcome = outcome;
+      are = is_read;
+      none = none told.history told.wrongs told.heard told.told;
+      all = elim told.all [
+        | inl has ↦ inl (passed has told.history told.heard)
+        | inr surveyed ↦ inr surveyed
+      ];
+    }
+
+    -- what is said where nothing is found
+    pub breaks : (place : ℕ) (status : Option ℕ) (old new : Option (List ℕ))
+        → ((h : List Item) (wrongs : List WrongReply) → hears h → tells wrongs → wrong_at place wrongs ≡ None)
+        → (enough → (h : List Item) → hears h → place ≤ length h) → BreaksIfSome json outcome place status old new
+        → WritesIfSome json settings input left place status old new
+    breaks place None old new none passed kept = (kept, no_wrong place none passed)
+    breaks place (Some status) old new none passed says =
+        inr (record { history = told.history; wrongs = told.wrongs; outcome = outcome; are = is_read; says = says })
+
+    -- and of what is found at a place
+    pub finds : (place position status : ℕ) (finding : Finding) (old new : Option (List ℕ))
+        → ((wrongs : List WrongReply) → tells wrongs → IsOfPlace place wrongs position finding) → ((h : List Item) → hears h → stands_at place h ≡ true)
+        → SaysReplyIn json position finding old new status → WritesIfSome json settings input left place (Some status) old new
+    finds place position status finding old new is stands says =
+        let of_place = is told.wrongs told.told in
+        inl (record {
+          finding = finding;
+          is = record {
+            history = told.history;
+            wrongs = told.wrongs;
+            outcome = outcome;
+            are = is_read;
+            stands = stands told.history told.heard;
+            reason = of_place.1;
+          };
+          says = subst (λ (at : ℕ). SaysReplyIn json at finding old new status) of_place.0 says;
+        })
 
 -- ---- where the input isn't known
 

@@ -9,3 +9,8 @@ use Rattle.hc_command.specs.declared.baseline.BaselineTrouble.TheVariants as tro
 abbrev pub IsNoBaseline : BaselineTrouble → Option (List ℕ) → Type 0
 IsNoBaseline trouble.NoReport input = IfSome input (λ octets. (report : Data) → ¬ IsBaseline octets report)
 IsNoBaseline (trouble.Trouble why) input = Unit {0}
+
+-- the exit status where there is no baseline: that of bad input where it is said to be no report, and else that of trouble
+abbrev pub status_without : BaselineTrouble → ℕ
+status_without trouble.NoReport = 64
+status_without (trouble.Trouble why) = 3

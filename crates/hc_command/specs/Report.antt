@@ -1,5 +1,5 @@
 -- What a report on a transcript, and the explanation of a reply, leave on their two writers.
-use Rattle.std.specs.Prelude.{◌≡◌, ◌≤◌, ◌⊎◌, ℕ, List, [], ◌∷◌, ◌++◌, Bool, true, false, Option, Some, None, IfSome}
+use Rattle.std.specs.Prelude.{◌≡◌, ◌≤◌, ◌⊎◌, ℕ, List, [], ◌∷◌, ◌++◌, Bool, true, false, Option, Some, None, IfSome, length}
 use Rattle.std.specs.Io.KnownBytes.{Appends, Consumes, Keeps}
 use Rattle.hc_transcript.specs.declared.fault.RecordFault.{RecordFault}
 use Rattle.hc_transcript.specs.Items.{Item}
@@ -18,6 +18,7 @@ use Rattle.hc_audit.specs.declared.survey.Survey.{Survey}
 use Rattle.hc_audit.specs.Endings.{EndsSo, IsSurveyOf}
 use Rattle.hc_audit.specs.Surveying.{AreCounted, Surveys}
 use Rattle.hc_why.specs.Seeking.{reason_in, wrong_at}
+use Rattle.hc_why.specs.Standing.{stands_at}
 use Rattle.hc_explain.specs.Heads.{IsHead}
 use Rattle.hc_command.specs.declared.surveying.Outcome.{Outcome}
 use Rattle.hc_command.specs.declared.surveying.Outcome.TheVariants.{Whole, Broken}
@@ -134,23 +135,30 @@ abbrev pub SaysBreakIn : Bool → Verdict → ℕ → Option (List ℕ) → Opti
 SaysBreakIn true verdict status old new = SaysText verdict status old new
 SaysBreakIn false verdict status old new = SaysLine verdict status old new
 
--- it got that a record at that place or before it breaks the transcript, and this is its status
-pub record SaysBreak (json : Bool) (place status : ℕ) (old new : Option (List ℕ)) : Type 0 where
-  pub position : ℕ
-  pub fault : RecordFault
-  pub no_later : position ≤ place
-  pub says : SaysBreakIn json (Malformed position fault) status old new
-
--- the finding is that of the reply at that place in what was read of the input: it is wrong by the reason of the wrong reply that stands there among those of the
--- octets that were read, and right where none does
-pub record IsFindingAt (settings : Settings) (input left : Option (List ℕ)) (place : ℕ) (finding : Finding) : Type 0 where
+-- what was read of the input has these items, these wrong replies and this outcome
+pub record IsReadOf (settings : Settings) (input left : Option (List ℕ)) (history : List Item) (wrongs : List WrongReply) (outcome : Outcome) : Type 0 where
   pub read : List ℕ
   pub consumed : Consumes input left read
+  pub are : IsSurveyed read settings history wrongs outcome
+
+-- a reply stands at that place in what was read of the input, and that is found of it: it is wrong by the reason of the wrong reply that stands there among those of
+-- the octets that were read, and right where none does
+pub record IsFindingAt (settings : Settings) (input left : Option (List ℕ)) (place : ℕ) (finding : Finding) : Type 0 where
   pub history : List Item
   pub wrongs : List WrongReply
   pub outcome : Outcome
-  pub are : IsSurveyed read settings history wrongs outcome
+  pub are : IsReadOf settings input left history wrongs outcome
+  pub stands : stands_at place history ≡ true
   pub reason : reason_in finding ≡ wrong_at place wrongs
+
+-- no wrong reply stands at that place: what was read of the input has none there, and has the record there, or is all that the input had
+pub record HasNoWrongAt (settings : Settings) (input left : Option (List ℕ)) (place : ℕ) : Type 0 where
+  pub history : List Item
+  pub wrongs : List WrongReply
+  pub outcome : Outcome
+  pub are : IsReadOf settings input left history wrongs outcome
+  pub none : wrong_at place wrongs ≡ None
+  pub all : (place ≤ length history) ⊎ IfSome input (λ octets. IsSurveyed octets settings history wrongs outcome)
 
 -- the writer got what is said of the reply at that place, of which that is found
 pub record SaysFound (json : Bool) (settings : Settings) (input left : Option (List ℕ)) (place status : ℕ) (old new : Option (List ℕ)) : Type 0 where
@@ -158,23 +166,40 @@ pub record SaysFound (json : Bool) (settings : Settings) (input left : Option (L
   pub is : IsFindingAt settings input left place finding
   pub says : SaysReplyIn json place finding old new status
 
--- the writer got that the transcript breaks, if there is a status, and else nothing
-abbrev pub BreaksIfSome : Bool → ℕ → Option ℕ → Option (List ℕ) → Option (List ℕ) → Type 0
-BreaksIfSome json place None old new = Keeps old new
-BreaksIfSome json place (Some status) old new = SaysBreak json place status old new
+-- the outcome is that a record at that place or before it breaks the transcript, and the writer got that, and this is its status
+pub record SaysBreak (json : Bool) (outcome : Outcome) (place status : ℕ) (old new : Option (List ℕ)) : Type 0 where
+  pub position : ℕ
+  pub fault : RecordFault
+  pub is : outcome ≡ Broken position fault
+  pub no_later : position ≤ place
+  pub says : SaysBreakIn json (Malformed position fault) status old new
 
--- the writer got an explanation or that the transcript breaks, if there is a status, and else nothing
+-- the writer got that the transcript breaks by that outcome, if there is a status, and else nothing
+abbrev pub BreaksIfSome : Bool → Outcome → ℕ → Option ℕ → Option (List ℕ) → Option (List ℕ) → Type 0
+BreaksIfSome json outcome place None old new = Keeps old new
+BreaksIfSome json outcome place (Some status) old new = SaysBreak json outcome place status old new
+
+-- the writer got that a record of what was read of the input breaks the transcript, at that place or before it
+pub record SaysBrokenBefore (json : Bool) (settings : Settings) (input left : Option (List ℕ)) (place status : ℕ) (old new : Option (List ℕ)) : Type 0 where
+  pub history : List Item
+  pub wrongs : List WrongReply
+  pub outcome : Outcome
+  pub are : IsReadOf settings input left history wrongs outcome
+  pub says : SaysBreak json outcome place status old new
+
+-- the writer got an explanation or that the transcript breaks, if there is a status, and else nothing, since no wrong reply stands there
 abbrev pub WritesIfSome : Bool → Settings → Option (List ℕ) → Option (List ℕ) → ℕ → Option ℕ → Option (List ℕ) → Option (List ℕ) → Type 0
-WritesIfSome json settings input left place None old new = Keeps old new
+WritesIfSome json settings input left place None old new = Keeps old new × HasNoWrongAt settings input left place
 WritesIfSome json settings input left place (Some status) old new =
-    SaysFound json settings input left place status old new ⊎ SaysBreak json place status old new
+    SaysFound json settings input left place status old new ⊎ SaysBrokenBefore json settings input left place status old new
 
--- an explanation of the reply at that place says on the output what is found there, and leaves the faults as they were; where no reply stands there, the output
--- gets nothing and the status is 64; where there is none for want of memory or by a device, the status is 3
+-- an explanation of the reply at that place says on the output what is found there, or that a record before it breaks the transcript, and leaves the faults as they
+-- were; where it says neither, no wrong reply stands there, the output gets nothing and the status is 64; where there is none for want of memory or by a device, the
+-- status is 3
 abbrev pub ExplainsAt : Bool → Settings → Option (List ℕ) → Option (List ℕ) → ℕ → ℕ → Option (List ℕ) → Option (List ℕ) → Option (List ℕ) → Option (List ℕ) → Type 0
 ExplainsAt json settings input left place status old new faults_old faults_new =
-    (status ≡ 3) ⊎ ((status ≡ 64) × Keeps old new)
-    ⊎ ((SaysFound json settings input left place status old new ⊎ SaysBreak json place status old new) × Keeps faults_old faults_new)
+    (status ≡ 3) ⊎ ((status ≡ 64) × (Keeps old new × HasNoWrongAt settings input left place))
+    ⊎ ((SaysFound json settings input left place status old new ⊎ SaysBrokenBefore json settings input left place status old new) × Keeps faults_old faults_new)
 
 -- ---- where the input isn't known
 

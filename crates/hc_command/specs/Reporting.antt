@@ -60,7 +60,8 @@ EndsFor (Some baseline) settings verdict last input left = IsHeldAgainst baselin
 
 -- ---- what is said
 
--- the writer got a line of JSON, and this is its status: what a report writes that has heard of all items and tells all wrong replies of what was read of the input
+-- the writer got a line of JSON, and this is its status: what a report writes that has heard of all items and tells all wrong replies of what was read of the input,
+-- on which the verdict is that
 pub record SaysInJson (base : Option Baseline) (settings : Settings) (verdict : Verdict) (status : ℕ) (input left old new : Option (List ℕ)) : Type 0 where
   pub text : List ℕ
   pub has_status : status ≡ status_of verdict
@@ -69,6 +70,7 @@ pub record SaysInJson (base : Option Baseline) (settings : Settings) (verdict : 
   pub wrongs : List WrongReply
   pub outcome : Outcome
   pub of_input : AreOfInput settings input left history wrongs outcome
+  pub is : IsVerdict of_input.read settings verdict
   pub report : CountingReport
   pub told : TellsAllOf report wrongs
   pub heard : HasHeardOf report history

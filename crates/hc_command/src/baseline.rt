@@ -1,11 +1,11 @@
 //! The baseline of a report, out of a file.
 
-ghost use Rattle.std.specs.Prelude.{◌≡◌, ◌⊎◌, List, ℕ, IfErr, IfOk, IfSome};
+ghost use Rattle.std.specs.Prelude.{◌≡◌, List, ℕ, IfErr, IfOk, IfSome};
 ghost use Rattle.serde_json.specs.Data.{Data};
 ghost use Rattle.serde_json.specs.View.{view};
 ghost use Rattle.hc_baseline.specs.Reports.{IsBaseline};
 ghost use Rattle.hc_baseline.specs.declared.fault.BaselineFault.{BaselineFault};
-ghost use Rattle.hc_command.specs.Baseline.{IsNoBaseline};
+ghost use Rattle.hc_command.specs.Baseline.{IsNoBaseline, status_without};
 
 use crate::input::all_of;
 use crate::print::printed;
@@ -26,7 +26,7 @@ pub enum BaselineTrouble {
 impl BaselineTrouble {
     /// Says it on `faults`, and answers the exit status. `name` is what the input is called where it fails.
     pub fn told<E: Write>(self, name: &str, faults: &mut E) -> u8
-        ensures { (result ≡ 64) ⊎ (result ≡ 3) }
+        ensures { result ≡ status_without self }
     {
         match self {
             BaselineTrouble::NoReport => {

@@ -4,7 +4,7 @@ ghost use Rattle.std.specs.Prelude.{◌≡◌, ◌++◌, ℕ, List, None, Some, 
 ghost use Rattle.std.specs.Io.KnownBytes.{Appends};
 ghost use Rattle.hc_history.specs.declared.verdicts.Finding.{Finding};
 ghost use Rattle.hc_why.specs.Explaining.{finding_of, position_of};
-ghost use Rattle.hc_why.specs.Seeking.{first_of};
+ghost use Rattle.hc_why.specs.Seeking.{HasPassed, first_of};
 ghost use Rattle.hc_command.specs.Report.{BreaksIfSome, ExplainsAt, IsHeadLine, ReportsFor, SaysBreakIn, SaysIfSome, SaysOf, SaysReplyIn, SaysReport, WritesIfSome, reply_status};
 
 use crate::auditing::{said, status};
@@ -19,6 +19,7 @@ use hc_history::{Finding, Settings, Verdict};
 use hc_index::Index;
 use hc_why::{Explanation, FirstWrong, ReplyAt, Retracing};
 use std::alloc::{AllocError, Global};
+use std::io;
 use std::io::{Read, Write};
 
 /// The exit status where no reply stands at the position that was asked for.
@@ -33,7 +34,7 @@ impl<I: Index> Reading<I> for FirstWrong {
 }
 
 impl<I: Index> Reading<I> for ReplyAt {
-    ghost enough = { λ _. Unit {0} };
+    ghost enough = { λ seeker. HasPassed seeker };
 
     fn has_enough(&self) -> bool {
         self.is_behind()
@@ -169,12 +170,13 @@ fn reply_explained<R: Read, S: Read, W: Write>(
     let same = terms.settings.copy(alloc)?;
     let mut seeker = ReplyAt::new(alloc, position);
     let outcome = surveyed(alloc, terms.settings, input, &mut seeker)?;
+    // It looks at that position still.
+    if seeker.position() != position {
+        return Err(Trouble::Device(io::Error::other("another position")));
+    }
     let Some(found) = seeker.into_found() else {
         return not_found(alloc, json, &outcome, position, output);
     };
-    if found.position() != position {
-        return Ok(None);
-    }
     let head = head_line(alloc, &found)?;
     let status = status_of(found.finding());
     let found = retraced(alloc, same, found, again)?;
@@ -269,7 +271,7 @@ fn not_found<W: Write>(
     position: u64,
     output: &mut W,
 ) -> Result<Option<u8>, Trouble>
-    ensures { IfOk result (λ status. BreaksIfSome json position status (W.contents output.old) (W.contents output.new)) }
+    ensures { IfOk result (λ status. BreaksIfSome json outcome.now position status (W.contents output.old) (W.contents output.new)) }
 {
     let Outcome::Broken(at, fault) = *outcome else {
         return Ok(None);

@@ -53,9 +53,10 @@ fn say_bodies(gap: BodyGap, out: &mut String) -> Result<(), AllocError> {
         agreed,
     } = gap;
     if is_head {
-        return push_number("the reply to HEAD has a body of ", told, " octets", out);
+        let before = "body: due none in a reply to HEAD, the reply has ";
+        return push_number(before, told, " octets", out);
     }
-    write!(out, "its body has {due} octets, the reply's {told}")?;
+    write!(out, "body: due {due} octets, the reply has {told}")?;
     if agreed == 0 {
         return Ok(());
     }
@@ -110,8 +111,8 @@ fn say_other(
     out: &mut String,
 ) -> Result<(), AllocError> {
     if due != told {
-        push_number("its status is ", u64::from(due.as_u16()), "", out)?;
-        push_number(", the reply's ", u64::from(told.as_u16()), "", out)?;
+        push_number("status: due ", u64::from(due.as_u16()), "", out)?;
+        push_number(", the reply has ", u64::from(told.as_u16()), "", out)?;
     }
     let Some(bodies) = bodies else {
         return Ok(());

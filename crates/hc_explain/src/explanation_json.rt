@@ -4,7 +4,6 @@ use crate::marking::way;
 use crate::objects::{Told, object_of, octets_json, put_object, put_objects, value_json};
 use crate::records_json::put_status;
 use hc_facts::{AskedReply, Demand, ShownField, demand_of};
-use hc_head::StatusCode;
 use hc_history::Finding;
 use hc_json::{put_made, put_number, put_numbers, put_text};
 use hc_past::{Unstored, Window};
@@ -26,7 +25,7 @@ impl Told for Explanation {
             ("exchange", self.exchange),
         ];
         put_numbers(alloc, &numbers, members)?;
-        put_finding(alloc, self.finding, self.reply.status, members)?;
+        put_finding(alloc, self, members)?;
         put_with_setting(alloc, self.with_setting, members)?;
         put_text(alloc, "way", way(self.way), members)?;
         put_object(alloc, "reply", &self.reply, members)?;
@@ -38,21 +37,19 @@ impl Told for Explanation {
 // Adds what is found of a reply.
 fn put_finding(
     alloc: Global,
-    finding: Finding,
-    status: StatusCode,
+    explanation: &Explanation,
     members: &mut Map<String, Value>,
 ) -> Result<(), AllocError> {
-    match finding {
-        Finding::Right => put_text(alloc, "finding", "right", members),
-        Finding::Wrong(reason) => {
-            put_text(alloc, "finding", "wrong", members)?;
-            put_number(alloc, "reason", u64::from(reason.number()), members)?;
-            put_text(alloc, "name", reason.name(), members)?;
-            let Demand { words, sections } = demand_of(reason, status);
-            put_text(alloc, "means", words, members)?;
-            put_text(alloc, "sections", sections, members)
-        }
-    }
+    let Finding::Wrong(reason) = explanation.finding else {
+        return put_text(alloc, "finding", "right", members);
+    };
+    put_text(alloc, "finding", "wrong", members)?;
+    put_number(alloc, "reason", u64::from(reason.number()), members)?;
+    put_text(alloc, "name", reason.name(), members)?;
+    let demanded = explanation.demanded(reason);
+    let Demand { words, sections } = demand_of(demanded, explanation.reply.status);
+    put_text(alloc, "means", words, members)?;
+    put_text(alloc, "sections", sections, members)
 }
 
 // Adds what would be found with the setting by which the response that is named may be used, if there is one.

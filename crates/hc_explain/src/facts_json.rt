@@ -8,7 +8,7 @@ use hc_facts::{
 };
 use hc_fields::Octets;
 use hc_json::{put_made, put_number, put_numbers, put_some, put_text};
-use hc_why::{Nearest, OriginError, Shortfall, UseGap};
+use hc_why::{Nearest, OriginError, Shortfall};
 use serde_json::{Map, Value, put};
 use std::alloc::{AllocError, Global};
 
@@ -19,6 +19,9 @@ impl Told for Nearest {
         put_some_record(alloc, "validator", self.validator, members)?;
         put_some(alloc, "date", self.date, members)?;
         put_broken(alloc, self.breaks(), members)?;
+        put_error(alloc, self.error, members)?;
+        let failure = self.failure.map(|failure| failure.position);
+        put_some(alloc, "failure", failure, members)?;
         let not_about = &self.not_about;
         put_number(alloc, "more_not_modified", not_about.older, members)?;
         put_objects(alloc, "not_modified", not_about.named.as_slice(), members)?;
@@ -43,7 +46,7 @@ impl Told for Shortfall {
             Shortfall::Valid(by) => {
                 put_objects(alloc, "invalidated_by", by.named.as_slice(), members)
             }
-            Shortfall::Lifetime(gap) | Shortfall::Use(gap) => gap.put(alloc, members),
+            Shortfall::Lifetime(usage) | Shortfall::Use(usage) => usage.put(alloc, members),
             Shortfall::Body(gap) => gap.put(alloc, members),
             Shortfall::Fields(found) => {
                 put_number(alloc, "more_fields", found.more, members)?;
@@ -63,15 +66,6 @@ impl Told for UnmetMember {
         put_made(alloc, "answered", answered, members)?;
         let asked = value_json(alloc, member, self.asked.as_ref());
         put_made(alloc, "asked", asked, members)
-    }
-}
-
-impl Told for UseGap {
-    fn put(&self, alloc: Global, members: &mut Map<String, Value>) -> Result<(), AllocError> {
-        self.usage.put(alloc, members)?;
-        put_error(alloc, self.error, members)?;
-        let failure = self.failure.map(|failure| failure.position);
-        put_some(alloc, "failure", failure, members)
     }
 }
 

@@ -1,12 +1,17 @@
 //! Why a response may not be used for a reply (RFC 9111 section 4).
 
 use crate::ages::push_sum;
-use crate::layout::{push_number, push_record};
+use crate::layout::push_number;
 use hc_facts::{RecordName, Usage};
 use hc_history::Finding;
-use hc_why::{OriginError, UseGap};
+use hc_past::StatedLifetime;
+use hc_why::Nearest;
 use std::alloc::AllocError;
 use std::fmt::Write;
+
+/// What is said of a lifetime that is none, by an Expires (RFC 9111 sections 4.2.1 and 5.3).
+const PAST: &str =
+    "lifetime 0 (an Expires that is no date, or not later than the Date, is past: RFC 9111 section 5.3)";
 
 /// Writes the slack, if there is any.
 pub(crate) fn push_slack(slack: u32, out: &mut String) -> Result<(), AllocError> {
@@ -16,11 +21,16 @@ pub(crate) fn push_slack(slack: u32, out: &mut String) -> Result<(), AllocError>
     push_number(" (slack ", u64::from(slack), ")", out)
 }
 
-/// Writes the lifetime that a response states.
-fn push_lifetime(lifetime: Option<u32>, out: &mut String) -> Result<(), AllocError> {
-    match lifetime {
-        Some(seconds) => push_number("lifetime ", u64::from(seconds), "", out),
-        None => out.push_str("no lifetime is stated"),
+/// Writes the lifetime that a response states, and how it states it.
+fn push_lifetime(
+    lifetime: Option<u32>,
+    stated: Option<&StatedLifetime>,
+    out: &mut String,
+) -> Result<(), AllocError> {
+    match (lifetime, stated) {
+        (Some(0), Some(StatedLifetime::Expires(_))) => out.push_str(PAST),
+        (Some(seconds), _) => push_number("lifetime ", u64::from(seconds), "", out),
+        (None, _) => out.push_str("no lifetime is stated"),
     }
 }
 
@@ -32,54 +42,18 @@ fn push_staleness(stale_by: Option<u32>, out: &mut String) -> Result<(), AllocEr
     }
 }
 
-/// Writes whether the response is fresh, and what forbids to use it.
+/// Writes how old the response is, whether it is fresh, and what forbids to use it.
 fn push_usage(
     usage: Usage,
     validator: Option<RecordName>,
     out: &mut String,
 ) -> Result<(), AllocError> {
-    push_lifetime(usage.lifetime, out)?;
     push_number(", age ", u64::from(usage.age), "", out)?;
     push_sum(usage.parts, validator, out)?;
     push_staleness(usage.stale_by, out)?;
     push_slack(usage.slack, out)?;
     out.push_str("; ")?;
     out.push_str(usage.forbidden.words())
-}
-
-/// Writes the record of an error of the origin, and its status.
-fn push_error(error: OriginError, out: &mut String) -> Result<(), AllocError> {
-    out.push_str(" (despite the error ")?;
-    push_record(error.record, out)?;
-    push_number(", a ", u64::from(error.status.as_u16()), "", out)
-}
-
-/// Writes the record of a failure between two texts.
-fn push_failure(
-    before: &str,
-    failure: RecordName,
-    behind: &str,
-    out: &mut String,
-) -> Result<(), AllocError> {
-    out.push_str(before)?;
-    push_record(failure, out)?;
-    out.push_str(behind)
-}
-
-/// Writes that an error or a failure in the window doesn't help.
-fn push_trouble(gap: &UseGap, out: &mut String) -> Result<(), AllocError> {
-    match (gap.error, gap.failure) {
-        (None, None) => Ok(()),
-        (Some(error), None) => {
-            push_error(error, out)?;
-            out.push_str(")")
-        }
-        (None, Some(failure)) => push_failure(" (despite the failure ", failure, ")", out),
-        (Some(error), Some(failure)) => {
-            push_error(error, out)?;
-            push_failure(", and the failure ", failure, ")", out)
-        }
-    }
 }
 
 /// Writes what would be found of a reply whose response may be used.
@@ -94,11 +68,11 @@ fn push_found(found: Option<Finding>, out: &mut String) -> Result<(), AllocError
 
 /// Writes the setting by which the response may be used, if there is one, and what would be found with it.
 pub(crate) fn say_setting(
-    gap: &UseGap,
+    usage: &Usage,
     found: Option<Finding>,
     out: &mut String,
 ) -> Result<(), AllocError> {
-    let Some(setting) = gap.usage.setting else {
+    let Some(setting) = usage.setting else {
         return Ok(());
     };
     let (name, seconds) = setting.named();
@@ -106,14 +80,15 @@ pub(crate) fn say_setting(
     push_found(found, out)
 }
 
-/// Writes why the response may not be used.
+/// Writes why the response that is named may not be used, which states its lifetime so where it is as it came.
 pub(crate) fn say_use(
-    gap: &UseGap,
-    validator: Option<RecordName>,
+    usage: &Usage,
+    nearest: &Nearest,
+    stated: Option<&StatedLifetime>,
     out: &mut String,
 ) -> Result<(), AllocError> {
-    push_usage(gap.usage, validator, out)?;
-    push_trouble(gap, out)?;
-    let had_error = gap.error.is_some() || gap.failure.is_some();
-    gap.usage.say_over(had_error, out)
+    push_lifetime(usage.lifetime, stated, out)?;
+    push_usage(*usage, nearest.validator, out)?;
+    let had_error = nearest.error.is_some() || nearest.failure.is_some();
+    usage.say_over(had_error, out)
 }

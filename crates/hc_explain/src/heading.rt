@@ -4,7 +4,7 @@ ghost use Rattle.std.specs.Prelude.{◌≡◌, ◌++◌, List, ℕ, OnOk, string
 ghost use Rattle.hc_explain.specs.Heads.{IsHead};
 ghost use Rattle.hc_why.specs.Explaining.{finding_of, position_of};
 
-use crate::layout::{begin_line, end_line, push_method, push_separator};
+use crate::layout::{begin_line, end_line, place_of, push_method, push_separator};
 use crate::marking::{push_cache_status, way};
 use hc_facts::{AskedReply, ShownField};
 use hc_history::Finding;
@@ -46,17 +46,6 @@ fn push_answer(reply: &AskedReply, out: &mut String) -> Result<(), AllocError> {
     write!(out, " -> {status}, {octets} octets, ")
 }
 
-/// Begins the line of the reply at that position, to the request at that one.
-fn begin_reply(
-    alloc: Global,
-    since: u64,
-    position: u64,
-    out: &mut String,
-) -> Result<(), AllocError> {
-    let place = format!(in alloc; "{since}-{position}")?;
-    begin_line("reply", place.as_str(), out)
-}
-
 /// Writes the fields of the request that say what it asks besides its target, if it has any.
 fn say_fields(fields: &[ShownField], out: &mut String) -> Result<(), AllocError> {
     if fields.is_empty() {
@@ -86,7 +75,8 @@ pub(crate) fn say_reply(
     out: &mut String,
 ) -> Result<(), AllocError> {
     let reply = &explanation.reply;
-    begin_reply(alloc, explanation.since, explanation.position, out)?;
+    let place = place_of(alloc, explanation.since, explanation.position)?;
+    begin_line("reply", place.as_str(), out)?;
     push_asked(reply, out)?;
     push_answer(reply, out)?;
     push_cache_status(reply, out)?;

@@ -4,12 +4,17 @@ use hc_facts::RecordName;
 use hc_head::Method;
 use hc_shown::push_octets;
 use hc_transcript::Kind;
-use std::alloc::AllocError;
+use std::alloc::{AllocError, Global};
 use std::fmt::Write;
 
 /// Begins a line: a word, and the records that it is about.
 pub(crate) fn begin_line(word: &str, place: &str, out: &mut String) -> Result<(), AllocError> {
     write!(out, "{word:<6} {place:<8} ")
+}
+
+/// The positions of a request and its reply.
+pub(crate) fn place_of(alloc: Global, since: u64, position: u64) -> Result<String, AllocError> {
+    format!(in alloc; "{since}-{position}")
 }
 
 /// Begins the line that says why a rule doesn't hold.

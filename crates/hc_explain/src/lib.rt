@@ -5,6 +5,7 @@ mod ages;
 mod collapsing;
 mod contents;
 mod differing;
+mod dues;
 mod explanation_json;
 mod facts_json;
 mod freshness;

@@ -71,6 +71,9 @@ impl Told for Source {
         self.record.put(alloc, members)?;
         put_some_record(alloc, "forward", self.sent, members)?;
         put_status(alloc, "status", self.status, members)?;
+        put(members, alloc, "given", Value::from(self.is_given))?;
+        let age = value_json(alloc, b"age", self.age.as_ref());
+        put_made(alloc, "age", age, members)?;
         let (name, value) = match &self.lifetime {
             StatedLifetime::CacheControl(value) => ("cache-control", value),
             StatedLifetime::Expires(value) => ("expires", value),

@@ -1,16 +1,17 @@
 //! The lines of an explanation.
 
 use crate::collapsing::say_collapsing;
+use crate::dues::say_answer;
 use crate::heading::say_reply;
-use crate::layout::{begin_line, begin_rule, end_line};
+use crate::layout::{begin_line, begin_rule, end_line, push_number};
 use crate::marking::{say_both, say_unmarked};
-use crate::shortfalls::say_rule;
-use crate::sources::{say_carried, say_nearest, say_sources};
+use crate::shortfalls::{say_failing, say_rule};
+use crate::sources::{push_reach, say_carried, say_nearest, say_sources};
 use crate::unstored::say_unstored;
 use crate::window::{say_own, say_window};
 use hc_facts::{Demand, demand_of};
 use hc_history::{Finding, Reason};
-use hc_past::{Unstored, Window};
+use hc_past::{Source, Unstored, Window};
 use hc_why::{Explanation, Ground, Nearest, Way, Why};
 use std::alloc::{AllocError, Global};
 use std::fmt::Write;
@@ -36,15 +37,31 @@ fn say_right(alloc: Global, explanation: &Explanation, out: &mut String) -> Resu
     }
 }
 
-/// Writes the line on a reply for which nothing is stored.
+/// Writes the lines on a reply for which nothing is stored: of the response that it gives, if one is recorded, of why that
+/// may not be stored, and of what was due.
 fn say_no_response(
+    alloc: Global,
     explanation: &Explanation,
     unstored: &Unstored,
     out: &mut String,
 ) -> Result<(), AllocError> {
+    let sources = explanation.unstored.named.as_slice();
+    let given = latest_given(sources);
+    if let Some(source) = given {
+        say_carried(alloc, source, out)?;
+    }
     begin_rule(Reason::NoResponse.number(), out)?;
-    say_unstored(unstored, explanation.unstored.named.as_slice(), out)?;
-    end_line(out)
+    say_unstored(unstored, sources, out)?;
+    end_line(out)?;
+    if unstored.is_unrecorded() {
+        return Ok(());
+    }
+    say_answer(given, out)
+}
+
+/// The latest of those responses of which the reply has the status and the body, if there is one.
+fn latest_given(sources: &[Source]) -> Option<&Source> {
+    sources.iter().rev().find(|source| source.is_given)
 }
 
 /// Writes the lines of what came between request and reply, of the stored response that is named, if one is, and of
@@ -61,11 +78,61 @@ fn say_not_forwarded(
         return Ok(());
     };
     say_nearest(alloc, explanation, out)?;
-    say_rule(explanation, nearest, out)?;
-    match nearest.breaks() {
-        Some(rule) => say_demand(explanation, rule.reason(), out),
-        None => Ok(()),
+    if explanation.stands_for(nearest) {
+        say_forwarding(explanation, nearest, out)?;
+        say_rule(explanation, nearest, out)
+    } else {
+        say_stored(explanation, nearest, out)
     }
+}
+
+/// Writes the line on a reply that went forward and is to be a stored response, or gives it: what is asked of it, and
+/// which rule this response breaks.
+fn say_forwarding(
+    explanation: &Explanation,
+    nearest: &Nearest,
+    out: &mut String,
+) -> Result<(), AllocError> {
+    begin_rule(Reason::NotForwarded.number(), out)?;
+    out.push_str(
+        "a reply that is marked as forwarded is an answer of the window, or what a 304 there validated",
+    )?;
+    let Demand { sections, .. } = demand_of(Reason::NotForwarded, explanation.reply.status);
+    write!(out, " ({sections}): ")?;
+    push_standing(explanation, nearest, out)?;
+    push_reach(nearest.breaks(), out)?;
+    end_line(out)
+}
+
+/// Writes that such a reply is to be the stored response that is named, or gives it.
+fn push_standing(
+    explanation: &Explanation,
+    nearest: &Nearest,
+    out: &mut String,
+) -> Result<(), AllocError> {
+    match nearest.validated_at {
+        Some(validated) if explanation.was_validated(nearest) => {
+            push_number("this is to be ", nearest.position, ", which ", out)?;
+            push_number("", validated, " validated, and ", out)
+        }
+        _ => push_number(
+            "this gives ",
+            nearest.position,
+            ", which is stored, and ",
+            out,
+        ),
+    }
+}
+
+/// Writes the line of what is stored, which a reply that went forward need not be, and of the rule that it breaks.
+fn say_stored(
+    explanation: &Explanation,
+    nearest: &Nearest,
+    out: &mut String,
+) -> Result<(), AllocError> {
+    begin_line("stored", "", out)?;
+    say_failing(explanation, nearest, out)?;
+    end_line(out)
 }
 
 /// Writes the line of what is asked of a reply that is wrong for that reason.
@@ -75,7 +142,8 @@ fn say_demand(
     out: &mut String,
 ) -> Result<(), AllocError> {
     begin_line("means", "", out)?;
-    let Demand { words, sections } = demand_of(reason, explanation.reply.status);
+    let demanded = explanation.demanded(reason);
+    let Demand { words, sections } = demand_of(demanded, explanation.reply.status);
     write!(out, "{words} ({sections})\n")
 }
 
@@ -106,7 +174,7 @@ fn say_wrong(
     out: &mut String,
 ) -> Result<(), AllocError> {
     match why {
-        Why::NoResponse(unstored) => say_no_response(explanation, unstored, out)?,
+        Why::NoResponse(unstored) => say_no_response(alloc, explanation, unstored, out)?,
         Why::Response(nearest) => say_response(alloc, explanation, nearest, out)?,
         Why::NotForwarded(window, nearest) => {
             say_not_forwarded(alloc, explanation, window, nearest.as_ref(), out)?

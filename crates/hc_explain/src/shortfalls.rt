@@ -3,6 +3,7 @@
 use crate::ages::{say_age, say_ttl};
 use crate::contents::say_contents;
 use crate::differing::say_differences;
+use crate::dues::say_due;
 use crate::freshness::{say_setting, say_use};
 use crate::layout::{
     begin_rule, end_line, push_method, push_more, push_number, push_record, push_separator,
@@ -12,6 +13,7 @@ use crate::sources::push_reach;
 use crate::unstored::NO_GET;
 use crate::validations::say_validations;
 use hc_facts::Newest;
+use hc_past::StatedLifetime;
 use hc_why::{Explanation, Invalidator, Nearest, Shortfall};
 use std::alloc::AllocError;
 
@@ -33,6 +35,15 @@ fn say_invalidators(by: &Newest<Invalidator>, out: &mut String) -> Result<(), Al
     push_more(by.older, out)
 }
 
+/// What the response that is named states of its lifetime, where it is as it came.
+fn stated_by<'a>(explanation: &'a Explanation, nearest: &Nearest) -> Option<&'a StatedLifetime> {
+    if nearest.validated_at.is_some() {
+        return None;
+    }
+    let source = explanation.source(nearest.position)?;
+    Some(&source.lifetime)
+}
+
 /// Writes what is due, and what came.
 fn push_gap(
     explanation: &Explanation,
@@ -48,7 +59,9 @@ fn push_gap(
             say_selection(selection, sent, nearest.validator, out)
         }
         Shortfall::Valid(by) => say_invalidators(by, out),
-        Shortfall::Lifetime(gap) | Shortfall::Use(gap) => say_use(gap, nearest.validator, out),
+        Shortfall::Lifetime(usage) | Shortfall::Use(usage) => {
+            say_use(usage, nearest, stated_by(explanation, nearest), out)
+        }
         Shortfall::Body(gap) => say_contents(gap, out),
         Shortfall::Fields(found) => say_differences(found, nearest.validator, out),
         Shortfall::Age(gap) => say_age(gap, nearest.validator, out),
@@ -66,8 +79,8 @@ fn push_shortfall(
     push_gap(explanation, nearest, shortfall, out)?;
     say_validations(explanation, nearest, shortfall, out)?;
     match shortfall {
-        Shortfall::Lifetime(gap) | Shortfall::Use(gap) => {
-            say_setting(gap, explanation.with_setting, out)
+        Shortfall::Lifetime(usage) | Shortfall::Use(usage) => {
+            say_setting(usage, explanation.with_setting, out)
         }
         _ => Ok(()),
     }
@@ -99,5 +112,6 @@ pub(crate) fn say_rule(
     };
     begin_rule(shortfall.rule().reason().number(), out)?;
     push_shortfall(explanation, nearest, shortfall, out)?;
-    end_line(out)
+    end_line(out)?;
+    say_due(explanation, nearest, shortfall, out)
 }

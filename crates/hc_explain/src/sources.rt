@@ -32,11 +32,15 @@ pub(crate) fn push_lifetime(lifetime: &StatedLifetime, out: &mut String) -> Resu
     }
 }
 
-/// Writes when a response came, its status, and what it says of its lifetime.
+/// Writes when a response came, its status, and what it says of its lifetime and of its age.
 fn push_source(source: &Source, out: &mut String) -> Result<(), AllocError> {
     push_moment(source.record.moment, out)?;
     push_number("  ", u64::from(source.status.as_u16()), "", out)?;
-    push_lifetime(&source.lifetime, out)
+    push_lifetime(&source.lifetime, out)?;
+    match &source.age {
+        Some(age) => push_field(", Age ", b"age", age, out),
+        None => Ok(()),
+    }
 }
 
 /// Writes which rule a response breaks first.
@@ -60,7 +64,23 @@ fn push_changes(nearest: &Nearest, out: &mut String) -> Result<(), AllocError> {
         out.push_str(", Date ")?;
         push_moment(date, out)?;
     }
-    Ok(())
+    push_trouble(nearest, out)
+}
+
+/// Writes behind which error, and behind which failure of the window the response was given.
+fn push_trouble(nearest: &Nearest, out: &mut String) -> Result<(), AllocError> {
+    if let Some(error) = nearest.error {
+        out.push_str(", given after the error ")?;
+        push_record(error.record, out)?;
+        push_number(", a ", u64::from(error.status.as_u16()), "", out)?;
+    }
+    match nearest.failure {
+        Some(failure) => {
+            out.push_str(", given after the failure ")?;
+            push_record(failure, out)
+        }
+        None => Ok(()),
+    }
 }
 
 /// Begins the line of the response at that position, of which this is the record.
@@ -132,7 +152,7 @@ pub(crate) fn say_sources(
     say_more(explanation.reaches.more, out)
 }
 
-/// Writes the line of the answer of the window that the reply carries.
+/// Writes the line of a response of which the reply has the status and the body.
 pub(crate) fn say_carried(
     alloc: Global,
     source: &Source,

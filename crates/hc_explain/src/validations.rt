@@ -22,7 +22,7 @@ fn introduced(nearest: &Nearest, since: u64) -> &'static str {
     if was_validated || matches!(&nearest.shortfall, Some(Shortfall::Valid(_))) {
         "; no 304 since is about it: "
     } else {
-        "; no 304 behind the request is about it: "
+        "; no 304 after the request is about it: "
     }
 }
 
@@ -44,7 +44,7 @@ fn push_none(since: u64, position: u64, out: &mut String) -> Result<(), AllocErr
     if first < last {
         write!(out, "; no 304 in {first}..{last}")
     } else {
-        out.push_str("; no 304 behind the request")
+        out.push_str("; no 304 after the request")
     }
 }
 

@@ -1,9 +1,9 @@
 //! What came between a request and its reply.
 
 use crate::layout::{
-    begin_line, end_line, push_method, push_more, push_number, push_record, push_separator,
+    begin_line, end_line, place_of, push_method, push_more, push_number, push_record,
+    push_separator,
 };
-use crate::sources::push_reach;
 use hc_facts::{BodyGap, RecordName};
 use hc_fields::Octets;
 use hc_head::StatusCode;
@@ -89,15 +89,6 @@ fn push_window(window: &Window, out: &mut String) -> Result<(), AllocError> {
     }
 }
 
-/// Writes which response of the target is stored, if one is, and which rule it breaks.
-fn push_stored(nearest: Option<&Nearest>, out: &mut String) -> Result<(), AllocError> {
-    let Some(nearest) = nearest else {
-        return out.push_str("; stored: nothing");
-    };
-    push_number("; stored: ", nearest.position, " ", out)?;
-    push_reach(nearest.breaks(), out)
-}
-
 /// Begins a line about a record.
 fn begin_record(
     alloc: Global,
@@ -130,6 +121,16 @@ fn say_near(
     end_line(out)
 }
 
+/// Begins the line of the window, which lies between request and reply.
+fn begin_window(
+    alloc: Global,
+    explanation: &Explanation,
+    out: &mut String,
+) -> Result<(), AllocError> {
+    let place = place_of(alloc, explanation.since, explanation.position)?;
+    begin_line("window", place.as_str(), out)
+}
+
 /// Writes the line of the window, and those of what comes near.
 pub(crate) fn say_window(
     alloc: Global,
@@ -138,9 +139,11 @@ pub(crate) fn say_window(
     nearest: Option<&Nearest>,
     out: &mut String,
 ) -> Result<(), AllocError> {
-    begin_line("window", "", out)?;
+    begin_window(alloc, explanation, out)?;
     push_window(window, out)?;
-    push_stored(nearest, out)?;
+    if nearest.is_none() {
+        out.push_str("; stored: nothing")?;
+    }
     end_line(out)?;
     for near in window.near.named.iter() {
         say_near(alloc, near, &explanation.reply.target.host, out)?;

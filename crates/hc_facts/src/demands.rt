@@ -29,7 +29,7 @@ pub fn demand_of(reason: Reason, status: StatusCode) -> Demand {
 fn words(reason: Reason) -> &'static str {
     match reason {
         Reason::NoResponse =>
-            "a hit gives a response to a GET of its target that may be stored, to GET or HEAD",
+            "a hit answers GET or HEAD, by an earlier answer to GET of its target that may be stored",
         Reason::Vary => {
             "a stored response answers requests that agree with its own in what its Vary names"
         }
@@ -50,7 +50,7 @@ fn words(reason: Reason) -> &'static str {
             "a cache says by Cache-Status whether it answered by a hit or went forward",
         Reason::BothMarks => "a reply is a hit, or it went forward",
         Reason::NotCollapsible => {
-            "what was collapsed carries a response from behind its request that may be stored and given"
+            "what was collapsed carries a response from after its request that may be stored and given"
         }
     }
 }

@@ -1,8 +1,10 @@
 //! The records of the responses that a reply may carry.
 
 use crate::ends::EndedForward;
+use crate::windows::Wanted;
 use hc_facts::RecordName;
 use hc_fields::{Fields, Octets};
+use hc_framing::Message;
 use hc_head::{ResponseHead, StatusCode};
 use std::alloc::{AllocError, Global};
 
@@ -27,6 +29,10 @@ pub struct Source {
     pub status: StatusCode,
     /// What it says of its lifetime.
     pub lifetime: StatedLifetime,
+    /// Its Age, if it has one.
+    pub age: Option<Octets>,
+    /// Whether the reply has its status and its body, or no body where it answers HEAD.
+    pub is_given: bool,
 }
 
 impl Drop for Source {
@@ -36,8 +42,11 @@ impl Drop for Source {
             sent: _,
             status: _,
             lifetime,
+            age,
+            is_given: _,
         } = self;
         drop(lifetime);
+        drop(age);
     }
 }
 
@@ -53,17 +62,21 @@ fn lifetime_in(alloc: Global, fields: &Fields) -> Result<StatedLifetime, AllocEr
 }
 
 impl Source {
-    /// The response with which that forward ended.
+    /// The response with which that forward ended, for a reply of which that is wanted.
     pub fn read(
         alloc: Global,
         ended: &EndedForward<'_>,
-        response: &ResponseHead,
+        response: &Message<ResponseHead>,
+        wanted: &Wanted<'_>,
     ) -> Result<Self, AllocError> {
+        let head = &response.head;
         Ok(Source {
             record: ended.record,
             sent: ended.sent(),
-            status: response.status,
-            lifetime: lifetime_in(alloc, &response.fields)?,
+            status: head.status,
+            lifetime: lifetime_in(alloc, &head.fields)?,
+            age: head.fields.joined(alloc, b"age")?,
+            is_given: wanted.has_content(head.status, response.body.as_slice()),
         })
     }
 }

@@ -1,7 +1,7 @@
 //! What came between a request and its reply.
 
 use crate::ends::End;
-use hc_facts::{BodyGap, Newest, RecordName, body_gap};
+use hc_facts::{BodyGap, Newest, RecordName, body_gap, has_body};
 use hc_fields::Octets;
 use hc_head::{Method, StatusCode, Target, is_get, is_head, same_target};
 use hc_history::{ReplyClaim, may_be_for};
@@ -234,6 +234,11 @@ impl<'a> Wanted<'a> {
             Some(status) => self.apart_by(end, status),
             None => Ok(Apart::Failure),
         }
+    }
+
+    /// Whether the reply has that status and that body, or no body where it answers HEAD.
+    pub(crate) fn has_content(&self, status: StatusCode, body: &[u8]) -> bool {
+        self.status == status && has_body(self.method, self.body, body)
     }
 
     /// Whether the end is a response of the target, in the window, that the reply carries.

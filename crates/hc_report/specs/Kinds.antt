@@ -1,9 +1,9 @@
 -- By what wrong replies are counted: why they are wrong, and the method and the target of the requests that they answer, as these are shown.
-use Rattle.std.specs.Prelude.{◌≡◌, ◌≤◌, ◌-◌, ℕ, List, [], ◌∷◌, Option, Some, None, drop, length, map, string_bytes}
-use Rattle.hc_transcript.specs.Items.{Exchange, Item, ClientRequest, ClientReply, OriginRequest, OriginResponse, OriginFailure}
-use Rattle.hc_transcript.specs.History.{exchange_of}
+use Rattle.std.specs.Prelude.{◌≡◌, ◌≤◌, ℕ, List, [], ◌∷◌, Option, Some, None, length, map, string_bytes}
+use Rattle.hc_transcript.specs.Items.{Exchange, Item}
 use Rattle.hc_history.specs.declared.reasons.Reason.{Reason}
 use Rattle.hc_history.specs.declared.wrong.WrongReply.{WrongReply}
+use Rattle.hc_why.specs.Standing.{exchange_at}
 use Rattle.hc_shown.specs.Octets.{octets_text}
 use Rattle.hc_shown.specs.Values.{target_text}
 use Rattle.hc_baseline.specs.Kinds.{Kind}
@@ -32,23 +32,6 @@ abbrev pub kind_to : Option Exchange → Reason → Kind
 kind_to exchange why = kind_text why (method_shown exchange) (target_shown exchange)
 
 -- ---- the kinds of the wrong replies of a history
-
--- the exchange that an item behind others answers, if it is a reply
-abbrev pub answered : Item → List Item → Option Exchange
-answered (ClientReply number moment reply) before = exchange_of number before
-answered (ClientRequest number moment request target) before = None
-answered (OriginRequest number moment request target cause) before = None
-answered (OriginResponse number moment response) before = None
-answered (OriginFailure number moment) before = None
-
--- the same of the newest of these items
-abbrev pub newest_exchange : List Item → Option Exchange
-newest_exchange [] = None
-newest_exchange (item ∷ before) = answered item before
-
--- the exchange that the item at a position answers, if it is a reply: there the items up to it are looked at, the newest first
-abbrev pub exchange_at : ℕ → List Item → Option Exchange
-exchange_at position h = newest_exchange (drop (length h - position) h)
 
 abbrev pub kind_in : List Item → WrongReply → Kind
 kind_in h wrong = kind_to (exchange_at wrong.position h) wrong.reason

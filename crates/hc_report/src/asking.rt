@@ -1,9 +1,10 @@
 //! What a wrong reply asks for, so that what can't help isn't tried.
 
 use hc_audit::JudgedReply;
-use hc_facts::{Rule, rule_behind};
+use hc_facts::{Change, Rule, rule_behind};
 use hc_history::{Candidate, Reason};
 use hc_index::Index;
+use hc_why::{Shortfall, Why};
 use std::alloc::AllocError;
 
 /// What a wrong reply asks for: the rules that are broken by responses which it may carry, or a mark.
@@ -13,6 +14,8 @@ pub(crate) struct Asks {
     pub(crate) for_use: bool,
     /// One of which it has other fields.
     pub(crate) for_fields: bool,
+    /// One that may have fields of it in other lines.
+    pub(crate) for_joining: bool,
     /// One of which it has another Age.
     pub(crate) for_age: bool,
     /// One of which its mark tells other seconds.
@@ -29,6 +32,7 @@ impl Asks {
         Asks {
             for_use: false,
             for_fields: false,
+            for_joining: false,
             for_age: false,
             for_seconds: false,
             for_part: false,
@@ -36,10 +40,11 @@ impl Asks {
         }
     }
 
-    /// What a reply asks for that is wrong for that reason.
+    /// What a reply asks for that is wrong for that reason, and in that way.
     pub(crate) fn read<I: Index>(
         judged: &JudgedReply<'_, I>,
         reason: Reason,
+        why: &Why,
     ) -> Result<Self, AllocError> {
         let mut asks = Asks::nothing();
         match reason {
@@ -47,7 +52,10 @@ impl Asks {
             Reason::Unmarked => asks.for_mark = true,
             _ => {
                 asks.for_part = asks_for_part(judged);
-                asks.take_all(judged.candidates()?.as_slice());
+                let candidates = judged.candidates()?;
+                asks.take_all(candidates.as_slice());
+                let may_be_joined = 1 < candidates.len() || may_be_joined(why);
+                asks.for_joining = asks.for_fields && may_be_joined;
             }
         }
         Ok(asks)
@@ -78,4 +86,13 @@ fn asks_for_part<I: Index>(judged: &JudgedReply<'_, I>) -> bool {
         Some(claim) => claim.request.fields.contains(b"range"),
         None => false,
     }
+}
+
+// Whether the response that is named may have fields of the reply in other lines: not where each of those that differ is
+// in one of both alone.
+fn may_be_joined(why: &Why) -> bool {
+    let Some(Shortfall::Fields(found)) = why.shortfall() else {
+        return true;
+    };
+    found.more != 0 || found.listed.iter().any(|gap| gap.change == Change::Changed)
 }

@@ -35,7 +35,8 @@ pub(crate) enum Allowance {
 /// How many replies are wrong where something more is let pass.
 #[derive(Clone, Copy)]
 pub(crate) struct FixedTry {
-    allowance: Allowance,
+    /// What is let pass.
+    pub(crate) allowance: Allowance,
     /// How many replies are wrong still.
     pub(crate) wrong: u64,
 }
@@ -67,12 +68,25 @@ impl Allowance {
         match self {
             Allowance::Slack(_) => asks.for_use || asks.for_age || asks.for_seconds,
             Allowance::Unmarked | Allowance::InferredMarks => asks.for_mark,
-            Allowance::AddedFields | Allowance::JoinedLines => asks.for_fields,
+            Allowance::AddedFields => asks.for_fields,
+            Allowance::JoinedLines => asks.for_joining,
             Allowance::Ranges => asks.for_part,
             Allowance::All => asks.for_fields || asks.for_part,
             Allowance::Grace(_) => asks.for_use,
             Allowance::AgeSlack(_) => asks.for_age,
             Allowance::DefaultLifetime(_) => asks.for_use || asks.for_seconds,
+        }
+    }
+
+    // Whether it lets pass what that does, so that what is right with that is right with it, too.
+    fn lets_pass(&self, less: Allowance) -> bool {
+        match (*self, less) {
+            (Allowance::All, Allowance::AddedFields | Allowance::JoinedLines | Allowance::Ranges) =>
+                true,
+            (Allowance::Grace(more), Allowance::Grace(less))
+            | (Allowance::AgeSlack(more), Allowance::AgeSlack(less))
+            | (Allowance::DefaultLifetime(more), Allowance::DefaultLifetime(less)) => less <= more,
+            _ => false,
         }
     }
 
@@ -121,22 +135,43 @@ impl FixedTry {
         }
     }
 
-    /// Judges a wrong reply once more that asks for that, by settings that ignore what the audit ignores.
+    /// Judges a wrong reply once more that asks for that, and answers whether it is right then. What `less` is, if anything,
+    /// made it right; the settings ignore what the audit ignores.
     pub(crate) fn judge<I: Index>(
         &mut self,
         judged: &JudgedReply<'_, I>,
         asks: &Asks,
+        less: Option<Allowance>,
         settings: &mut Settings,
-    ) -> Result<(), AllocError> {
-        if self.allowance.serves(asks) {
-            reset(settings, judged.settings);
-            self.allowance.allow(settings);
-            if judged.found_with(settings)? == Finding::Right {
-                return Ok(());
-            }
+    ) -> Result<bool, AllocError> {
+        let is_right = self.serves(less) || self.makes_right(judged, asks, settings)?;
+        if !is_right {
+            self.wrong = self.wrong.saturating_add(1);
         }
-        self.wrong = self.wrong.saturating_add(1);
-        Ok(())
+        Ok(is_right)
+    }
+
+    // Whether it is known to make a reply right that less made right.
+    fn serves(&self, less: Option<Allowance>) -> bool {
+        match less {
+            Some(less) => self.allowance.lets_pass(less),
+            None => false,
+        }
+    }
+
+    // Whether it makes a reply right that asks for that.
+    fn makes_right<I: Index>(
+        &self,
+        judged: &JudgedReply<'_, I>,
+        asks: &Asks,
+        settings: &mut Settings,
+    ) -> Result<bool, AllocError> {
+        if !self.allowance.serves(asks) {
+            return Ok(false);
+        }
+        reset(settings, judged.settings);
+        self.allowance.allow(settings);
+        Ok(judged.found_with(settings)? == Finding::Right)
     }
 
     /// Writes what has to be asked for.

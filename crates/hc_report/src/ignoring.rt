@@ -74,10 +74,29 @@ impl IgnoringTry {
         if self.ignores_more() && judged.found_with(&self.settings)? == Finding::Right {
             return Ok(true);
         }
+        if !self.has_room_for(added) {
+            return Ok(false);
+        }
         match self.settings_without(added)? {
             Some(settings) => self.serves_with(judged, settings),
             None => Ok(false),
         }
+    }
+
+    // Whether those names are not too many, beside those so far: this saves a copy of these.
+    fn has_room_for(&self, differences: &Differences) -> bool {
+        let mut more = self
+            .settings
+            .ignored
+            .names()
+            .len()
+            .saturating_sub(self.given);
+        for gap in differences.listed.iter() {
+            if !self.settings.ignored.contains(gap.name.as_slice()) {
+                more = more.saturating_add(1);
+            }
+        }
+        more <= MOST_NAMES
     }
 
     // Whether a name is ignored that the audit doesn't ignore.

@@ -83,9 +83,12 @@ impl Tries {
         why: &Why,
     ) -> Result<(), AllocError> {
         self.ignoring.judge(judged, why)?;
-        let asks = Asks::read(judged, reason)?;
+        let asks = Asks::read(judged, reason, why)?;
+        let mut right = None;
         for fixed in &mut self.fixed {
-            fixed.judge(judged, &asks, &mut self.settings)?;
+            if fixed.judge(judged, &asks, right, &mut self.settings)? {
+                right = Some(fixed.allowance);
+            }
         }
         Ok(())
     }

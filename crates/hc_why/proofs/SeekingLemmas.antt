@@ -1,5 +1,5 @@
 -- What one reply more makes of what is found at a position.
-use Rattle.std.proofs.Common.{◌≡◌, ◌≢◌, ◌==◌, ℕ, Bool, true, false, List, [], ◌∷◌, ◌++◌, Option, Some, None, is_some, IfSome, refl, sym, ap, subst, ◌∙◌, arith}
+use Rattle.std.proofs.Common.{◌≡◌, ◌≢◌, ◌==◌, ◌≤◌, ◌-◌, ◌&&◌, ℕ, suc, Bool, true, false, List, [], ◌∷◌, ◌++◌, Option, Some, None, drop, is_some, length, nat_le, IfSome, refl, sym, ap, subst, ◌∙◌, arith}
 use Rattle.std.specs.Prelude.{if◌then◌else◌}
 use Rattle.std.proofs.lemmas.Bool.Decides.{nat_tests}
 use Rattle.std.specs.Option.{option_or}
@@ -11,7 +11,10 @@ use Rattle.hc_audit.specs.Told.{wrong_of}
 use Rattle.hc_why.specs.declared.explaining.Explanation.{Explanation}
 use Rattle.hc_why.specs.declared.seeking.ReplyAt.{ReplyAt}
 use Rattle.hc_why.specs.Explaining.{finding_of, position_of}
-use Rattle.hc_why.specs.Seeking.{IsFoundAt, IsOfPlace, reason_in, wrong_at}
+use Rattle.hc_why.specs.Seeking.{HasHeard, IsFoundAt, IsOfPlace, reason_in, wrong_at}
+use Rattle.hc_why.specs.Standing.{answered, exchange_at, newest_exchange, stands_at}
+use Rattle.hc_transcript.specs.Items.{Item}
+use Rattle.hc_transcript.specs.History.{next_position}
 
 -- ---- what stands at a place in a list, and in one behind it
 
@@ -109,3 +112,61 @@ is_found seeker wrongs position finding reason found same none reason-is told be
       reason = reason-is ∙ sym stands;
       found = is_of_place seeker.position position finding (wrongs ++ wrong_of position finding) found same stands told;
     }
+
+-- ---- where a reply stands, as items are added to those among which it stands
+
+le_from : (m n : ℕ) → nat_le m n ≡ true → m ≤ n
+le_from m n is = grind (arith, nat_tests)
+
+le_to : (m n : ℕ) → m ≤ n → nat_le m n ≡ true
+le_to m n few = grind (arith, nat_tests)
+
+both : (a b : Bool) → a ≡ true → b ≡ true → (a && b) ≡ true
+both true true one other = refl
+both true false one other = other
+both false b one other = absurd cc
+
+first_of_both : (a b : Bool) → (a && b) ≡ true → a ≡ true
+first_of_both true b is = refl
+first_of_both false b is = absurd cc
+
+second_of_both : (a b : Bool) → (a && b) ≡ true → b ≡ true
+second_of_both true b is = is
+second_of_both false b is = absurd cc
+
+-- it stands there still
+stands_later : (item : Item) (h : List Item) (place : ℕ) → stands_at place h ≡ true → stands_at place (item ∷ h) ≡ true
+stands_later item h place there =
+    let few = le_from place (length h) (first_of_both (nat_le place (length h)) (is_some (exchange_at place h)) there) in
+    let e : length (item ∷ h) - place ≡ suc (length h - place) = omega (arith, few) in
+    let same : exchange_at place (item ∷ h) ≡ exchange_at place h = ap (λ (n : ℕ). newest_exchange (drop n (item ∷ h))) e in
+    both (nat_le place (length (item ∷ h))) (is_some (exchange_at place (item ∷ h))) (le_to place (length (item ∷ h)) (omega (arith, few)))
+    (ap is_some same ∙ second_of_both (nat_le place (length h)) (is_some (exchange_at place h)) there)
+
+-- and the newest stands at the next position
+pub position_of_newest : (position : ℕ) (item : Item) (h : List Item) → position ≡ next_position h → position ≤ length (item ∷ h)
+position_of_newest position item h is = omega (arith, is)
+
+stands_newest : (item : Item) (h : List Item) (place : ℕ) → place ≡ next_position h → is_some (answered item h) ≡ true → stands_at place (item ∷ h) ≡ true
+stands_newest item h place is opened =
+    let e : length (item ∷ h) - place ≡ 0 = omega (arith, is) in
+    let same : exchange_at place (item ∷ h) ≡ answered item h = ap (λ (n : ℕ). newest_exchange (drop n (item ∷ h))) e in
+    both (nat_le place (length (item ∷ h))) (is_some (exchange_at place (item ∷ h))) (le_to place (length (item ∷ h)) (position_of_newest place item h is)) (ap is_some same ∙ opened)
+
+-- so who has heard of the items before has heard of all
+pub heard_later : (seeker : ReplyAt) (item : Item) (h : List Item) → HasHeard seeker h → HasHeard seeker (item ∷ h)
+heard_later seeker item h heard = record {
+  stands = λ found. stands_later item h seeker.position (heard.stands found);
+  finds = heard.finds;
+  passed = λ has. let few = heard.passed has in omega (arith, few);
+}
+
+-- and who finds it where it is the newest
+pub heard_newest : (seeker : ReplyAt) (reason : Option Reason) (found : Option Explanation) (item : Item) (h : List Item) → seeker.position ≡ next_position h
+    → is_some (answered item h) ≡ true → is_some found ≡ true → HasHeard seeker h
+    → HasHeard record { alloc = seeker.alloc; position = seeker.position; is_behind = seeker.is_behind; reason = reason; found = found } (item ∷ h)
+heard_newest seeker reason found item h is opened there heard = record {
+  stands = λ found_is. stands_newest item h seeker.position is opened;
+  finds = λ wrong. there;
+  passed = λ has. let few = heard.passed has in omega (arith, few);
+}

@@ -1,2 +1,3 @@
 pub mod Explaining
 pub mod Seeking
+pub mod Standing

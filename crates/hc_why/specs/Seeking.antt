@@ -1,5 +1,6 @@
 -- What the first reading tells.
-use Rattle.std.specs.Prelude.{◌≡◌, ℕ, ◌==◌, List, [], ◌∷◌, Option, Some, None, IfSome, if◌then◌else◌}
+use Rattle.std.specs.Prelude.{◌≡◌, ◌≤◌, ℕ, ◌==◌, List, [], ◌∷◌, true, Option, Some, None, IfSome, is_some, length, if◌then◌else◌}
+use Rattle.hc_transcript.specs.Items.{Item}
 use Rattle.hc_history.specs.declared.reasons.Reason.{Reason}
 use Rattle.hc_history.specs.declared.verdicts.Finding.{Finding}
 use Rattle.hc_history.specs.declared.verdicts.Finding.TheVariants.{Right, Wrong}
@@ -7,6 +8,7 @@ use Rattle.hc_history.specs.declared.wrong.WrongReply.{WrongReply}
 use Rattle.hc_why.specs.declared.first.FirstWrong.{FirstWrong}
 use Rattle.hc_why.specs.declared.seeking.ReplyAt.{ReplyAt}
 use Rattle.hc_why.specs.Explaining.{finding_of, position_of}
+use Rattle.hc_why.specs.Standing.{stands_at}
 
 -- ---- the first wrong reply
 
@@ -38,3 +40,14 @@ IsOfPlace place wrongs position finding = (position ≡ place) × (reason_in fin
 pub record IsFoundAt (seeker : ReplyAt) (wrongs : List WrongReply) : Type 0 where
   pub reason : seeker.reason ≡ wrong_at seeker.position wrongs
   pub found : IfSome seeker.found (λ reply. IsOfPlace seeker.position wrongs (position_of reply) (finding_of reply))
+
+-- the record at the position has passed
+abbrev pub HasPassed : ReplyAt → Type 0
+HasPassed seeker = seeker.is_behind ≡ true
+
+-- it has heard of these items: what it has found stands among them, what is wrong at the position it has found, and where it says that the position has passed, that
+-- is so
+pub record HasHeard (seeker : ReplyAt) (h : List Item) : Type 0 where
+  pub stands : is_some seeker.found ≡ true → stands_at seeker.position h ≡ true
+  pub finds : is_some seeker.reason ≡ true → is_some seeker.found ≡ true
+  pub passed : HasPassed seeker → seeker.position ≤ length h

@@ -1,6 +1,6 @@
 //! What is known of one reply, right or wrong.
 
-ghost use Rattle.std.specs.Prelude.{◌≡◌, List, IfOk, IfSome};
+ghost use Rattle.std.specs.Prelude.{◌≡◌, List, true, is_some, IfOk, IfSome, IsSome};
 ghost use Rattle.hc_transcript.specs.History.{exchange_of};
 ghost use Rattle.hc_transcript.specs.Items.{Item};
 ghost use Rattle.hc_history.specs.Right.{IsFinding};
@@ -13,7 +13,7 @@ use crate::reading::why_by;
 use crate::whys::Why;
 use hc_audit::JudgedReply;
 use hc_facts::{AskedReply, Newest, Setting};
-use hc_history::{Candidate, Finding, Mark, ReplyClaim, is_judged_collapsed};
+use hc_history::{Candidate, Finding, Mark, Reason, ReplyClaim, is_judged_collapsed};
 use hc_index::Index;
 use hc_past::{EndedForward, Source};
 use hc_update::Stored;
@@ -185,7 +185,9 @@ impl Explanation {
         alloc: Global,
         judged: &JudgedReply<'_, I>,
     ) -> Result<Option<Self>, AllocError>
-        ensures { IfOk result (λ found. IfSome found (λ reply. (position_of reply ≡ judged.now.position) × (finding_of reply ≡ judged.now.finding))) }
+        ensures told { IfOk result (λ found. IfSome found (λ reply. (position_of reply ≡ judged.now.position) × (finding_of reply ≡ judged.now.finding))) }
+        ensures there { (h : List Item) → IsSeenAs judged.now.format (I.seen judged.now.index.now) h → IsSome (exchange_of judged.now.exchange h)
+            → IfOk result (λ found. is_some found ≡ true) }
     {
         let Some(claim) = judged.claim() else {
             return Ok(None);
@@ -265,6 +267,39 @@ impl Explanation {
         self.sources
             .iter()
             .find(|source| source.record.position == position)
+    }
+
+    /// Whether a 304 behind the request validated that response.
+    pub fn was_validated(&self, nearest: &Nearest) -> bool {
+        match nearest.validated_at {
+            Some(position) => self.since < position,
+            None => false,
+        }
+    }
+
+    /// Whether the reply has the status and the body with which that response came.
+    pub fn is_given(&self, nearest: &Nearest) -> bool {
+        match self.source(nearest.position) {
+            Some(source) => source.is_given,
+            None => false,
+        }
+    }
+
+    /// Whether a reply that went forward is to be that stored response, or gives it.
+    pub fn stands_for(&self, nearest: &Nearest) -> bool {
+        self.was_validated(nearest) || self.is_given(nearest)
+    }
+
+    /// The reason whose demand a reply doesn't keep that is wrong for that one. Where it went forward and is to be a
+    /// stored response, or gives it, that is the reason of the rule which this breaks.
+    pub fn demanded(&self, reason: Reason) -> Reason {
+        let Ground::Wrong(Why::NotForwarded(_, Some(nearest))) = &self.ground else {
+            return reason;
+        };
+        match nearest.breaks() {
+            Some(rule) if self.stands_for(nearest) => rule.reason(),
+            _ => reason,
+        }
     }
 
     /// The state before a 304 of the response that is named, if there is one then.

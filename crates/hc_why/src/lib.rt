@@ -18,5 +18,5 @@ pub use naming::{Nearest, Reach, Reaches};
 pub use reading::why;
 pub use retracing::Retracing;
 pub use seeking::ReplyAt;
-pub use shortfalls::{Invalidator, NotAbout, OriginError, Shortfall, UseGap};
+pub use shortfalls::{Invalidator, NotAbout, OriginError, Shortfall};
 pub use whys::{NoMark, Why};

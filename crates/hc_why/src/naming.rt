@@ -1,6 +1,6 @@
 //! The responses that a reply may carry, and the one of them that is named.
 
-use crate::shortfalls::{NotAbout, Shortfall};
+use crate::shortfalls::{NotAbout, OriginError, Shortfall};
 use hc_audit::JudgedReply;
 use hc_facts::{NAMED, Newest, RecordName, Rule, Setting, has_body, rule_behind};
 use hc_history::{Candidate, ReplyClaim};
@@ -70,6 +70,10 @@ pub struct Nearest {
     pub validator: Option<RecordName>,
     /// The moment that its Date shows, where that isn't the one at which it came.
     pub date: Option<u64>,
+    /// The latest error of the origin in the window, as far as it was looked for.
+    pub error: Option<OriginError>,
+    /// The record of the latest failure in the window, as far as it was looked for.
+    pub failure: Option<RecordName>,
     /// In what it falls short; nothing where it keeps all rules.
     pub shortfall: Option<Shortfall>,
     /// The 304s that aren't about it, as far as they were looked for: of the window, since one was about it; of an
@@ -84,6 +88,8 @@ impl Drop for Nearest {
             validated_at: _,
             validator: _,
             date: _,
+            error: _,
+            failure: _,
             shortfall,
             not_about,
         } = self;
@@ -101,7 +107,7 @@ impl Nearest {
     /// The setting by which it may be used, where it may not be used without, and there is one.
     pub(crate) fn setting(&self) -> Option<Setting> {
         match &self.shortfall {
-            Some(Shortfall::Lifetime(gap) | Shortfall::Use(gap)) => gap.usage.setting,
+            Some(Shortfall::Lifetime(usage) | Shortfall::Use(usage)) => usage.setting,
             _ => None,
         }
     }
@@ -124,6 +130,8 @@ impl Nearest {
             validated_at: state.validated_at,
             validator: None,
             date: date_of(state),
+            error: None,
+            failure: None,
             shortfall: shortfall(alloc, claim, state, rule_behind(candidate.passed))?,
             not_about: Newest::new(alloc),
         })

@@ -4,11 +4,12 @@ ghost use Rattle.std.specs.Prelude.{◌≡◌};
 
 use crate::explaining::{Explanation, Ground};
 use crate::naming::Nearest;
-use crate::shortfalls::{Invalidator, NotAbout, OriginError, Shortfall, UseGap};
+use crate::shortfalls::{Invalidator, NotAbout, OriginError, Shortfall};
 use crate::whys::Why;
 use hc_audit::{JudgedReply, PassedRecord, Witness};
 use hc_facts::{Against, AskedReply, Newest, first_against};
-use hc_head::{is_error_status, same_target};
+use hc_framing::Message;
+use hc_head::{ResponseHead, is_error_status, same_target};
 use hc_index::Index;
 use hc_past::{EndedForward, Source, Unstored, Wanted, ended, unstorable};
 use hc_transcript::{Meaning, OwnedItem};
@@ -133,9 +134,18 @@ fn wanted_of(reply: &AskedReply, exchange: u64, since: u64) -> Wanted<'_> {
 }
 
 impl Explanation {
-    // Whether the reply carries that end of a forward.
-    fn carries(&self, ended: &EndedForward<'_>) -> Result<bool, AllocError> {
-        wanted_of(&self.reply, self.exchange, self.since).carries(&ended.end())
+    // What it was asked for, and what it carries.
+    fn wanted(&self) -> Wanted<'_> {
+        wanted_of(&self.reply, self.exchange, self.since)
+    }
+
+    // The record of the response with which that forward ended.
+    fn source_of(
+        &self,
+        ended: &EndedForward<'_>,
+        response: &Message<ResponseHead>,
+    ) -> Result<Source, AllocError> {
+        Source::read(self.alloc, ended, response, &self.wanted())
     }
 
     // Takes in the record of a response that it may carry.
@@ -144,11 +154,11 @@ impl Explanation {
             return Ok(());
         };
         if self.reaches.names(ended.record.position) {
-            let source = Source::read(self.alloc, ended, &response.head)?;
+            let source = self.source_of(ended, response)?;
             self.sources.push(source)?;
         }
-        if self.carries(ended)? {
-            self.carried = Some(Source::read(self.alloc, ended, &response.head)?);
+        if self.wanted().carries(&ended.end())? {
+            self.carried = Some(self.source_of(ended, response)?);
         }
         Ok(())
     }
@@ -159,7 +169,7 @@ impl Explanation {
             return Ok(());
         };
         if self.ground.ends_at(ended.record.position) {
-            let source = Source::read(self.alloc, ended, &response.head)?;
+            let source = self.source_of(ended, response)?;
             self.unstored.push(source)?;
         }
         Ok(())
@@ -332,6 +342,7 @@ impl Nearest {
         if self.validated_at == Some(place.ended.record.position) {
             self.renew(place);
         }
+        self.take_trouble(place);
         let is_settled = place.ended.record.position <= self.settled_at();
         let is_anew = match &mut self.shortfall {
             Some(shortfall) => shortfall.take(place, is_settled)?,
@@ -341,6 +352,18 @@ impl Nearest {
             self.not_about.clear();
         }
         self.take_not_about(place, is_settled)
+    }
+
+    // Takes in an error or a failure of the window.
+    fn take_trouble(&mut self, place: &Place<'_>) {
+        if !place.is_in_window() {
+            return;
+        }
+        if place.ended.response.is_none() {
+            self.failure = Some(place.ended.record);
+        } else if let Some(error) = place.error() {
+            self.error = Some(error);
+        }
     }
 
     // Takes in the 304 that freshened it last, and which fields that has.
@@ -384,10 +407,6 @@ impl Shortfall {
     fn take(&mut self, place: &Place<'_>, is_settled: bool) -> Result<bool, AllocError> {
         match self {
             Shortfall::Valid(by) if !is_settled => take_invalidator(by, place),
-            Shortfall::Lifetime(gap) | Shortfall::Use(gap) => {
-                gap.take(place);
-                Ok(false)
-            }
             _ => Ok(false),
         }
     }
@@ -400,18 +419,4 @@ fn take_invalidator(by: &mut Newest<Invalidator>, place: &Place<'_>) -> Result<b
     };
     by.push(invalidator)?;
     Ok(true)
-}
-
-impl UseGap {
-    // Takes in an error or a failure of the window.
-    fn take(&mut self, place: &Place<'_>) {
-        if !place.is_in_window() {
-            return;
-        }
-        if place.ended.response.is_none() {
-            self.failure = Some(place.ended.record);
-        } else if let Some(error) = place.error() {
-            self.error = Some(error);
-        }
-    }
 }

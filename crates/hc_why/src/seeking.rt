@@ -1,10 +1,13 @@
 //! The first reading, which looks for the reply.
 
-ghost use Rattle.std.specs.Prelude.{◌≡◌, ◌++◌, List, [], None, true, slice_get, IfSome, IsSome, OnOk};
+ghost use Rattle.std.specs.Prelude.{◌≡◌, ◌≤◌, ◌++◌, List, [], ◌∷◌, None, true, length, slice_get, IfSome, IsSome, OnOk};
+ghost use Rattle.hc_transcript.specs.Items.{Item};
 ghost use Rattle.hc_history.specs.declared.wrong.WrongReply.{WrongReply};
+ghost use Rattle.hc_audit.specs.Hearing.{IsReplyBehind, item_judged};
 ghost use Rattle.hc_audit.specs.Told.{wrong_of};
 ghost use Rattle.hc_why.specs.Explaining.{finding_of, position_of};
-ghost use Rattle.hc_why.specs.Seeking.{IsFoundAt, IsOfPlace, first_of, place_of, reason_in};
+ghost use Rattle.hc_why.specs.Seeking.{HasHeard, HasPassed, IsFoundAt, IsOfPlace, first_of, place_of, reason_in, wrong_at};
+ghost use Rattle.hc_why.specs.Standing.{stands_at};
 
 use crate::explaining::Explanation;
 use crate::first::FirstWrong;
@@ -101,6 +104,7 @@ impl ReplyAt {
     pub fn new(alloc: Global, position: u64) -> Self
         ensures place { place_of result ≡ position }
         ensures tells { IsFoundAt result [] }
+        ensures hears { HasHeard result [] }
     {
         ReplyAt {
             alloc,
@@ -111,11 +115,23 @@ impl ReplyAt {
         }
     }
 
+    /// The position.
+    pub fn position(&self) -> u64
+        ensures { result ≡ place_of self.now }
+    {
+        self.position
+    }
+
     /// What was found of the reply, which is moved. None where another record, or none, stands there.
     pub fn into_found(self) -> Option<Explanation>
-        // It stands there, and is wrong where one of the wrong replies stands there, by its reason.
-        ensures { (wrongs : List WrongReply) → IsFoundAt self wrongs
+        // It is wrong where one of the wrong replies stands there, by its reason.
+        ensures place { (wrongs : List WrongReply) → IsFoundAt self wrongs
             → IfSome result (λ reply. IsOfPlace (place_of self) wrongs (position_of reply) (finding_of reply)) }
+        // It stands there.
+        ensures stands { (h : List Item) → HasHeard self h → IsSome result → stands_at (place_of self) h ≡ true }
+        // Where there is none, no wrong reply stands there.
+        ensures none { (h : List Item) (wrongs : List WrongReply) → HasHeard self h → IsFoundAt self wrongs → result ≡ None
+            → wrong_at (place_of self) wrongs ≡ None }
     {
         let ReplyAt {
             alloc: _,
@@ -128,13 +144,16 @@ impl ReplyAt {
     }
 
     /// Whether the record at the position has passed, so that no further one tells more of it.
-    pub fn is_behind(&self) -> bool {
+    pub fn is_behind(&self) -> bool
+        ensures { result ≡ true → HasPassed self.now }
+    {
         self.is_behind
     }
 
     // Takes in that the record at that position has passed.
     fn pass_by(&mut self, position: u64)
-        ensures { (wrongs : List WrongReply) → IsFoundAt self.old wrongs → IsFoundAt self.new wrongs }
+        ensures told { (wrongs : List WrongReply) → IsFoundAt self.old wrongs → IsFoundAt self.new wrongs }
+        ensures heard { (h : List Item) → position ≤ length h → HasHeard self.old h → HasHeard self.new h }
     {
         if self.position <= position {
             self.is_behind = true;
@@ -143,8 +162,10 @@ impl ReplyAt {
 
     // Takes in a reply.
     fn take<I: Index>(&mut self, judged: &JudgedReply<'_, I>) -> Result<(), AllocError>
-        ensures { (wrongs : List WrongReply) → IsFoundAt self.old wrongs
+        ensures told { (wrongs : List WrongReply) → IsFoundAt self.old wrongs
             → OnOk result (IsFoundAt self.new (wrongs ++ wrong_of judged.now.position judged.now.finding)) }
+        ensures heard { (h : List Item) → HasHeard self.old h → IsReplyBehind I.seen h judged.now
+            → OnOk result (HasHeard self.new (item_judged judged.now ∷ h)) }
     {
         if judged.position != self.position {
             return Ok(());
@@ -171,7 +192,7 @@ fn reason_in(finding: Finding) -> Option<Reason>
 impl<I: Index> Witness<I> for ReplyAt {
     ghost tells = { λ seeker wrongs. IsFoundAt seeker wrongs };
 
-    ghost hears = { λ _ h. Unit {0} };
+    ghost hears = { λ seeker h. HasHeard seeker h };
 
     fn pass(&mut self, passed: &PassedRecord<'_, I>) -> Result<(), AllocError> {
         self.pass_by(passed.position);

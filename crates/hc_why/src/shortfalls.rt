@@ -39,28 +39,6 @@ pub struct OriginError {
     pub status: StatusCode,
 }
 
-/// Why a response may not be used.
-#[derive(Clone, Copy)]
-pub struct UseGap {
-    /// How old it is, and what forbids to use it.
-    pub usage: Usage,
-    /// The latest error in the window, as far as it was looked for.
-    pub error: Option<OriginError>,
-    /// The record of the latest failure in the window, as far as it was looked for.
-    pub failure: Option<RecordName>,
-}
-
-impl UseGap {
-    /// What the state of the response tells.
-    fn read(claim: &ReplyClaim<'_>, state: &Stored) -> Self {
-        UseGap {
-            usage: usage_at(claim, state),
-            error: None,
-            failure: None,
-        }
-    }
-}
-
 /// A 304 of the response's target that isn't about it.
 pub struct NotAbout {
     /// Its record.
@@ -86,9 +64,9 @@ pub enum Shortfall {
     /// It is invalidated: by these since it is as it is, as far as they were looked for.
     Valid(Newest<Invalidator>),
     /// It states no lifetime, and may not be used without.
-    Lifetime(UseGap),
+    Lifetime(Usage),
     /// It may not be used.
-    Use(UseGap),
+    Use(Usage),
     /// The reply has another status, or another body.
     Body(ContentGap),
     /// The reply has other fields.
@@ -111,8 +89,8 @@ impl Shortfall {
             Rule::Asked => Ok(Shortfall::Asked(claim.request.method.clone()?)),
             Rule::Selected => Ok(Shortfall::Selected(unmet_members(alloc, claim, state)?)),
             Rule::Valid => Ok(Shortfall::Valid(Newest::new(alloc))),
-            Rule::Lifetime => Ok(Shortfall::Lifetime(UseGap::read(claim, state))),
-            Rule::Use => Ok(Shortfall::Use(UseGap::read(claim, state))),
+            Rule::Lifetime => Ok(Shortfall::Lifetime(usage_at(claim, state))),
+            Rule::Use => Ok(Shortfall::Use(usage_at(claim, state))),
             Rule::Body => Ok(Shortfall::Body(content_gap(alloc, claim, state)?)),
             Rule::Fields => Ok(Shortfall::Fields(compare(alloc, claim, state)?)),
             Rule::Age => Ok(Shortfall::Age(age_gap(alloc, claim, state)?)),

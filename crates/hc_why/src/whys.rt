@@ -72,9 +72,7 @@ impl Shortfall {
             (Shortfall::Selected(one), Shortfall::Selected(other)) => one.is_as(other),
             (Shortfall::Fields(one), Shortfall::Fields(other)) => one.is_as(other),
             (Shortfall::Lifetime(one), Shortfall::Lifetime(other))
-            | (Shortfall::Use(one), Shortfall::Use(other)) => {
-                one.usage.forbidden == other.usage.forbidden
-            }
+            | (Shortfall::Use(one), Shortfall::Use(other)) => { one.forbidden == other.forbidden }
             (one, other) => one.kind() == other.kind() && one.is_low() == other.is_low(),
         }
     }

@@ -10,10 +10,10 @@ use std::fmt::Write;
 // Says what the response that is named behind a request lacks.
 fn say_lacks(reason: Reason, out: &mut String) -> Result<(), AllocError> {
     if reason == Reason::NoResponse {
-        return out.push_str("no response behind the request");
+        return out.push_str("no response after the request");
     }
     let name = reason.name();
-    write!(out, "the response behind the request fails by {name}")
+    write!(out, "the response after the request fails by {name}")
 }
 
 // One of two words.
@@ -27,8 +27,8 @@ impl Shortfall {
             Shortfall::Asked(_) => out.push_str("the request is neither GET nor HEAD"),
             Shortfall::Selected(selection) => selection.say(out),
             Shortfall::Valid(_) => out.push_str("no 304 since"),
-            Shortfall::Lifetime(gap) | Shortfall::Use(gap) => {
-                out.push_str(gap.usage.forbidden.words())
+            Shortfall::Lifetime(usage) | Shortfall::Use(usage) => {
+                out.push_str(usage.forbidden.words())
             }
             Shortfall::Body(gap) => {
                 out.push_str(choose(gap.is_of_body(), "another body", "another status"))

@@ -12,6 +12,7 @@ returns g c =
       verdict = c.verdict-verdict.result;
       is = verdict_of_all (TellsAllOf report) (HasHeardOf report) c.args.settings _ _ outcome c.verdict-verdict.result surveyed
           (λ octets h wrongs told all. c.verdict-verdict.ensures.verdict octets c.args.settings h wrongs all (c.first_wrong.ensures wrongs told));
-      says = says_report c.args.form.now.json c.args.form.now.baseline report c.args.settings outcome c.verdict-verdict.result _ _ _ _ _ surveyed c.in_ok-said_in.ensures;
+      says = says_report c.args.form.now.json c.args.form.now.baseline report c.args.settings outcome c.verdict-verdict.result _ _ _ _ _ surveyed
+          (λ octets h wrongs told all. c.verdict-verdict.ensures.verdict octets c.args.settings h wrongs all (c.first_wrong.ensures wrongs told)) c.in_ok-said_in.ensures;
       ends = ends_for c.args.form.now.baseline report c.args.settings c.verdict-verdict.result c.last_of-last.result outcome _ _ surveyed c.last_of-last.ensures;
     }

@@ -1,4 +1,4 @@
-use Rattle.hc_command.proofs.HeldLemmas.{held_on, refused_on, unnamed_on}
+use Rattle.hc_command.proofs.HeldLemmas.{held_on, one_of_both, refused_on, unnamed_on}
 use Rattle.hc_command.proofs.run.report_asked.Goals as goal
 
 pub returns-in_default : goal.returns-in_default
@@ -9,4 +9,4 @@ returns-in-Ok g c =
     held_on c.args.form.baseline (λ name. name.now) c.in-Some.name c.args.form.json c.in-Ok.known c.args.terms c.reported-in-Ok.result _ _ _ _ c.in-Some.is c.reported-in-Ok.ensures
 
 pub returns-in-Err : goal.returns-in-Err
-returns-in-Err g c = refused_on c.args.form.baseline (λ name. name.now) c.in-Some.name c.args.form.json c.args.terms c.told.result _ _ _ c.in-Some.is c.told.ensures
+returns-in-Err g c = refused_on c.args.form.baseline (λ name. name.now) c.in-Some.name c.args.form.json c.args.terms c.told.result _ _ _ c.in-Some.is (one_of_both _ _ c.told.ensures)
