@@ -29,7 +29,6 @@ use Rattle.hc_arguments.specs.declared.limit.Limit.{Limit}
 use Rattle.hc_arguments.specs.declared.limit.Limit.TheVariants.{MaxConnections, OriginConnections, IdleTimeout, RequestTimeout, SendTimeout}
 use Rattle.hc_arguments.specs.declared.limit.Limit.TheVariants.{QueueTimeout, ConnectTimeout, OriginTimeout, OriginTotal, DrainTimeout}
 use Rattle.hc_arguments.specs.declared.order.AuditTerms.{AuditTerms}
-use Rattle.hc_arguments.specs.declared.order.ExplainTerms.{ExplainTerms}
 use Rattle.hc_arguments.specs.declared.order.Minimums.{Minimums}
 use Rattle.hc_arguments.specs.declared.order.Order.{Order}
 use Rattle.hc_arguments.specs.declared.order.ProxyLimits.{ProxyLimits}

@@ -1,5 +1,5 @@
 -- What is left where neither the forward nor the 304 says anything against it, and the response selects the forward.
-use Rattle.std.proofs.Common.{◌≡◌, ◌&&◌, ◌==◌, Bool, true, false, not, Option, Some, None, refl, ap, sym, ◌∙◌}
+use Rattle.std.proofs.Common.{◌≡◌, ◌&&◌, ◌==◌, Bool, true, false, not, Some, None, ap, sym, ◌∙◌}
 use Rattle.std.specs.Prelude.{codes, if◌then◌else◌}
 use Rattle.std.specs.Option.{option_or}
 use Rattle.hc_head.specs.declared.head.RequestHead.{RequestHead}
@@ -10,7 +10,6 @@ use Rattle.hc_fresh.specs.Lifetimes.{says}
 use Rattle.hc_rules.specs.Selecting.{selects}
 use Rattle.hc_update.specs.declared.stored.Stored.{Stored}
 use Rattle.hc_update.specs.Identifying.{identifies, validators_agree}
-use Rattle.hc_facts.specs.declared.against.Against.{Against}
 use Rattle.hc_facts.specs.declared.against.Against.TheVariants as against
 use Rattle.hc_facts.specs.declared.against.ValidatorGap.{ValidatorGap}
 use Rattle.hc_facts.specs.Against.{against_of, gap_of, had_of, said_of}

@@ -1,12 +1,12 @@
 -- What requests and responses share: an answer that stands only where it says so finds the head that is there.
-use Rattle.std.proofs.Common.{◌≤◌, ◌≡◌, ℕ, Bool, false, List, [], ◌++◌, Result, Ok, Err, drop, map, sym, ap, subst, ◌∙◌, arith}
+use Rattle.std.proofs.Common.{◌≤◌, ◌≡◌, ℕ, false, List, [], ◌++◌, Result, Ok, Err, drop, map, sym, ap, subst, ◌∙◌, arith}
 use Rattle.std.proofs.lemmas.List.{take-append-drop}
 use Rattle.std.proofs.lemmas.Simd.{map-map}
 use Rattle.httparse.specs.declared.spans.HeaderSpan.{HeaderSpan}
 use Rattle.httparse.specs.Grammar.{Field as Line}
 use Rattle.httparse.specs.Spans.{header_bytes, name_and_value}
 use Rattle.hc_head.specs.Heads.{lower_field, field_at, field_of}
-use Rattle.hc_head.specs.Reading.{IsWholeHead, GivesHead, FindsHead, HasNoHead, NeverHasHead, has_too_many}
+use Rattle.hc_head.specs.Reading.{IsWholeHead, GivesHead, FindsHead, has_too_many}
 use Rattle.hc_head.specs.declared.head.Room.{Room}
 use Rattle.hc_head.specs.declared.head.Step.{Step}
 use Rattle.hc_head.specs.declared.head.Step.TheVariants.{More, Whole}

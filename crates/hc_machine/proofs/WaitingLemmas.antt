@@ -1,6 +1,6 @@
 -- Those that wait for a forward can be released once it has ended, one after another.
 use Rattle.std.proofs.Common.{◌≡◌, ℕ, Bool, true, false, ◌||◌, List, [], ◌∷◌, ◌++◌, Option, Some, None, refl, sym, ap, ◌∙◌, subst, ⊎_elim, option_map}
-use Rattle.std.specs.FinMap.{entries, get, insert, remove}
+use Rattle.std.specs.FinMap.{get, insert, remove}
 use Rattle.std.specs.List.{AllByRecursion}
 use Rattle.std.specs.Ordering.{nat_cmp}
 use Rattle.std.specs.declared.cmp.Ordering.TheVariants.{Less}
