@@ -6,34 +6,78 @@ use crate::layout::{push_number, push_record};
 use hc_facts::{AgeGap, AgeParts, AgeTold, RecordName, TtlGap};
 use hc_fresh::Times;
 use hc_shown::push_value;
+use hc_why::{Explanation, Nearest};
 use std::alloc::AllocError;
 use std::fmt::Write;
 
 /// Writes the Age that a reply tells.
 fn push_told(told: &AgeTold, out: &mut String) -> Result<(), AllocError> {
     match told {
-        AgeTold::Missing => out.push_str("no Age"),
-        AgeTold::Several => out.push_str("several Age lines"),
-        AgeTold::Seconds(told) => push_number("Age ", u64::from(*told), "", out),
-        AgeTold::Unreadable(value) => {
-            out.push_str("Age ")?;
-            push_value(b"age", value.as_slice(), out)
+        AgeTold::Missing => out.push_str("none"),
+        AgeTold::Several => out.push_str("several lines"),
+        AgeTold::Seconds(told) => push_number("", u64::from(*told), "", out),
+        AgeTold::Unreadable(value) => push_value(b"age", value.as_slice(), out),
+    }
+}
+
+/// What an age is counted from.
+#[derive(Clone, Copy)]
+pub(crate) struct AgeOrigin {
+    /// The 304 that freshened the response last, as far as it was looked for.
+    validator: Option<RecordName>,
+    /// The forward that the response answers, where it is known, and no 304 freshened that.
+    sent: Option<RecordName>,
+    /// The position of a response that came with an Age, where a 304 freshened it.
+    aged: Option<u64>,
+}
+
+impl AgeOrigin {
+    /// What the age of the response that is named is counted from.
+    pub(crate) fn of(explanation: &Explanation, nearest: &Nearest) -> Self {
+        let source = explanation.source(nearest.position);
+        match nearest.validated_at {
+            Some(_) => AgeOrigin {
+                validator: nearest.validator,
+                sent: None,
+                aged: source
+                    .filter(|source| source.age.is_some())
+                    .map(|_| nearest.position),
+            },
+            None => AgeOrigin {
+                validator: None,
+                sent: source.and_then(|source| source.sent),
+                aged: None,
+            },
         }
     }
 }
 
+/// Writes for how many seconds a response was on its way, since that forward, if it is known.
+fn push_delay(delay: u64, sent: Option<RecordName>, out: &mut String) -> Result<(), AllocError> {
+    push_number("", delay, " (on its way", out)?;
+    if let Some(sent) = sent {
+        out.push_str(" since ")?;
+        push_record(sent, out)?;
+    }
+    out.push_str(")")
+}
+
 /// Writes the age that a response had when it came: by its Date, or by its Age and the time that it took.
-fn push_first_age(times: Times, out: &mut String) -> Result<(), AllocError> {
+fn push_first_age(
+    times: Times,
+    sent: Option<RecordName>,
+    out: &mut String,
+) -> Result<(), AllocError> {
     let apparent = times.response_time.saturating_sub(times.date);
     let delay = times.response_time.saturating_sub(times.request_time);
     let told = times.age_value;
     if u64::from(told).saturating_add(delay) < apparent {
         return push_number("", apparent, " (Date)", out);
     }
-    if told == 0 {
-        return push_number("", delay, " (on its way)", out);
+    if told != 0 {
+        push_number("", u64::from(told), " (Age) + ", out)?;
     }
-    write!(out, "{told} (Age) + {delay} (on its way)")
+    push_delay(delay, sent, out)
 }
 
 /// Writes for how many seconds a response was stored, since that 304, if one freshened it.
@@ -53,54 +97,64 @@ fn push_stored(
 /// Writes of what an age is the sum, behind what stands for the age.
 pub(crate) fn push_sum(
     parts: AgeParts,
-    validator: Option<RecordName>,
+    origin: AgeOrigin,
     out: &mut String,
 ) -> Result<(), AllocError> {
     out.push_str(" = ")?;
-    push_first_age(parts.times, out)?;
-    push_stored(parts.resident, validator, out)
+    push_first_age(parts.times, origin.sent, out)?;
+    push_stored(parts.resident, origin.validator, out)
 }
 
-/// Writes the age that is due, and of what it is the sum.
-fn push_due(
-    due: u64,
-    parts: AgeParts,
-    validator: Option<RecordName>,
-    out: &mut String,
-) -> Result<(), AllocError> {
-    push_number(", due ", due, "", out)?;
-    push_sum(parts, validator, out)?;
+/// Writes the age that is due where it is counted from the arrival of the response alone, if that is another one.
+fn push_by_arrival(due: u64, parts: AgeParts, out: &mut String) -> Result<(), AllocError> {
     if due == parts.resident {
         return Ok(());
     }
-    push_number("; by its arrival alone ", parts.resident, "", out)
+    push_number(
+        " (counted from its arrival alone ",
+        parts.resident,
+        ")",
+        out,
+    )
 }
 
-/// Writes the Age that the reply tells, and the one that is due.
-pub(crate) fn say_age(
-    gap: &AgeGap,
-    validator: Option<RecordName>,
-    out: &mut String,
-) -> Result<(), AllocError> {
+/// Writes the Age that is due, with its sum, and the one that the reply tells.
+pub(crate) fn say_age(gap: &AgeGap, origin: AgeOrigin, out: &mut String) -> Result<(), AllocError> {
+    let due = u64::from(gap.due);
+    push_number("age: due ", due, "", out)?;
+    push_sum(gap.parts, origin, out)?;
+    let is_number = matches!(&gap.told, AgeTold::Seconds(_));
+    if is_number {
+        push_slack(gap.slack, out)?;
+    }
+    out.push_str(", the reply has ")?;
     push_told(&gap.told, out)?;
-    push_due(u64::from(gap.due), gap.parts, validator, out)?;
-    push_slack(gap.slack, out)
-}
-
-/// Writes for how many seconds the reply says to be fresh still.
-fn push_told_ttl(ttl: Option<i64>, out: &mut String) -> Result<(), AllocError> {
-    match ttl {
-        Some(told) => write!(out, "ttl {told}"),
-        None => out.push_str("no ttl"),
+    if is_number {
+        push_by_arrival(due, gap.parts, out)?;
+    }
+    match origin.aged {
+        Some(position) => {
+            push_number(
+                "; the Age with which ",
+                position,
+                " came counts no more",
+                out,
+            )
+        }
+        None => Ok(()),
     }
 }
 
-/// Writes the seconds that the reply says to be fresh still, and those that are due.
+/// Writes the seconds for which a reply is due to say that it is fresh still, and those that it says.
 pub(crate) fn say_ttl(gap: TtlGap, out: &mut String) -> Result<(), AllocError> {
-    push_told_ttl(gap.told, out)?;
     let due = gap.due();
     let lifetime = gap.lifetime;
     let age = gap.age;
-    write!(out, ", due {due} = {lifetime} (lifetime) - {age} (age)")?;
-    push_slack(gap.slack, out)
+    write!(out, "ttl: due {due} = {lifetime} (lifetime) - {age} (age)")?;
+    push_slack(gap.slack, out)?;
+    out.push_str(", the reply has ")?;
+    match gap.told {
+        Some(told) => write!(out, "{told}"),
+        None => out.push_str("none"),
+    }
 }

@@ -19,7 +19,7 @@ fn push_behind(
     if let Some(nearest) = nearest {
         return say_failing(explanation, nearest, out);
     }
-    let before = "no response that may be stored came after the request at ";
+    let before = "no storable response came after the request at ";
     push_number(before, explanation.since, "", out)?;
     push_unstorables(": ", unstored, explanation.unstored.named.as_slice(), out)
 }

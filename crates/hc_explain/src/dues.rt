@@ -1,6 +1,6 @@
 //! What was due in place of a stored response that may not be given, and what came (RFC 9111 section 4).
 
-use crate::layout::{begin_line, end_line, push_number, push_record};
+use crate::layout::{begin_line, end_line, push_number, push_record, push_sent};
 use hc_facts::{Newest, RecordName};
 use hc_past::Source;
 use hc_why::{Explanation, Invalidator, Nearest, OriginError, Shortfall};
@@ -9,28 +9,37 @@ use std::alloc::AllocError;
 /// What a reply has that isn't from the store.
 const ANSWER: &str = "an answer of the origin to this request";
 
-/// Writes the answer to a forward of the request, and behind it what came in place of that: the answer to another forward,
-/// if it is known that the reply gives this.
-fn push_answer(given: Option<&Source>, out: &mut String) -> Result<(), AllocError> {
-    out.push_str(ANSWER)?;
+/// Writes what came in place of an answer to a forward of the request: the answer to another forward, if it is known that the
+/// reply gives this.
+fn push_other_answer(given: Option<&Source>, out: &mut String) -> Result<(), AllocError> {
     let Some(source) = given else {
         return Ok(());
     };
     out.push_str("; came ")?;
     push_record(source.record, out)?;
-    match source.sent {
-        Some(sent) => {
-            out.push_str(", the answer to ")?;
-            push_record(sent, out)
-        }
-        None => Ok(()),
-    }
+    push_sent(source.sent, out)
 }
 
 /// Writes the line of the answer that was due where nothing is stored.
 pub(crate) fn say_answer(given: Option<&Source>, out: &mut String) -> Result<(), AllocError> {
     begin_line("due", "", out)?;
-    push_answer(given, out)?;
+    out.push_str(ANSWER)?;
+    push_other_answer(given, out)?;
+    end_line(out)
+}
+
+/// Writes the same where a stored response isn't selected, and that a 304 which isn't about it is no such answer.
+fn say_due_unselected(
+    nearest: &Nearest,
+    given: Option<&Source>,
+    out: &mut String,
+) -> Result<(), AllocError> {
+    begin_line("due", "", out)?;
+    out.push_str(ANSWER)?;
+    if !nearest.not_about.is_empty() {
+        out.push_str(" that is no 304")?;
+    }
+    push_other_answer(given, out)?;
     end_line(out)
 }
 
@@ -44,9 +53,14 @@ fn push_came(given: Option<&Source>, out: &mut String) -> Result<(), AllocError>
     out.push_str(" as it was stored")
 }
 
-/// Writes that a 304 about the response would do, too.
+/// Writes that the response would do, too, once a 304 has validated it.
 fn push_or_validation(nearest: &Nearest, out: &mut String) -> Result<(), AllocError> {
-    push_number(", or a 304 about ", nearest.position, "", out)
+    push_number(
+        ", or ",
+        nearest.position,
+        " once a 304 has validated it",
+        out,
+    )
 }
 
 /// Writes what was due behind what invalidated the response.
@@ -98,7 +112,7 @@ pub(crate) fn say_due(
     let source = explanation.source(nearest.position);
     let given = source.filter(|source| source.is_given);
     match shortfall {
-        Shortfall::Selected(_) => return say_answer(given, out),
+        Shortfall::Selected(_) => return say_due_unselected(nearest, given, out),
         Shortfall::Valid(_) | Shortfall::Lifetime(_) | Shortfall::Use(_) => {}
         _ => return Ok(()),
     }

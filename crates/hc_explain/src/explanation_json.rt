@@ -3,13 +3,13 @@
 use crate::marking::way;
 use crate::objects::{Told, object_of, octets_json, put_object, put_objects, value_json};
 use crate::records_json::put_status;
-use hc_facts::{AskedReply, Demand, ShownField, demand_of};
+use hc_facts::{AskedReply, Demand, ShownField, StaleUse};
 use hc_history::Finding;
 use hc_json::{put_made, put_number, put_numbers, put_text};
 use hc_past::{Unstored, Window};
 use hc_shown::push_target;
 use hc_why::{Explanation, Ground, Nearest, NoMark, Why};
-use serde_json::{Map, Value};
+use serde_json::{Map, Value, put};
 use std::alloc::{AllocError, Global};
 
 /// What is known of a reply, as a JSON object on one line.
@@ -27,6 +27,7 @@ impl Told for Explanation {
         put_numbers(alloc, &numbers, members)?;
         put_finding(alloc, self, members)?;
         put_with_setting(alloc, self.with_setting, members)?;
+        put_stale(alloc, self.stale.as_ref(), members)?;
         put_text(alloc, "way", way(self.way), members)?;
         put_object(alloc, "reply", &self.reply, members)?;
         put_responses(alloc, self, members)?;
@@ -46,10 +47,21 @@ fn put_finding(
     put_text(alloc, "finding", "wrong", members)?;
     put_number(alloc, "reason", u64::from(reason.number()), members)?;
     put_text(alloc, "name", reason.name(), members)?;
-    let demanded = explanation.demanded(reason);
-    let Demand { words, sections } = demand_of(demanded, explanation.reply.status);
+    let Demand { words, sections } = explanation.demand(reason);
     put_text(alloc, "means", words, members)?;
     put_text(alloc, "sections", sections, members)
+}
+
+// Adds how stale the response is that is named, and what permits to give it, where it is given so.
+fn put_stale(
+    alloc: Global,
+    stale: Option<&StaleUse>,
+    members: &mut Map<String, Value>,
+) -> Result<(), AllocError> {
+    match stale {
+        Some(stale) => put_object(alloc, "stale", stale, members),
+        None => Ok(()),
+    }
 }
 
 // Adds what would be found with the setting by which the response that is named may be used, if there is one.
@@ -92,7 +104,8 @@ impl Told for AskedReply {
         put_status(alloc, "status", self.status, members)?;
         put_asked(alloc, self, members)?;
         let status = value_json(alloc, b"cache-status", self.cache_status.as_ref());
-        put_made(alloc, "cache_status", status, members)
+        put_made(alloc, "cache_status", status, members)?;
+        put(members, alloc, "inferred", Value::from(self.is_inferred))
     }
 }
 

@@ -3,8 +3,8 @@
 use crate::objects::{Told, octets_json, put_objects, value_json, values_json};
 use crate::records_json::{put_broken, put_some_record, put_status};
 use hc_facts::{
-    AgeGap, AgeTold, BodyGap, ContentGap, Failed, FieldGap, RangeGap, Setting, StaleSaid, TtlGap,
-    Unearned, UnmetMember, Usage,
+    AgeGap, AgeTold, BodyGap, ContentGap, Failed, FieldGap, RangeGap, Setting, StaleSaid, StaleUse,
+    TtlGap, Unearned, UnmetMember, Usage,
 };
 use hc_fields::Octets;
 use hc_json::{put_made, put_number, put_numbers, put_some, put_text};
@@ -117,6 +117,19 @@ impl Told for Usage {
         put_text(alloc, "forbidden", self.forbidden.words(), members)?;
         put_said(alloc, self.said, members)?;
         put_setting(alloc, self.setting, members)
+    }
+}
+
+impl Told for StaleUse {
+    fn put(&self, alloc: Global, members: &mut Map<String, Value>) -> Result<(), AllocError> {
+        let usage = self.usage;
+        put_some(alloc, "lifetime", seconds(usage.lifetime), members)?;
+        put_some(alloc, "stale_by", seconds(usage.stale_by), members)?;
+        put_number(alloc, "age", u64::from(usage.age), members)?;
+        put_numbers(alloc, &usage.parts.numbers(), members)?;
+        put_text(alloc, "permitted_by", self.permit.name(), members)?;
+        let permitted = self.permitted_seconds();
+        put_some(alloc, "permitted_seconds", permitted, members)
     }
 }
 

@@ -1,11 +1,12 @@
 //! Why a response may not be used for a reply (RFC 9111 section 4).
 
-use crate::ages::push_sum;
-use crate::layout::push_number;
-use hc_facts::{RecordName, Usage};
+use crate::ages::{AgeOrigin, push_sum};
+use crate::layout::{begin_line, end_line, push_number};
+use crate::sources::{push_trouble, stated_by};
+use hc_facts::{StaleUse, Usage};
 use hc_history::Finding;
 use hc_past::StatedLifetime;
-use hc_why::Nearest;
+use hc_why::{Explanation, Nearest};
 use std::alloc::AllocError;
 use std::fmt::Write;
 
@@ -18,7 +19,7 @@ pub(crate) fn push_slack(slack: u32, out: &mut String) -> Result<(), AllocError>
     if slack == 0 {
         return Ok(());
     }
-    push_number(" (slack ", u64::from(slack), ")", out)
+    push_number(" (give or take ", u64::from(slack), " by --slack)", out)
 }
 
 /// Writes the lifetime that a response states, and how it states it.
@@ -42,28 +43,21 @@ fn push_staleness(stale_by: Option<u32>, out: &mut String) -> Result<(), AllocEr
     }
 }
 
-/// Writes how old the response is, whether it is fresh, and what forbids to use it.
-fn push_usage(
-    usage: Usage,
-    validator: Option<RecordName>,
-    out: &mut String,
-) -> Result<(), AllocError> {
+/// Writes how old the response is, and whether it is fresh.
+fn push_usage(usage: &Usage, origin: AgeOrigin, out: &mut String) -> Result<(), AllocError> {
     push_number(", age ", u64::from(usage.age), "", out)?;
-    push_sum(usage.parts, validator, out)?;
-    push_staleness(usage.stale_by, out)?;
-    push_slack(usage.slack, out)?;
-    out.push_str("; ")?;
-    out.push_str(usage.forbidden.words())
+    push_sum(usage.parts, origin, out)?;
+    push_staleness(usage.stale_by, out)
 }
 
 /// Writes what would be found of a reply whose response may be used.
 fn push_found(found: Option<Finding>, out: &mut String) -> Result<(), AllocError> {
     let Some(Finding::Wrong(reason)) = found else {
-        return out.push_str(" would permit it");
+        return out.push_str(" would let that pass");
     };
     let number = reason.number();
     let name = reason.name();
-    write!(out, " would permit its use: then it fails {number} {name}")
+    write!(out, " would let that pass, and fail it by {number} {name}")
 }
 
 /// Writes the setting by which the response may be used, if there is one, and what would be found with it.
@@ -76,19 +70,42 @@ pub(crate) fn say_setting(
         return Ok(());
     };
     let (name, seconds) = setting.named();
-    write!(out, "; {name} {seconds}")?;
+    write!(out, "; an audit with {name} {seconds}")?;
+    if usage.slack != 0 {
+        out.push_str(" beside that slack")?;
+    }
     push_found(found, out)
 }
 
 /// Writes why the response that is named may not be used, which states its lifetime so where it is as it came.
 pub(crate) fn say_use(
     usage: &Usage,
+    explanation: &Explanation,
     nearest: &Nearest,
-    stated: Option<&StatedLifetime>,
     out: &mut String,
 ) -> Result<(), AllocError> {
-    push_lifetime(usage.lifetime, stated, out)?;
-    push_usage(*usage, nearest.validator, out)?;
+    push_lifetime(usage.lifetime, stated_by(explanation, nearest), out)?;
+    push_usage(usage, AgeOrigin::of(explanation, nearest), out)?;
+    push_slack(usage.slack, out)?;
+    out.push_str("; ")?;
+    out.push_str(usage.forbidden.words())?;
     let had_error = nearest.error.is_some() || nearest.failure.is_some();
     usage.say_over(had_error, out)
+}
+
+/// Writes the line of what permits to give the response that is named, where it is stale.
+pub(crate) fn say_stale(
+    stale: &StaleUse,
+    explanation: &Explanation,
+    nearest: &Nearest,
+    out: &mut String,
+) -> Result<(), AllocError> {
+    begin_line("stale", "", out)?;
+    out.push_str("no fault: ")?;
+    push_lifetime(stale.usage.lifetime, stated_by(explanation, nearest), out)?;
+    push_usage(&stale.usage, AgeOrigin::of(explanation, nearest), out)?;
+    out.push_str(", ")?;
+    stale.say_permit(out)?;
+    push_trouble(nearest, out)?;
+    end_line(out)
 }

@@ -5,7 +5,7 @@ ghost use Rattle.hc_explain.specs.Heads.{IsHead};
 ghost use Rattle.hc_why.specs.Explaining.{finding_of, position_of};
 
 use crate::layout::{begin_line, end_line, place_of, push_method, push_separator};
-use crate::marking::{push_cache_status, way};
+use crate::marking::{push_mark, way};
 use hc_facts::{AskedReply, ShownField};
 use hc_history::Finding;
 use hc_shown::{push_moment, push_octets, push_target, push_value};
@@ -79,7 +79,7 @@ pub(crate) fn say_reply(
     begin_line("reply", place.as_str(), out)?;
     push_asked(reply, out)?;
     push_answer(reply, out)?;
-    push_cache_status(reply, out)?;
+    push_mark(explanation, out)?;
     end_line(out)?;
     say_fields(reply.fields.as_slice(), out)
 }

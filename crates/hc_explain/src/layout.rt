@@ -81,6 +81,15 @@ pub(crate) fn letter(kind: Kind) -> &'static str {
     }
 }
 
+/// Writes of which forward something is the answer, if that is known.
+pub(crate) fn push_sent(sent: Option<RecordName>, out: &mut String) -> Result<(), AllocError> {
+    let Some(sent) = sent else {
+        return Ok(());
+    };
+    out.push_str(", the answer to ")?;
+    push_record(sent, out)
+}
+
 /// Writes the position, the letter and the number of a record.
 pub(crate) fn push_record(record: RecordName, out: &mut String) -> Result<(), AllocError> {
     let position = record.position;

@@ -4,15 +4,40 @@ use crate::layout::{begin_rule, end_line};
 use hc_facts::AskedReply;
 use hc_history::Reason;
 use hc_shown::push_value;
-use hc_why::{NoMark, Way};
+use hc_why::{Explanation, NoMark, Way};
 use std::alloc::AllocError;
 
 /// Writes the Cache-Status of the reply.
 pub(crate) fn push_cache_status(reply: &AskedReply, out: &mut String) -> Result<(), AllocError> {
     match &reply.cache_status {
-        Some(value) => push_value(b"cache-status", value.as_slice(), out),
+        Some(value) => {
+            out.push_str("Cache-Status ")?;
+            push_value(b"cache-status", value.as_slice(), out)
+        }
         None => out.push_str("no Cache-Status"),
     }
+}
+
+/// What stands between the way of a reply and the mark by which it is judged: the last member of its Cache-Status.
+fn by_mark(reply: &AskedReply) -> &'static str {
+    match &reply.cache_status {
+        _ if reply.is_inferred => " as is inferred, ",
+        Some(value) if value.as_slice().contains(&b',') => " by the last member of ",
+        _ => " by ",
+    }
+}
+
+/// Writes as what a reply is judged, and by which mark.
+pub(crate) fn push_mark(explanation: &Explanation, out: &mut String) -> Result<(), AllocError> {
+    let judged = match explanation.way {
+        Way::Hit => "a hit",
+        Way::Forwarded => "forwarded",
+        Way::Collapsed => "collapsed",
+        Way::Unmarked => return push_cache_status(&explanation.reply, out),
+    };
+    out.push_str(judged)?;
+    out.push_str(by_mark(&explanation.reply))?;
+    push_cache_status(&explanation.reply, out)
 }
 
 /// What a mark comes to that says nothing of the reply.

@@ -72,6 +72,7 @@ impl Told for Source {
         put_some_record(alloc, "forward", self.sent, members)?;
         put_status(alloc, "status", self.status, members)?;
         put(members, alloc, "given", Value::from(self.is_given))?;
+        put(members, alloc, "dated", Value::from(self.is_dated))?;
         let age = value_json(alloc, b"age", self.age.as_ref());
         put_made(alloc, "age", age, members)?;
         let (name, value) = match &self.lifetime {
@@ -118,6 +119,7 @@ impl Told for WindowEnd {
 impl Told for NotAbout {
     fn put(&self, alloc: Global, members: &mut Map<String, Value>) -> Result<(), AllocError> {
         self.record.put(alloc, members)?;
+        put_some_record(alloc, "forward", self.sent, members)?;
         put_text(alloc, "against", self.against.name(), members)?;
         match &self.against {
             Against::Validators(gap) => gap.put(alloc, members),

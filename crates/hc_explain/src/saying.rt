@@ -2,14 +2,15 @@
 
 use crate::collapsing::say_collapsing;
 use crate::dues::say_answer;
+use crate::freshness::say_stale;
 use crate::heading::say_reply;
-use crate::layout::{begin_line, begin_rule, end_line, push_number};
+use crate::layout::{begin_line, begin_rule, end_line};
 use crate::marking::{say_both, say_unmarked};
-use crate::shortfalls::{say_failing, say_rule};
-use crate::sources::{push_reach, say_carried, say_nearest, say_sources};
+use crate::shortfalls::{end_shortfall, say_failing, say_rule};
+use crate::sources::{say_carried, say_nearest, say_sources};
 use crate::unstored::say_unstored;
 use crate::window::{say_own, say_window};
-use hc_facts::{Demand, demand_of};
+use hc_facts::Demand;
 use hc_history::{Finding, Reason};
 use hc_past::{Source, Unstored, Window};
 use hc_why::{Explanation, Ground, Nearest, Way, Why};
@@ -79,47 +80,43 @@ fn say_not_forwarded(
     };
     say_nearest(alloc, explanation, out)?;
     if explanation.stands_for(nearest) {
-        say_forwarding(explanation, nearest, out)?;
-        say_rule(explanation, nearest, out)
+        say_forwarding(explanation, nearest, out)
     } else {
         say_stored(explanation, nearest, out)
     }
 }
 
-/// Writes the line on a reply that went forward and is to be a stored response, or gives it: what is asked of it, and
-/// which rule this response breaks.
+/// Writes the line on a reply that went forward and is to be a stored response, or gives it: in what it falls short of
+/// that; and the line of what was due.
 fn say_forwarding(
     explanation: &Explanation,
     nearest: &Nearest,
     out: &mut String,
 ) -> Result<(), AllocError> {
     begin_rule(Reason::NotForwarded.number(), out)?;
-    out.push_str(
-        "a reply that is marked as forwarded is an answer of the window, or what a 304 there validated",
-    )?;
-    let Demand { sections, .. } = demand_of(Reason::NotForwarded, explanation.reply.status);
-    write!(out, " ({sections}): ")?;
     push_standing(explanation, nearest, out)?;
-    push_reach(nearest.breaks(), out)?;
-    end_line(out)
+    let Some(shortfall) = &nearest.shortfall else {
+        return end_line(out);
+    };
+    out.push_str(": ")?;
+    end_shortfall(explanation, nearest, shortfall, out)
 }
 
-/// Writes that such a reply is to be the stored response that is named, or gives it.
+/// Writes as what such a reply is judged.
 fn push_standing(
     explanation: &Explanation,
     nearest: &Nearest,
     out: &mut String,
 ) -> Result<(), AllocError> {
+    let position = nearest.position;
     match nearest.validated_at {
-        Some(validated) if explanation.was_validated(nearest) => {
-            push_number("this is to be ", nearest.position, ", which ", out)?;
-            push_number("", validated, " validated, and ", out)
-        }
-        _ => push_number(
-            "this gives ",
-            nearest.position,
-            ", which is stored, and ",
+        Some(validated) if explanation.was_validated(nearest) => write!(
             out,
+            "NotForwarded says that it isn't what was forwarded: the origin answered by the 304 {validated}, so that is {position} with the fields of {validated}; its mark is no fault, but as that it is wrong"
+        ),
+        _ => write!(
+            out,
+            "NotForwarded says that it isn't what was forwarded: it gives {position}, which is stored, and nothing that came between request and reply"
         ),
     }
 }
@@ -142,8 +139,7 @@ fn say_demand(
     out: &mut String,
 ) -> Result<(), AllocError> {
     begin_line("means", "", out)?;
-    let demanded = explanation.demanded(reason);
-    let Demand { words, sections } = demand_of(demanded, explanation.reply.status);
+    let Demand { words, sections } = explanation.demand(reason);
     write!(out, "{words} ({sections})\n")
 }
 
@@ -190,6 +186,14 @@ fn say_wrong(
     say_marked(explanation, out)
 }
 
+/// Writes the line of what permits to give the response that is named, where it is stale.
+fn say_permitted(explanation: &Explanation, out: &mut String) -> Result<(), AllocError> {
+    match (&explanation.stale, explanation.nearest()) {
+        (Some(stale), Some(nearest)) => say_stale(stale, explanation, nearest, out),
+        _ => Ok(()),
+    }
+}
+
 /// Writes the lines of the explanation behind its head line, each with its end.
 pub fn say(alloc: Global, explanation: &Explanation, out: &mut String) -> Result<(), AllocError> {
     say_reply(alloc, explanation, out)?;
@@ -197,6 +201,7 @@ pub fn say(alloc: Global, explanation: &Explanation, out: &mut String) -> Result
         Ground::Right(_) => say_right(alloc, explanation, out)?,
         Ground::Wrong(why) => say_wrong(alloc, explanation, why, out)?,
     }
+    say_permitted(explanation, out)?;
     match explanation.finding {
         Finding::Right => Ok(()),
         Finding::Wrong(reason) => say_demand(explanation, reason, out),

@@ -1,10 +1,11 @@
 //! In what a request differs from the one that a response answers (RFC 9111 section 4.1).
 
-use crate::layout::{push_more, push_record, push_separator};
+use crate::layout::{push_more, push_number, push_record, push_separator};
 use crate::values::push_some;
 use hc_facts::{RecordName, Selection, UnmetMember};
 use hc_fields::Octets;
 use hc_shown::push_value;
+use hc_why::Nearest;
 use std::alloc::AllocError;
 
 /// Writes what the forward that the response answers, of which this is the record, has of what that member names.
@@ -35,25 +36,26 @@ fn say_member(
         return out.push_str(", which selects no request");
     }
     push_answered(member, unmet.answered.as_ref(), sent, out)?;
-    out.push_str(", the request ")?;
+    out.push_str(", this request has ")?;
     push_some(member, unmet.asked.as_ref(), out)
 }
 
 /// Writes by which members of its Vary the response doesn't answer the request.
 pub(crate) fn say_selection(
     selection: &Selection,
+    nearest: &Nearest,
     sent: Option<RecordName>,
-    validator: Option<RecordName>,
     out: &mut String,
 ) -> Result<(), AllocError> {
+    push_number("Vary of ", nearest.position, "", out)?;
     let mut is_first = true;
     for unmet in selection.unmet.iter() {
-        push_separator(is_first, "Vary names ", "; ", out)?;
+        push_separator(is_first, " names ", "; ", out)?;
         say_member(unmet, sent, out)?;
         is_first = false;
     }
     push_more(selection.more, out)?;
-    match (selection.validated_at, validator) {
+    match (selection.validated_at, nearest.validator) {
         (Some(_), Some(validator)) => {
             out.push_str(", though the 304 ")?;
             push_record(validator, out)?;

@@ -1,8 +1,8 @@
 //! Why a response can't be what a reply carries.
 
-use crate::ages::{say_age, say_ttl};
+use crate::ages::{AgeOrigin, say_age, say_ttl};
 use crate::contents::say_contents;
-use crate::differing::say_differences;
+use crate::differing::{FieldsOrigin, say_differences};
 use crate::dues::say_due;
 use crate::freshness::{say_setting, say_use};
 use crate::layout::{
@@ -13,15 +13,19 @@ use crate::sources::push_reach;
 use crate::unstored::NO_GET;
 use crate::validations::say_validations;
 use hc_facts::Newest;
-use hc_past::StatedLifetime;
 use hc_why::{Explanation, Invalidator, Nearest, Shortfall};
 use std::alloc::AllocError;
 
 /// Writes a response that invalidated another one.
 fn push_invalidator(invalidator: &Invalidator, out: &mut String) -> Result<(), AllocError> {
     push_record(invalidator.record, out)?;
-    push_number(": ", u64::from(invalidator.status.as_u16()), "", out)?;
-    push_method(" to ", &invalidator.method, " of the same target", out)
+    push_number(", a ", u64::from(invalidator.status.as_u16()), "", out)?;
+    push_method(
+        " to ",
+        &invalidator.method,
+        " of the same target, invalidated it",
+        out,
+    )
 }
 
 /// Writes what invalidated the response.
@@ -35,13 +39,13 @@ fn say_invalidators(by: &Newest<Invalidator>, out: &mut String) -> Result<(), Al
     push_more(by.older, out)
 }
 
-/// What the response that is named states of its lifetime, where it is as it came.
-fn stated_by<'a>(explanation: &'a Explanation, nearest: &Nearest) -> Option<&'a StatedLifetime> {
-    if nearest.validated_at.is_some() {
-        return None;
+/// What the fields of the response that is named come from.
+fn origin_of(explanation: &Explanation, nearest: &Nearest) -> FieldsOrigin {
+    FieldsOrigin {
+        validator: nearest.validator,
+        position: nearest.position,
+        is_undated: explanation.is_undated(nearest),
     }
-    let source = explanation.source(nearest.position)?;
-    Some(&source.lifetime)
 }
 
 /// Writes what is due, and what came.
@@ -56,15 +60,15 @@ fn push_gap(
         Shortfall::Selected(selection) => {
             let source = explanation.source(nearest.position);
             let sent = source.and_then(|source| source.sent);
-            say_selection(selection, sent, nearest.validator, out)
+            say_selection(selection, nearest, sent, out)
         }
         Shortfall::Valid(by) => say_invalidators(by, out),
         Shortfall::Lifetime(usage) | Shortfall::Use(usage) => {
-            say_use(usage, nearest, stated_by(explanation, nearest), out)
+            say_use(usage, explanation, nearest, out)
         }
         Shortfall::Body(gap) => say_contents(gap, out),
-        Shortfall::Fields(found) => say_differences(found, nearest.validator, out),
-        Shortfall::Age(gap) => say_age(gap, nearest.validator, out),
+        Shortfall::Fields(found) => say_differences(found, origin_of(explanation, nearest), out),
+        Shortfall::Age(gap) => say_age(gap, AgeOrigin::of(explanation, nearest), out),
         Shortfall::Ttl(gap) => say_ttl(*gap, out),
     }
 }
@@ -84,6 +88,18 @@ fn push_shortfall(
         }
         _ => Ok(()),
     }
+}
+
+/// Writes in what the response that is named falls short, ends the line, and writes that of what was due.
+pub(crate) fn end_shortfall(
+    explanation: &Explanation,
+    nearest: &Nearest,
+    shortfall: &Shortfall,
+    out: &mut String,
+) -> Result<(), AllocError> {
+    push_shortfall(explanation, nearest, shortfall, out)?;
+    end_line(out)?;
+    say_due(explanation, nearest, shortfall, out)
 }
 
 /// Writes which rule the response that is named breaks, and how.
@@ -111,7 +127,5 @@ pub(crate) fn say_rule(
         return Ok(());
     };
     begin_rule(shortfall.rule().reason().number(), out)?;
-    push_shortfall(explanation, nearest, shortfall, out)?;
-    end_line(out)?;
-    say_due(explanation, nearest, shortfall, out)
+    end_shortfall(explanation, nearest, shortfall, out)
 }

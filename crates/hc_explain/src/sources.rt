@@ -5,12 +5,9 @@ use hc_facts::Rule;
 use hc_fields::Octets;
 use hc_past::{Source, StatedLifetime};
 use hc_shown::{push_moment, push_value};
-use hc_why::{Explanation, Nearest};
+use hc_why::{Explanation, Nearest, Reach};
 use std::alloc::{AllocError, Global};
 use std::fmt::Write;
-
-/// The word that begins such a line.
-const FROM: &str = "from";
 
 /// Writes a field of that name behind a text.
 fn push_field(
@@ -26,9 +23,14 @@ fn push_field(
 /// Writes what a response says of its lifetime.
 pub(crate) fn push_lifetime(lifetime: &StatedLifetime, out: &mut String) -> Result<(), AllocError> {
     match lifetime {
-        StatedLifetime::CacheControl(value) => push_field(" ", b"cache-control", value, out),
-        StatedLifetime::Expires(value) => push_field(" Expires ", b"expires", value, out),
-        StatedLifetime::Nothing => out.push_str(", no Cache-Control"),
+        StatedLifetime::CacheControl(value) => push_field(
+            ", Cache-Control ",
+            b"cache-control",
+            value,
+            out,
+        ),
+        StatedLifetime::Expires(value) => push_field(", Expires ", b"expires", value, out),
+        StatedLifetime::Nothing => out.push_str(", neither Cache-Control nor Expires"),
     }
 }
 
@@ -57,22 +59,24 @@ pub(crate) fn push_reach(breaks: Option<Rule>, out: &mut String) -> Result<(), A
 /// Writes what the records behind it made of the response that is named.
 fn push_changes(nearest: &Nearest, out: &mut String) -> Result<(), AllocError> {
     if let Some(validator) = nearest.validator {
-        out.push_str(", freshened by ")?;
+        out.push_str(", which the 304 ")?;
         push_record(validator, out)?;
+        out.push_str(" freshens")?;
     }
     if let Some(date) = nearest.date {
         out.push_str(", Date ")?;
         push_moment(date, out)?;
     }
-    push_trouble(nearest, out)
+    Ok(())
 }
 
 /// Writes behind which error, and behind which failure of the window the response was given.
-fn push_trouble(nearest: &Nearest, out: &mut String) -> Result<(), AllocError> {
+pub(crate) fn push_trouble(nearest: &Nearest, out: &mut String) -> Result<(), AllocError> {
     if let Some(error) = nearest.error {
         out.push_str(", given after the error ")?;
         push_record(error.record, out)?;
-        push_number(", a ", u64::from(error.status.as_u16()), "", out)?;
+        let status = u64::from(error.status.as_u16());
+        push_number(", a ", status, ", which validates nothing", out)?;
     }
     match nearest.failure {
         Some(failure) => {
@@ -83,9 +87,20 @@ fn push_trouble(nearest: &Nearest, out: &mut String) -> Result<(), AllocError> {
     }
 }
 
-/// Begins the line of the response at that position, of which this is the record.
+/// Begins the line of the stored response at that position, of which this is the record.
 fn begin_from(
     alloc: Global,
+    position: u64,
+    source: Option<&Source>,
+    out: &mut String,
+) -> Result<(), AllocError> {
+    begin_place(alloc, "from", position, source, out)
+}
+
+/// Begins a line of that word about the response at that position, of which this is the record.
+fn begin_place(
+    alloc: Global,
+    word: &str,
     position: u64,
     source: Option<&Source>,
     out: &mut String,
@@ -95,7 +110,19 @@ fn begin_from(
         Some(source) => push_record(source.record, &mut place)?,
         None => push_number("", position, "", &mut place)?,
     }
-    begin_line(FROM, place.as_str(), out)
+    begin_line(word, place.as_str(), out)
+}
+
+/// What the response that is named states of its lifetime, where it is as it came.
+pub(crate) fn stated_by<'a>(
+    explanation: &'a Explanation,
+    nearest: &Nearest,
+) -> Option<&'a StatedLifetime> {
+    if nearest.validated_at.is_some() {
+        return None;
+    }
+    let source = explanation.source(nearest.position)?;
+    Some(&source.lifetime)
 }
 
 /// Writes the line of the response that is named, if one is.
@@ -113,19 +140,32 @@ pub(crate) fn say_nearest(
         push_source(source, out)?;
     }
     push_changes(nearest, out)?;
+    if explanation.stale.is_none() {
+        push_trouble(nearest, out)?;
+    }
     end_line(out)
 }
 
-/// Writes the line of one of the others.
+/// What is said of another response, by whether it fails the same rule as the one that is named, or one that is asked before.
+fn judged_beside(breaks: Option<Rule>, nearest: Option<Rule>) -> &'static str {
+    if breaks == nearest {
+        "would be wrong, too: "
+    } else {
+        "is ruled out: "
+    }
+}
+
+/// Writes the line of one of the others, where the one that is named breaks that rule.
 fn say_other(
     alloc: Global,
-    position: u64,
-    breaks: Option<Rule>,
+    reach: &Reach,
+    nearest: Option<Rule>,
     source: Option<&Source>,
     out: &mut String,
 ) -> Result<(), AllocError> {
-    begin_from(alloc, position, source, out)?;
-    push_reach(breaks, out)?;
+    begin_place(alloc, "other", reach.position, source, out)?;
+    out.push_str(judged_beside(reach.breaks, nearest))?;
+    push_reach(reach.breaks, out)?;
     end_line(out)
 }
 
@@ -134,7 +174,7 @@ fn say_more(more: u64, out: &mut String) -> Result<(), AllocError> {
     if more == 0 {
         return Ok(());
     }
-    begin_line(FROM, "", out)?;
+    begin_line("other", "", out)?;
     push_number("and ", more, " more\n", out)
 }
 
@@ -145,9 +185,10 @@ pub(crate) fn say_sources(
     out: &mut String,
 ) -> Result<(), AllocError> {
     say_nearest(alloc, explanation, out)?;
+    let nearest = explanation.nearest().and_then(|nearest| nearest.breaks());
     for reach in explanation.reaches.named.iter().skip(1) {
         let source = explanation.source(reach.position);
-        say_other(alloc, reach.position, reach.breaks, source, out)?;
+        say_other(alloc, reach, nearest, source, out)?;
     }
     say_more(explanation.reaches.more, out)
 }

@@ -1,41 +1,38 @@
 //! Why nothing of a target is stored (RFC 9111 section 3).
 
-use crate::layout::{push_method, push_more, push_number, push_record, push_separator};
+use crate::layout::{push_method, push_more, push_number, push_record, push_sent, push_separator};
 use crate::sources::push_lifetime;
-use hc_facts::RecordName;
 use hc_past::{Source, Unstorable, Unstored};
 use std::alloc::AllocError;
 
 /// What is said of a method whose replies come from no store.
 pub(crate) const NO_GET: &str = " is neither GET nor HEAD";
 
-/// Writes the record of a response, and that of its forward, if it is known.
-fn push_exchanged(
-    record: RecordName,
-    sent: Option<RecordName>,
+/// Writes what a response is that may not be stored: its status, what it says of its lifetime, and what it answers, as far as
+/// that is known.
+fn push_kind(
+    unstorable: &Unstorable,
+    source: Option<&Source>,
     out: &mut String,
 ) -> Result<(), AllocError> {
-    push_record(record, out)?;
-    let Some(sent) = sent else {
+    push_number("", u64::from(unstorable.status.as_u16()), "", out)?;
+    let Some(source) = source else {
         return Ok(());
     };
-    out.push_str(" to ")?;
-    push_record(sent, out)
+    push_lifetime(&source.lifetime, out)?;
+    push_sent(source.sent, out)
 }
 
-/// Writes a response that may not be stored, what it says of its lifetime, and what forbids it.
+/// Writes a response that may not be stored, what it is, and what forbids it.
 fn push_unstorable(
     unstorable: &Unstorable,
     source: Option<&Source>,
     out: &mut String,
 ) -> Result<(), AllocError> {
-    let sent = source.and_then(|source| source.sent);
-    push_exchanged(unstorable.record, sent, out)?;
-    push_number(": ", u64::from(unstorable.status.as_u16()), "", out)?;
-    if let Some(source) = source {
-        push_lifetime(&source.lifetime, out)?;
-    }
-    out.push_str(", ")?;
+    push_record(unstorable.record, out)?;
+    out.push_str(" (")?;
+    push_kind(unstorable, source, out)?;
+    out.push_str("), since ")?;
     unstorable.forbids.say_with_sections(out)
 }
 
@@ -74,6 +71,6 @@ pub(crate) fn say_unstored(
             "no response of the target is recorded before the reply: was the cache empty when the recording began?",
         );
     }
-    let before = "what is recorded of the target may not be stored: ";
+    let before = "what is recorded of the target must not be stored: ";
     push_unstorables(before, unstored, sources, out)
 }

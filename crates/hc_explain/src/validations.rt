@@ -1,38 +1,47 @@
 //! The 304s that aren't about a response (after RFC 9111 section 4.3.4).
 
-use crate::layout::{push_more, push_record, push_separator};
+use crate::layout::{push_more, push_record, push_sent};
+use hc_facts::Against;
 use hc_why::{Explanation, Nearest, NotAbout, Shortfall};
 use std::alloc::AllocError;
 use std::fmt::Write;
 
-/// Writes a 304, and what stands against it.
-fn push_not_about(not_about: &NotAbout, out: &mut String) -> Result<(), AllocError> {
+/// Writes a 304 that came then, and why it doesn't validate the response at that position (RFC 9111 section 4.3.4).
+fn push_not_about(
+    not_about: &NotAbout,
+    (when, position): (&str, u64),
+    out: &mut String,
+) -> Result<(), AllocError> {
+    out.push_str("; the 304 ")?;
     push_record(not_about.record, out)?;
-    out.push_str(" (")?;
-    not_about.against.say(out)?;
-    out.push_str(")")
+    push_sent(not_about.sent, out)?;
+    write!(out, ", came {when}, but doesn't validate {position}")?;
+    match not_about.against {
+        Against::Unselected => out.push_str(": Vary doesn't select its forward either"),
+        _ => {
+            out.push_str(" (RFC 9111 section 4.3.4): ")?;
+            not_about.against.say(out)
+        }
+    }
 }
 
-/// What is said before the 304s of the response that is named.
-fn introduced(nearest: &Nearest, since: u64) -> &'static str {
+/// When the 304s came that aren't about the response that is named.
+fn since_when(nearest: &Nearest, since: u64) -> &'static str {
     let was_validated = match nearest.validated_at {
         Some(position) => since < position,
         None => false,
     };
     if was_validated || matches!(&nearest.shortfall, Some(Shortfall::Valid(_))) {
-        "; no 304 since is about it: "
+        "since"
     } else {
-        "; no 304 after the request is about it: "
+        "after the request"
     }
 }
 
-/// Writes each 304 that isn't about the response.
-fn push_each(before: &str, nearest: &Nearest, out: &mut String) -> Result<(), AllocError> {
-    let mut is_first = true;
+/// Writes each 304 that isn't about the response, and came then.
+fn push_each(when: &str, nearest: &Nearest, out: &mut String) -> Result<(), AllocError> {
     for not_about in nearest.not_about.named.iter() {
-        push_separator(is_first, before, ", ", out)?;
-        push_not_about(not_about, out)?;
-        is_first = false;
+        push_not_about(not_about, (when, nearest.position), out)?;
     }
     push_more(nearest.not_about.older, out)
 }
@@ -57,7 +66,7 @@ pub(crate) fn say_validations(
 ) -> Result<(), AllocError> {
     let since = explanation.since;
     if !nearest.not_about.is_empty() {
-        return push_each(introduced(nearest, since), nearest, out);
+        return push_each(since_when(nearest, since), nearest, out);
     }
     match shortfall {
         Shortfall::Valid(_) => out.push_str("; no 304 since"),

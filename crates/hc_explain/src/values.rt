@@ -1,8 +1,8 @@
 //! The values of fields.
 
-use crate::layout::push_separator;
+use crate::layout::{push_number, push_separator};
 use hc_fields::Octets;
-use hc_shown::push_value;
+use hc_shown::{is_credential, push_value};
 use std::alloc::AllocError;
 
 /// Writes the value of a name, or that there is none.
@@ -17,7 +17,15 @@ pub(crate) fn push_some(
     }
 }
 
-/// Writes the values of a name, each by itself, or that there is none.
+/// Writes how many values are hidden, before these.
+fn push_hidden(count: usize, out: &mut String) -> Result<(), AllocError> {
+    if count == 1 {
+        return out.push_str("1 value, hidden: ");
+    }
+    push_number("", count as u64, " values, hidden: ", out)
+}
+
+/// Writes the values of a name, each by itself, and that they are hidden, if they are, or that there is none.
 pub(crate) fn push_values(
     name: &[u8],
     values: &[Octets],
@@ -25,6 +33,9 @@ pub(crate) fn push_values(
 ) -> Result<(), AllocError> {
     if values.is_empty() {
         return out.push_str("none");
+    }
+    if is_credential(name) {
+        push_hidden(values.len(), out)?;
     }
     let mut is_first = true;
     for value in values {

@@ -4,6 +4,7 @@ pub mod Differing
 pub mod Firsts
 pub mod Forbidding
 pub mod Laws
+pub mod Permits
 pub mod Rules
 pub mod Selecting
 pub mod Stale

@@ -49,6 +49,8 @@ pub struct AskedReply {
     pub body: SharedOctets,
     /// The value of its Cache-Status.
     pub cache_status: Option<Octets>,
+    /// Whether the mark by which it is judged is inferred.
+    pub is_inferred: bool,
 }
 
 impl Drop for AskedReply {
@@ -61,6 +63,7 @@ impl Drop for AskedReply {
             status: _,
             body,
             cache_status,
+            is_inferred: _,
         } = self;
         drop(method);
         drop(target);
@@ -105,6 +108,7 @@ impl AskedReply {
             status: claim.reply.head.status,
             body: claim.reply.body.share()?,
             cache_status: claim.reply.head.fields.joined(alloc, b"cache-status")?,
+            is_inferred: claim.is_inferred,
         })
     }
 }

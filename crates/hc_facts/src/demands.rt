@@ -1,5 +1,10 @@
 //! What is asked of a reply, in a sentence for each reason to be wrong, and where it is asked.
 
+use crate::aging::{AgeGap, AgeTold};
+use crate::bodies::ContentGap;
+use crate::differing::{Change, Differences};
+use crate::forbidding::{Forbids, Unusable};
+use crate::usage::Usage;
 use hc_head::StatusCode;
 use hc_history::Reason;
 
@@ -16,13 +21,151 @@ pub struct Demand {
 pub fn demand_of(reason: Reason, status: StatusCode) -> Demand {
     if reason == Reason::Fields && status == StatusCode::NOT_MODIFIED {
         return Demand {
-            words: "a 304 has its response's Cache-Control, Content-Location, Date, ETag, Expires and Vary",
+            words: "a 304 has the stored response's Cache-Control, Content-Location, Date, ETag, Expires and Vary",
             sections: "RFC 9110 section 15.4.5",
         };
     }
     Demand {
         words: words(reason),
         sections: sections(reason),
+    }
+}
+
+/// What is asked of a request that no Vary selects.
+pub fn star_demand() -> Demand {
+    Demand {
+        words: "Vary \"*\" selects no request, also none that a 304 answers",
+        sections: "RFC 9111 section 4.1",
+    }
+}
+
+/// What is asked of what a store may have, where those forbid to store a response.
+pub fn storing_demand(forbids: &Forbids) -> Demand {
+    match forbids.first() {
+        Some((words, sections)) => Demand { words, sections },
+        None => demand_of(Reason::NoResponse, StatusCode::OK),
+    }
+}
+
+/// What is asked of a stored response that may not be used so.
+pub fn usage_demand(usage: &Usage) -> Demand {
+    match usage.forbidden {
+        Unusable::NoCache => Demand {
+            words: "what says no-cache isn't given before it is validated",
+            sections: "RFC 9111 section 5.2.2.4",
+        },
+        Unusable::MustRevalidate => Demand {
+            words: "what says must-revalidate isn't given once it is stale, before it is validated",
+            sections: "RFC 9111 section 5.2.2.2",
+        },
+        Unusable::ProxyRevalidate => Demand {
+            words: "what says proxy-revalidate isn't given once it is stale, before it is validated",
+            sections: "RFC 9111 section 5.2.2.8",
+        },
+        Unusable::SMaxage => Demand {
+            words: "what says s-maxage isn't given once it is stale, before it is validated",
+            sections: "RFC 9111 section 5.2.2.10",
+        },
+        Unusable::NothingPermits => Demand {
+            words: "what is stale isn't given before it is validated, but where that is permitted",
+            sections: "RFC 9111 section 4.2.4",
+        },
+    }
+}
+
+/// What is asked of the fields of a reply that differ so from those of the stored response.
+pub fn fields_demand(found: &Differences) -> Demand {
+    let listed = &found.listed;
+    if listed.iter().any(|gap| gap.is_renewed) {
+        Demand {
+            words: "the fields of a 304 replace those of the stored response that it is about",
+            sections: "RFC 9111 section 4.3.4",
+        }
+    } else if listed.iter().any(|gap| gap.change == Change::Dropped) {
+        Demand {
+            words: "a cache stores all fields of a response but those of the connection, and gives them",
+            sections: "RFC 9111 section 3.1",
+        }
+    } else {
+        Demand {
+            words: "a cache leaves what tells of the stored response as it came, and adds nothing to that",
+            sections: "RFC 9110 section 7.7",
+        }
+    }
+}
+
+/// What is asked of a reply that went forward where a 304 came whose fields it lacks.
+pub fn forwarded_demand() -> Demand {
+    Demand {
+        words: "what went forward gives what the origin answered or, behind a 304, the stored response with the fields of that",
+        sections: "RFC 9111 section 4.3.4",
+    }
+}
+
+/// What is asked of the Date of a reply whose stored response came without.
+pub fn date_demand() -> Demand {
+    Demand {
+        words: "what comes without a Date gets one: the moment at which it came",
+        sections: "RFC 9110 section 6.6.1",
+    }
+}
+
+/// What is asked of the Age of a reply, whose response a 304 has validated or not.
+pub fn age_demand(gap: &AgeGap, was_validated: bool, status: StatusCode) -> Demand {
+    match gap.told {
+        AgeTold::Missing if status == StatusCode::NOT_MODIFIED => Demand {
+            words: "a 304 that a cache makes of what is stored has an Age, as all that comes from the store",
+            sections: "RFC 9111 section 4",
+        },
+        AgeTold::Missing => Demand {
+            words: "a reply from the store has an Age",
+            sections: "RFC 9111 section 4",
+        },
+        AgeTold::Several | AgeTold::Unreadable(_) => Demand {
+            words: "Age is one number of seconds",
+            sections: "RFC 9111 section 5.1",
+        },
+        AgeTold::Seconds(_) if was_validated => Demand {
+            words: "Age is the time since the response was generated, or was validated last, at the origin",
+            sections: "RFC 9111 section 5.1",
+        },
+        AgeTold::Seconds(_) => Demand {
+            words: "Age is what the response's Age or Date says, with the seconds that it was on its way, and those since",
+            sections: "RFC 9111 section 4.2.3",
+        },
+    }
+}
+
+/// What is asked of the status and the body of a reply that differ so from those of the stored response.
+pub fn content_demand(gap: &ContentGap) -> Demand {
+    match gap {
+        ContentGap::Unearned(_) => Demand {
+            words: words(Reason::Body),
+            sections: "RFC 9111 section 4.3.2",
+        },
+        ContentGap::Other {
+            told: StatusCode::RANGE_NOT_SATISFIABLE,
+            range: Some(_),
+            ..
+        } => Demand {
+            words: "a 416 tells by Content-Range how long the whole is",
+            sections: "RFC 9110 section 15.5.17",
+        },
+        ContentGap::Other { range: Some(_), .. } => Demand {
+            words: "a range is answered by the whole that is stored, or by that part of it",
+            sections: "RFC 9110 section 14.2",
+        },
+        ContentGap::Other {
+            failed: Some(failed),
+            ..
+        } if failed.is_for_origins() => Demand {
+            words: "a cache doesn't evaluate If-Match and If-Unmodified-Since: it gives what is stored, or asks the origin",
+            sections: "RFC 9111 section 4.3.2",
+        },
+        _ => Demand {
+            words: words(Reason::Body),
+            sections: sections(Reason::Body),
+        },
     }
 }
 
@@ -40,8 +183,9 @@ fn words(reason: Reason) -> &'static str {
             "what is stored is given while it is fresh, once it is validated, or where stale is permitted"
         }
         Reason::Body =>
-            "a reply has its response's status and body, or is a 304 that a condition earns",
-        Reason::Fields => "a reply has its response's fields, as the latest 304 about it left them",
+            "a reply has the stored response's status and body, or is a 304 that a condition earns",
+        Reason::Fields =>
+            "a reply has the stored response's fields, as the latest 304 about it left them",
         Reason::Age => "a reply from the store has one Age, which tells how old its response is",
         Reason::Ttl => "ttl tells for how many seconds more the response is fresh",
         Reason::NotForwarded =>
@@ -62,7 +206,7 @@ fn sections(reason: Reason) -> &'static str {
         Reason::Invalidated => "RFC 9111 section 4.4",
         Reason::NoExplicitFreshness => "RFC 9111 section 4.2.2",
         Reason::NotAllowed => "RFC 9111 sections 4 and 4.2.4",
-        Reason::Body => "RFC 9111 sections 4 and 4.3.2",
+        Reason::Body => "RFC 9111 section 4",
         Reason::Fields => "RFC 9111 sections 3.2 and 4.3.4",
         Reason::Age => "RFC 9111 sections 4 and 5.1",
         Reason::Ttl => "RFC 9211 section 2.4",

@@ -3,6 +3,7 @@
 use crate::against::{Against, Telling, ValidatorGap};
 use crate::bodies::Failed;
 use crate::forbidding::Unusable;
+use crate::permits::{Permit, StaleUse};
 use crate::stale::{Setting, StaleSaid};
 use crate::usage::Usage;
 use hc_directives::Seconds;
@@ -41,7 +42,7 @@ impl ValidatorGap {
         let (name, of, validator) = self.telling.names();
         push_field(name, self.told.as_ref(), out)?;
         out.push_str(of)?;
-        out.push_str(", due ")?;
+        out.push_str(", the stored response's ")?;
         push_field(validator, self.due.as_ref(), out)
     }
 }
@@ -177,5 +178,97 @@ impl Usage {
         say_over(stale, ("max-stale", said.max_stale), "request", out)?;
         say_if_error((stale, had_error), said.if_error, "response", out)?;
         say_if_error((stale, had_error), said.asked_if_error, "request", out)
+    }
+}
+
+impl Permit {
+    /// A word for it.
+    pub fn name(&self) -> &'static str {
+        match self {
+            Permit::Slack => "slack",
+            Permit::DefaultLifetime(_) => "default_ttl",
+            Permit::MaxStale => "max_stale",
+            Permit::WhileRevalidating => "stale_while_revalidate",
+            Permit::IfError => "stale_if_error",
+            Permit::AskedIfError => "asked_stale_if_error",
+            Permit::Unreachable => "unreachable",
+            Permit::Grace(_) => "grace",
+        }
+    }
+}
+
+// Puts a directive at the end that permits staleness, with its seconds, if it says any, of which message it is, and where
+// it stands.
+fn say_directive(
+    (name, said): (&str, Seconds),
+    of: &str,
+    section: &str,
+    out: &mut String,
+) -> Result<(), AllocError> {
+    write!(out, "permitted by {name}")?;
+    if let Seconds::Value(seconds) = said {
+        write!(out, " {seconds}")?;
+    }
+    write!(out, " of the {of} ({section})")
+}
+
+impl StaleUse {
+    /// The seconds of what permits to give the response, where that has any.
+    pub fn permitted_seconds(&self) -> Option<u64> {
+        let said = self.usage.said;
+        match self.permit {
+            Permit::Slack => Some(u64::from(self.usage.slack)),
+            Permit::DefaultLifetime(seconds) | Permit::Grace(seconds) => Some(u64::from(seconds)),
+            Permit::MaxStale => number_in(said.max_stale),
+            Permit::WhileRevalidating => number_in(said.while_revalidating),
+            Permit::IfError => number_in(said.if_error),
+            Permit::AskedIfError => number_in(said.asked_if_error),
+            Permit::Unreachable => None,
+        }
+    }
+
+    /// Puts at the end what permits to give the response.
+    pub fn say_permit(&self, out: &mut String) -> Result<(), AllocError> {
+        let said = self.usage.said;
+        match self.permit {
+            Permit::MaxStale => {
+                let asked = ("max-stale", said.max_stale);
+                say_directive(asked, "request", "RFC 9111 section 5.2.1.2", out)
+            }
+            Permit::WhileRevalidating => {
+                let meanwhile = ("stale-while-revalidate", said.while_revalidating);
+                say_directive(meanwhile, "response", "RFC 5861 section 3", out)
+            }
+            Permit::IfError => {
+                let own = ("stale-if-error", said.if_error);
+                say_directive(own, "response", "RFC 5861 section 4", out)
+            }
+            Permit::AskedIfError => {
+                let asked = ("stale-if-error", said.asked_if_error);
+                say_directive(asked, "request", "RFC 5861 section 4", out)
+            }
+            _ => self.say_other_permit(out),
+        }
+    }
+
+    // Puts at the end what permits to give it, where that is no directive.
+    fn say_other_permit(&self, out: &mut String) -> Result<(), AllocError> {
+        match self.permit {
+            Permit::DefaultLifetime(seconds) => write!(
+                out,
+                "fresh by this audit's --default-ttl {seconds} (RFC 9111 section 4.2.2)"
+            ),
+            Permit::Grace(seconds) => write!(
+                out,
+                "permitted by this audit's --grace {seconds} (RFC 9111 section 4.2.4)"
+            ),
+            Permit::Slack => {
+                let slack = self.usage.slack;
+                write!(out, "permitted by this audit's --slack {slack}")
+            }
+            _ => out.push_str(
+                "permitted since the origin can't be reached (RFC 9111 section 4.2.4)",
+            ),
+        }
     }
 }

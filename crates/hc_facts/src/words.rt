@@ -16,30 +16,102 @@ fn push_further(is_first: bool, words: &str, out: &mut String) -> Result<(), All
 }
 
 impl Forbids {
-    // The words for each that forbids, and the section of RFC 9111 that says so.
+    // The words for each that forbids, and what says so.
     fn words(&self) -> [(bool, &'static str, &'static str); 8] {
         [
-            (self.method, "its forward is no GET", "3"),
+            (
+                self.method,
+                "its forward is no GET",
+                "hcache's own rule: RFC 9111 section 3 leaves other methods to the cache",
+            ),
             (
                 self.request_no_store,
                 "its forward says no-store",
-                "5.2.1.5",
+                "RFC 9111 section 5.2.1.5",
             ),
-            (self.status, "its status may not be stored", "3"),
+            (
+                self.status,
+                "its status must not be stored",
+                "RFC 9111 section 3",
+            ),
             (
                 self.must_understand,
                 "must-understand, and its status is not understood",
-                "5.2.2.3",
+                "RFC 9111 section 5.2.2.3",
             ),
-            (self.no_store, "it says no-store", "5.2.2.5"),
-            (self.private, "it says private", "5.2.2.7"),
+            (
+                self.no_store,
+                "it says no-store",
+                "RFC 9111 section 5.2.2.5",
+            ),
+            (self.private, "it says private", "RFC 9111 section 5.2.2.7"),
             (
                 self.authorization,
                 "its forward has Authorization, and none of public, s-maxage and must-revalidate permits to share it",
-                "3.5",
+                "RFC 9111 section 3.5",
             ),
-            (self.uninvited, "nothing invites to store it", "3"),
+            (
+                self.uninvited,
+                "nothing invites to store it",
+                "RFC 9111 section 3",
+            ),
         ]
+    }
+
+    // What is asked by each that forbids, and what says so.
+    fn demands(&self) -> [(bool, &'static str, &'static str); 8] {
+        [
+            (
+                self.request_no_store,
+                "what answers a request that says no-store isn't stored",
+                "RFC 9111 section 5.2.1.5",
+            ),
+            (
+                self.authorization,
+                "a shared cache doesn't store what answers a request with Authorization, but where that says that it may be shared",
+                "RFC 9111 section 3.5",
+            ),
+            (
+                self.no_store,
+                "what says no-store isn't stored",
+                "RFC 9111 section 5.2.2.5",
+            ),
+            (
+                self.private,
+                "a shared cache doesn't store what says private",
+                "RFC 9111 section 5.2.2.7",
+            ),
+            (
+                self.must_understand,
+                "what says must-understand isn't stored where its status isn't understood",
+                "RFC 9111 section 5.2.2.3",
+            ),
+            (
+                self.status,
+                "a response is stored that is whole, and whose status is final",
+                "RFC 9111 section 3",
+            ),
+            (
+                self.uninvited,
+                "a response is stored whose status or fields invite to it",
+                "RFC 9111 section 3",
+            ),
+            (
+                self.method,
+                "a hit is made of an answer to GET alone",
+                "hcache's own rule, narrower than RFC 9111 section 3",
+            ),
+        ]
+    }
+
+    /// What is asked by the first that forbids, if one does, and what says so.
+    pub(crate) fn first(&self) -> Option<(&'static str, &'static str)> {
+        for (forbids, words, section) in self.demands() {
+            if forbids {
+                return Some((words, section));
+            }
+        }
+        None
     }
 
     /// Puts words for each that forbids at the end.
@@ -60,7 +132,7 @@ impl Forbids {
         for (forbids, words, section) in self.words() {
             if forbids {
                 push_further(is_first, words, out)?;
-                write!(out, " (RFC 9111 section {section})")?;
+                write!(out, " ({section})")?;
                 is_first = false;
             }
         }

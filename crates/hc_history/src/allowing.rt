@@ -93,8 +93,8 @@ fn allowed_lifetime(claim: &ReplyClaim<'_>, state: &Stored) -> u32
     )
 }
 
-/// By how many seconds it is stale then, 0 where it is fresh.
-fn allowed_staleness(claim: &ReplyClaim<'_>, state: &Stored) -> u32
+/// By how many seconds it is stale by the lifetime that is allowed to it, 0 where it is fresh.
+pub fn allowed_staleness(claim: &ReplyClaim<'_>, state: &Stored) -> u32
     ensures { result ≡ allowed_staleness claim.now state.now }
 {
     staleness(allowed_lifetime(claim, state), age_of(claim, state))
@@ -117,8 +117,8 @@ fn widens_use(allowed: &Allowed) -> bool
     allowed.default_lifetime.is_some() || allowed.grace.is_some()
 }
 
-/// Whether it is fresh by that lifetime, give or take the slack.
-fn is_allowed_fresh(claim: &ReplyClaim<'_>, state: &Stored) -> bool
+/// Whether it is fresh by the lifetime that is allowed to it, give or take the slack.
+pub fn is_allowed_fresh(claim: &ReplyClaim<'_>, state: &Stored) -> bool
     ensures { result ≡ is_allowed_fresh claim.now state.now }
 {
     u64::from(age_of(claim, state))
@@ -145,7 +145,7 @@ fn is_allowed_usable(claim: &ReplyClaim<'_>, state: &Stored) -> bool
 }
 
 /// Whether it may be used for the reply.
-pub(crate) fn use_is_allowed(claim: &ReplyClaim<'_>, state: &Stored) -> bool
+pub fn use_is_allowed(claim: &ReplyClaim<'_>, state: &Stored) -> bool
     ensures { result ≡ use_is_allowed claim.now state.now }
 {
     is_usable(claim, state) || is_allowed_usable(claim, state)

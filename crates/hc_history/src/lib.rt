@@ -23,7 +23,7 @@ mod verdicts;
 mod wrong;
 
 pub use allowed::Allowed;
-pub use allowing::is_met_or_normalized;
+pub use allowing::{allowed_staleness, is_allowed_fresh, is_met_or_normalized, use_is_allowed};
 pub use among::{Among, is_looked_at};
 pub use candidates::Candidate;
 pub use claim::{ReplyClaim, ttl_of};
@@ -48,6 +48,9 @@ pub use marks::{MarkedReply, reply_mark};
 pub use reasons::Reason;
 pub use right::{allows_unmarked, is_judged_collapsed};
 pub use settings::{FieldNames, Settings, UnmarkedReplies};
-pub use usable::{age_of, lifetime_of};
+pub use usable::{
+    age_of, is_fresh_within, lifetime_of, meanwhile_permits, request_permits, said_on_error,
+    validated_since,
+};
 pub use verdicts::{Counts, Finding, Verdict};
 pub use wrong::{Ending, WrongReply};

@@ -56,7 +56,7 @@ fn max_stale_permits(claim: &ReplyClaim<'_>, staleness: u32, seconds: Seconds) -
 }
 
 /// Whether the request's max-stale permits that staleness.
-fn by_request(claim: &ReplyClaim<'_>, stale: u32) -> bool
+pub fn request_permits(claim: &ReplyClaim<'_>, stale: u32) -> bool
     ensures { result ≡ request_permits claim.now.settings.slack stale claim.now.request.fields }
 {
     let seconds = seconds_said(b"max-stale", &claim.request.fields);
@@ -64,15 +64,16 @@ fn by_request(claim: &ReplyClaim<'_>, stale: u32) -> bool
 }
 
 /// Whether its stale-while-revalidate permits that staleness (RFC 5861 section 3).
-fn while_revalidating(claim: &ReplyClaim<'_>, state: &Stored, stale: u32) -> bool
+pub fn meanwhile_permits(claim: &ReplyClaim<'_>, state: &Stored, stale: u32) -> bool
     ensures { result ≡ meanwhile_permits claim.now.settings.slack stale state.now.fields }
 {
     let seconds = seconds_said(b"stale-while-revalidate", &state.fields);
     permits(claim, stale, seconds)
 }
 
-/// Whether a stale-if-error of those fields permits that staleness.
-fn if_error(claim: &ReplyClaim<'_>, fields: &Fields, stale: u32) -> bool
+/// Whether a stale-if-error of those fields, of the response or of the request, permits that staleness
+/// (RFC 5861 section 4).
+pub fn said_on_error(claim: &ReplyClaim<'_>, fields: &Fields, stale: u32) -> bool
     ensures { result ≡ permits claim.now.settings.slack stale (seconds_said (codes "stale-if-error") fields.now) }
 {
     let seconds = seconds_said(b"stale-if-error", fields);
@@ -86,15 +87,16 @@ fn on_error(claim: &ReplyClaim<'_>, state: &Stored, stale: u32) -> bool
         && error_permits claim.now.settings.slack stale claim.now.request.fields state.now.fields) }
 {
     (claim.has_error || claim.has_failure)
-        && (if_error(claim, &state.fields, stale) || if_error(claim, &claim.request.fields, stale))
+        && (said_on_error(claim, &state.fields, stale)
+            || said_on_error(claim, &claim.request.fields, stale))
 }
 
 /// Whether that staleness is permitted.
 pub(crate) fn permits_staleness(claim: &ReplyClaim<'_>, state: &Stored, stale: u32) -> bool
     ensures { result ≡ permits_staleness claim.now state.now stale }
 {
-    by_request(claim, stale)
-        || while_revalidating(claim, state, stale)
+    request_permits(claim, stale)
+        || meanwhile_permits(claim, state, stale)
         || on_error(claim, state, stale)
         || claim.has_failure
 }
@@ -107,7 +109,7 @@ fn permits_stale(claim: &ReplyClaim<'_>, state: &Stored) -> bool
 }
 
 /// Whether it was validated after that position.
-pub(crate) fn validated_since(since: u64, validated_at: Option<u64>) -> bool
+pub fn validated_since(since: u64, validated_at: Option<u64>) -> bool
     ensures { result ≡ validated_since since validated_at }
 {
     match validated_at {
@@ -117,7 +119,7 @@ pub(crate) fn validated_since(since: u64, validated_at: Option<u64>) -> bool
 }
 
 /// Whether it is fresh, give or take the slack.
-fn is_fresh_enough(claim: &ReplyClaim<'_>, state: &Stored) -> bool
+pub fn is_fresh_within(claim: &ReplyClaim<'_>, state: &Stored) -> bool
     ensures { result ≡ is_fresh_within claim.now.settings.slack state.now claim.now.moment }
 {
     u64::from(age_of(claim, state))
@@ -130,5 +132,5 @@ pub(crate) fn is_usable(claim: &ReplyClaim<'_>, state: &Stored) -> bool
 {
     validated_since(claim.since, state.validated_at)
         || (!says(b"no-cache", &state.fields)
-            && (is_fresh_enough(claim, state) || permits_stale(claim, state)))
+            && (is_fresh_within(claim, state) || permits_stale(claim, state)))
 }

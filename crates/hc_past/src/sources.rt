@@ -31,6 +31,8 @@ pub struct Source {
     pub lifetime: StatedLifetime,
     /// Its Age, if it has one.
     pub age: Option<Octets>,
+    /// Whether it came with a Date.
+    pub is_dated: bool,
     /// Whether the reply has its status and its body, or no body where it answers HEAD.
     pub is_given: bool,
 }
@@ -43,6 +45,7 @@ impl Drop for Source {
             status: _,
             lifetime,
             age,
+            is_dated: _,
             is_given: _,
         } = self;
         drop(lifetime);
@@ -76,6 +79,7 @@ impl Source {
             status: head.status,
             lifetime: lifetime_in(alloc, &head.fields)?,
             age: head.fields.joined(alloc, b"age")?,
+            is_dated: head.fields.contains(b"date"),
             is_given: wanted.has_content(head.status, response.body.as_slice()),
         })
     }

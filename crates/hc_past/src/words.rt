@@ -18,7 +18,7 @@ impl Unstored {
                 "no response of the target is recorded"
             });
         };
-        out.push_str("the latest response may not be stored: ")?;
+        out.push_str("the latest response must not be stored: ")?;
         latest.forbids.say(out)
     }
 }

@@ -1,11 +1,9 @@
 //! What a wrong reply asks for, so that what can't help isn't tried.
 
-use hc_audit::JudgedReply;
 use hc_facts::{Change, Rule, rule_behind};
 use hc_history::{Candidate, Reason};
 use hc_index::Index;
-use hc_why::{Shortfall, Why};
-use std::alloc::AllocError;
+use hc_why::{Shortfall, Why, WrongClaim};
 
 /// What a wrong reply asks for: the rules that are broken by responses which it may carry, or a mark.
 #[derive(Clone, Copy)]
@@ -40,25 +38,20 @@ impl Asks {
         }
     }
 
-    /// What a reply asks for that is wrong for that reason, and in that way.
-    pub(crate) fn read<I: Index>(
-        judged: &JudgedReply<'_, I>,
-        reason: Reason,
-        why: &Why,
-    ) -> Result<Self, AllocError> {
+    /// What a reply asks for that is wrong in that way.
+    pub(crate) fn read<I: Index>(wrong: &WrongClaim<'_, I>, why: &Why) -> Self {
         let mut asks = Asks::nothing();
-        match reason {
+        match wrong.reason {
             Reason::NoResponse | Reason::BothMarks => {}
             Reason::Unmarked => asks.for_mark = true,
             _ => {
-                asks.for_part = asks_for_part(judged);
-                let candidates = judged.candidates()?;
-                asks.take_all(candidates.as_slice());
-                let may_be_joined = 1 < candidates.len() || may_be_joined(why);
+                asks.for_part = wrong.claim.request.fields.contains(b"range");
+                asks.take_all(wrong.candidates.as_slice());
+                let may_be_joined = 1 < wrong.candidates.len() || may_be_joined(why);
                 asks.for_joining = asks.for_fields && may_be_joined;
             }
         }
-        Ok(asks)
+        asks
     }
 
     // Takes in what those break.
@@ -77,14 +70,6 @@ impl Asks {
             Some(Rule::Ttl) => self.for_seconds = true,
             _ => {}
         }
-    }
-}
-
-// Whether the request asks for a part.
-fn asks_for_part<I: Index>(judged: &JudgedReply<'_, I>) -> bool {
-    match judged.claim() {
-        Some(claim) => claim.request.fields.contains(b"range"),
-        None => false,
     }
 }
 

@@ -50,13 +50,15 @@ impl IgnoringTry {
         }
     }
 
-    /// Judges a wrong reply once more, and keeps the names in which it differs, if it is right without these.
+    /// Judges a wrong reply once more, and keeps the names in which it differs, if it is right without these. It is told whether
+    /// that may carry more responses than the one that is named.
     pub(crate) fn judge<I: Index>(
         &mut self,
         judged: &JudgedReply<'_, I>,
         why: &Why,
+        may_carry_others: bool,
     ) -> Result<(), AllocError> {
-        if !self.serves(judged, why)? {
+        if !self.serves(judged, why, may_carry_others)? {
             self.wrong = self.wrong.saturating_add(1);
         }
         Ok(())
@@ -67,14 +69,17 @@ impl IgnoringTry {
         &mut self,
         judged: &JudgedReply<'_, I>,
         why: &Why,
+        may_carry_others: bool,
     ) -> Result<bool, AllocError> {
         let Some(added) = added_by(why) else {
             return Ok(false);
         };
-        if self.ignores_more() && judged.found_with(&self.settings)? == Finding::Right {
+        let new = self.new_among(added);
+        let may_serve = self.ignores_more() && (may_carry_others || new == 0);
+        if may_serve && judged.found_with(&self.settings)? == Finding::Right {
             return Ok(true);
         }
-        if !self.has_room_for(added) {
+        if new == 0 || !self.has_room_for(new) {
             return Ok(false);
         }
         match self.settings_without(added)? {
@@ -83,20 +88,25 @@ impl IgnoringTry {
         }
     }
 
-    // Whether those names are not too many, beside those so far: this saves a copy of these.
-    fn has_room_for(&self, differences: &Differences) -> bool {
-        let mut more = self
+    // How many of those names aren't ignored.
+    fn new_among(&self, differences: &Differences) -> usize {
+        let ignored = &self.settings.ignored;
+        differences
+            .listed
+            .iter()
+            .filter(|gap| !ignored.contains(gap.name.as_slice()))
+            .count()
+    }
+
+    // Whether so many names more are not too many: this saves a copy of those so far.
+    fn has_room_for(&self, new: usize) -> bool {
+        let more = self
             .settings
             .ignored
             .names()
             .len()
             .saturating_sub(self.given);
-        for gap in differences.listed.iter() {
-            if !self.settings.ignored.contains(gap.name.as_slice()) {
-                more = more.saturating_add(1);
-            }
-        }
-        more <= MOST_NAMES
+        more.saturating_add(new) <= MOST_NAMES
     }
 
     // Whether a name is ignored that the audit doesn't ignore.

@@ -20,7 +20,7 @@ use hc_figures::{ListedReplies, ReplyCounts};
 use hc_history::{Counts, Ending, Finding, Reason, Settings, WrongReply};
 use hc_index::Index;
 use hc_past::Past;
-use hc_why::why;
+use hc_why::{Why, WrongClaim, why};
 use serde_json::{Map, Value};
 use std::alloc::{AllocError, Global};
 
@@ -113,6 +113,22 @@ impl Report {
         self.group(judged, reason, request.into_target())
     }
 
+    // What is wrong with a reply, which is judged once more by what might make it right.
+    fn judge_again<I: Index>(
+        &mut self,
+        judged: &JudgedReply<'_, I>,
+        reason: Reason,
+    ) -> Result<Why, AllocError>
+        ensures { self.new.wrongs ≡ self.old.wrongs }
+    {
+        let Some(wrong) = WrongClaim::read(self.alloc, judged, reason)? else {
+            return Ok(Why::Unasked);
+        };
+        let why = why(self.alloc, &wrong, &self.past)?;
+        self.tries.judge(judged, &wrong, &why)?;
+        Ok(why)
+    }
+
     // Puts a wrong reply, of which that target is shown, where it belongs by what is wrong with it.
     fn group<I: Index>(
         &mut self,
@@ -122,8 +138,7 @@ impl Report {
     ) -> Result<(), AllocError>
         ensures { self.new.wrongs ≡ self.old.wrongs }
     {
-        let why = why(self.alloc, judged, reason, &self.past)?;
-        self.tries.judge(judged, reason, &why)?;
+        let why = self.judge_again(judged, reason)?;
         self.suspects.note(&why)?;
         self.groups.note(WrongOfKind {
             position: judged.position,

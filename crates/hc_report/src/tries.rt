@@ -6,7 +6,7 @@ use crate::ignoring::IgnoringTry;
 use hc_audit::JudgedReply;
 use hc_history::{Reason, Settings};
 use hc_index::Index;
-use hc_why::Why;
+use hc_why::{Why, WrongClaim};
 use std::alloc::{AllocError, Global};
 
 /// Other settings that wrong replies are judged by.
@@ -63,6 +63,14 @@ fn push_fixed(settings: &Settings, fixed: &mut Vec<FixedTry>) -> Result<(), Allo
     Ok(())
 }
 
+// Whether a reply may carry more responses than the one that is named.
+fn may_carry_others<I: Index>(wrong: &WrongClaim<'_, I>) -> bool {
+    match wrong.reason {
+        Reason::NotForwarded | Reason::NotCollapsible => true,
+        _ => 1 < wrong.candidates.len(),
+    }
+}
+
 impl Tries {
     /// What is tried beside those settings.
     pub(crate) fn new(alloc: Global, settings: Settings) -> Result<Self, AllocError> {
@@ -79,11 +87,11 @@ impl Tries {
     pub(crate) fn judge<I: Index>(
         &mut self,
         judged: &JudgedReply<'_, I>,
-        reason: Reason,
+        wrong: &WrongClaim<'_, I>,
         why: &Why,
     ) -> Result<(), AllocError> {
-        self.ignoring.judge(judged, why)?;
-        let asks = Asks::read(judged, reason, why)?;
+        self.ignoring.judge(judged, why, may_carry_others(wrong))?;
+        let asks = Asks::read(wrong, why);
         let mut right = None;
         for fixed in &mut self.fixed {
             if fixed.judge(judged, &asks, right, &mut self.settings)? {

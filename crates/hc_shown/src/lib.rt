@@ -12,5 +12,6 @@ mod value;
 
 pub use moment::push_moment;
 pub use octets::{SHOWN, push_first, push_octets};
+pub use secrets::is_credential;
 pub use target::push_target;
 pub use value::push_value;

@@ -37,8 +37,8 @@ fn is_one_of(names: &[&[u8]], name: &[u8]) -> bool
     names.iter().any(|known| name.eq_ignore_ascii_case(known))
 }
 
-/// Whether a field of that name bears credentials. The name is one in any case.
-pub(crate) fn is_credential(name: &[u8]) -> bool
+/// Whether a field of that name bears credentials, so that its value is hidden. The name is one in any case.
+pub fn is_credential(name: &[u8]) -> bool
     ensures { result ≡ is_credential name.now }
 {
     is_one_of(&CREDENTIALS, name)

@@ -12,7 +12,7 @@ use crate::naming::{Nearest, Reaches, named, nearest_of};
 use crate::reading::why_by;
 use crate::whys::Why;
 use hc_audit::JudgedReply;
-use hc_facts::{AskedReply, Newest, Setting};
+use hc_facts::{AskedReply, Newest, Rule, Setting, StaleUse, rule_behind, stale_use};
 use hc_history::{Candidate, Finding, Mark, Reason, ReplyClaim, is_judged_collapsed};
 use hc_index::Index;
 use hc_past::{EndedForward, Source};
@@ -58,6 +58,8 @@ pub struct Explanation {
     pub finding: Finding,
     /// What would be found with the setting by which the response that is named may be used, where there is one.
     pub with_setting: Option<Finding>,
+    /// How stale the response is that is named, and what permits to give it, where it is a hit that may give what is stale.
+    pub stale: Option<StaleUse>,
     /// What is found of it.
     pub ground: Ground,
     /// The responses that it may carry, but for those before its request where it was collapsed.
@@ -83,6 +85,7 @@ impl Drop for Explanation {
             way: _,
             finding: _,
             with_setting: _,
+            stale: _,
             ground,
             reaches,
             before,
@@ -150,6 +153,24 @@ fn found_with_setting<I: Index>(
     }
 }
 
+// How stale that candidate is, and what permits to give it, where the reply is a hit, and it keeps the rules on what
+// stale responses may be given.
+fn stale_of<I: Index>(
+    index: &I,
+    claim: &ReplyClaim<'_>,
+    way: Way,
+    named: Option<Candidate>,
+) -> Option<StaleUse> {
+    let candidate = named?;
+    match (way, rule_behind(candidate.passed)) {
+        (Way::Hit, None | Some(Rule::Body | Rule::Fields | Rule::Age | Rule::Ttl)) => {
+            let state = index.response(claim.target, candidate.position)?;
+            stale_use(claim, state)
+        }
+        _ => None,
+    }
+}
+
 // Lists those candidates: those behind the position, the one that is named first, and those before it.
 fn list(
     candidates: &[Candidate],
@@ -206,6 +227,7 @@ impl Explanation {
             way,
             finding: judged.finding,
             with_setting: found_with_setting(alloc, judged, nearest.as_ref())?,
+            stale: stale_of(judged.index, &claim, way, candidate),
             ground: ground_of(alloc, &claim, judged.finding, nearest)?,
             reaches: Reaches::new(alloc),
             before: Reaches::new(alloc),
@@ -288,18 +310,6 @@ impl Explanation {
     /// Whether a reply that went forward is to be that stored response, or gives it.
     pub fn stands_for(&self, nearest: &Nearest) -> bool {
         self.was_validated(nearest) || self.is_given(nearest)
-    }
-
-    /// The reason whose demand a reply doesn't keep that is wrong for that one. Where it went forward and is to be a
-    /// stored response, or gives it, that is the reason of the rule which this breaks.
-    pub fn demanded(&self, reason: Reason) -> Reason {
-        let Ground::Wrong(Why::NotForwarded(_, Some(nearest))) = &self.ground else {
-            return reason;
-        };
-        match nearest.breaks() {
-            Some(rule) if self.stands_for(nearest) => rule.reason(),
-            _ => reason,
-        }
     }
 
     /// The state before a 304 of the response that is named, if there is one then.

@@ -2,6 +2,7 @@
 //! a recording that find it.
 #![tactic(auto)]
 
+mod demands;
 mod explaining;
 mod first;
 mod naming;
@@ -15,7 +16,7 @@ mod words;
 pub use explaining::{Explanation, Ground, Way};
 pub use first::FirstWrong;
 pub use naming::{Nearest, Reach, Reaches};
-pub use reading::why;
+pub use reading::{WrongClaim, why};
 pub use retracing::Retracing;
 pub use seeking::ReplyAt;
 pub use shortfalls::{Invalidator, NotAbout, OriginError, Shortfall};

@@ -1,7 +1,6 @@
 //! The responses that a reply may carry, and the one of them that is named.
 
 use crate::shortfalls::{NotAbout, OriginError, Shortfall};
-use hc_audit::JudgedReply;
 use hc_facts::{NAMED, Newest, RecordName, Rule, Setting, has_body, rule_behind};
 use hc_history::{Candidate, ReplyClaim};
 use hc_index::Index;
@@ -182,24 +181,16 @@ pub(crate) fn named<I: Index>(
     since: u64,
 ) -> Option<Candidate> {
     let furthest = candidates.iter().find(|one| since < one.position)?;
-    let with_body = candidates.iter().find(|one| {
-        since < one.position
-            && one.passed == furthest.passed
-            && has_its_body(index, claim, one.position)
-    });
+    let gets_as_far = |one: &Candidate| since < one.position && one.passed == furthest.passed;
+    if !candidates
+        .iter()
+        .any(|one| gets_as_far(one) && one != furthest)
+    {
+        return Some(*furthest);
+    }
+    let with_body = candidates.iter().find(|one| gets_as_far(one)
+        && has_its_body(index, claim, one.position));
     Some(*with_body.unwrap_or(furthest))
-}
-
-/// The response that is named of those behind a position, if there is one.
-pub(crate) fn nearest_behind<I: Index>(
-    alloc: Global,
-    judged: &JudgedReply<'_, I>,
-    claim: &ReplyClaim<'_>,
-    since: u64,
-) -> Result<Option<Nearest>, AllocError> {
-    let candidates = judged.candidates()?;
-    let named = named(judged.index, claim, candidates.as_slice(), since);
-    nearest_of(alloc, judged.index, claim, named)
 }
 
 /// What the index knows of that candidate, if there is one.

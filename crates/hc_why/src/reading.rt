@@ -1,10 +1,10 @@
 //! What is wrong with a reply, by what is known of the records before it.
 
-use crate::naming::{Nearest, nearest_behind};
+use crate::naming::{Nearest, named, nearest_of};
 use crate::whys::{NoMark, Why};
 use hc_audit::JudgedReply;
 use hc_head::StatusCode;
-use hc_history::{Mark, Reason, ReplyClaim};
+use hc_history::{Candidate, Mark, Reason, ReplyClaim};
 use hc_index::Index;
 use hc_past::{Past, Unstored, Wanted, Window};
 use hc_status::{MarkFault, mark};
@@ -59,17 +59,58 @@ pub(crate) fn why_by(
     }
 }
 
-// The response that is named for a reply that is wrong for that reason, if it asks for one.
-fn nearest_by<I: Index>(
+/// A wrong reply, and what the index knows of it.
+#[derive(Drop)]
+pub struct WrongClaim<'a, I> {
+    /// Why it is wrong.
+    pub reason: Reason,
+    /// What it claims.
+    pub claim: ReplyClaim<'a>,
+    /// How far the responses get that it may carry, the furthest first. None where the reason asks for none.
+    pub candidates: Vec<Candidate>,
+    /// What is known of the records before it.
+    pub index: &'a I,
+}
+
+// How far the responses get that a reply may carry which is wrong for that reason, if it asks for one.
+fn candidates_for<I: Index>(
     alloc: Global,
     judged: &JudgedReply<'_, I>,
-    claim: &ReplyClaim<'_>,
     reason: Reason,
-) -> Result<Option<Nearest>, AllocError> {
+) -> Result<Vec<Candidate>, AllocError> {
     match reason {
-        Reason::NoResponse | Reason::Unmarked | Reason::BothMarks => Ok(None),
-        Reason::NotCollapsible => nearest_behind(alloc, judged, claim, claim.since),
-        _ => nearest_behind(alloc, judged, claim, ANYWHERE),
+        Reason::NoResponse | Reason::Unmarked | Reason::BothMarks => Ok(Vec::new(alloc)),
+        _ => judged.candidates(),
+    }
+}
+
+impl<'a, I: Index> WrongClaim<'a, I> {
+    /// What the index knows of a reply that is wrong for that reason. None where no exchange of its number is open.
+    pub fn read(
+        alloc: Global,
+        judged: &JudgedReply<'a, I>,
+        reason: Reason,
+    ) -> Result<Option<Self>, AllocError> {
+        let Some(claim) = judged.claim() else {
+            return Ok(None);
+        };
+        Ok(Some(WrongClaim {
+            reason,
+            claim,
+            candidates: candidates_for(alloc, judged, reason)?,
+            index: judged.index,
+        }))
+    }
+
+    // The response that is named, if the reason asks for one.
+    fn nearest(&self, alloc: Global) -> Result<Option<Nearest>, AllocError> {
+        let since = match self.reason {
+            Reason::NotCollapsible => self.claim.since,
+            _ => ANYWHERE,
+        };
+        let candidates = self.candidates.as_slice();
+        let named = named(self.index, &self.claim, candidates, since);
+        nearest_of(alloc, self.index, &self.claim, named)
     }
 }
 
@@ -82,19 +123,14 @@ fn recall(claim: &ReplyClaim<'_>, past: &Past, why: &mut Why) -> Result<(), Allo
     }
 }
 
-/// What is wrong with a reply that is wrong for that reason, by what is remembered of the records before it. It fails
-/// only where memory is refused.
+/// What is wrong with a reply, by what is remembered of the records before it. It fails only where memory is refused.
 pub fn why<I: Index>(
     alloc: Global,
-    judged: &JudgedReply<'_, I>,
-    reason: Reason,
+    wrong: &WrongClaim<'_, I>,
     past: &Past,
 ) -> Result<Why, AllocError> {
-    let Some(claim) = judged.claim() else {
-        return Ok(Why::Unasked);
-    };
-    let nearest = nearest_by(alloc, judged, &claim, reason)?;
-    let mut why = why_by(alloc, &claim, reason, nearest)?;
-    recall(&claim, past, &mut why)?;
+    let nearest = wrong.nearest(alloc)?;
+    let mut why = why_by(alloc, &wrong.claim, wrong.reason, nearest)?;
+    recall(&wrong.claim, past, &mut why)?;
     Ok(why)
 }

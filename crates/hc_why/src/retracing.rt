@@ -396,6 +396,7 @@ impl Nearest {
         };
         self.not_about.push(NotAbout {
             record: place.ended.record,
+            sent: place.ended.sent(),
             against,
         })
     }

@@ -43,13 +43,19 @@ pub struct OriginError {
 pub struct NotAbout {
     /// Its record.
     pub record: RecordName,
+    /// The record of its forward, where that was looked for.
+    pub sent: Option<RecordName>,
     /// The first thing that stands against it.
     pub against: Against,
 }
 
 impl Drop for NotAbout {
     fn drop(self) {
-        let NotAbout { record: _, against } = self;
+        let NotAbout {
+            record: _,
+            sent: _,
+            against,
+        } = self;
         drop(against);
     }
 }

@@ -1,0 +1,22 @@
+use Rattle.std.proofs.Common.{◌≡◌, subst, true}
+use Rattle.std.specs.Prelude.{string_bytes}
+use Rattle.hc_why.specs.Explaining.{finding_of, position_of}
+use Rattle.hc_why.specs.Seeking.{HasHeard, HasPassed, IsFoundAt, IsOfPlace, place_of}
+use Rattle.hc_why.specs.Standing.{stands_at}
+use Rattle.hc_command.specs.Report.{IsHeadLine, reply_status}
+use Rattle.hc_command.proofs.ReportLemmas.{finds}
+use Rattle.hc_command.proofs.explaining.reply_explained.Goals as goal
+
+pub returns : goal.returns
+returns g c =
+    let seeker = c.surveyed.new.witness in
+    let found = c.in-Some.found in
+    let there : place_of seeker ≡ c.args.position = search in
+    let head : IsHeadLine (position_of found) (finding_of found) (string_bytes c.in_ok-head.head) = c.in_ok-head.ensures in
+    let status : c.status_of-status.result ≡ reply_status (finding_of found) = search in
+    finds c.args.terms.json c.args.terms.settings _ _ (λ wrongs. IsFoundAt seeker wrongs) (λ h. HasHeard seeker h) (HasPassed seeker) c.in_ok-outcome.outcome
+    (c.in_ok-outcome.ensures.surveyed c.new-seeker.ensures.tells c.new-seeker.ensures.hears)
+    c.args.position (position_of found) c.in_ok-reply_said.field-0 (finding_of found) _ _
+    (λ wrongs told. subst (λ n. IsOfPlace n wrongs (position_of found) (finding_of found)) there (c.in-Some.ensures.place wrongs told))
+    (λ h heard. subst (λ n. stands_at n h ≡ true) there (c.in-Some.ensures.stands h heard search))
+    (c.in_ok-reply_said.ensures (position_of found) (finding_of found) head status)
