@@ -1,6 +1,7 @@
 -- What a survey of what was read says of all octets of an input, and what is said of it.
-use Rattle.std.proofs.Common.{◌≡◌, ◌≤◌, ◌⊎◌, inl, inr, ℕ, Bool, true, length, List, [], ◌∷◌, ◌++◌, Option, None, Some, IfSome, append-nil, append_assoc, refl, rules, subst, sym}
-use Rattle.std.specs.Prelude.{slice_get, IsSome}
+use Rattle.std.proofs.Common.{◌≡◌, ◌≤◌, ◌⊎◌, inl, inr, ℕ, Bool, true, length, List, [], ◌∷◌, ◌++◌, Option, None, Some, IfSome, append-nil, append_assoc, arith, refl, rules, subst, sym}
+use Rattle.std.specs.Prelude.{nat_le, slice_get, IsSome}
+use Rattle.std.proofs.lemmas.Bool.Decides.{nat_tests}
 use Rattle.std.specs.Io.KnownBytes.{Consumes, IsAtEnd, Keeps}
 use Rattle.std.proofs.KnownBytes.{Consumes-trans}
 use Rattle.hc_transcript.specs.declared.fault.RecordFault.{RecordFault}
@@ -266,6 +267,10 @@ module _ (json : Bool) (settings : Settings) (input left : Option (List ℕ)) wh
           };
           says = subst (λ (at : ℕ). SaysReplyIn json at finding old new status) of_place.0 says;
         })
+
+-- a position that has passed
+pub is_below : (m n : ℕ) → nat_le m n ≡ true → m ≤ n
+is_below m n is = grind (arith, nat_tests)
 
 -- ---- where the input isn't known
 

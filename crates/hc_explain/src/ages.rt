@@ -5,6 +5,7 @@ use crate::freshness::push_slack;
 use crate::layout::{push_number, push_record};
 use hc_facts::{AgeGap, AgeParts, AgeTold, RecordName, TtlGap};
 use hc_fresh::Times;
+use hc_past::Source;
 use hc_shown::push_value;
 use hc_why::{Explanation, Nearest};
 use std::alloc::AllocError;
@@ -25,10 +26,28 @@ fn push_told(told: &AgeTold, out: &mut String) -> Result<(), AllocError> {
 pub(crate) struct AgeOrigin {
     /// The 304 that freshened the response last, as far as it was looked for.
     validator: Option<RecordName>,
-    /// The forward that the response answers, where it is known, and no 304 freshened that.
+    /// The forward that this answers, or that the response does where no 304 freshened it, as far as it is known.
     sent: Option<RecordName>,
-    /// The position of a response that came with an Age, where a 304 freshened it.
-    aged: Option<u64>,
+    /// The response, where it came with an Age, and a 304 freshened it.
+    aged: Option<Aged>,
+}
+
+/// A response that came with an Age.
+#[derive(Clone, Copy)]
+struct Aged {
+    /// The position of its record.
+    position: u64,
+    /// Whether the 304 that freshened it last has an Age, too.
+    is_aged_anew: bool,
+}
+
+/// That response, of which that is the record, where it came with an Age.
+fn aged_response(source: Option<&Source>, nearest: &Nearest) -> Option<Aged> {
+    source?.age.as_ref()?;
+    Some(Aged {
+        position: nearest.position,
+        is_aged_anew: nearest.validator?.is_aged,
+    })
 }
 
 impl AgeOrigin {
@@ -37,11 +56,9 @@ impl AgeOrigin {
         let source = explanation.source(nearest.position);
         match nearest.validated_at {
             Some(_) => AgeOrigin {
-                validator: nearest.validator,
-                sent: None,
-                aged: source
-                    .filter(|source| source.age.is_some())
-                    .map(|_| nearest.position),
+                validator: nearest.validator.map(|validator| validator.record),
+                sent: nearest.validator.and_then(|validator| validator.sent),
+                aged: aged_response(source, nearest),
             },
             None => AgeOrigin {
                 validator: None,
@@ -118,6 +135,22 @@ fn push_by_arrival(due: u64, parts: AgeParts, out: &mut String) -> Result<(), Al
     )
 }
 
+/// Writes that the Age with which a response came counts no more since a 304, whose own counts as so much.
+fn push_former_age(aged: Aged, counted: u32, out: &mut String) -> Result<(), AllocError> {
+    out.push_str("; since that 304, which has ")?;
+    if aged.is_aged_anew {
+        push_number("an Age that counts as ", u64::from(counted), "", out)?;
+    } else {
+        out.push_str("no Age")?;
+    }
+    push_number(
+        ", the Age with which ",
+        aged.position,
+        " came counts no more (RFC 9111 section 4.2)",
+        out,
+    )
+}
+
 /// Writes the Age that is due, with its sum, and the one that the reply tells.
 pub(crate) fn say_age(gap: &AgeGap, origin: AgeOrigin, out: &mut String) -> Result<(), AllocError> {
     let due = u64::from(gap.due);
@@ -133,14 +166,7 @@ pub(crate) fn say_age(gap: &AgeGap, origin: AgeOrigin, out: &mut String) -> Resu
         push_by_arrival(due, gap.parts, out)?;
     }
     match origin.aged {
-        Some(position) => {
-            push_number(
-                "; the Age with which ",
-                position,
-                " came counts no more",
-                out,
-            )
-        }
+        Some(aged) => push_former_age(aged, gap.parts.times.age_value, out),
         None => Ok(()),
     }
 }

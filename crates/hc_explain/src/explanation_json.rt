@@ -48,7 +48,7 @@ fn put_finding(
     put_number(alloc, "reason", u64::from(reason.number()), members)?;
     put_text(alloc, "name", reason.name(), members)?;
     let Demand { words, sections } = explanation.demand(reason);
-    put_text(alloc, "means", words, members)?;
+    put_text(alloc, "broken", words, members)?;
     put_text(alloc, "sections", sections, members)
 }
 

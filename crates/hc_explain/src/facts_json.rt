@@ -1,7 +1,7 @@
 //! In what a response falls short, as JSON.
 
 use crate::objects::{Told, octets_json, put_objects, value_json, values_json};
-use crate::records_json::{put_broken, put_some_record, put_status};
+use crate::records_json::{put_broken, put_status, put_validator};
 use hc_facts::{
     AgeGap, AgeTold, BodyGap, ContentGap, Failed, FieldGap, RangeGap, Setting, StaleSaid, StaleUse,
     TtlGap, Unearned, UnmetMember, Usage,
@@ -16,7 +16,7 @@ impl Told for Nearest {
     fn put(&self, alloc: Global, members: &mut Map<String, Value>) -> Result<(), AllocError> {
         put_number(alloc, "position", self.position, members)?;
         put_some(alloc, "validated_at", self.validated_at, members)?;
-        put_some_record(alloc, "validator", self.validator, members)?;
+        put_validator(alloc, self.validator.as_ref(), members)?;
         put_some(alloc, "date", self.date, members)?;
         put_broken(alloc, self.breaks(), members)?;
         put_error(alloc, self.error, members)?;

@@ -4,11 +4,11 @@ use crate::facts_json::put_bodies;
 use crate::layout::letter;
 use crate::objects::{Told, octets_json, put_object, value_json};
 use hc_facts::{Against, RecordName, Rule, ValidatorGap};
-use hc_head::StatusCode;
+use hc_head::{Method, StatusCode};
 use hc_json::{put_made, put_number, put_numbers, put_some, put_text};
 use hc_past::{Apart, NearAnswer, Source, StatedLifetime, Unstorable, WindowEnd};
 use hc_transcript::ToldCause;
-use hc_why::{Invalidator, NotAbout, Reach};
+use hc_why::{Invalidator, NotAbout, Reach, Validator};
 use serde_json::{Map, Value, put};
 use std::alloc::{AllocError, Global};
 
@@ -34,6 +34,16 @@ pub(crate) fn put_broken(
     }
 }
 
+/// Adds a method.
+fn put_method(
+    alloc: Global,
+    method: &Method,
+    members: &mut Map<String, Value>,
+) -> Result<(), AllocError> {
+    let method = octets_json(alloc, method.as_str().as_bytes());
+    put_made(alloc, "method", method, members)
+}
+
 impl Told for RecordName {
     fn put(&self, alloc: Global, members: &mut Map<String, Value>) -> Result<(), AllocError> {
         let numbers = [
@@ -47,7 +57,7 @@ impl Told for RecordName {
 }
 
 /// Adds a record, if it is known.
-pub(crate) fn put_some_record(
+fn put_some_record(
     alloc: Global,
     name: &str,
     record: Option<RecordName>,
@@ -70,6 +80,7 @@ impl Told for Source {
     fn put(&self, alloc: Global, members: &mut Map<String, Value>) -> Result<(), AllocError> {
         self.record.put(alloc, members)?;
         put_some_record(alloc, "forward", self.sent, members)?;
+        put_method(alloc, &self.method, members)?;
         put_status(alloc, "status", self.status, members)?;
         put(members, alloc, "given", Value::from(self.is_given))?;
         put(members, alloc, "dated", Value::from(self.is_dated))?;
@@ -85,12 +96,31 @@ impl Told for Source {
     }
 }
 
+impl Told for Validator {
+    fn put(&self, alloc: Global, members: &mut Map<String, Value>) -> Result<(), AllocError> {
+        self.record.put(alloc, members)?;
+        put_some_record(alloc, "forward", self.sent, members)
+    }
+}
+
+/// Adds the 304 that freshened a response, if it is known.
+pub(crate) fn put_validator(
+    alloc: Global,
+    validator: Option<&Validator>,
+    members: &mut Map<String, Value>,
+) -> Result<(), AllocError> {
+    match validator {
+        Some(validator) => put_object(alloc, "validator", validator, members),
+        None => Ok(()),
+    }
+}
+
 impl Told for Invalidator {
     fn put(&self, alloc: Global, members: &mut Map<String, Value>) -> Result<(), AllocError> {
         self.record.put(alloc, members)?;
+        put_some_record(alloc, "forward", self.sent, members)?;
         put_status(alloc, "status", self.status, members)?;
-        let method = octets_json(alloc, self.method.as_str().as_bytes());
-        put_made(alloc, "method", method, members)
+        put_method(alloc, &self.method, members)
     }
 }
 

@@ -9,7 +9,7 @@ use crate::marking::{say_both, say_unmarked};
 use crate::shortfalls::{end_shortfall, say_failing, say_rule};
 use crate::sources::{say_carried, say_nearest, say_sources};
 use crate::unstored::say_unstored;
-use crate::window::{say_own, say_window};
+use crate::window::{say_own, say_validated, say_window};
 use hc_facts::Demand;
 use hc_history::{Finding, Reason};
 use hc_past::{Source, Unstored, Window};
@@ -86,23 +86,28 @@ fn say_not_forwarded(
     }
 }
 
-/// Writes the line on a reply that went forward and is to be a stored response, or gives it: in what it falls short of
-/// that; and the line of what was due.
+/// Writes the line on a reply that went forward and is to be a stored response, or gives it: which rule a hit would break
+/// so, and in what it falls short of that response; and the line of what was due.
 fn say_forwarding(
     explanation: &Explanation,
     nearest: &Nearest,
     out: &mut String,
 ) -> Result<(), AllocError> {
     begin_rule(Reason::NotForwarded.number(), out)?;
-    push_standing(explanation, nearest, out)?;
     let Some(shortfall) = &nearest.shortfall else {
+        push_standing(explanation, nearest, out)?;
         return end_line(out);
     };
+    let reason = shortfall.rule().reason();
+    let number = reason.number();
+    let name = reason.name();
+    write!(out, "NotForwarded stands here for {number} {name}: ")?;
+    push_standing(explanation, nearest, out)?;
     out.push_str(": ")?;
     end_shortfall(explanation, nearest, shortfall, out)
 }
 
-/// Writes as what such a reply is judged.
+/// Writes which stored response such a reply is to be, or gives.
 fn push_standing(
     explanation: &Explanation,
     nearest: &Nearest,
@@ -112,11 +117,11 @@ fn push_standing(
     match nearest.validated_at {
         Some(validated) if explanation.was_validated(nearest) => write!(
             out,
-            "NotForwarded says that it isn't what was forwarded: the origin answered by the 304 {validated}, so that is {position} with the fields of {validated}; its mark is no fault, but as that it is wrong"
+            "it went forward, as it says, and the origin answered by the 304 {validated}, so due is {position} with the fields of {validated}"
         ),
         _ => write!(
             out,
-            "NotForwarded says that it isn't what was forwarded: it gives {position}, which is stored, and nothing that came between request and reply"
+            "it says that it went forward, and gives {position}, which is stored, and nothing that came between request and reply"
         ),
     }
 }
@@ -132,15 +137,15 @@ fn say_stored(
     end_line(out)
 }
 
-/// Writes the line of what is asked of a reply that is wrong for that reason.
-fn say_demand(
+/// Writes the line of what a reply doesn't keep that is wrong for that reason, behind the sections that ask it.
+fn say_broken(
     explanation: &Explanation,
     reason: Reason,
     out: &mut String,
 ) -> Result<(), AllocError> {
-    begin_line("means", "", out)?;
+    begin_line("broken", "", out)?;
     let Demand { words, sections } = explanation.demand(reason);
-    write!(out, "{words} ({sections})\n")
+    write!(out, "{sections}: {words}\n")
 }
 
 /// Writes the line of an answer of its own window that a wrong hit carries, if there is one.
@@ -158,6 +163,7 @@ fn say_response(
     nearest: &Nearest,
     out: &mut String,
 ) -> Result<(), AllocError> {
+    say_validated(alloc, explanation, nearest, out)?;
     say_sources(alloc, explanation, out)?;
     say_rule(explanation, nearest, out)
 }
@@ -196,14 +202,13 @@ fn say_permitted(explanation: &Explanation, out: &mut String) -> Result<(), Allo
 
 /// Writes the lines of the explanation behind its head line, each with its end.
 pub fn say(alloc: Global, explanation: &Explanation, out: &mut String) -> Result<(), AllocError> {
+    if let Finding::Wrong(reason) = explanation.finding {
+        say_broken(explanation, reason, out)?;
+    }
     say_reply(alloc, explanation, out)?;
     match &explanation.ground {
         Ground::Right(_) => say_right(alloc, explanation, out)?,
         Ground::Wrong(why) => say_wrong(alloc, explanation, why, out)?,
     }
-    say_permitted(explanation, out)?;
-    match explanation.finding {
-        Finding::Right => Ok(()),
-        Finding::Wrong(reason) => say_demand(explanation, reason, out),
-    }
+    say_permitted(explanation, out)
 }

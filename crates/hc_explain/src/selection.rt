@@ -58,7 +58,7 @@ pub(crate) fn say_selection(
     match (selection.validated_at, nearest.validator) {
         (Some(_), Some(validator)) => {
             out.push_str(", though the 304 ")?;
-            push_record(validator, out)?;
+            push_record(validator.record, out)?;
             out.push_str(" validated it")
         }
         _ => Ok(()),

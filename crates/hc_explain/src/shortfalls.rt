@@ -20,12 +20,12 @@ use std::alloc::AllocError;
 fn push_invalidator(invalidator: &Invalidator, out: &mut String) -> Result<(), AllocError> {
     push_record(invalidator.record, out)?;
     push_number(", a ", u64::from(invalidator.status.as_u16()), "", out)?;
-    push_method(
-        " to ",
-        &invalidator.method,
-        " of the same target, invalidated it",
-        out,
-    )
+    push_method(" to the ", &invalidator.method, " ", out)?;
+    if let Some(sent) = invalidator.sent {
+        push_record(sent, out)?;
+        out.push_str(" ")?;
+    }
+    out.push_str("of the same target, invalidated it")
 }
 
 /// Writes what invalidated the response.
@@ -42,7 +42,7 @@ fn say_invalidators(by: &Newest<Invalidator>, out: &mut String) -> Result<(), Al
 /// What the fields of the response that is named come from.
 fn origin_of(explanation: &Explanation, nearest: &Nearest) -> FieldsOrigin {
     FieldsOrigin {
-        validator: nearest.validator,
+        validator: nearest.validator.map(|validator| validator.record),
         position: nearest.position,
         is_undated: explanation.is_undated(nearest),
     }

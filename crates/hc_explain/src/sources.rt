@@ -1,6 +1,6 @@
 //! The lines of the responses that a reply may carry.
 
-use crate::layout::{begin_line, end_line, push_number, push_record};
+use crate::layout::{begin_line, end_line, push_number, push_record, push_sent};
 use hc_facts::Rule;
 use hc_fields::Octets;
 use hc_past::{Source, StatedLifetime};
@@ -60,8 +60,13 @@ pub(crate) fn push_reach(breaks: Option<Rule>, out: &mut String) -> Result<(), A
 fn push_changes(nearest: &Nearest, out: &mut String) -> Result<(), AllocError> {
     if let Some(validator) = nearest.validator {
         out.push_str(", which the 304 ")?;
-        push_record(validator, out)?;
-        out.push_str(" freshens")?;
+        push_record(validator.record, out)?;
+        push_sent(validator.sent, out)?;
+        out.push_str(if validator.sent.is_some() {
+            ", freshens"
+        } else {
+            " freshens"
+        })?;
     }
     if let Some(date) = nearest.date {
         out.push_str(", Date ")?;
@@ -81,7 +86,8 @@ pub(crate) fn push_trouble(nearest: &Nearest, out: &mut String) -> Result<(), Al
     match nearest.failure {
         Some(failure) => {
             out.push_str(", given after the failure ")?;
-            push_record(failure, out)
+            push_record(failure, out)?;
+            out.push_str(", to which no response came")
         }
         None => Ok(()),
     }

@@ -2,6 +2,7 @@
 
 use crate::layout::{push_method, push_more, push_number, push_record, push_sent, push_separator};
 use crate::sources::push_lifetime;
+use hc_head::is_get;
 use hc_past::{Source, Unstorable, Unstored};
 use std::alloc::AllocError;
 
@@ -20,7 +21,19 @@ fn push_kind(
         return Ok(());
     };
     push_lifetime(&source.lifetime, out)?;
-    push_sent(source.sent, out)
+    push_asked(source, out)
+}
+
+/// Writes which forward a response answers, as far as it is known, and its method where that isn't GET.
+fn push_asked(source: &Source, out: &mut String) -> Result<(), AllocError> {
+    let Some(sent) = source.sent else {
+        return Ok(());
+    };
+    if is_get(&source.method) {
+        return push_sent(Some(sent), out);
+    }
+    push_method(", the answer to the ", &source.method, " ", out)?;
+    push_record(sent, out)
 }
 
 /// Writes a response that may not be stored, what it is, and what forbids it.

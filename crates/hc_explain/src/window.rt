@@ -10,7 +10,7 @@ use hc_head::StatusCode;
 use hc_past::{Apart, NearAnswer, Window, WindowEnd};
 use hc_shown::push_octets;
 use hc_transcript::ToldCause;
-use hc_why::{Explanation, Nearest};
+use hc_why::{Explanation, Nearest, Way};
 use std::alloc::{AllocError, Global};
 
 /// Writes for which exchange a forward was made, where that is told.
@@ -149,6 +149,31 @@ pub(crate) fn say_window(
         say_near(alloc, near, &explanation.reply.target.host, out)?;
     }
     Ok(())
+}
+
+/// Writes the line of the 304 behind the request that validated the response which is named, where the reply is judged as
+/// a hit all the same.
+pub(crate) fn say_validated(
+    alloc: Global,
+    explanation: &Explanation,
+    nearest: &Nearest,
+    out: &mut String,
+) -> Result<(), AllocError> {
+    let Some(validator) = nearest.validator else {
+        return Ok(());
+    };
+    if explanation.way != Way::Hit || !explanation.was_validated(nearest) {
+        return Ok(());
+    }
+    begin_window(alloc, explanation, out)?;
+    push_record(validator.record, out)?;
+    let behind = if explanation.reply.is_inferred {
+        "; the reply is inferred to be a hit all the same"
+    } else {
+        "; the reply's mark says a hit all the same, and as that it is judged"
+    };
+    push_number(" is 304 and validates ", nearest.position, behind, out)?;
+    end_line(out)
 }
 
 /// Writes the line of the answer of its own window that a reply carries which is marked as a hit.

@@ -1,9 +1,9 @@
 -- What permits to give a stored response that is stale (RFC 9111 section 4.2.4, RFC 5861).
-use Rattle.std.specs.Prelude.{ℕ, Bool, ◌&&◌, ◌||◌, not, Option, Some, None, codes, if◌then◌else◌}
+use Rattle.std.specs.Prelude.{◌≡◌, ℕ, Bool, true, false, ◌&&◌, ◌||◌, not, Option, Some, None, codes, if◌then◌else◌}
 use Rattle.hc_fresh.specs.Ages.{fresh}
-use Rattle.hc_fresh.specs.Lifetimes.{seconds_said}
+use Rattle.hc_fresh.specs.Lifetimes.{seconds_said, stale_forbidden}
 use Rattle.hc_update.specs.declared.stored.Stored.{Stored}
-use Rattle.hc_history.specs.Allowing.{allowed_staleness, is_allowed_fresh, use_is_allowed}
+use Rattle.hc_history.specs.Allowing.{allowed_staleness, grace_permits, is_allowed_fresh, use_is_allowed}
 use Rattle.hc_history.specs.Claims.{Claim}
 use Rattle.hc_history.specs.Usable.{age_of, is_fresh_within, lifetime_of, meanwhile_permits, permits, request_permits, validated_since}
 use Rattle.hc_facts.specs.declared.permits.Permit.{Permit}
@@ -46,3 +46,37 @@ permit_of claim state =
 abbrev pub stale_use_of : Claim → Stored → Option StaleUse
 stale_use_of claim state =
     if is_used_stale claim state then Some (record { usage = usage_of claim state; permit = permit_of claim state }) else None
+
+-- ---- what it is for each to permit that
+
+abbrev pub DoesPermit : Claim → Stored → Permit → Type 0
+-- it is fresh, give or take the slack
+DoesPermit claim state Slack = is_fresh_within claim.settings.slack state claim.moment ≡ true
+-- it is fresh by the lifetime that is allowed, and the audit gives that one
+DoesPermit claim state (DefaultLifetime seconds) =
+    (claim.settings.allowed.default_lifetime ≡ Some seconds) × (is_allowed_fresh claim state ≡ true)
+-- nothing in it forbids to serve it stale, and the request permits its staleness
+DoesPermit claim state MaxStale =
+    (stale_forbidden state.fields ≡ false)
+    × (request_permits claim.settings.slack (allowed_staleness claim state) claim.request.fields ≡ true)
+-- or the response does, while it is validated
+DoesPermit claim state WhileRevalidating =
+    (stale_forbidden state.fields ≡ false)
+    × (meanwhile_permits claim.settings.slack (allowed_staleness claim state) state.fields ≡ true)
+-- or the response does, where an error or a failure stands in the window
+DoesPermit claim state IfError =
+    (stale_forbidden state.fields ≡ false)
+    × ((claim.has_error || claim.has_failure) ≡ true)
+    × (permits claim.settings.slack (allowed_staleness claim state) (seconds_said (codes "stale-if-error") state.fields) ≡ true)
+-- or the request does so there
+DoesPermit claim state AskedIfError =
+    (stale_forbidden state.fields ≡ false)
+    × ((claim.has_error || claim.has_failure) ≡ true)
+    × (permits claim.settings.slack (allowed_staleness claim state) (seconds_said (codes "stale-if-error") claim.request.fields) ≡ true)
+-- or a failure stands in the window
+DoesPermit claim state Unreachable = (stale_forbidden state.fields ≡ false) × (claim.has_failure ≡ true)
+-- or the audit allows that grace, which permits its staleness
+DoesPermit claim state (Grace seconds) =
+    (stale_forbidden state.fields ≡ false)
+    × (claim.settings.allowed.grace ≡ Some seconds)
+    × (grace_permits claim.settings.slack (allowed_staleness claim state) (Some seconds) ≡ true)

@@ -21,7 +21,7 @@ pub struct Demand {
 pub fn demand_of(reason: Reason, status: StatusCode) -> Demand {
     if reason == Reason::Fields && status == StatusCode::NOT_MODIFIED {
         return Demand {
-            words: "a 304 has the stored response's Cache-Control, Content-Location, Date, ETag, Expires and Vary",
+            words: "a 304 MUST have the stored response's Cache-Control, Content-Location, Date, ETag, Expires and Vary",
             sections: "RFC 9110 section 15.4.5",
         };
     }
@@ -31,11 +31,18 @@ pub fn demand_of(reason: Reason, status: StatusCode) -> Demand {
     }
 }
 
-/// What is asked of a request that no Vary selects.
-pub fn star_demand() -> Demand {
-    Demand {
-        words: "Vary \"*\" selects no request, also none that a 304 answers",
-        sections: "RFC 9111 section 4.1",
+/// What is asked of a request that no Vary selects, behind a 304 or not.
+pub fn star_demand(is_behind_304: bool) -> Demand {
+    if is_behind_304 {
+        Demand {
+            words: "Vary \"*\" selects no request, also none that a 304 answers",
+            sections: "no RFC (RFC 9111 sections 4.1 and 4.3 leave this open), but this auditor's stricter rule",
+        }
+    } else {
+        Demand {
+            words: "Vary \"*\" selects no request: what has it MUST NOT be used before it is validated",
+            sections: "RFC 9111 section 4.1",
+        }
     }
 }
 
@@ -51,23 +58,23 @@ pub fn storing_demand(forbids: &Forbids) -> Demand {
 pub fn usage_demand(usage: &Usage) -> Demand {
     match usage.forbidden {
         Unusable::NoCache => Demand {
-            words: "what says no-cache isn't given before it is validated",
+            words: "what says no-cache MUST NOT be used before it is validated",
             sections: "RFC 9111 section 5.2.2.4",
         },
         Unusable::MustRevalidate => Demand {
-            words: "what says must-revalidate isn't given once it is stale, before it is validated",
+            words: "what says must-revalidate MUST NOT be used once it is stale, before it is validated",
             sections: "RFC 9111 section 5.2.2.2",
         },
         Unusable::ProxyRevalidate => Demand {
-            words: "what says proxy-revalidate isn't given once it is stale, before it is validated",
+            words: "what says proxy-revalidate MUST NOT be used once it is stale, before it is validated",
             sections: "RFC 9111 section 5.2.2.8",
         },
         Unusable::SMaxage => Demand {
-            words: "what says s-maxage isn't given once it is stale, before it is validated",
+            words: "what says s-maxage MUST NOT be used once it is stale, before it is validated",
             sections: "RFC 9111 section 5.2.2.10",
         },
         Unusable::NothingPermits => Demand {
-            words: "what is stale isn't given before it is validated, but where that is permitted",
+            words: "what is stale MUST NOT be given before it is validated, but where that is permitted",
             sections: "RFC 9111 section 4.2.4",
         },
     }
@@ -78,34 +85,54 @@ pub fn fields_demand(found: &Differences) -> Demand {
     let listed = &found.listed;
     if listed.iter().any(|gap| gap.is_renewed) {
         Demand {
-            words: "the fields of a 304 replace those of the stored response that it is about",
+            words: "the fields of a 304 MUST replace those of the stored response that it is about",
             sections: "RFC 9111 section 4.3.4",
         }
     } else if listed.iter().any(|gap| gap.change == Change::Dropped) {
         Demand {
-            words: "a cache stores all fields of a response but those of the connection, and gives them",
+            words: "a cache MUST store all fields of a response but those of the connection, and what a hit lacks of them counts as not stored",
             sections: "RFC 9111 section 3.1",
         }
     } else {
-        Demand {
-            words: "a cache leaves what tells of the stored response as it came, and adds nothing to that",
-            sections: "RFC 9110 section 7.7",
-        }
+        modified_demand(found)
     }
 }
 
-/// What is asked of a reply that went forward where a 304 came whose fields it lacks.
-pub fn forwarded_demand() -> Demand {
-    Demand {
-        words: "what went forward gives what the origin answered or, behind a 304, the stored response with the fields of that",
-        sections: "RFC 9111 section 4.3.4",
+/// Whether a field of that name describes a representation (RFC 9110 section 8).
+fn describes_content(name: &[u8]) -> bool {
+    name.starts_with(b"content-")
+        || name == b"etag".as_slice()
+        || name == b"last-modified".as_slice()
+}
+
+/// What is asked of the fields of a reply that has all that the stored response has.
+fn modified_demand(found: &Differences) -> Demand {
+    let listed = &found.listed;
+    if listed.iter().any(|gap| gap.change == Change::Changed) {
+        Demand {
+            words: "a proxy SHOULD NOT modify the fields that tell of the resource or of its representation",
+            sections: "RFC 9110 section 7.7",
+        }
+    } else if listed
+        .iter()
+        .any(|gap| describes_content(gap.name.as_slice()))
+    {
+        Demand {
+            words: "a proxy SHOULD NOT modify what tells of a representation, and to add such a field, as a Content-Type, is that, too",
+            sections: "RFC 9110 section 7.7",
+        }
+    } else {
+        Demand {
+            words: "a reply has no field that the stored response hasn't, but for --allow added-fields",
+            sections: "no RFC (RFC 9110 section 7.7 doesn't forbid this), but this auditor's stricter rule",
+        }
     }
 }
 
 /// What is asked of the Date of a reply whose stored response came without.
 pub fn date_demand() -> Demand {
     Demand {
-        words: "what comes without a Date gets one: the moment at which it came",
+        words: "what comes without a Date MUST get one: the moment at which it came",
         sections: "RFC 9110 section 6.6.1",
     }
 }
@@ -114,11 +141,11 @@ pub fn date_demand() -> Demand {
 pub fn age_demand(gap: &AgeGap, was_validated: bool, status: StatusCode) -> Demand {
     match gap.told {
         AgeTold::Missing if status == StatusCode::NOT_MODIFIED => Demand {
-            words: "a 304 that a cache makes of what is stored has an Age, as all that comes from the store",
+            words: "a 304 that a cache makes of what is stored MUST have an Age, as all that comes from the store",
             sections: "RFC 9111 section 4",
         },
         AgeTold::Missing => Demand {
-            words: "a reply from the store has an Age",
+            words: "a reply from the store MUST have an Age",
             sections: "RFC 9111 section 4",
         },
         AgeTold::Several | AgeTold::Unreadable(_) => Demand {
@@ -126,12 +153,12 @@ pub fn age_demand(gap: &AgeGap, was_validated: bool, status: StatusCode) -> Dema
             sections: "RFC 9111 section 5.1",
         },
         AgeTold::Seconds(_) if was_validated => Demand {
-            words: "Age is the time since the response was generated, or was validated last, at the origin",
-            sections: "RFC 9111 section 5.1",
+            words: "a response's age, which Age tells, is the time since it was generated, or was validated last, at the origin",
+            sections: "RFC 9111 sections 4.2 and 5.1",
         },
         AgeTold::Seconds(_) => Demand {
-            words: "Age is what the response's Age or Date says, with the seconds that it was on its way, and those since",
-            sections: "RFC 9111 section 4.2.3",
+            words: "Age MUST be what the response's Age or Date says, with the seconds that it was on its way, and those since",
+            sections: "RFC 9111 sections 4 and 4.2.3",
         },
     }
 }
@@ -148,7 +175,7 @@ pub fn content_demand(gap: &ContentGap) -> Demand {
             range: Some(_),
             ..
         } => Demand {
-            words: "a 416 tells by Content-Range how long the whole is",
+            words: "a 416 SHOULD tell by Content-Range how long the whole is",
             sections: "RFC 9110 section 15.5.17",
         },
         ContentGap::Other { range: Some(_), .. } => Demand {
@@ -159,7 +186,7 @@ pub fn content_demand(gap: &ContentGap) -> Demand {
             failed: Some(failed),
             ..
         } if failed.is_for_origins() => Demand {
-            words: "a cache doesn't evaluate If-Match and If-Unmodified-Since: it gives what is stored, or asks the origin",
+            words: "a cache MUST NOT evaluate If-Match and If-Unmodified-Since: it gives what is stored, or asks the origin",
             sections: "RFC 9111 section 4.3.2",
         },
         _ => Demand {
@@ -174,10 +201,10 @@ fn words(reason: Reason) -> &'static str {
         Reason::NoResponse =>
             "a hit answers GET or HEAD, by an earlier answer to GET of its target that may be stored",
         Reason::Vary => {
-            "a stored response answers requests that agree with its own in what its Vary names"
+            "a stored response MUST NOT answer a request that differs from its own in what its Vary names"
         }
         Reason::Invalidated =>
-            "what an unsafe method invalidated isn't given before it is validated",
+            "what an unsafe method invalidated MUST NOT be given before it is validated",
         Reason::NoExplicitFreshness => "what says no lifetime has none, but for --default-ttl",
         Reason::NotAllowed => {
             "what is stored is given while it is fresh, once it is validated, or where stale is permitted"
@@ -204,7 +231,8 @@ fn sections(reason: Reason) -> &'static str {
         Reason::NoResponse => "RFC 9111 section 3",
         Reason::Vary => "RFC 9111 section 4.1",
         Reason::Invalidated => "RFC 9111 section 4.4",
-        Reason::NoExplicitFreshness => "RFC 9111 section 4.2.2",
+        Reason::NoExplicitFreshness =>
+            "no RFC (RFC 9111 section 4.2.2 permits heuristics), but this auditor's stricter rule",
         Reason::NotAllowed => "RFC 9111 sections 4 and 4.2.4",
         Reason::Body => "RFC 9111 section 4",
         Reason::Fields => "RFC 9111 sections 3.2 and 4.3.4",

@@ -27,12 +27,12 @@ pub use bodies::{
     BodyGap, ContentGap, Failed, RangeGap, Unearned, body_gap, content_gap, has_body,
 };
 pub use demands::{
-    Demand, age_demand, content_demand, date_demand, demand_of, fields_demand, forwarded_demand,
-    star_demand, storing_demand, usage_demand,
+    Demand, age_demand, content_demand, date_demand, demand_of, fields_demand, star_demand,
+    storing_demand, usage_demand,
 };
 pub use differing::{Change, Differences, FieldGap, compare};
 pub use forbidding::{Forbids, Unusable};
-pub use laws::{least_setting_permits, no_setting_permits};
+pub use laws::{least_setting_permits, named_permit_permits, no_setting_permits};
 pub use permits::{Permit, StaleUse, stale_use};
 pub use records::{NAMED, Newest, RecordName};
 pub use rules::{Rule, rule_behind};

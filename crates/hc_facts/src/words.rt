@@ -22,7 +22,7 @@ impl Forbids {
             (
                 self.method,
                 "its forward is no GET",
-                "hcache's own rule: RFC 9111 section 3 leaves other methods to the cache",
+                "this auditor's stricter rule: RFC 9111 section 3 leaves other methods to the cache",
             ),
             (
                 self.request_no_store,
@@ -63,43 +63,43 @@ impl Forbids {
         [
             (
                 self.request_no_store,
-                "what answers a request that says no-store isn't stored",
+                "what answers a request that says no-store MUST NOT be stored",
                 "RFC 9111 section 5.2.1.5",
             ),
             (
                 self.authorization,
-                "a shared cache doesn't store what answers a request with Authorization, but where that says that it may be shared",
+                "a shared cache MUST NOT use for a later request what answers one with Authorization, but where that says that it may be shared",
                 "RFC 9111 section 3.5",
             ),
             (
                 self.no_store,
-                "what says no-store isn't stored",
+                "what says no-store MUST NOT be stored",
                 "RFC 9111 section 5.2.2.5",
             ),
             (
                 self.private,
-                "a shared cache doesn't store what says private",
+                "a shared cache MUST NOT store what says private",
                 "RFC 9111 section 5.2.2.7",
             ),
             (
                 self.must_understand,
-                "what says must-understand isn't stored where its status isn't understood",
+                "what says must-understand MUST NOT be stored where its status isn't understood",
                 "RFC 9111 section 5.2.2.3",
             ),
             (
                 self.status,
-                "a response is stored that is whole, and whose status is final",
+                "what isn't whole, or whose status isn't final, MUST NOT be stored",
                 "RFC 9111 section 3",
             ),
             (
                 self.uninvited,
-                "a response is stored whose status or fields invite to it",
+                "what neither its status nor its fields invite to store MUST NOT be stored",
                 "RFC 9111 section 3",
             ),
             (
                 self.method,
                 "a hit is made of an answer to GET alone",
-                "hcache's own rule, narrower than RFC 9111 section 3",
+                "no RFC (RFC 9111 section 3 permits this), but this auditor's stricter rule",
             ),
         ]
     }

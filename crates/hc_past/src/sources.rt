@@ -5,7 +5,7 @@ use crate::windows::Wanted;
 use hc_facts::RecordName;
 use hc_fields::{Fields, Octets};
 use hc_framing::Message;
-use hc_head::{ResponseHead, StatusCode};
+use hc_head::{Method, ResponseHead, StatusCode};
 use std::alloc::{AllocError, Global};
 
 /// What a response says of its lifetime.
@@ -25,6 +25,8 @@ pub struct Source {
     pub record: RecordName,
     /// The record of its forward, where that was looked for.
     pub sent: Option<RecordName>,
+    /// The method of that.
+    pub method: Method,
     /// Its status.
     pub status: StatusCode,
     /// What it says of its lifetime.
@@ -42,12 +44,14 @@ impl Drop for Source {
         let Source {
             record: _,
             sent: _,
+            method,
             status: _,
             lifetime,
             age,
             is_dated: _,
             is_given: _,
         } = self;
+        drop(method);
         drop(lifetime);
         drop(age);
     }
@@ -76,6 +80,7 @@ impl Source {
         Ok(Source {
             record: ended.record,
             sent: ended.sent(),
+            method: ended.forward.request.method.clone()?,
             status: head.status,
             lifetime: lifetime_in(alloc, &head.fields)?,
             age: head.fields.joined(alloc, b"age")?,

@@ -11,7 +11,7 @@ use Rattle.hc_audit.specs.Told.{wrong_of}
 use Rattle.hc_why.specs.declared.explaining.Explanation.{Explanation}
 use Rattle.hc_why.specs.declared.seeking.ReplyAt.{ReplyAt}
 use Rattle.hc_why.specs.Explaining.{finding_of, position_of}
-use Rattle.hc_why.specs.Seeking.{HasHeard, IsFoundAt, IsOfPlace, reason_in, wrong_at}
+use Rattle.hc_why.specs.Seeking.{HasFoundAmong, IsFoundAt, IsOfPlace, reason_in, wrong_at}
 use Rattle.hc_why.specs.Standing.{answered, exchange_at, newest_exchange, stands_at}
 use Rattle.hc_transcript.specs.Items.{Item}
 use Rattle.hc_transcript.specs.History.{next_position}
@@ -153,20 +153,23 @@ stands_newest item h place is opened =
     let same : exchange_at place (item ∷ h) ≡ answered item h = ap (λ (n : ℕ). newest_exchange (drop n (item ∷ h))) e in
     both (nat_le place (length (item ∷ h))) (is_some (exchange_at place (item ∷ h))) (le_to place (length (item ∷ h)) (position_of_newest place item h is)) (ap is_some same ∙ opened)
 
--- so who has heard of the items before has heard of all
-pub heard_later : (seeker : ReplyAt) (item : Item) (h : List Item) → HasHeard seeker h → HasHeard seeker (item ∷ h)
-heard_later seeker item h heard = record {
-  stands = λ found. stands_later item h seeker.position (heard.stands found);
-  finds = heard.finds;
-  passed = λ has. let few = heard.passed has in omega (arith, few);
+-- so who has found it among the items before has found it among all
+pub found_later : (seeker : ReplyAt) (item : Item) (h : List Item) → HasFoundAmong seeker h → HasFoundAmong seeker (item ∷ h)
+found_later seeker item h before = record {
+  stands = λ found. stands_later item h seeker.position (before.stands found);
+  finds = before.finds;
 }
 
 -- and who finds it where it is the newest
-pub heard_newest : (seeker : ReplyAt) (reason : Option Reason) (found : Option Explanation) (item : Item) (h : List Item) → seeker.position ≡ next_position h
-    → is_some (answered item h) ≡ true → is_some found ≡ true → HasHeard seeker h
-    → HasHeard record { alloc = seeker.alloc; position = seeker.position; is_behind = seeker.is_behind; reason = reason; found = found } (item ∷ h)
-heard_newest seeker reason found item h is opened there heard = record {
+pub found_newest : (seeker : ReplyAt) (reason : Option Reason) (found : Option Explanation) (item : Item) (h : List Item) → seeker.position ≡ next_position h
+    → is_some (answered item h) ≡ true → is_some found ≡ true
+    → HasFoundAmong record { alloc = seeker.alloc; position = seeker.position; is_behind = seeker.is_behind; reason = reason; found = found } (item ∷ h)
+found_newest seeker reason found item h is opened there = record {
   stands = λ found_is. stands_newest item h seeker.position is opened;
   finds = λ wrong. there;
-  passed = λ has. let few = heard.passed has in omega (arith, few);
 }
+
+-- ---- whether the position has passed
+
+pub next_is : (position : ℕ) (h : List Item) → position ≡ next_position h → position ≡ suc (length h)
+next_is position h is = omega (arith, is)

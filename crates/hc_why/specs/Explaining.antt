@@ -21,3 +21,7 @@ wrong_in position (Wrong why) = Some record { position = position; reason = why 
 -- it is wrong, and is this wrong reply
 abbrev pub IsThat : Option WrongReply → ℕ → Finding → Type 0
 IsThat wrong position finding = (is_some wrong ≡ true) × (wrong ≡ wrong_in position finding)
+
+-- something is found where there is a wrong reply
+abbrev pub HasFoundOf : Option WrongReply → Option Explanation → Type 0
+HasFoundOf wrong found = is_some wrong ≡ true → is_some found ≡ true

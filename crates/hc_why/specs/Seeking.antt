@@ -1,5 +1,5 @@
 -- What the first reading tells.
-use Rattle.std.specs.Prelude.{◌≡◌, ◌≤◌, ℕ, ◌==◌, List, [], ◌∷◌, true, Option, Some, None, IfSome, is_some, length, if◌then◌else◌}
+use Rattle.std.specs.Prelude.{◌≡◌, ℕ, Bool, ◌==◌, List, [], ◌∷◌, true, Option, Some, None, IfSome, is_some, length, nat_le, if◌then◌else◌}
 use Rattle.hc_transcript.specs.Items.{Item}
 use Rattle.hc_history.specs.declared.reasons.Reason.{Reason}
 use Rattle.hc_history.specs.declared.verdicts.Finding.{Finding}
@@ -7,7 +7,7 @@ use Rattle.hc_history.specs.declared.verdicts.Finding.TheVariants.{Right, Wrong}
 use Rattle.hc_history.specs.declared.wrong.WrongReply.{WrongReply}
 use Rattle.hc_why.specs.declared.first.FirstWrong.{FirstWrong}
 use Rattle.hc_why.specs.declared.seeking.ReplyAt.{ReplyAt}
-use Rattle.hc_why.specs.Explaining.{finding_of, position_of}
+use Rattle.hc_why.specs.Explaining.{HasFoundOf, finding_of, position_of}
 use Rattle.hc_why.specs.Standing.{stands_at}
 
 -- ---- the first wrong reply
@@ -15,6 +15,10 @@ use Rattle.hc_why.specs.Standing.{stands_at}
 -- the one that it has seen
 abbrev pub first_of : FirstWrong → Option WrongReply
 first_of seeker = seeker.first
+
+-- it has found something of the one that it has seen, if it has seen one
+abbrev pub HasFound : FirstWrong → Type 0
+HasFound seeker = HasFoundOf seeker.first seeker.found
 
 -- ---- the reply at a position
 
@@ -41,13 +45,19 @@ pub record IsFoundAt (seeker : ReplyAt) (wrongs : List WrongReply) : Type 0 wher
   pub reason : seeker.reason ≡ wrong_at seeker.position wrongs
   pub found : IfSome seeker.found (λ reply. IsOfPlace seeker.position wrongs (position_of reply) (finding_of reply))
 
--- the record at the position has passed
-abbrev pub HasPassed : ReplyAt → Type 0
-HasPassed seeker = seeker.is_behind ≡ true
-
--- it has heard of these items: what it has found stands among them, what is wrong at the position it has found, and where it says that the position has passed, that
--- is so
-pub record HasHeard (seeker : ReplyAt) (h : List Item) : Type 0 where
+-- what it has found stands among these items, and what is wrong at the position it has found
+pub record HasFoundAmong (seeker : ReplyAt) (h : List Item) : Type 0 where
   pub stands : is_some seeker.found ≡ true → stands_at seeker.position h ≡ true
   pub finds : is_some seeker.reason ≡ true → is_some seeker.found ≡ true
-  pub passed : HasPassed seeker → seeker.position ≤ length h
+
+-- whether it says that the record at the position has passed
+abbrev pub has_passed : ReplyAt → Bool
+has_passed seeker = seeker.is_behind
+
+abbrev pub HasPassed : ReplyAt → Type 0
+HasPassed seeker = has_passed seeker ≡ true
+
+-- it has heard of these items: it has found what it says it has, and it says that the position has passed where they are as many as that, or more
+pub record HasHeard (seeker : ReplyAt) (h : List Item) : Type 0 where
+  pub found : HasFoundAmong seeker h
+  pub passed : has_passed seeker ≡ nat_le seeker.position (length h)

@@ -1,12 +1,12 @@
 //! What is asked of a reply that is wrong.
 
-use crate::explaining::{Explanation, Ground, Way};
+use crate::explaining::{Explanation, Ground};
 use crate::naming::Nearest;
 use crate::shortfalls::Shortfall;
 use crate::whys::Why;
 use hc_facts::{
     Demand, Differences, Selection, age_demand, content_demand, date_demand, demand_of,
-    fields_demand, forwarded_demand, star_demand, storing_demand, usage_demand,
+    fields_demand, star_demand, storing_demand, usage_demand,
 };
 use hc_head::StatusCode;
 use hc_history::Reason;
@@ -15,11 +15,6 @@ use hc_past::Unstored;
 // Whether the Date differs, and the latest 304 has none.
 fn has_own_date(found: &Differences) -> bool {
     found.listed.iter().any(|gap| gap.name.as_slice() == b"date".as_slice() && !gap.is_renewed)
-}
-
-// Whether a field differs that the latest 304 has.
-fn has_renewed(found: &Differences) -> bool {
-    found.listed.iter().any(|gap| gap.is_renewed)
 }
 
 // Whether Vary names what selects no request.
@@ -64,8 +59,9 @@ impl Explanation {
     fn demand_by(&self, nearest: &Nearest, demanded: Reason) -> Demand {
         let status = self.reply.status;
         match (demanded, &nearest.shortfall) {
-            (Reason::Vary, Some(Shortfall::Selected(selection))) if has_star(selection) =>
-                star_demand(),
+            (Reason::Vary, Some(Shortfall::Selected(selection))) if has_star(selection) => {
+                star_demand(!nearest.not_about.is_empty())
+            }
             (Reason::NotAllowed, Some(Shortfall::Use(usage))) => usage_demand(usage),
             (Reason::Body, Some(Shortfall::Body(gap))) => content_demand(gap),
             (Reason::Age, Some(Shortfall::Age(gap))) => {
@@ -73,8 +69,6 @@ impl Explanation {
             }
             (Reason::Fields, Some(Shortfall::Fields(found)))
                 if self.is_undated(nearest) && has_own_date(found) => date_demand(),
-            (Reason::Fields, Some(Shortfall::Fields(found)))
-                if self.way == Way::Forwarded && has_renewed(found) => forwarded_demand(),
             (Reason::Fields, Some(Shortfall::Fields(found)))
                 if status != StatusCode::NOT_MODIFIED => fields_demand(found),
             _ => demand_of(demanded, status),

@@ -1,8 +1,8 @@
 //! The first wrong reply, and what is found of it.
 
-ghost use Rattle.std.specs.Prelude.{IfSome};
+ghost use Rattle.std.specs.Prelude.{IfSome, IsSome};
 ghost use Rattle.std.specs.Option.{ForSome};
-ghost use Rattle.hc_why.specs.Explaining.{IsThat, finding_of, position_of};
+ghost use Rattle.hc_why.specs.Explaining.{HasFoundOf, IsThat, finding_of, position_of};
 
 use crate::explaining::Explanation;
 use hc_history::WrongReply;
@@ -30,7 +30,10 @@ impl Drop for FirstWrong {
 impl FirstWrong {
     /// What was found of it, which is moved.
     pub fn into_found(self) -> Option<Explanation>
-        ensures { IfSome result (λ reply. IsThat self.first (position_of reply) (finding_of reply)) }
+        // It is of the first wrong reply.
+        ensures of_first { IfSome result (λ reply. IsThat self.first (position_of reply) (finding_of reply)) }
+        // There is something where there is such a reply.
+        ensures there { HasFoundOf self.first self.found → IsSome self.first → IsSome result }
     {
         let FirstWrong {
             alloc: _,

@@ -19,5 +19,5 @@ pub use naming::{Nearest, Reach, Reaches};
 pub use reading::{WrongClaim, why};
 pub use retracing::Retracing;
 pub use seeking::ReplyAt;
-pub use shortfalls::{Invalidator, NotAbout, OriginError, Shortfall};
+pub use shortfalls::{Invalidator, NotAbout, OriginError, Shortfall, Validator};
 pub use whys::{NoMark, Why};

@@ -1,6 +1,6 @@
 //! The responses that a reply may carry, and the one of them that is named.
 
-use crate::shortfalls::{NotAbout, OriginError, Shortfall};
+use crate::shortfalls::{NotAbout, OriginError, Shortfall, Validator};
 use hc_facts::{NAMED, Newest, RecordName, Rule, Setting, has_body, rule_behind};
 use hc_history::{Candidate, ReplyClaim};
 use hc_index::Index;
@@ -65,8 +65,8 @@ pub struct Nearest {
     pub position: u64,
     /// The position of the 304 that freshened it last.
     pub validated_at: Option<u64>,
-    /// The record of that, as far as it was looked for.
-    pub validator: Option<RecordName>,
+    /// That 304, as far as it was looked for.
+    pub validator: Option<Validator>,
     /// The moment that its Date shows, where that isn't the one at which it came.
     pub date: Option<u64>,
     /// The latest error of the origin in the window, as far as it was looked for.

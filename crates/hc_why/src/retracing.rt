@@ -4,7 +4,7 @@ ghost use Rattle.std.specs.Prelude.{◌≡◌};
 
 use crate::explaining::{Explanation, Ground};
 use crate::naming::Nearest;
-use crate::shortfalls::{Invalidator, NotAbout, OriginError, Shortfall};
+use crate::shortfalls::{Invalidator, NotAbout, OriginError, Shortfall, Validator};
 use crate::whys::Why;
 use hc_audit::{JudgedReply, PassedRecord, Witness};
 use hc_facts::{Against, AskedReply, Newest, first_against};
@@ -287,6 +287,7 @@ impl<'a> Place<'a> {
         }
         Ok(Some(Invalidator {
             record: self.ended.record,
+            sent: self.ended.sent(),
             status: response.head.status,
             method: method.clone()?,
         }))
@@ -368,12 +369,17 @@ impl Nearest {
 
     // Takes in the 304 that freshened it last, and which fields that has.
     fn renew(&mut self, place: &Place<'_>) {
-        self.validator = Some(place.ended.record);
-        if let (Some(Shortfall::Fields(differences)), Some(response)) = (
-            &mut self.shortfall,
-            place.ended.response,
-        ) {
-            differences.renew(&response.head.fields);
+        let Some(response) = place.ended.response else {
+            return;
+        };
+        let renewed = &response.head.fields;
+        self.validator = Some(Validator {
+            record: place.ended.record,
+            sent: place.ended.sent(),
+            is_aged: renewed.contains(b"age"),
+        });
+        if let Some(Shortfall::Fields(differences)) = &mut self.shortfall {
+            differences.renew(renewed);
         }
     }
 

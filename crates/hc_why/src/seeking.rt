@@ -1,12 +1,12 @@
 //! The first reading, which looks for the reply.
 
-ghost use Rattle.std.specs.Prelude.{◌≡◌, ◌≤◌, ◌++◌, List, [], ◌∷◌, None, true, length, slice_get, IfSome, IsSome, OnOk};
+ghost use Rattle.std.specs.Prelude.{◌≡◌, ◌++◌, ℕ, suc, List, [], ◌∷◌, None, true, is_some, nat_le, slice_get, IfSome, IsSome, OnOk};
 ghost use Rattle.hc_transcript.specs.Items.{Item};
 ghost use Rattle.hc_history.specs.declared.wrong.WrongReply.{WrongReply};
 ghost use Rattle.hc_audit.specs.Hearing.{IsReplyBehind, item_judged};
 ghost use Rattle.hc_audit.specs.Told.{wrong_of};
 ghost use Rattle.hc_why.specs.Explaining.{finding_of, position_of};
-ghost use Rattle.hc_why.specs.Seeking.{HasHeard, HasPassed, IsFoundAt, IsOfPlace, first_of, place_of, reason_in, wrong_at};
+ghost use Rattle.hc_why.specs.Seeking.{HasFound, HasFoundAmong, HasHeard, IsFoundAt, IsOfPlace, first_of, has_passed, place_of, reason_in, wrong_at};
 ghost use Rattle.hc_why.specs.Standing.{stands_at};
 
 use crate::explaining::Explanation;
@@ -19,7 +19,8 @@ use std::alloc::{AllocError, Global};
 impl FirstWrong {
     /// It has seen no reply.
     pub fn new(alloc: Global) -> Self
-        ensures { first_of result ≡ None }
+        ensures none { first_of result ≡ None }
+        ensures found { HasFound result }
     {
         FirstWrong {
             alloc,
@@ -37,15 +38,16 @@ impl FirstWrong {
 
     /// Whether it was found, so that no further record tells more of it.
     pub fn is_behind(&self) -> bool
-        ensures { result ≡ true → IsSome (first_of self.now) }
+        ensures { result ≡ is_some (first_of self.now) }
     {
         self.first.is_some()
     }
 
     // Takes in a reply.
     fn take<I: Index>(&mut self, judged: &JudgedReply<'_, I>) -> Result<(), AllocError>
-        ensures { (wrongs : List WrongReply) → self.old.first ≡ slice_get wrongs 0
+        ensures told { (wrongs : List WrongReply) → self.old.first ≡ slice_get wrongs 0
             → OnOk result (self.new.first ≡ slice_get (wrongs ++ wrong_of judged.now.position judged.now.finding) 0) }
+        ensures heard { (h : List Item) → HasFound self.old → IsReplyBehind I.seen h judged.now → OnOk result (HasFound self.new) }
     {
         match (judged.finding, self.first) {
             (Finding::Wrong(reason), None) => {
@@ -65,7 +67,7 @@ impl FirstWrong {
 impl<I: Index> Witness<I> for FirstWrong {
     ghost tells = { λ seeker wrongs. first_of seeker ≡ slice_get wrongs 0 };
 
-    ghost hears = { λ seeker h. Unit {0} };
+    ghost hears = { λ seeker h. HasFound seeker };
 
     fn pass(&mut self, _: &PassedRecord<'_, I>) -> Result<(), AllocError> {
         Ok(())
@@ -109,7 +111,7 @@ impl ReplyAt {
         ReplyAt {
             alloc,
             position,
-            is_behind: false,
+            is_behind: position == 0,
             reason: None,
             found: None,
         }
@@ -145,7 +147,7 @@ impl ReplyAt {
 
     /// Whether the record at the position has passed, so that no further one tells more of it.
     pub fn is_behind(&self) -> bool
-        ensures { result ≡ true → HasPassed self.now }
+        ensures { result ≡ has_passed self.now }
     {
         self.is_behind
     }
@@ -153,7 +155,9 @@ impl ReplyAt {
     // Takes in that the record at that position has passed.
     fn pass_by(&mut self, position: u64)
         ensures told { (wrongs : List WrongReply) → IsFoundAt self.old wrongs → IsFoundAt self.new wrongs }
-        ensures heard { (h : List Item) → position ≤ length h → HasHeard self.old h → HasHeard self.new h }
+        ensures found { (h : List Item) → HasFoundAmong self.old h → HasFoundAmong self.new h }
+        ensures passed { (before : ℕ) → position ≡ suc before → has_passed self.old ≡ nat_le (place_of self.old) before
+            → has_passed self.new ≡ nat_le (place_of self.new) (suc before) }
     {
         if self.position <= position {
             self.is_behind = true;
@@ -164,8 +168,9 @@ impl ReplyAt {
     fn take<I: Index>(&mut self, judged: &JudgedReply<'_, I>) -> Result<(), AllocError>
         ensures told { (wrongs : List WrongReply) → IsFoundAt self.old wrongs
             → OnOk result (IsFoundAt self.new (wrongs ++ wrong_of judged.now.position judged.now.finding)) }
-        ensures heard { (h : List Item) → HasHeard self.old h → IsReplyBehind I.seen h judged.now
-            → OnOk result (HasHeard self.new (item_judged judged.now ∷ h)) }
+        ensures found { (h : List Item) → HasFoundAmong self.old h → IsReplyBehind I.seen h judged.now
+            → OnOk result (HasFoundAmong self.new (item_judged judged.now ∷ h)) }
+        ensures kept { OnOk result ((place_of self.new ≡ place_of self.old) × (has_passed self.new ≡ has_passed self.old)) }
     {
         if judged.position != self.position {
             return Ok(());

@@ -13,6 +13,8 @@ use std::alloc::{AllocError, Global};
 pub struct Invalidator {
     /// Its record.
     pub record: RecordName,
+    /// The record of its forward, where that was looked for.
+    pub sent: Option<RecordName>,
     /// Its status.
     pub status: StatusCode,
     /// The method that it answers.
@@ -23,6 +25,7 @@ impl Drop for Invalidator {
     fn drop(self) {
         let Invalidator {
             record: _,
+            sent: _,
             status: _,
             method,
         } = self;
@@ -37,6 +40,17 @@ pub struct OriginError {
     pub record: RecordName,
     /// Its status.
     pub status: StatusCode,
+}
+
+/// A 304 that freshened the response.
+#[derive(Clone, Copy)]
+pub struct Validator {
+    /// Its record.
+    pub record: RecordName,
+    /// The record of its forward, where that was looked for.
+    pub sent: Option<RecordName>,
+    /// Whether it has an Age.
+    pub is_aged: bool,
 }
 
 /// A 304 of the response's target that isn't about it.

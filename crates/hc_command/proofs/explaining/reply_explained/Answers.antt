@@ -1,10 +1,11 @@
-use Rattle.std.proofs.Common.{◌≡◌, subst, true}
+use Rattle.std.proofs.Common.{◌≡◌, ◌≤◌, ◌∙◌, ℕ, None, length, sym, subst, true}
 use Rattle.std.specs.Prelude.{string_bytes}
+use Rattle.std.proofs.lemmas.Result.{IfOk-weaker}
 use Rattle.hc_why.specs.Explaining.{finding_of, position_of}
-use Rattle.hc_why.specs.Seeking.{HasHeard, HasPassed, IsFoundAt, IsOfPlace, place_of}
+use Rattle.hc_why.specs.Seeking.{HasHeard, HasPassed, IsFoundAt, IsOfPlace, place_of, wrong_at}
 use Rattle.hc_why.specs.Standing.{stands_at}
 use Rattle.hc_command.specs.Report.{IsHeadLine, reply_status}
-use Rattle.hc_command.proofs.ReportLemmas.{finds}
+use Rattle.hc_command.proofs.ReportLemmas.{breaks, finds, is_below}
 use Rattle.hc_command.proofs.explaining.reply_explained.Goals as goal
 
 pub returns : goal.returns
@@ -20,3 +21,17 @@ returns g c =
     (λ wrongs told. subst (λ n. IsOfPlace n wrongs (position_of found) (finding_of found)) there (c.in-Some.ensures.place wrongs told))
     (λ h heard. subst (λ n. stands_at n h ≡ true) there (c.in-Some.ensures.stands h heard search))
     (c.in_ok-reply_said.ensures (position_of found) (finding_of found) head status)
+
+pub returns-in_default : goal.returns-in_default
+returns-in_default g c =
+    let seeker = c.surveyed.new.witness in
+    let there : place_of seeker ≡ c.args.position = search in
+    IfOk-weaker c.not_found.result _ _
+    (λ status says.
+    breaks c.args.terms.json c.args.terms.settings _ _ (λ wrongs. IsFoundAt seeker wrongs) (λ h. HasHeard seeker h) (HasPassed seeker) c.in_ok-outcome.outcome
+    (c.in_ok-outcome.ensures.surveyed c.new-seeker.ensures.tells c.new-seeker.ensures.hears)
+    c.args.position status _ _
+    (λ h wrongs heard told. subst (λ n. wrong_at n wrongs ≡ None) there (c.in_default.ensures.none h wrongs heard told search))
+    (λ has h heard. subst (λ (n : ℕ). n ≤ length h) there (is_below (place_of seeker) (length h) (sym heard.passed ∙ has)))
+    says)
+    c.not_found.ensures
