@@ -6,7 +6,7 @@ use crate::differing::{Change, Differences};
 use crate::forbidding::{Forbids, Unusable};
 use crate::usage::Usage;
 use hc_head::StatusCode;
-use hc_history::Reason;
+use hc_history::{Reason, is_of_content};
 
 /// What is asked of a reply, and where.
 #[derive(Clone, Copy)]
@@ -98,14 +98,7 @@ pub fn fields_demand(found: &Differences) -> Demand {
     }
 }
 
-/// Whether a field of that name describes a representation (RFC 9110 section 8).
-fn describes_content(name: &[u8]) -> bool {
-    name.starts_with(b"content-")
-        || name == b"etag".as_slice()
-        || name == b"last-modified".as_slice()
-}
-
-/// What is asked of the fields of a reply that has all that the stored response has.
+// What is asked of the fields of a reply that has all that the stored response has.
 fn modified_demand(found: &Differences) -> Demand {
     let listed = &found.listed;
     if listed.iter().any(|gap| gap.change == Change::Changed) {
@@ -113,10 +106,7 @@ fn modified_demand(found: &Differences) -> Demand {
             words: "a proxy SHOULD NOT modify the fields that tell of the resource or of its representation",
             sections: "RFC 9110 section 7.7",
         }
-    } else if listed
-        .iter()
-        .any(|gap| describes_content(gap.name.as_slice()))
-    {
+    } else if listed.iter().any(|gap| is_of_content(gap.name.as_slice())) {
         Demand {
             words: "a proxy SHOULD NOT modify what tells of a representation, and to add such a field, as a Content-Type, is that, too",
             sections: "RFC 9110 section 7.7",

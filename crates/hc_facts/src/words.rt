@@ -84,7 +84,7 @@ impl Forbids {
             (
                 self.must_understand,
                 "what says must-understand MUST NOT be stored where its status isn't understood",
-                "RFC 9111 section 5.2.2.3",
+                "RFC 9111 sections 3 and 5.2.2.3",
             ),
             (
                 self.status,

@@ -65,8 +65,8 @@ fn same_values(one: &Fields, other: &Fields, name: &[u8]) -> bool
     others.next().is_none()
 }
 
-/// Whether the name says what a body is.
-fn is_of_content(name: &[u8]) -> bool
+/// Whether a field of that name says what a body is (RFC 9110 section 8, and section 14.4 of parts).
+pub fn is_of_content(name: &[u8]) -> bool
     ensures { result ≡ list_any (λ known. bytes_eq known name.now) names_of_content }
 {
     is_among(&OF_CONTENT, name)

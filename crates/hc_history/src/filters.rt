@@ -1,11 +1,12 @@
 //! The filters that a stored response passes, one after another, to be what a reply carries.
 
-ghost use Rattle.std.specs.Prelude.{◌≡◌, IfOk, codes, option_and_then};
+ghost use Rattle.std.specs.Prelude.{◌≡◌, ◌-ℤ◌, IfOk, Some, codes, option_and_then, pos};
 ghost use Rattle.hc_fields.specs.Values.{only_value};
 ghost use Rattle.hc_fields.specs.Numbers.{number_of};
 ghost use Rattle.hc_history.specs.Filters.{has_body, has_its_age, has_its_body, has_its_ttl, is_age, is_asked_for, is_earned, is_ttl, is_valid, within};
 ghost use Rattle.hc_history.specs.Allowing.{age_is_allowed, body_is_allowed, fields_are_allowed, filters, ttl_is_allowed};
 ghost use Rattle.hc_history.specs.Furthest.{passed};
+ghost use Rattle.hc_history.specs.Usable.{age_of, lifetime_of};
 
 use crate::allowing::{
     is_near_age, lifetime_is_allowed, selection_is_allowed, takes_default, use_is_allowed,
@@ -121,22 +122,29 @@ fn age_is_allowed(claim: &ReplyClaim<'_>, state: &Stored) -> bool
     has_its_age(claim, state) || is_near_age(claim, age_of(claim, state), age_told(claim))
 }
 
-/// Whether a mark tells those seconds that are left, give or take the slack, if it tells any.
-fn is_ttl(claim: &ReplyClaim<'_>, left: i64, told: Option<i64>) -> bool
-    ensures { result ≡ is_ttl claim.now left told }
+/// Whether the seconds that a mark tells are those that are left, give or take the slack.
+fn is_ttl(claim: &ReplyClaim<'_>, left: i64, told: i64) -> bool
+    ensures { result ≡ is_ttl claim.now left (Some told) }
 {
-    match told {
-        Some(told) => told.abs_diff(left) <= u64::from(claim.settings.slack),
-        None => true,
-    }
+    told.abs_diff(left) <= u64::from(claim.settings.slack)
 }
 
-/// Whether the reply's mark tells the seconds for which it is fresh still (RFC 9211 section 2.4).
+/// The seconds for which a stored response is fresh still, negative where it is stale.
+fn seconds_left(claim: &ReplyClaim<'_>, state: &Stored) -> i64
+    ensures { result ≡ pos (lifetime_of state.now) -ℤ pos (age_of claim.now state.now) }
+{
+    i64::from(lifetime_of(state)) - i64::from(age_of(claim, state))
+}
+
+/// Whether the reply's mark tells the seconds for which it is fresh still, if it tells any (RFC 9211 section 2.4).
 fn has_its_ttl(claim: &ReplyClaim<'_>, state: &Stored) -> bool
     ensures { result ≡ has_its_ttl claim.now state.now }
 {
-    let left = i64::from(lifetime_of(state)) - i64::from(age_of(claim, state));
-    is_ttl(claim, left, claim.ttl)
+    // What is left is worked out of the directives, so only where the mark tells it.
+    match claim.ttl {
+        Some(told) => is_ttl(claim, seconds_left(claim, state), told),
+        None => true,
+    }
 }
 
 /// Whether the mark tells those seconds, or they are those of a default lifetime.

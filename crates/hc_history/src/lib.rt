@@ -27,7 +27,7 @@ pub use allowing::{allowed_staleness, is_allowed_fresh, is_met_or_normalized, us
 pub use among::{Among, is_looked_at};
 pub use candidates::Candidate;
 pub use claim::{ReplyClaim, ttl_of};
-pub use compared::differs;
+pub use compared::{differs, is_of_content};
 pub use filters::passed;
 pub use finding::{
     found_of_collapsed, found_of_forwarded, found_of_hit, found_of_inferred, found_of_unmarked,
