@@ -1,95 +1,67 @@
 -- What a parse of the program's words comes to.
-use Rattle.std.proofs.Common.{◌≡◌, ◌∙◌, ◌&&◌, ◌<◌, ℕ, List, [], ◌∷◌, Option, None, Some, ap, cond, inl, inr, refl, rules, sym, subst, true, false, codes, Bool, is_none, length, nat_eq, nat_le, nat_lt, take, drop, option_and_then, option_map}
+use Rattle.std.proofs.Common.{◌≡◌, ◌∙◌, ◌&&◌, ◌<◌, ℕ, List, [], ◌∷◌, Option, None, Some, ap, cond, inl, inr, refl, rules, sym, subst, true, false, codes, Bool, is_some, length, nat_le, nat_lt, take, drop, option_and_then, option_map}
 use Rattle.std.specs.Prelude.{Result, Ok, Err, IfOk, IfErr, MatchResult}
-use Rattle.std.proofs.lemmas.Bool.{ltb-true}
+use Rattle.std.proofs.lemmas.Bool.{leb-true}
 use Rattle.std.proofs.lemmas.Result.{IfErr-weaker, IfOk-weaker}
-use Rattle.hc_transcript.specs.Limits.{greatest_number}
 use Rattle.std.specs.Char.{is_ascii_digit}
+use Rattle.std.specs.Option.{option_map_or}
 use Rattle.std.specs.Str.{bytes_eq}
 use Rattle.std.specs.Str.Parse.{digits_value}
 use Rattle.std.specs.Box.{box_value}
-use Rattle.std.specs.declared.alloc.AllocError.{AllocError}
 use Rattle.hc_fields.specs.Numbers.{is_number}
-use Rattle.clap.specs.Lexer.{long_of, short_of}
-use Rattle.clap.specs.Words.{App, FailsBy, HasKind, HasMatchesOf, Kinds, Row, Rule, Text, app_of, fault_of, first_of, first_value, is_simple, is_simple_and_free, kind_of}
-use Rattle.clap.specs.Words.{found_of, rows_of, subcommand_name_of, subcommand_of, subcommand_rows_of, with_rule}
+use Rattle.hc_transcript.specs.Limits.{greatest_number}
+use Rattle.clap.specs.Words.{HasKind, Kinds, Row, Text, fault_of, first_value, is_simple, is_simple_and_free, kind_of}
+use Rattle.clap.specs.Words.{found_of, rows_of, subcommand_name_of, subcommand_of, subcommand_rows_of}
 use Rattle.clap.specs.declared.parser.matches.ArgMatches.{ArgMatches}
 use Rattle.clap.specs.declared.parser.matches.ArgMatches.TheViews.{out-ArgMatches, out-SubCommand}
 use Rattle.clap.specs.declared.parser.matches.Found.{Found}
-use Rattle.clap.specs.declared.Command.{Command as Builder}
 use Rattle.clap.specs.declared.error.Error.{Error}
 use Rattle.clap.specs.declared.error.ErrorKind.TheVariants.{OutOfMemory}
 use Rattle.clap.proofs.OnLiterals.{clap_on_literals}
-use Rattle.clap.proofs.WalkLemmas.{first_value-rows}
+use Rattle.hc_history.specs.declared.allowed.Allowed.{Allowed}
 use Rattle.hc_history.specs.declared.settings.Settings.{Settings}
 use Rattle.hc_service.specs.declared.settings.CoreSettings.{CoreSettings}
 use Rattle.hc_service.specs.Settings.{AreGood, is_name, is_size}
 use Rattle.hc_showing.specs.declared.span.Span.{Span}
-use Rattle.hc_arguments.specs.declared.limit.Limit.{Limit}
-use Rattle.hc_arguments.specs.declared.limit.Limit.TheVariants.{MaxConnections, OriginConnections, IdleTimeout, RequestTimeout, SendTimeout}
-use Rattle.hc_arguments.specs.declared.limit.Limit.TheVariants.{QueueTimeout, ConnectTimeout, OriginTimeout, OriginTotal, DrainTimeout}
-use Rattle.hc_arguments.specs.declared.order.AuditTerms.{AuditTerms}
-use Rattle.hc_arguments.specs.declared.order.Minimums.{Minimums}
+use Rattle.hc_options.specs.declared.auditing.AuditTerms.{AuditTerms}
+use Rattle.hc_options.specs.declared.auditing.Minimums.{Minimums}
+use Rattle.hc_options.specs.declared.refusal.Refusal.{Refusal}
+use Rattle.hc_options.specs.declared.rows.Takes.{Takes}
+use Rattle.hc_options.specs.declared.rows.Takes.TheVariants.{FileName, Number, Size, CacheName, Positions}
+use Rattle.hc_options.specs.Allowing.{AsksAllowed, allow_by, normalized_by}
+use Rattle.hc_options.specs.Auditing.{AsksAuditTerms, AsksMinimums, no_minimums, plain_audit}
+use Rattle.hc_options.specs.Commands.{IsFileName, IsWord, value_in}
+use Rattle.hc_options.specs.Refusals.{refused_kind}
+use Rattle.hc_options.specs.Rows.{judging, terms}
+use Rattle.hc_options.specs.Settings.{AsksSettings, plain}
+use Rattle.hc_options.specs.Values.{count_by, count_or_zero, flag_by, ignored_by, number_by, number_of, number_or, number_within, size_from, unmarked_by}
+use Rattle.hc_options.proofs.AuditWordLemmas.{one_some}
+use Rattle.hc_options.proofs.FaultLemmas.{AreFine, Judges, any_fine, appended, audit_fine, none_refused, settings_fine, terms_fine, there}
+use Rattle.hc_options.proofs.ParseLemmas.{IsNoFlag, no_flag, not_hyphen, same_values}
 use Rattle.hc_arguments.specs.declared.order.Order.{Order}
 use Rattle.hc_arguments.specs.declared.order.ProxyLimits.{ProxyLimits}
 use Rattle.hc_arguments.specs.declared.order.ProxyPatience.{ProxyPatience}
 use Rattle.hc_arguments.specs.declared.order.RecordTerms.{RecordTerms}
-use Rattle.hc_arguments.specs.declared.refusal.Refusal.{Refusal}
-use Rattle.hc_arguments.specs.declared.refusal.Refusal.TheVariants.{Memory, Missing, Slack, Ignore, Position, StandardInput, Connections, Keys, Bytes, Name, Allow, DefaultTtl, Grace, Normalized, AgeSlack, MinHits, MinJudged, Positions}
-use Rattle.hc_arguments.specs.declared.refusal.Refusal.TheVariants.{RecordLimit, Held, OutOfRange}
-use Rattle.hc_arguments.specs.Command.{Asks, AsksAuditTerms, AsksBy, AsksCache, AsksIn, AsksLimits, AsksMinimums, AsksPatience, AsksSettings, AsksTerms, CanBeDone, Command, IsFileName}
-use Rattle.hc_arguments.specs.Command.{IsMade, IsRefused, IsWord, RefusesBy, RefusesIn, Task, ValuesAsk, command_in, command_named, command_of, has_minimums, hcache, judges, lacks, limit_in}
-use Rattle.hc_arguments.specs.Command.{proxy_words, refused_kind, serves, service_words, task_of, value_in}
-use Rattle.hc_arguments.specs.Command.Command.{Audits, Reports, Explains, Shows, Replays, Converts, Serves, Proxies}
-use Rattle.hc_arguments.specs.Command.Task.{ToAudit, ToReport, ToExplain, ToShow, ToReplay, ToConvert, ToServe, ToProxy}
-use Rattle.hc_arguments.specs.Values.{bytes_by, clients_by, connections_of, flag_by, held_by, ignored_by, keys_by, minimum_by, name_by}
-use Rattle.hc_history.specs.declared.allowed.Allowed.{Allowed}
-use Rattle.hc_arguments.specs.Allowing.{AsksAllowed, allow_by, normalized_by, seconds_by}
-use Rattle.hc_arguments.specs.Positions.{len_before_hyphen, span_between, span_from, span_of}
-use Rattle.hc_arguments.specs.Values.{explaining, no_minimums, plain, plain_audit, plain_cache, plain_limits, plain_patience, plain_terms, position_by, positive_of, record_limit_by, slack_by, unmarked_by}
-
--- ---- the command
-
--- an argument is one of its rule
-pub ruled : (app : App) (made : Result Builder AllocError) (rule other : Rule) → rule ≡ other → IsMade (with_rule app rule) made
-    → IsMade (with_rule app other) made
-ruled app made rule other is = subst (λ (r : Rule). IsMade (with_rule app r) made) is
-
--- ---- any words
+use Rattle.hc_arguments.specs.Cache.{AsksCache, name_by, plain_cache}
+use Rattle.hc_arguments.specs.Commands.{hcache}
+use Rattle.hc_arguments.specs.Limits.{AsksLimits, AsksPatience, AsksTerms, limit_in, plain_limits, plain_patience, plain_terms}
+use Rattle.hc_arguments.specs.Positions.{len_before_hyphen, positive_of, span_between, span_from, span_of}
+use Rattle.hc_arguments.specs.Tables.{Command, caching, command_named, connect_timeout, drain_timeout, entries_of, held, idle_timeout, max_connections}
+use Rattle.hc_arguments.specs.Tables.{origin_connections, origin_timeout, origin_total, proxying, queue_timeout, reporting, request_timeout, send_timeout, serving, taken_by}
+use Rattle.hc_arguments.specs.Tables.{explaining_form}
+use Rattle.hc_arguments.specs.Tables.Command.{Audits, Reports, Explains, Shows, Replays, Converts, Serves, Proxies}
+use Rattle.hc_arguments.specs.Tasks.{Asks, AsksBy, AsksIn, AsksProxy, AsksService, CanBeDone, IsRefused, RefusesBy, RefusesIn, Task, ValuesAsk}
+use Rattle.hc_arguments.specs.Tasks.{command_in, command_of, explaining, proxy_words, service_words, task_of}
+use Rattle.hc_arguments.specs.Tasks.Task.{ToAudit, ToReport, ToExplain, ToShow, ToReplay, ToConvert, ToServe, ToProxy}
 
 -- the command is one of which a parse is known exactly
 pub hcache_is_simple : is_simple_and_free hcache ≡ true
 unfolding clap_on_literals
 hcache_is_simple = refl
 
--- a parse fails by a fault of the words alone
-module _ (c : Builder) (words : List Text) (result : Result ArgMatches Error) (is : app_of c ≡ hcache)
-    (fails : is_simple_and_free (app_of c) ≡ true → FailsBy (fault_of (app_of c) words) result) where
-  fails_by : FailsBy (fault_of hcache words) result
-  fails_by = subst (λ (a : App). FailsBy (fault_of a words) result) is (fails (ap is_simple_and_free is ∙ hcache_is_simple))
-
-  pub taken_from : IfOk result (λ _. fault_of hcache words ≡ [])
-  taken_from = at_ok result fails_by
-    where
-      at_ok : (r : Result ArgMatches Error) → FailsBy (fault_of hcache words) r → IfOk r (λ _. fault_of hcache words ≡ [])
-      at_ok (Ok m) none = none
-      at_ok (Err e) has = tt
-
-  pub refused_from : IfErr result (HasKind (fault_of hcache words))
-  refused_from = at_err result fails_by
-    where
-      at_err : (r : Result ArgMatches Error) → FailsBy (fault_of hcache words) r → IfErr r (HasKind (fault_of hcache words))
-      at_err (Ok m) none = tt
-      at_err (Err e) has = has
-
--- the values behind the subcommand are those of the words
-hcache_is_plain : is_simple hcache ≡ true
+pub hcache_is_plain : is_simple hcache ≡ true
 unfolding clap_on_literals
 hcache_is_plain = refl
-
-pub given_from : (c : Builder) (words : List Text) (m : ArgMatches) → app_of c ≡ hcache → HasMatchesOf (app_of c) words m
-    → subcommand_rows_of m ≡ subcommand_of hcache words
-given_from c words m is has = (has (ap is_simple is ∙ hcache_is_plain)).1 ∙ ap (λ (a : App). subcommand_of a words) is
 
 -- ---- what is asked
 
@@ -99,9 +71,6 @@ none_is_some o a none some = cc
 true_is_not_false : (b : Bool) → b ≡ true → b ≡ false → ⊥
 true_is_not_false b on off = cc
 
-one_some : {A : Type 0} (o : Option A) (a b : A) → o ≡ Some a → o ≡ Some b → a ≡ b
-one_some o a b one other = let same : Some a ≡ Some b = sym one ∙ other in search rules
-
 -- ---- the task that a command and its values ask for
 
 -- both values, where both are there
@@ -109,20 +78,6 @@ abbrev both : {A B : Type 0} → Option A → Option B → Option (A × B)
 both None b = None
 both (Some a) None = None
 both (Some a) (Some b) = Some (a, b)
-
-first_lacks : {A B : Type 0} (a : Option A) (b : Option B) → a ≡ None → both a b ≡ None
-first_lacks a b none = ap (λ o. both o b) none
-
-second_lacks : {A B : Type 0} (a : Option A) (b : Option B) → b ≡ None → both a b ≡ None
-second_lacks None b none = refl
-second_lacks (Some a) b none = ap (λ o. both (Some a) o) none
-
-nothing_mapped : {A B : Type 0} (f : A → B) (o : Option A) → o ≡ None → option_map f o ≡ None
-nothing_mapped f o none = ap (option_map f) none
-
-nothing_to_map : {A B : Type 0} (f : A → B) (o : Option A) → option_map f o ≡ None → o ≡ None
-nothing_to_map f None none = refl
-nothing_to_map f (Some a) none = absurd cc
 
 abbrev allowed_from : (Text → Option Text) → Option Allowed
 allowed_from value = option_map (λ p. record {
@@ -135,26 +90,26 @@ allowed_from value = option_map (λ p. record {
   inferred_marks = flag_by (value (codes "infer-marks"));
   age_slack = p.1.1.1;
 }) (both (allow_by (value (codes "allow")))
-    (both (both (seconds_by (value (codes "default-ttl"))) (seconds_by (value (codes "grace"))))
-    (both (normalized_by (value (codes "normalized"))) (slack_by (value (codes "age-slack"))))))
+    (both (both (count_by (value (codes "default-ttl"))) (count_by (value (codes "grace"))))
+    (both (normalized_by (value (codes "normalized"))) (count_or_zero (value (codes "age-slack"))))))
 
 abbrev settings_from : (Text → Option Text) → Option Settings
 settings_from value = option_map (λ p. record { slack = p.0.0; ignored = p.0.1; unmarked = unmarked_by (value (codes "errors-only")); allowed = p.1 })
-    (both (both (slack_by (value (codes "slack"))) (ignored_by (value (codes "ignore")))) (allowed_from value))
+    (both (both (count_or_zero (value (codes "slack"))) (ignored_by (value (codes "ignore")))) (allowed_from value))
 
 abbrev minimums_from : (Text → Option Text) → Option Minimums
 minimums_from value = option_map (λ p. record { hits = p.0; judged = p.1 })
-    (both (minimum_by (value (codes "min-hits"))) (minimum_by (value (codes "min-judged"))))
+    (both (count_or_zero (value (codes "min-hits"))) (count_or_zero (value (codes "min-judged"))))
 
 abbrev audit_terms_from : (Text → Option Text) → Option AuditTerms
 audit_terms_from value = option_map (λ p. record { settings = p.0; minimums = p.1 }) (both (settings_from value) (minimums_from value))
 
 abbrev cache_from : (Text → Option Text) → Option CoreSettings
 cache_from value = option_map (λ p. record { name = p.1.1; keys = p.0; bytes = p.1.0 })
-    (both (keys_by (value (codes "keys"))) (both (bytes_by (value (codes "bytes"))) (name_by (value (codes "name")))))
+    (both (number_or (Number 1 65536) 1024 (value (codes "keys"))) (both (number_or (Size 0) 67108864 (value (codes "bytes"))) (name_by (value (codes "name")))))
 
 abbrev terms_from : (Text → Option Text) → Option RecordTerms
-terms_from value = option_map (λ limit. record { strict = flag_by (value (codes "record-strict")); limit = limit }) (record_limit_by (value (codes "record-limit")))
+terms_from value = option_map (λ limit. record { strict = flag_by (value (codes "record-strict")); limit = limit }) (number_by (Size 0) (value (codes "record-limit")))
 
 abbrev patience_from : (Text → Option Text) → Option ProxyPatience
 patience_from value = option_map (λ p. record {
@@ -165,8 +120,8 @@ patience_from value = option_map (λ p. record {
   origin_timeout = p.1.1.0;
   origin_total = p.1.1.1;
 })
-    (both (both (limit_in value IdleTimeout) (both (limit_in value RequestTimeout) (limit_in value SendTimeout)))
-    (both (limit_in value QueueTimeout) (both (limit_in value OriginTimeout) (limit_in value OriginTotal))))
+    (both (both (limit_in value idle_timeout 75) (both (limit_in value request_timeout 60) (limit_in value send_timeout 60)))
+    (both (limit_in value queue_timeout 5) (both (limit_in value origin_timeout 60) (limit_in value origin_total 600))))
 
 abbrev limits_from : (Text → Option Text) → Option ProxyLimits
 limits_from value = option_map (λ p. record {
@@ -178,8 +133,8 @@ limits_from value = option_map (λ p. record {
   patience = p.1.1.0;
   clients = p.1.1.1;
 })
-    (both (both (limit_in value MaxConnections) (both (limit_in value OriginConnections) (held_by (value (codes "held")))))
-    (both (both (limit_in value ConnectTimeout) (limit_in value DrainTimeout)) (both (patience_from value) (clients_by (value (codes "connections"))))))
+    (both (both (limit_in value max_connections 1024) (both (limit_in value origin_connections 100) (limit_in value held 268435456)))
+    (both (both (limit_in value connect_timeout 5) (limit_in value drain_timeout 8)) (both (patience_from value) (number_by (Number 1 greatest_number) (value (codes "connections"))))))
 
 -- a file that isn't standard input
 abbrev file_named : Option Text → Option Text
@@ -190,13 +145,13 @@ abbrev task_from : Command → (Text → Option Text) → Option Task
 task_from Audits value = option_map (λ p. ToAudit p.0 p.1) (both (value (codes "FILE")) (audit_terms_from value))
 task_from Reports value = option_map (λ p. ToReport p.0 p.1 (flag_by (value (codes "json"))) (value (codes "baseline"))) (both (value (codes "FILE")) (audit_terms_from value))
 task_from Explains value = option_map (λ p. ToExplain p.0 record { position = p.1.0; settings = p.1.1; json = flag_by (value (codes "json")) })
-    (both (file_named (value (codes "FILE"))) (both (position_by (value (codes "POSITION"))) (settings_from value)))
+    (both (file_named (value (codes "FILE"))) (both (number_by (Number 1 greatest_number) (value (codes "POSITION"))) (settings_from value)))
 task_from Shows value = option_map (λ p. ToShow p.0 p.1) (both (value (codes "FILE")) (option_and_then span_of (value (codes "POSITION[-POSITION]"))))
 task_from Replays value = option_map ToReplay (value (codes "FILE"))
 task_from Converts value = option_map ToConvert (value (codes "FILE"))
 task_from Serves value = option_map (λ p. ToServe p.0.0 p.0.1 p.1.0.0 p.1.0.1 p.1.1)
     (both (both (value (codes "listen")) (value (codes "origin")))
-    (both (both (option_and_then connections_of (value (codes "connections"))) (value (codes "record"))) (cache_from value)))
+    (both (both (option_and_then (λ o. o) (number_by (Number 1 greatest_number) (value (codes "connections")))) (value (codes "record"))) (cache_from value)))
 task_from Proxies value = option_map (λ p. ToProxy p.0.0 p.0.1 (value (codes "record")) p.1.0 p.1.1.0 p.1.1.1)
     (both (both (value (codes "listen")) (value (codes "origin"))) (both (terms_from value) (both (limits_from value) (cache_from value))))
 
@@ -233,8 +188,8 @@ cache_given : (value : Text → Option Text) (settings : CoreSettings) → AsksC
 cache_given value settings a =
     λ i. option_map (λ p. record { name = p.1.1; keys = p.0; bytes = p.1.0 }) (both (a.keys_is i) (both (a.bytes_is i) (a.name_is i)))
 
-terms_given : (value : Text → Option Text) (terms : RecordTerms) → AsksTerms value terms → terms_from value ≡ Some terms
-terms_given value terms a = λ i. option_map (λ limit. record { strict = a.strict_is i; limit = limit }) (a.limit_is i)
+terms_given : (value : Text → Option Text) (recorded : RecordTerms) → AsksTerms value recorded → terms_from value ≡ Some recorded
+terms_given value recorded a = λ i. option_map (λ limit. record { strict = a.strict_is i; limit = limit }) (a.limit_is i)
 
 patience_given : (value : Text → Option Text) (patience : ProxyPatience) → AsksPatience value patience → patience_from value ≡ Some patience
 patience_given value patience a =
@@ -282,7 +237,7 @@ values_give value (ToConvert file) a = ap (option_map ToConvert) a
 values_give value (ToServe listen origin connections file settings) a =
     let set = cache_given value settings a.settings_are in
     λ i. option_map (λ p. ToServe p.0.0 p.0.1 p.1.0.0 p.1.0.1 p.1.1)
-    (both (both (a.listen_is i) (a.origin_is i)) (both (both (a.connections_is i) (a.file_is i)) (set i)))
+    (both (both (a.listen_is i) (a.origin_is i)) (both (both (option_and_then (λ o. o) (a.connections_is i)) (a.file_is i)) (set i)))
 values_give value (ToProxy listen origin file terms limits settings) a =
     let set = cache_given value settings a.settings_are in
     let limited = limits_given value limits a.limits_are in
@@ -301,165 +256,175 @@ one_command command value task other a b = one_some command _ _ a.0 b.0
 pub one_task : (command : Option Command) (value : Text → Option Text) (task other : Task) → AsksBy command value task → AsksBy command value other → task ≡ other
 one_task command value task other a b = one_some _ task other (task_given command value task a) (task_given command value other b)
 
--- what is asked lacks nothing
-number_is_there : (o : Option Text) (n : ℕ) → option_and_then connections_of o ≡ Some n → is_none o ≡ false
-number_is_there None n is = absurd (none_is_some _ n refl is)
-number_is_there (Some text) n is = refl
+-- ---- what is asked is taken
 
-span_is_there : (o : Option Text) (span : Span) → option_and_then span_of o ≡ Some span → is_none o ≡ false
-span_is_there None span is = absurd (none_is_some _ span refl is)
-span_is_there (Some text) span is = refl
+taken_by_judges : Judges taken_by
+taken_by_judges = record { any = λ text. refl; count = λ text. refl; words = λ text. refl; names = λ text. refl; vary = λ text. refl }
 
-lacks_nothing : (command : Option Command) (value : Text → Option Text) (task : Task) → AsksBy command value task → lacks command value ≡ false
-lacks_nothing command value (ToAudit file terms) asks = rw (asks.0, asks.1.file_is) refl
-lacks_nothing command value (ToReport file terms json baseline) asks = rw (asks.0, asks.1.file_is) refl
-lacks_nothing command value (ToExplain file terms) asks = rw (asks.0, asks.1.file_is) refl
-lacks_nothing command value (ToShow file span) asks = rw (asks.0, asks.1.file_is, span_is_there (value (codes "POSITION[-POSITION]")) span asks.1.span_is) refl
-lacks_nothing command value (ToReplay file) asks = rw (asks.0, asks.1) refl
-lacks_nothing command value (ToConvert file) asks = rw (asks.0, asks.1) refl
-lacks_nothing command value (ToServe listen origin n file settings) asks =
-    rw (asks.0, asks.1.listen_is, asks.1.origin_is, number_is_there (value (codes "connections")) n asks.1.connections_is, asks.1.file_is) refl
-lacks_nothing command value (ToProxy listen origin file terms limits settings) asks = rw (asks.0, asks.1.listen_is, asks.1.origin_is) refl
+some_of : {A : Type 0} (o : Option A) (a : A) → o ≡ Some a → is_some o ≡ true
+some_of o a is = ap is_some is
 
--- where a value has a fault there is no task
-settings_lack : (command : Command) (value : Text → Option Text) → judges command ≡ true → settings_from value ≡ None → task_from command value ≡ None
-settings_lack Audits value judging none = nothing_mapped _ _ (second_lacks _ _ (nothing_mapped _ _ (first_lacks _ _ none)))
-settings_lack Reports value judging none = nothing_mapped _ _ (second_lacks _ _ (nothing_mapped _ _ (first_lacks _ _ none)))
-settings_lack Explains value judging none = nothing_mapped _ _ (second_lacks _ _ (second_lacks _ _ none))
-settings_lack Shows value judging none = absurd cc
-settings_lack Replays value judging none = absurd cc
-settings_lack Converts value judging none = absurd cc
-settings_lack Serves value judging none = absurd cc
-settings_lack Proxies value judging none = absurd cc
+some_of_mapped : {A : Type 0} (o : Option A) (a : Option A) → option_map Some o ≡ Some a → is_some o ≡ true
+some_of_mapped None a is = absurd cc
+some_of_mapped (Some b) a is = refl
 
-minimums_lack : (command : Command) (value : Text → Option Text) → has_minimums command ≡ true → minimums_from value ≡ None → task_from command value ≡ None
-minimums_lack Audits value counting none = nothing_mapped _ _ (second_lacks _ _ (nothing_mapped _ _ (second_lacks _ _ none)))
-minimums_lack Reports value counting none = nothing_mapped _ _ (second_lacks _ _ (nothing_mapped _ _ (second_lacks _ _ none)))
-minimums_lack Explains value counting none = absurd cc
-minimums_lack Shows value counting none = absurd cc
-minimums_lack Replays value counting none = absurd cc
-minimums_lack Converts value counting none = absurd cc
-minimums_lack Serves value counting none = absurd cc
-minimums_lack Proxies value counting none = absurd cc
+numbered : (least most usual number : ℕ) (o : Option Text) → number_or (Number least most) usual o ≡ Some number
+    → option_map_or (λ text. taken_by (Number least most) text) o true ≡ true
+numbered least most usual number None is = refl
+numbered least most usual number (Some text) is = some_of (number_within least most text) number is
 
--- a command that has minimums judges
-pub minimums_judge : (command : Command) → has_minimums command ≡ true → judges command ≡ true
-minimums_judge Audits counting = refl
-minimums_judge Reports counting = refl
-minimums_judge Explains counting = absurd cc
-minimums_judge Shows counting = absurd cc
-minimums_judge Replays counting = absurd cc
-minimums_judge Converts counting = absurd cc
-minimums_judge Serves counting = absurd cc
-minimums_judge Proxies counting = absurd cc
+numbered_if_given : (least most : ℕ) (number : Option ℕ) (o : Option Text) → number_by (Number least most) o ≡ Some number
+    → option_map_or (λ text. taken_by (Number least most) text) o true ≡ true
+numbered_if_given least most number None is = refl
+numbered_if_given least most number (Some text) is = some_of_mapped (number_within least most text) number is
 
-cache_lacks : (command : Command) (value : Text → Option Text) → serves command ≡ true → cache_from value ≡ None → task_from command value ≡ None
-cache_lacks Audits value serving none = absurd cc
-cache_lacks Reports value serving none = absurd cc
-cache_lacks Explains value serving none = absurd cc
-cache_lacks Shows value serving none = absurd cc
-cache_lacks Replays value serving none = absurd cc
-cache_lacks Converts value serving none = absurd cc
-cache_lacks Serves value serving none = nothing_mapped _ _ (second_lacks _ _ (second_lacks _ _ none))
-cache_lacks Proxies value serving none = nothing_mapped _ _ (second_lacks _ _ (second_lacks _ _ (second_lacks _ _ none)))
+-- a number that has to be there
+numbered_there : (least most number : ℕ) (o : Option Text) → number_by (Number least most) o ≡ Some (Some number)
+    → option_map_or (λ text. taken_by (Number least most) text) o false ≡ true
+numbered_there least most number None is = absurd cc
+numbered_there least most number (Some text) is = some_of_mapped (number_within least most text) (Some number) is
 
-limits_lack : (value : Text → Option Text) → limits_from value ≡ None → task_from Proxies value ≡ None
-limits_lack value none = nothing_mapped _ _ (second_lacks _ _ (second_lacks _ _ (first_lacks _ _ none)))
+sized : (least usual octets : ℕ) (o : Option Text) → number_or (Size least) usual o ≡ Some octets
+    → option_map_or (λ text. taken_by (Size least) text) o true ≡ true
+sized least usual octets None is = refl
+sized least usual octets (Some text) is = some_of (size_from least text) octets is
 
-terms_lack : (value : Text → Option Text) → terms_from value ≡ None → task_from Proxies value ≡ None
-terms_lack value none = nothing_mapped _ _ (second_lacks _ _ (first_lacks _ _ none))
+sized_if_given : (least : ℕ) (octets : Option ℕ) (o : Option Text) → number_by (Size least) o ≡ Some octets
+    → option_map_or (λ text. taken_by (Size least) text) o true ≡ true
+sized_if_given least octets None is = refl
+sized_if_given least octets (Some text) is = some_of_mapped (size_from least text) octets is
 
--- a number of connections that is none is one neither where it has to be given nor where it may be left out
-no_number : (o : Option Text) → clients_by o ≡ None → option_and_then connections_of o ≡ None
-no_number None none = absurd cc
-no_number (Some text) none = nothing_to_map Some (connections_of text) none
+name_taken : (b : Bool) (text name : Text) → is_name text ≡ b → cond b (Some text) None ≡ Some name → is_name text ≡ true
+name_taken true text name is same = is
+name_taken false text name is same = absurd cc
 
-number_lacks : (command : Command) (value : Text → Option Text) → serves command ≡ true → clients_by (value (codes "connections")) ≡ None
-    → task_from command value ≡ None
-number_lacks Audits value serving none = absurd cc
-number_lacks Reports value serving none = absurd cc
-number_lacks Explains value serving none = absurd cc
-number_lacks Shows value serving none = absurd cc
-number_lacks Replays value serving none = absurd cc
-number_lacks Converts value serving none = absurd cc
-number_lacks Serves value serving none =
-    nothing_mapped _ _ (second_lacks _ _ (first_lacks _ _ (first_lacks _ _ (no_number (value (codes "connections")) none))))
-number_lacks Proxies value serving none =
-    limits_lack value (nothing_mapped _ _ (second_lacks _ _ (second_lacks _ _ (second_lacks _ _ none))))
+called : (name : Text) (o : Option Text) → name_by o ≡ Some name → option_map_or (λ text. taken_by CacheName text) o true ≡ true
+called name None is = refl
+called name (Some text) is = name_taken (is_name text) text name refl is
 
-impatient : (value : Text → Option Text) → patience_from value ≡ None → limits_from value ≡ None
-impatient value none = nothing_mapped _ _ (second_lacks _ _ (second_lacks _ _ (first_lacks _ _ none)))
+file_taken : (file : Text) (o : Option Text) → o ≡ Some file → bytes_eq file (codes "-") ≡ false
+    → option_map_or (λ text. taken_by FileName text) o false ≡ true
+file_taken file o is named =
+    ap (λ (p : Option Text). option_map_or (λ text. taken_by FileName text) p false) is ∙ ap (λ b. cond b false true) named
 
-limit_lacks : (limit : Limit) (value : Text → Option Text) → limit_in value limit ≡ None → limits_from value ≡ None
-limit_lacks MaxConnections value none = nothing_mapped _ _ (first_lacks _ _ (first_lacks _ _ none))
-limit_lacks OriginConnections value none = nothing_mapped _ _ (first_lacks _ _ (second_lacks _ _ (first_lacks _ _ none)))
-limit_lacks ConnectTimeout value none = nothing_mapped _ _ (second_lacks _ _ (first_lacks _ _ (first_lacks _ _ none)))
-limit_lacks DrainTimeout value none = nothing_mapped _ _ (second_lacks _ _ (first_lacks _ _ (second_lacks _ _ none)))
-limit_lacks IdleTimeout value none = impatient value (nothing_mapped _ _ (first_lacks _ _ (first_lacks _ _ none)))
-limit_lacks RequestTimeout value none = impatient value (nothing_mapped _ _ (first_lacks _ _ (second_lacks _ _ (first_lacks _ _ none))))
-limit_lacks SendTimeout value none = impatient value (nothing_mapped _ _ (first_lacks _ _ (second_lacks _ _ (second_lacks _ _ none))))
-limit_lacks QueueTimeout value none = impatient value (nothing_mapped _ _ (second_lacks _ _ (first_lacks _ _ none)))
-limit_lacks OriginTimeout value none = impatient value (nothing_mapped _ _ (second_lacks _ _ (second_lacks _ _ (first_lacks _ _ none))))
-limit_lacks OriginTotal value none = impatient value (nothing_mapped _ _ (second_lacks _ _ (second_lacks _ _ (second_lacks _ _ none))))
+spanned : (span : Span) (o : Option Text) → option_and_then span_of o ≡ Some span → option_map_or (λ text. taken_by Positions text) o false ≡ true
+spanned span None is = absurd cc
+spanned span (Some text) is = some_of (span_of text) span is
 
-held_lacks : (value : Text → Option Text) → held_by (value (codes "held")) ≡ None → limits_from value ≡ None
-held_lacks value none = nothing_mapped _ _ (first_lacks _ _ (second_lacks _ _ (second_lacks _ _ none)))
+cache_fine : (value : Text → Option Text) (settings : CoreSettings) → AsksCache value settings → AreFine taken_by value caching
+cache_fine value settings a = (
+  numbered 1 65536 1024 settings.keys (value (codes "keys")) a.keys_is,
+  (sized 0 67108864 settings.bytes (value (codes "bytes")) a.bytes_is, (called settings.name (value (codes "name")) a.name_is, tt)),
+)
 
--- of a command that is of a kind
-kind_lacks : (kind : Command → Bool) (value : Text → Option Text) → ((c : Command) → kind c ≡ true → task_from c value ≡ None)
-    → (command : Option Command) → option_map kind command ≡ Some true → task_by command value ≡ None
-kind_lacks kind value lacking None is = refl
-kind_lacks kind value lacking (Some c) is = lacking c (one_some (Some (kind c)) _ _ refl is)
+serving_fine : (value : Text → Option Text) (listen origin : Text) (n : ℕ) (file : Text) (settings : CoreSettings)
+    → AsksService value listen origin n file settings → AreFine taken_by value serving
+serving_fine value listen origin n file settings a = (
+  there taken_by taken_by_judges (value (codes "listen")) listen a.listen_is,
+  (
+    there taken_by taken_by_judges (value (codes "origin")) origin a.origin_is,
+    (
+      numbered_there 1 greatest_number n (value (codes "connections")) a.connections_is,
+      (there taken_by taken_by_judges (value (codes "record")) file a.file_is, tt),
+    ),
+  ),
+)
 
-fault_lacks : (command : Option Command) (value : Text → Option Text) (c : Command) → command ≡ Some c → task_from c value ≡ None
-    → task_by command value ≡ None
-fault_lacks command value c is none = ap (λ o. task_by o value) is ∙ none
+proxying_fine : (value : Text → Option Text) (listen origin : Text) (file : Option Text) (terms : RecordTerms) (limits : ProxyLimits) (settings : CoreSettings)
+    → AsksProxy value listen origin file terms limits settings → AreFine taken_by value proxying
+proxying_fine value listen origin file terms limits settings a =
+    let l = a.limits_are in
+    let p = a.limits_are.patience_is in
+    let within = λ (least most usual : ℕ). λ (name : Text). λ (n : ℕ). λ (is : number_or (Number least most) usual (value name) ≡ Some n).
+    numbered least most usual n (value name) is in (
+      there taken_by taken_by_judges (value (codes "listen")) listen a.listen_is,
+      (
+        there taken_by taken_by_judges (value (codes "origin")) origin a.origin_is,
+        (
+          any_fine taken_by taken_by_judges (value (codes "record")),
+          (
+            sized_if_given 0 terms.limit (value (codes "record-limit")) a.terms_are.limit_is,
+            (
+              any_fine taken_by taken_by_judges (value (codes "record-strict")),
+              (
+                within 1 60000 1024 (codes "max-connections") limits.connections l.connections_are,
+                (
+                  within 1 60000 100 (codes "origin-connections") limits.origin_connections l.origin_connections_are,
+                  (
+                    sized 1048576 268435456 limits.held (value (codes "held")) l.held_is,
+                    (
+                      within 1 86400 75 (codes "idle-timeout") limits.patience.idle_timeout p.idle_timeout_is,
+                      (
+                        within 1 86400 60 (codes "request-timeout") limits.patience.request_timeout p.request_timeout_is,
+                        (
+                          within 1 86400 60 (codes "send-timeout") limits.patience.send_timeout p.send_timeout_is,
+                          (
+                            within 1 86400 5 (codes "queue-timeout") limits.patience.queue_timeout p.queue_timeout_is,
+                            (
+                              within 1 3600 5 (codes "connect-timeout") limits.connect_timeout l.connect_timeout_is,
+                              (
+                                within 1 86400 60 (codes "origin-timeout") limits.patience.origin_timeout p.origin_timeout_is,
+                                (
+                                  within 1 86400 600 (codes "origin-total") limits.patience.origin_total p.origin_total_is,
+                                  (
+                                    within 0 86400 8 (codes "drain-timeout") limits.drain_timeout l.drain_timeout_is,
+                                    (numbered_if_given 1 greatest_number limits.clients (value (codes "connections")) l.clients_are, tt),
+                                  ),
+                                ),
+                              ),
+                            ),
+                          ),
+                        ),
+                      ),
+                    ),
+                  ),
+                ),
+              ),
+            ),
+          ),
+        ),
+      ),
+    )
+
+values_fine : (value : Text → Option Text) (task : Task) → ValuesAsk value task → AreFine taken_by value (entries_of (command_of task))
+values_fine value (ToAudit file terms) a = audit_fine taken_by taken_by_judges value file terms a
+values_fine value (ToReport file asked json baseline) a = (
+  there taken_by taken_by_judges (value (codes "FILE")) file a.file_is,
+  appended taken_by value terms reporting (terms_fine taken_by taken_by_judges value asked a.terms_are)
+      (any_fine taken_by taken_by_judges (value (codes "json")), (any_fine taken_by taken_by_judges (value (codes "baseline")), tt)),
+)
+values_fine value (ToExplain file terms) a = (
+  file_taken file (value (codes "FILE")) a.file_is a.file_has_name,
+  (
+    numbered_if_given 1 greatest_number terms.position (value (codes "POSITION")) a.position_is,
+    appended taken_by value judging explaining_form (settings_fine taken_by taken_by_judges value terms.settings a.settings_are)
+        (any_fine taken_by taken_by_judges (value (codes "json")), tt),
+  ),
+)
+values_fine value (ToShow file span) a =
+    (there taken_by taken_by_judges (value (codes "FILE")) file a.file_is, (spanned span (value (codes "POSITION[-POSITION]")) a.span_is, tt))
+values_fine value (ToReplay file) a = (there taken_by taken_by_judges (value (codes "FILE")) file a, tt)
+values_fine value (ToConvert file) a = (there taken_by taken_by_judges (value (codes "FILE")) file a, tt)
+values_fine value (ToServe listen origin connections file settings) a =
+    appended taken_by value serving caching (serving_fine value listen origin connections file settings a) (cache_fine value settings a.settings_are)
+values_fine value (ToProxy listen origin file terms limits settings) a =
+    appended taken_by value proxying caching (proxying_fine value listen origin file terms limits settings a) (cache_fine value settings a.settings_are)
 
 -- and what is asked isn't refused
-module _ (command : Option Command) (value : Text → Option Text) (task : Task) (e : Error) (asks : AsksBy command value task) where
-  is_given : task_by command value ≡ None → ⊥
-  is_given none = none_is_some _ task none (task_given command value task asks)
+none_outside : (command : Option Command) (value : Text → Option Text) (task : Task) (e : Error) (refusal : Refusal) → command ≡ Some (command_of task)
+    → ValuesAsk value task → RefusesBy command value refusal → refused_kind refusal ≡ Some (kind_of e) → ⊥
+none_outside command value task e refusal is asks refuses kind =
+    none_refused taken_by value (entries_of (command_of task)) refusal (kind_of e) (values_fine value task asks)
+    (subst (λ (c : Option Command). RefusesBy c value refusal) is refuses) kind
 
-  unjudged : option_map judges command ≡ Some true → settings_from value ≡ None → ⊥
-  unjudged judging none = is_given (kind_lacks judges value (λ c. λ is. settings_lack c value is none) command judging)
-
-  unallowed : option_map judges command ≡ Some true → allowed_from value ≡ None → ⊥
-  unallowed judging none = unjudged judging (nothing_mapped _ _ (second_lacks _ _ none))
-
-  uncounted : option_map has_minimums command ≡ Some true → minimums_from value ≡ None → ⊥
-  uncounted counting none = is_given (kind_lacks has_minimums value (λ c. λ is. minimums_lack c value is none) command counting)
-
-  unserved : option_map serves command ≡ Some true → cache_from value ≡ None → ⊥
-  unserved serving none = is_given (kind_lacks serves value (λ c. λ is. cache_lacks c value is none) command serving)
-
-  unlimited : command ≡ Some Proxies → limits_from value ≡ None → ⊥
-  unlimited is none = is_given (fault_lacks command value Proxies is (limits_lack value none))
-
-  none_outside : (refusal : Refusal) → RefusesBy command value refusal → refused_kind refusal ≡ Some (kind_of e) → ⊥
-  none_outside Memory refuses kind = cc
-  none_outside Missing refuses kind = true_is_not_false _ refuses (lacks_nothing command value task asks)
-  none_outside Slack refuses kind = unjudged refuses.0 (nothing_mapped _ _ (first_lacks _ _ (first_lacks _ _ refuses.1)))
-  none_outside Ignore refuses kind = unjudged refuses.0 (nothing_mapped _ _ (first_lacks _ _ (second_lacks _ _ refuses.1)))
-  none_outside Allow refuses kind = unallowed refuses.0 (nothing_mapped _ _ (first_lacks _ _ refuses.1))
-  none_outside DefaultTtl refuses kind = unallowed refuses.0 (nothing_mapped _ _ (second_lacks _ _ (first_lacks _ _ (first_lacks _ _ refuses.1))))
-  none_outside Grace refuses kind = unallowed refuses.0 (nothing_mapped _ _ (second_lacks _ _ (first_lacks _ _ (second_lacks _ _ refuses.1))))
-  none_outside Normalized refuses kind = unallowed refuses.0 (nothing_mapped _ _ (second_lacks _ _ (second_lacks _ _ (first_lacks _ _ refuses.1))))
-  none_outside AgeSlack refuses kind = unallowed refuses.0 (nothing_mapped _ _ (second_lacks _ _ (second_lacks _ _ (second_lacks _ _ refuses.1))))
-  none_outside MinHits refuses kind = uncounted refuses.0 (nothing_mapped _ _ (first_lacks _ _ refuses.1))
-  none_outside MinJudged refuses kind = uncounted refuses.0 (nothing_mapped _ _ (second_lacks _ _ refuses.1))
-  none_outside Position refuses kind =
-      is_given (fault_lacks _ _ Explains refuses.0 (nothing_mapped _ _ (second_lacks _ _ (first_lacks _ _ refuses.1))))
-  none_outside Positions refuses kind = is_given (fault_lacks _ _ Shows refuses.0 (nothing_mapped _ _ (second_lacks _ _ refuses.1)))
-  none_outside StandardInput refuses kind =
-      is_given (fault_lacks _ _ Explains refuses.0 (nothing_mapped _ _ (first_lacks _ _ (ap file_named refuses.1))))
-  none_outside Connections refuses kind =
-      is_given (kind_lacks serves value (λ c. λ serving. number_lacks c value serving refuses.1) command refuses.0)
-  none_outside RecordLimit refuses kind = is_given (fault_lacks _ _ Proxies refuses.0 (terms_lack value (nothing_mapped _ _ refuses.1)))
-  none_outside Held refuses kind = unlimited refuses.0 (held_lacks value refuses.1)
-  none_outside (OutOfRange limit) refuses kind = unlimited refuses.0 (limit_lacks limit value refuses.1)
-  none_outside Keys refuses kind = unserved refuses.0 (nothing_mapped _ _ (first_lacks _ _ refuses.1))
-  none_outside Bytes refuses kind = unserved refuses.0 (nothing_mapped _ _ (second_lacks _ _ (first_lacks _ _ refuses.1)))
-  none_outside Name refuses kind = unserved refuses.0 (nothing_mapped _ _ (second_lacks _ _ (second_lacks _ _ refuses.1)))
+-- a number that may be left out, and is
+pub none_given : (takes : Takes) (o : Option Text) → number_by takes o ≡ Some None → o ≡ None
+none_given takes None is = refl
+none_given takes (Some text) is = absurd (mapped_is_some (number_of takes text) is)
+  where
+    mapped_is_some : (n : Option ℕ) → option_map Some n ≡ Some None → ⊥
+    mapped_is_some None same = cc
+    mapped_is_some (Some number) same = cc
 
 -- of the settings that are asked for there are caches
 taken_name : (b : Bool) (text name : Text) → is_name text ≡ b → cond b (Some text) None ≡ Some name → is_name name ≡ true
@@ -475,7 +440,7 @@ taken_size true true value keys is same = let e : value ≡ keys = search rules 
 taken_size true false value keys is same = absurd cc
 taken_size false b value keys is same = absurd cc
 
-good_size : (o : Option Text) (keys : ℕ) → keys_by o ≡ Some keys → is_size keys ≡ true
+good_size : (o : Option Text) (keys : ℕ) → number_or (Number 1 65536) 1024 o ≡ Some keys → is_size keys ≡ true
 good_size None keys is = let e : 1024 ≡ keys = search rules in subst (λ n. is_size n ≡ true) e refl
 good_size (Some text) keys is = taken_size (is_number text) (is_size (digits_value 10 text)) (digits_value 10 text) keys refl is
 
@@ -486,26 +451,26 @@ good_cache value settings asks = record {
 }
 
 -- positions are positive, and those up to a last one too
-positive : (digits some few : Bool) (value number : ℕ) → nat_lt 0 value ≡ some → cond (digits && (some && few)) (Some value) None ≡ Some number → 0 < number
-positive true true true value number is taken = let same : value ≡ number = search rules in subst (λ (n : ℕ). 0 < n) same (ltb-true 0 value is)
+positive : (digits some few : Bool) (value number : ℕ) → nat_le 1 value ≡ some → cond (digits && (some && few)) (Some value) None ≡ Some number → 0 < number
+positive true true true value number is taken = let same : value ≡ number = search rules in subst (λ (n : ℕ). 0 < n) same (leb-true 1 value is)
 positive true true false value number is taken = absurd cc
 positive true false few value number is taken = absurd cc
 positive false some few value number is taken = absurd cc
 
 positive_number : (text : Text) (number : ℕ) → positive_of text ≡ Some number → 0 < number
-positive_number text number is = positive (is_number text) (nat_lt 0 (digits_value 10 text)) (nat_le (digits_value 10 text) greatest_number) (digits_value 10 text) number refl is
+positive_number text number is = positive (is_number text) (nat_le 1 (digits_value 10 text)) (nat_le (digits_value 10 text) greatest_number) (digits_value 10 text) number refl is
 
 last_between : (first last : ℕ) (span : Span) (b : Bool) → cond b (Some (record { first = first; last = last })) None ≡ Some span → 0 < last → 0 < span.last
 last_between first last span true is some = let same : record { first = first; last = last } ≡ span = search rules in subst (λ (s : Span). 0 < s.last) same some
 last_between first last span false is some = absurd cc
 
-last_behind : (first : ℕ) (span : Span) (text : Text) (o : Option ℕ) → positive_of text ≡ o → option_and_then (span_between first) o ≡ Some span → 0 < span.last
-last_behind first span text None counts is = absurd cc
-last_behind first span text (Some last) counts is = last_between first last span (nat_le first last) is (positive_number text last counts)
+last_after : (first : ℕ) (span : Span) (text : Text) (o : Option ℕ) → positive_of text ≡ o → option_and_then (span_between first) o ≡ Some span → 0 < span.last
+last_after first span text None counts is = absurd cc
+last_after first span text (Some last) counts is = last_between first last span (nat_le first last) is (positive_number text last counts)
 
 last_from : (first : ℕ) (rest : Text) (span : Span) → 0 < first → span_from first rest ≡ Some span → 0 < span.last
 last_from first [] span some is = last_between first first span (nat_le first first) is some
-last_from first (hyphen ∷ last) span some is = last_behind first span last (positive_of last) refl is
+last_from first (hyphen ∷ last) span some is = last_after first span last (positive_of last) refl is
 
 last_of : (first rest : Text) (span : Span) (o : Option ℕ) → positive_of first ≡ o → option_and_then (λ n. span_from n rest) o ≡ Some span → 0 < span.last
 last_of first rest span None counts is = absurd cc
@@ -517,14 +482,14 @@ last_is_one (Some text) span is =
     last_of (take (len_before_hyphen text) text) (drop (len_before_hyphen text) text) span (positive_of (take (len_before_hyphen text) text)) refl is
 
 pub possible_from : (command : Option Command) (value : Text → Option Text) (task : Task) → AsksBy command value task → CanBeDone task
-possible_from command value (ToAudit file terms) asks = tt
-possible_from command value (ToReport file terms json baseline) asks = tt
-possible_from command value (ToExplain file terms) asks = tt
+possible_from command value (ToAudit file asked) asks = tt
+possible_from command value (ToReport file asked json baseline) asks = tt
+possible_from command value (ToExplain file asked) asks = tt
 possible_from command value (ToShow file span) asks = last_is_one (value (codes "POSITION[-POSITION]")) span asks.1.span_is
 possible_from command value (ToReplay file) asks = tt
 possible_from command value (ToConvert file) asks = tt
 possible_from command value (ToServe listen origin connections file settings) asks = good_cache value settings asks.1.settings_are
-possible_from command value (ToProxy listen origin file terms limits settings) asks = good_cache value settings asks.1.settings_are
+possible_from command value (ToProxy listen origin file asked limits settings) asks = good_cache value settings asks.1.settings_are
 
 -- words that ask something are refused for want of memory alone
 pub asked_from : (words : List Text) (task : Task) (e : Error) → fault_of hcache words ≡ [] → Asks words task → IsRefused words e → kind_of e ≡ OutOfMemory
@@ -533,21 +498,10 @@ asked_from words task e none asks refused = elim refused [
     | inl memory ↦ memory
     | inr among ↦ absurd among
   ]
-  | inr outside ↦ absurd (none_outside _ _ task e asks outside.refusal outside.refuses outside.kind_is)
+  | inr outside ↦ absurd (none_outside _ _ task e outside.refusal asks.0 asks.1 outside.refuses outside.kind_is)
 ]
 
 -- ---- the subcommand
-
--- what is read of the rows alone
-of_rows : (f : List Row → Option Text) (p : Option (Text × List Row))
-    → option_and_then (λ q. f q.1) p ≡ option_and_then f (option_map (λ q. q.1) p)
-of_rows f None = refl
-of_rows f (Some q) = refl
-
--- a value of what was found is the one behind the subcommand
-value_is : (given : Option (Text × List Row)) (found : Found) → Some (rows_of found) ≡ option_map (λ q. q.1) given → (name : Text)
-    → first_value found name ≡ value_in given name
-value_is given found rows name = first_value-rows found name ∙ ap (option_and_then (first_of name)) rows ∙ sym (of_rows (first_of name) given)
 
 -- and its name says which command it is
 name_says : {B : Type 0} (n : B → Text) (r : B → List Row) (o : Option B) (name : Text) → Some name ≡ option_map n o
@@ -561,14 +515,14 @@ command_is m name is =
 
 module _ (m : ArgMatches) (name : Text) (found : Found) (is : Some name ≡ subcommand_name_of m)
     (rows : Some (rows_of found) ≡ option_map (λ q. q.1) (subcommand_rows_of m)) where
-  same_values : first_value found ≡ value_in (subcommand_rows_of m)
-  same_values = λ i. λ word. value_is (subcommand_rows_of m) found rows word i
+  values_are : first_value found ≡ value_in (subcommand_rows_of m)
+  values_are = same_values (subcommand_rows_of m) found rows
 
   -- what is said of the name and the values found is said of the subcommand
   said_in : (P : Option Command → (Text → Option Text) → Type 0) (command : Option Command) → command_named name ≡ command
       → P command (first_value found) → P (command_in (subcommand_rows_of m)) (value_in (subcommand_rows_of m))
   said_in P command named said =
-      subst (λ c. P c (value_in (subcommand_rows_of m))) (sym named ∙ command_is m name is) (subst (λ v. P command v) same_values said)
+      subst (λ c. P c (value_in (subcommand_rows_of m))) (sym named ∙ command_is m name is) (subst (λ v. P command v) values_are said)
 
   pub asks_in : (command : Command) → command_named name ≡ Some command → (result : Result Order Refusal)
       → IfOk result (λ order. AsksBy (Some command) (first_value found) (task_of order)) → IfOk result (λ order. AsksIn (subcommand_rows_of m) (task_of order))
@@ -581,23 +535,6 @@ module _ (m : ArgMatches) (name : Text) (found : Found) (is : Some name ≡ subc
       IfErr-weaker result _ _ (λ refusal. said_in (λ c. λ v. RefusesBy c v refusal) (Some command) named) refuses
 
 -- ---- plain words
-
--- a word that is no flag
-record IsNoFlag (word : Text) : Type 0 where
-  dashes : bytes_eq word (45 ∷ 45 ∷ []) ≡ false
-  long : long_of word ≡ None
-  short : short_of word ≡ None
-
-no_flag_after : (x : ℕ) (rest : Text) → nat_eq x 45 ≡ false → IsNoFlag (x ∷ rest)
-no_flag_after x rest e = record { dashes = rw e refl; long = rw e refl; short = rw e refl }
-
-not_hyphen : (x : ℕ) → (Some x ≡ Some 45 → ⊥) → nat_eq x 45 ≡ false
-not_hyphen x h = search rules
-
-no_flag : (word : Text) → IsWord word → IsNoFlag word
-no_flag [] h = record { dashes = refl; long = refl; short = refl }
-no_flag (x ∷ rest) (inl e) = subst IsNoFlag (sym e) (record { dashes = refl; long = refl; short = refl })
-no_flag (x ∷ rest) (inr h) = no_flag_after x rest (not_hyphen x h)
 
 -- words whose task is known give that, or fail for want of memory alone
 pub record AreWordsFor (words : List Text) (task : Task) : Type 0 where
@@ -713,7 +650,7 @@ module _ (name file : Text) (h : IsNoFlag file) where
   unfolding clap_on_literals
   explained = rw (h.dashes, h.long, h.short) refl
 
-  no_position : position_by (value_in (subcommand_of hcache (name ∷ codes "explain" ∷ file ∷ [])) (codes "POSITION")) ≡ Some None
+  no_position : number_by (Number 1 greatest_number) (value_in (subcommand_of hcache (name ∷ codes "explain" ∷ file ∷ [])) (codes "POSITION")) ≡ Some None
   unfolding clap_on_literals
   no_position = rw (h.dashes, h.long, h.short) refl
 
@@ -846,7 +783,7 @@ explain_at_words name file number position named counts =
         record {
           file_is = explained_at name file number h n;
           file_has_name = no_lone_hyphen file named;
-          position_is = ap position_by (position_given name file number h n) ∙ ap (option_map Some) counts;
+          position_is = ap (number_by (Number 1 greatest_number)) (position_given name file number h n) ∙ ap (option_map Some) counts;
           settings_are = explain_at_settings name file number h n;
           json_is = explained_at_in_text name file number h n;
         },
@@ -933,7 +870,7 @@ module _ (name listen origin number file : Text) where
   unfolding clap_on_literals
   no_serve_fault = refl
 
-pub serve_words : (name listen origin number file : Text) (connections : ℕ) → connections_of number ≡ Some connections
+pub serve_words : (name listen origin number file : Text) (connections : ℕ) → positive_of number ≡ Some connections
     → AreWordsFor (name ∷ service_words listen origin number file) (ToServe listen origin connections file plain_cache)
 serve_words name listen origin number file connections counts = record {
   asks = (
@@ -941,7 +878,7 @@ serve_words name listen origin number file connections counts = record {
     record {
       listen_is = listen_given name listen origin number file;
       origin_is = origin_given name listen origin number file;
-      connections_is = ap (option_and_then connections_of) (number_given name listen origin number file) ∙ counts;
+      connections_is = ap (number_by (Number 1 greatest_number)) (number_given name listen origin number file) ∙ ap (option_map Some) counts;
       file_is = record_given name listen origin number file;
       settings_are = record {
         keys_is = rw (no_keys name listen origin number file) refl;

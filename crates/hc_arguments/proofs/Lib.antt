@@ -1,4 +1,1 @@
 pub mod ArgumentLemmas
-pub mod NameLemmas
-pub mod OptionLemmas
-pub mod ValueLemmas

@@ -1,4 +1,6 @@
-pub mod Command
+pub mod Cache
+pub mod Commands
+pub mod Limits
 pub mod Positions
-pub mod Values
-pub mod Allowing
+pub mod Tables
+pub mod Tasks

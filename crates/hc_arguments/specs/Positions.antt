@@ -2,7 +2,12 @@
 use Rattle.std.specs.Prelude.{ℕ, Bool, ◌==◌, ◌+◌, [], ◌∷◌, Option, Some, None, drop, take, if◌then◌else◌, nat_le, option_and_then}
 use Rattle.clap.specs.Words.{Text}
 use Rattle.hc_showing.specs.declared.span.Span.{Span}
-use Rattle.hc_arguments.specs.Values.{positive_of}
+use Rattle.hc_transcript.specs.Limits.{greatest_number}
+use Rattle.hc_options.specs.Values.{number_within}
+
+-- the positive number that one or more digits write, at most 999999999999
+abbrev pub positive_of : Text → Option ℕ
+positive_of text = number_within 1 greatest_number text
 
 abbrev pub is_hyphen : ℕ → Bool
 is_hyphen octet = octet == 45
@@ -16,11 +21,11 @@ len_before_hyphen (c ∷ cs) = if is_hyphen c then 0 else len_before_hyphen cs +
 abbrev pub span_between : ℕ → ℕ → Option Span
 span_between first last = if nat_le first last then Some (record { first = first; last = last }) else None
 
--- those from one to what stands behind a hyphen, or one alone
+-- those from one to what stands after a hyphen, or one alone
 abbrev pub span_from : ℕ → Text → Option Span
 span_from first [] = span_between first first
 span_from first (hyphen ∷ last) = option_and_then (span_between first) (positive_of last)
 
--- what stands before the first hyphen, and what behind it
+-- what stands before the first hyphen, and what after it
 abbrev pub span_of : Text → Option Span
 span_of text = option_and_then (λ first. span_from first (drop (len_before_hyphen text) text)) (positive_of (take (len_before_hyphen text) text))

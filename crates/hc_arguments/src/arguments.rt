@@ -1,31 +1,38 @@
 //! What the words of a command line ask.
 
-ghost use Rattle.std.specs.Prelude.{◌≡◌, ◌∷◌, [], IfErr, IfOk, MatchResult, ℕ, Some, None, codes, false, map, true};
+ghost use Rattle.std.specs.Prelude.{◌≡◌, ◌∷◌, [], IfErr, IfOk, MatchResult, ℕ, Some, None, codes, false, map};
 ghost use Rattle.clap.specs.Words.{HasKind, Text, fault_of, first_value, found_of, kind_of, subcommand_of, subcommand_rows_of};
-ghost use Rattle.hc_arguments.specs.Command.{Asks, AsksAuditTerms, AsksBy, AsksCache, AsksIn, AsksLimits, AsksMinimums, AsksPatience, AsksSettings, AsksTerms, CanBeDone, Command, IsFileName, IsRefused, IsRefusedIn, IsWord, RefusesBy, RefusesIn, has_minimums, hcache, judges, limit_in, proxy_words, serves, service_words, task_of};
-ghost use Rattle.hc_arguments.specs.Command.Command.{Audits, Converts, Explains, Proxies, Replays, Reports, Serves, Shows};
-ghost use Rattle.hc_arguments.specs.Command.Task.{ToAudit, ToConvert, ToExplain, ToProxy, ToReplay, ToReport, ToServe};
-ghost use Rattle.hc_arguments.specs.Values.{clients_by, connections_of, explaining, held_by, minimum_by, plain, plain_audit, plain_cache, plain_limits, plain_terms, position_by, positive_of};
-ghost use Rattle.hc_arguments.specs.Allowing.{AsksAllowed};
-ghost use Rattle.hc_arguments.specs.Positions.{span_of};
-ghost use Rattle.hc_arguments.specs.declared.refusal.Refusal.TheVariants.{Missing};
+ghost use Rattle.hc_options.specs.Auditing.{plain_audit};
+ghost use Rattle.hc_options.specs.Commands.{IsFileName, IsWord};
+ghost use Rattle.hc_options.specs.Refusals.{Refuses};
+ghost use Rattle.hc_options.specs.Rows.{IsAmong, entry_of};
+ghost use Rattle.hc_options.specs.Values.{number_by};
+ghost use Rattle.hc_options.specs.declared.rows.Takes.TheVariants.{Number};
+ghost use Rattle.hc_transcript.specs.Limits.{greatest_number};
+ghost use Rattle.hc_arguments.specs.Cache.{plain_cache};
+ghost use Rattle.hc_arguments.specs.Commands.{hcache};
+ghost use Rattle.hc_arguments.specs.Limits.{TakesNumbers, AsksLimits, AsksPatience, AsksTerms, limit_in, plain_limits, plain_terms};
+ghost use Rattle.hc_arguments.specs.Positions.{positive_of};
+ghost use Rattle.hc_arguments.specs.Tables.{Command, proxying, taken_by};
+ghost use Rattle.hc_arguments.specs.Tables.Command.{Audits, Converts, Explains, Proxies, Replays, Reports, Serves, Shows};
+ghost use Rattle.hc_arguments.specs.Tasks.{Asks, AsksBy, AsksIn, CanBeDone, IsRefused, IsRefusedIn, RefusesBy, RefusesIn, explaining, proxy_words, service_words, task_of};
+ghost use Rattle.hc_arguments.specs.Tasks.Task.{ToAudit, ToConvert, ToExplain, ToProxy, ToReplay, ToReport, ToServe};
 
-use crate::allowing::{allow_by, normalized_by, seconds_by};
-use crate::command::command;
-use crate::limit::Limit;
-use crate::order::{
-    AuditTerms, ExplainTerms, Minimums, Order, ProxyLimits, ProxyPatience, Proxying, RecordTerms,
-};
+use crate::cache::cache_in;
+use crate::command::{command, command_named};
+use crate::order::{ExplainTerms, Order, ProxyLimits, ProxyPatience, Proxying, RecordTerms};
 use crate::positions::span_of;
-use crate::refusal::{Refusal, usage_error};
-use crate::values::{
-    bytes_by, clients_by, flag_by, held_by, ignored_by, keys_by, limit_by, minimum_by, name_by,
-    positive_of, record_limit_by, slack_by, unmarked_by,
+use crate::rows::{
+    CLIENTS, CONNECT_TIMEOUT, CONNECTIONS, DRAIN_TIMEOUT, EXPLAINED, HELD, IDLE_TIMEOUT,
+    MAX_CONNECTIONS, ORIGIN_CONNECTIONS, ORIGIN_TIMEOUT, ORIGIN_TOTAL, POSITION, QUEUE_TIMEOUT,
+    RECORD_LIMIT, REQUEST_TIMEOUT, SEND_TIMEOUT, SPAN,
 };
 use clap::error::ErrorKind;
 use clap::{ArgMatches, Error};
-use hc_history::{Allowed, Settings};
-use hc_service::CoreSettings;
+use hc_options::{
+    Refusal, Row, audit_terms_in, flag_in, number_if_given, number_or, required, settings_in,
+    usage_error,
+};
 use std::alloc::{AllocError, Global};
 use std::convert::AsStr;
 
@@ -66,7 +73,7 @@ pub fn parsed<'a, S: AsStr>(alloc: Global, words: &'a [S]) -> Result<Order<'a>, 
         (λ error. kind_of error ≡ ErrorKind.OutOfMemory) }
     // And `serve` gives the values of the four options that it needs, each behind its `=`, and the plain cache.
     ensures serve { (name listen origin number file : Text) (connections : ℕ)
-        → connections_of number ≡ Some connections
+        → positive_of number ≡ Some connections
         → map S.text words.entry.now ≡ name ∷ service_words listen origin number file
         → MatchResult result (λ order. task_of order ≡ ToServe listen origin connections file plain_cache)
         (λ error. kind_of error ≡ ErrorKind.OutOfMemory) }
@@ -112,7 +119,9 @@ fn asked_in<'a>(alloc: Global, matches: &ArgMatches<'a>) -> Result<Order<'a>, Er
 {
     match order_in(alloc, matches) {
         Ok(order) => Ok(order),
-        Err(refusal) => Err(refusal.error(alloc, matches.subcommand_name())?),
+        Err(refusal) => {
+            Err(refusal.error(alloc, command_named(alloc, matches.subcommand_name()))?)
+        }
     }
 }
 
@@ -153,7 +162,7 @@ fn report_in<'a>(alloc: Global, found: &ArgMatches<'a>) -> Result<Order<'a>, Ref
     ensures err { IfErr result (RefusesBy (Some Reports) (first_value (found_of found.now))) }
 {
     let file = required(found, "FILE")?;
-    let json = flag_by(found.get_str("json"));
+    let json = flag_in(found, "json");
     let terms = audit_terms_in(alloc, found)?;
     Ok(Order::Report {
         file,
@@ -163,32 +172,6 @@ fn report_in<'a>(alloc: Global, found: &ArgMatches<'a>) -> Result<Order<'a>, Ref
     })
 }
 
-// On what terms a command that judges all replies says yes.
-fn audit_terms_in(alloc: Global, found: &ArgMatches<'_>) -> Result<AuditTerms, Refusal>
-    ensures ok { IfOk result (AsksAuditTerms (first_value (found_of found.now))) }
-    ensures err { IfErr result (λ refusal. (command : Command) → has_minimums command ≡ true
-        → RefusesBy (Some command) (first_value (found_of found.now)) refusal) }
-{
-    let settings = settings_in(alloc, found)?;
-    let minimums = minimums_in(found)?;
-    Ok(AuditTerms { settings, minimums })
-}
-
-// How many replies a command that judges all has to judge.
-fn minimums_in(found: &ArgMatches<'_>) -> Result<Minimums, Refusal>
-    ensures ok { IfOk result (AsksMinimums (first_value (found_of found.now))) }
-    ensures err { IfErr result (λ refusal. (command : Command) → has_minimums command ≡ true
-        → RefusesBy (Some command) (first_value (found_of found.now)) refusal) }
-{
-    let Some(hits) = minimum_by(found.get_str("min-hits")) else {
-        return Err(Refusal::MinHits);
-    };
-    let Some(judged) = minimum_by(found.get_str("min-judged")) else {
-        return Err(Refusal::MinJudged);
-    };
-    Ok(Minimums { hits, judged })
-}
-
 // What `explain` asks.
 fn explain_in<'a>(alloc: Global, found: &ArgMatches<'a>) -> Result<Order<'a>, Refusal>
     ensures ok { IfOk result (λ order. AsksBy (Some Explains) (first_value (found_of found.now)) (task_of order)) }
@@ -196,10 +179,10 @@ fn explain_in<'a>(alloc: Global, found: &ArgMatches<'a>) -> Result<Order<'a>, Re
 {
     let file = required(found, "FILE")?;
     if file == "-" {
-        return Err(Refusal::StandardInput);
+        return Err(Refusal::Value(EXPLAINED));
     }
-    let position = position_in(found)?;
-    let json = flag_by(found.get_str("json"));
+    let position = number_if_given(found, &POSITION)?;
+    let json = flag_in(found, "json");
     let settings = settings_in(alloc, found)?;
     let terms = ExplainTerms {
         position,
@@ -207,20 +190,6 @@ fn explain_in<'a>(alloc: Global, found: &ArgMatches<'a>) -> Result<Order<'a>, Re
         json,
     };
     Ok(Order::Explain { file, terms })
-}
-
-// The position of which `explain` is asked, if any.
-fn position_in(found: &ArgMatches<'_>) -> Result<Option<u64>, Refusal>
-    ensures ok { IfOk result (λ position. position_by (first_value (found_of found.now) (codes "POSITION")) ≡ Some position) }
-    ensures err { IfErr result (RefusesBy (Some Explains) (first_value (found_of found.now))) }
-{
-    let Some(text) = found.get_str("POSITION") else {
-        return Ok(None);
-    };
-    match positive_of(text.as_bytes()) {
-        Some(position) => Ok(Some(position)),
-        None => Err(Refusal::Position),
-    }
 }
 
 // What `show` asks.
@@ -232,64 +201,8 @@ fn show_in<'a>(found: &ArgMatches<'a>) -> Result<Order<'a>, Refusal>
     let written = required(found, "POSITION[-POSITION]")?;
     match span_of(written.as_bytes()) {
         Some(span) => Ok(Order::Show { file, span }),
-        None => Err(Refusal::Positions),
+        None => Err(Refusal::Value(SPAN)),
     }
-}
-
-// What a command that judges allows beside the strict rules.
-fn allowed_in(alloc: Global, found: &ArgMatches<'_>) -> Result<Allowed, Refusal>
-    ensures ok { IfOk result (AsksAllowed (first_value (found_of found.now))) }
-    ensures err { IfErr result (λ refusal. (command : Command) → judges command ≡ true
-        → RefusesBy (Some command) (first_value (found_of found.now)) refusal) }
-{
-    let Some(words) = allow_by(found.get_str("allow")) else {
-        return Err(Refusal::Allow);
-    };
-    let Some(default_lifetime) = seconds_by(found.get_str("default-ttl")) else {
-        return Err(Refusal::DefaultTtl);
-    };
-    let Some(grace) = seconds_by(found.get_str("grace")) else {
-        return Err(Refusal::Grace);
-    };
-    let Some(normalized) = normalized_by(alloc, found.get_str("normalized"))? else {
-        return Err(Refusal::Normalized);
-    };
-    let Some(age_slack) = slack_by(found.get_str("age-slack")) else {
-        return Err(Refusal::AgeSlack);
-    };
-    let inferred_marks = flag_by(found.get_str("infer-marks"));
-    Ok(Allowed {
-        added_fields: words.added_fields,
-        joined_lines: words.joined_lines,
-        ranges: words.ranges,
-        default_lifetime,
-        grace,
-        normalized,
-        inferred_marks,
-        age_slack,
-    })
-}
-
-// By which settings a command that judges does so.
-fn settings_in(alloc: Global, found: &ArgMatches<'_>) -> Result<Settings, Refusal>
-    ensures ok { IfOk result (AsksSettings (first_value (found_of found.now))) }
-    ensures err { IfErr result (λ refusal. (command : Command) → judges command ≡ true
-        → RefusesBy (Some command) (first_value (found_of found.now)) refusal) }
-{
-    let Some(slack) = slack_by(found.get_str("slack")) else {
-        return Err(Refusal::Slack);
-    };
-    let Some(ignored) = ignored_by(alloc, found.get_str("ignore"))? else {
-        return Err(Refusal::Ignore);
-    };
-    let unmarked = unmarked_by(found.get_str("errors-only"));
-    let allowed = allowed_in(alloc, found)?;
-    Ok(Settings {
-        slack,
-        ignored,
-        unmarked,
-        allowed,
-    })
 }
 
 // What `replay` asks.
@@ -317,11 +230,8 @@ fn serve_in<'a>(alloc: Global, found: &ArgMatches<'a>) -> Result<Order<'a>, Refu
 {
     let listen = required(found, "listen")?;
     let origin = required(found, "origin")?;
-    let number = required(found, "connections")?;
     let file = required(found, "record")?;
-    let Some(connections) = positive_of(number.as_bytes()) else {
-        return Err(Refusal::Connections);
-    };
+    let connections = connections_in(found)?;
     let settings = cache_in(alloc, found)?;
     Ok(Order::Serve {
         listen,
@@ -330,6 +240,17 @@ fn serve_in<'a>(alloc: Global, found: &ArgMatches<'a>) -> Result<Order<'a>, Refu
         file,
         settings,
     })
+}
+
+// How many connections are served, which has to be said.
+fn connections_in(found: &ArgMatches<'_>) -> Result<u64, Refusal>
+    ensures ok { IfOk result (λ number. number_by (Number 1 greatest_number) (first_value (found_of found.now) (codes "connections")) ≡ Some (Some number)) }
+    ensures err { IfErr result (RefusesBy (Some Serves) (first_value (found_of found.now))) }
+{
+    match number_if_given(found, &CONNECTIONS)? {
+        Some(number) => Ok(number),
+        None => Err(Refusal::Missing),
+    }
 }
 
 // What `proxy` asks.
@@ -350,106 +271,52 @@ fn proxy_in<'a>(alloc: Global, found: &ArgMatches<'a>) -> Result<Order<'a>, Refu
 // How far a proxy is to record.
 fn terms_in(found: &ArgMatches<'_>) -> Result<RecordTerms, Refusal>
     ensures ok { IfOk result (AsksTerms (first_value (found_of found.now))) }
-    ensures err { IfErr result (RefusesBy (Some Proxies) (first_value (found_of found.now))) }
+    ensures err { IfErr result (Refuses taken_by proxying (first_value (found_of found.now))) }
 {
-    let Some(limit) = record_limit_by(found.get_str("record-limit")) else {
-        return Err(Refusal::RecordLimit);
-    };
-    let strict = flag_by(found.get_str("record-strict"));
+    let limit = number_if_given(found, &RECORD_LIMIT)?;
+    let strict = flag_in(found, "record-strict");
     Ok(RecordTerms { strict, limit })
 }
 
 // Within which limits a proxy is asked for.
 fn limits_in(found: &ArgMatches<'_>) -> Result<ProxyLimits, Refusal>
     ensures ok { IfOk result (AsksLimits (first_value (found_of found.now))) }
-    ensures err { IfErr result (RefusesBy (Some Proxies) (first_value (found_of found.now))) }
+    ensures err { IfErr result (Refuses taken_by proxying (first_value (found_of found.now))) }
 {
     Ok(ProxyLimits {
-        connections: limit_in(found, Limit::MaxConnections)?,
-        origin_connections: limit_in(found, Limit::OriginConnections)?,
-        held: held_in(found)?,
-        connect_timeout: limit_in(found, Limit::ConnectTimeout)?,
-        drain_timeout: limit_in(found, Limit::DrainTimeout)?,
+        connections: limit_in(found, &MAX_CONNECTIONS, 1_024)?,
+        origin_connections: limit_in(found, &ORIGIN_CONNECTIONS, 100)?,
+        held: limit_in(found, &HELD, 268_435_456)?,
+        connect_timeout: limit_in(found, &CONNECT_TIMEOUT, 5)?,
+        drain_timeout: limit_in(found, &DRAIN_TIMEOUT, 8)?,
         patience: patience_in(found)?,
-        clients: clients_in(found)?,
+        clients: number_if_given(found, &CLIENTS)?,
     })
 }
 
 // How long clients, and requests to the origin, may take.
 fn patience_in(found: &ArgMatches<'_>) -> Result<ProxyPatience, Refusal>
     ensures ok { IfOk result (AsksPatience (first_value (found_of found.now))) }
-    ensures err { IfErr result (RefusesBy (Some Proxies) (first_value (found_of found.now))) }
+    ensures err { IfErr result (Refuses taken_by proxying (first_value (found_of found.now))) }
 {
     Ok(ProxyPatience {
-        idle_timeout: limit_in(found, Limit::IdleTimeout)?,
-        request_timeout: limit_in(found, Limit::RequestTimeout)?,
-        send_timeout: limit_in(found, Limit::SendTimeout)?,
-        queue_timeout: limit_in(found, Limit::QueueTimeout)?,
-        origin_timeout: limit_in(found, Limit::OriginTimeout)?,
-        origin_total: limit_in(found, Limit::OriginTotal)?,
+        idle_timeout: limit_in(found, &IDLE_TIMEOUT, 75)?,
+        request_timeout: limit_in(found, &REQUEST_TIMEOUT, 60)?,
+        send_timeout: limit_in(found, &SEND_TIMEOUT, 60)?,
+        queue_timeout: limit_in(found, &QUEUE_TIMEOUT, 5)?,
+        origin_timeout: limit_in(found, &ORIGIN_TIMEOUT, 60)?,
+        origin_total: limit_in(found, &ORIGIN_TOTAL, 600)?,
     })
 }
 
-// The number of a limit.
-fn limit_in(found: &ArgMatches<'_>, limit: Limit) -> Result<u64, Refusal>
-    ensures ok { IfOk result (λ number. limit_in (first_value (found_of found.now)) limit ≡ Some number) }
-    ensures err { IfErr result (RefusesBy (Some Proxies) (first_value (found_of found.now))) }
+// The number of a limit, or the usual one without it.
+fn limit_in(found: &ArgMatches<'_>, limit: &Row, usual: u64) -> Result<u64, Refusal>
+    requires among { IsAmong (entry_of limit.now) proxying }
+    requires numbers { TakesNumbers limit.now.takes }
+    ensures ok { IfOk result (λ number. limit_in (first_value (found_of found.now)) (entry_of limit.now) usual ≡ Some number) }
+    ensures err { IfErr result (Refuses taken_by proxying (first_value (found_of found.now))) }
 {
-    match limit_by(limit, found.get_str(limit.option())) {
-        Some(number) => Ok(number),
-        None => Err(Refusal::OutOfRange(limit)),
-    }
-}
-
-// How many octets a proxy holds beside the store at most.
-fn held_in(found: &ArgMatches<'_>) -> Result<u64, Refusal>
-    ensures ok { IfOk result (λ held. held_by (first_value (found_of found.now) (codes "held")) ≡ Some held) }
-    ensures err { IfErr result (RefusesBy (Some Proxies) (first_value (found_of found.now))) }
-{
-    match held_by(found.get_str("held")) {
-        Some(held) => Ok(held),
-        None => Err(Refusal::Held),
-    }
-}
-
-// Behind how many clients a proxy ends, if any.
-fn clients_in(found: &ArgMatches<'_>) -> Result<Option<u64>, Refusal>
-    ensures ok { IfOk result (λ clients. clients_by (first_value (found_of found.now) (codes "connections")) ≡ Some clients) }
-    ensures err { IfErr result (RefusesBy (Some Proxies) (first_value (found_of found.now))) }
-{
-    match clients_by(found.get_str("connections")) {
-        Some(clients) => Ok(clients),
-        None => Err(Refusal::Connections),
-    }
-}
-
-// What the cache is that a command asks for.
-fn cache_in(alloc: Global, found: &ArgMatches<'_>) -> Result<CoreSettings, Refusal>
-    ensures ok { IfOk result (AsksCache (first_value (found_of found.now))) }
-    ensures err { IfErr result (λ refusal. (command : Command) → serves command ≡ true
-        → RefusesBy (Some command) (first_value (found_of found.now)) refusal) }
-{
-    let Some(keys) = keys_by(found.get_str("keys")) else {
-        return Err(Refusal::Keys);
-    };
-    let Some(bytes) = bytes_by(found.get_str("bytes")) else {
-        return Err(Refusal::Bytes);
-    };
-    let Some(name) = name_by(alloc, found.get_str("name"))? else {
-        return Err(Refusal::Name);
-    };
-    Ok(CoreSettings { name, keys, bytes })
-}
-
-// The value of that name, which has to be there.
-fn required<'a>(found: &ArgMatches<'a>, name: &str) -> Result<&'a str, Refusal>
-    ensures ok { IfOk result (λ text. first_value (found_of found.now) name.now ≡ Some text.now) }
-    ensures err { IfErr result (λ refusal. (refusal ≡ Missing) × (first_value (found_of found.now) name.now ≡ None)) }
-{
-    match found.get_str(name) {
-        Some(text) => Ok(text),
-        None => Err(Refusal::Missing),
-    }
+    number_or(found, limit, usual)
 }
 
 /// The error of a command line that is not text.

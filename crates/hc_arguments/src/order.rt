@@ -1,6 +1,7 @@
 //! What the words ask.
 
 use hc_history::Settings;
+use hc_options::AuditTerms;
 use hc_service::CoreSettings;
 use hc_showing::Span;
 
@@ -66,15 +67,6 @@ pub enum Order<'a> {
     Proxy(Proxying<'a>),
 }
 
-/// On what terms an audit says yes.
-#[derive(Drop)]
-pub struct AuditTerms {
-    /// What lets replies pass.
-    pub settings: Settings,
-    /// How many replies it has to judge.
-    pub minimums: Minimums,
-}
-
 /// Which reply an explanation is of, and how that is given.
 #[derive(Drop)]
 pub struct ExplainTerms {
@@ -84,15 +76,6 @@ pub struct ExplainTerms {
     pub settings: Settings,
     /// Whether the explanation is one JSON object, in place of text.
     pub json: bool,
-}
-
-/// How many replies of a transcript have to be judged at least, so that it tells something that they are right.
-#[derive(Clone, Copy)]
-pub struct Minimums {
-    /// How many hits there have to be, from 0 to 2,147,483,648.
-    pub hits: u32,
-    /// How many hits and forwarded replies there have to be together, from 0 to 2,147,483,648.
-    pub judged: u32,
 }
 
 /// Between whom a proxy stands, and how.

@@ -1,10 +1,11 @@
 //! Positions, and hyphens between two of them.
 
 ghost use Rattle.std.specs.Prelude.{◌≡◌, ◌≤◌, length};
-ghost use Rattle.hc_arguments.specs.Positions.{len_before_hyphen, span_between, span_of};
+ghost use Rattle.hc_arguments.specs.Positions.{len_before_hyphen, positive_of, span_between, span_of};
 
-use crate::values::positive_of;
+use hc_options::{Takes, number_of};
 use hc_showing::Span;
+use hc_transcript::GREATEST_NUMBER;
 
 /// How many octets stand before the first hyphen.
 fn len_before_hyphen(text: &[u8]) -> usize
@@ -17,6 +18,13 @@ fn len_before_hyphen(text: &[u8]) -> usize
         }
     }
     text.len()
+}
+
+/// The positive number that one or more digits write, at most 999999999999.
+fn positive_of(text: &[u8]) -> Option<u64>
+    ensures { result ≡ positive_of text.now }
+{
+    number_of(Takes::Number(1, GREATEST_NUMBER), text)
 }
 
 /// The positions from one to another, if there are some.

@@ -1,9 +1,10 @@
 -- How the program ends, by the task that its words ask for.
 use Rattle.std.proofs.Common.{◌≡◌, ℕ, Bool, List, Option, Some, None, inl, inr, subst}
 use Rattle.std.specs.Io.KnownBytes.{Keeps}
-use Rattle.hc_arguments.specs.declared.order.AuditTerms.{AuditTerms}
-use Rattle.hc_arguments.specs.Command.{Task}
-use Rattle.hc_arguments.specs.Command.Task.{ToAudit, ToReport, ToExplain, ToShow, ToReplay, ToConvert, ToServe, ToProxy}
+use Rattle.hc_options.specs.declared.auditing.AuditTerms.{AuditTerms}
+use Rattle.hc_arguments.specs.Tasks.{Task}
+use Rattle.hc_arguments.specs.Tasks.Task.{ToAudit, ToReport, ToExplain, ToShow, ToReplay, ToConvert, ToServe, ToProxy}
+use Rattle.hc_auditing.specs.Ends.{EndsUnasked}
 use Rattle.hc_command.specs.Ends.{Does, Ends}
 use Rattle.hc_command.specs.Report.{Explained}
 use Rattle.hc_command.specs.Reporting.{ReportedOn}
@@ -45,3 +46,10 @@ does_ends (ToReplay file) status old new faults_old faults_new does = inr (inr (
 does_ends (ToConvert file) status old new faults_old faults_new does = inr (inr (inr (inr (inr (inl does)))))
 does_ends (ToServe listen origin connections file settings) status old new faults_old faults_new does = inr (inr (inr (inr (inr (inr (inl does))))))
 does_ends (ToProxy listen origin file terms limits settings) status old new faults_old faults_new does = inr (inr (inr (inr (inr (inr (inr (inl does)))))))
+
+-- so is what is said where nothing is done
+pub unasked_ends : (status : ℕ) (old new faults_old faults_new : Option (List ℕ)) → EndsUnasked status old new faults_old faults_new
+    → Ends status old new faults_old faults_new
+unasked_ends status old new faults_old faults_new (inl failed) = inr (inr (inr (inr (inl (inl failed)))))
+unasked_ends status old new faults_old faults_new (inr (inl shown)) = inr (inr (inr (inr (inr (inr (inr (inr (inl shown))))))))
+unasked_ends status old new faults_old faults_new (inr (inr refused)) = inr (inr (inr (inr (inr (inr (inr (inr (inr refused))))))))

@@ -11,17 +11,17 @@ use Rattle.hc_baseline.specs.declared.baseline.Baseline.{Baseline}
 use Rattle.hc_baseline.specs.Reports.{IsBaseline}
 use Rattle.hc_report.specs.declared.counting.CountingReport.{CountingReport}
 use Rattle.hc_report.specs.Counting.{HasCountedIn, HasHeardOf, TellsAllOf}
-use Rattle.hc_arguments.specs.declared.order.AuditTerms.{AuditTerms}
+use Rattle.hc_options.specs.declared.auditing.AuditTerms.{AuditTerms}
 use Rattle.hc_command.specs.declared.baseline.BaselineTrouble.{BaselineTrouble}
 use Rattle.hc_command.specs.declared.baseline.BaselineTrouble.TheVariants as trouble
 use Rattle.hc_command.specs.declared.surveying.Outcome.{Outcome}
-use Rattle.hc_command.specs.declared.trouble.Trouble.{Trouble}
+use Rattle.hc_auditing.specs.declared.trouble.Trouble.{Trouble}
 use Rattle.hc_command.specs.Baseline.{IsNoBaseline, status_without}
-use Rattle.hc_command.specs.Line.{status_of}
-use Rattle.hc_command.specs.Minimums.{EndsBy}
+use Rattle.hc_auditing.specs.Line.{status_of}
+use Rattle.hc_auditing.specs.Minimums.{EndsBy}
 use Rattle.hc_command.specs.Report.{IsSurveyed, SurveysFor}
 use Rattle.hc_command.specs.Reporting.{AreOfInput, EndsFor, IsLast, ReportedIn, ReportedOn, ReportsBy, SaysReportIn, SaysReportOf, WritesIn}
-use Rattle.hc_command.proofs.AuditLemmas.{at_end}
+use Rattle.hc_auditing.proofs.AuditLemmas.{at_end}
 
 -- who reads all is told of all that the input has
 of_input : (tells : List WrongReply → Type 0) (hears : List Item → Type 0) (settings : Settings) (outcome : Outcome) (old new : Option (List ℕ))

@@ -1,5 +1,4 @@
 mod HeldLemmas
-pub mod AuditLemmas
 pub mod EndLemmas
 pub mod ReplayLemmas
 pub mod ConvertLemmas

@@ -25,11 +25,11 @@ use Rattle.hc_audit.specs.Told.{IsToldOf}
 use Rattle.hc_audit.proofs.SurveyLemmas.{counted_whole}
 use Rattle.hc_why.specs.Seeking.{IsOfPlace, wrong_at}
 use Rattle.hc_why.specs.Standing.{stands_at}
-use Rattle.hc_command.proofs.AuditLemmas.{at_end, before_end}
+use Rattle.hc_auditing.proofs.AuditLemmas.{at_end, before_end}
 use Rattle.hc_command.specs.declared.surveying.Heard.{Heard}
 use Rattle.hc_command.specs.declared.surveying.Outcome.{Outcome}
 use Rattle.hc_command.specs.declared.surveying.Outcome.TheVariants.{Whole, Broken}
-use Rattle.hc_command.specs.Line.{status_of}
+use Rattle.hc_auditing.specs.Line.{status_of}
 use Rattle.hc_command.specs.Report.{BreaksIfSome, Explained, ExplainsAt, FeedsPieceOfSurvey, FeedsSurvey, HasNoWrongAt, IsReadOf, IsSurveyed, Reported, ReportsFor, SaysLineFirst, SaysReplyIn, SurveysFor, WritesIfSome, ending_of, settled_of}
 
 -- ---- what was fed

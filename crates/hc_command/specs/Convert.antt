@@ -4,7 +4,7 @@ use Rattle.std.specs.Io.KnownBytes.{Appends, Keeps}
 use Rattle.hc_transcript.specs.declared.fault.RecordFault.{RecordFault}
 use Rattle.hc_transcript.specs.Converting.{IsConverted, IsMalformed}
 use Rattle.hc_history.specs.declared.verdicts.Verdict.TheVariants.{Malformed}
-use Rattle.hc_command.specs.Audit.{SaysLine}
+use Rattle.hc_auditing.specs.Audit.{SaysLine}
 
 -- the input had a transcript, and the output got that in the first format, and the faults got nothing
 pub record SaysConverted (input : Option (List ℕ)) (status : ℕ) (old new faults_old faults_new : Option (List ℕ)) : Type 0 where

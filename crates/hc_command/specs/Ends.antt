@@ -1,11 +1,11 @@
 -- How the program ends.
 use Rattle.std.specs.Prelude.{◌≡◌, ◌⊎◌, ℕ, List, Bool, Option}
 use Rattle.std.specs.Io.KnownBytes.{Keeps}
-use Rattle.hc_arguments.specs.declared.order.AuditTerms.{AuditTerms}
-use Rattle.hc_arguments.specs.declared.order.Minimums.{Minimums}
-use Rattle.hc_arguments.specs.Command.{Task}
-use Rattle.hc_arguments.specs.Command.Task.{ToAudit, ToReport, ToExplain, ToShow, ToReplay, ToConvert, ToServe, ToProxy}
-use Rattle.hc_command.specs.Audit.{Answers}
+use Rattle.hc_options.specs.declared.auditing.AuditTerms.{AuditTerms}
+use Rattle.hc_options.specs.declared.auditing.Minimums.{Minimums}
+use Rattle.hc_arguments.specs.Tasks.{Task}
+use Rattle.hc_arguments.specs.Tasks.Task.{ToAudit, ToReport, ToExplain, ToShow, ToReplay, ToConvert, ToServe, ToProxy}
+use Rattle.hc_auditing.specs.Audit.{Answers}
 use Rattle.hc_command.specs.Convert.{Converted}
 use Rattle.hc_command.specs.Replay.{Played}
 use Rattle.hc_command.specs.Report.{Explained}

@@ -1,11 +1,7 @@
-pub mod Audit
 pub mod Baseline
 pub mod Ends
-pub mod Line
-pub mod Minimums
 pub mod Replay
 pub mod Report
 pub mod Reporting
 pub mod Show
 pub mod Convert
-pub mod Trouble

@@ -5,7 +5,7 @@ use Rattle.hc_history.specs.declared.verdicts.Verdict.{Verdict}
 use Rattle.hc_scripts.specs.declared.fault.ScriptFault.{ScriptFault}
 use Rattle.hc_scripts.specs.declared.fault.ScriptFault.TheVariants.{Memory}
 use Rattle.hc_scripts.specs.Replays.{Replays, StopsReplay}
-use Rattle.hc_command.specs.Audit.{SaysLine}
+use Rattle.hc_auditing.specs.Audit.{SaysLine}
 
 -- the output got the transcript of the script that the input had, where that is known, and the faults got the line of its verdict, which says the status
 pub record SaysReplay (input : Option (List ℕ)) (status : ℕ) (old new faults_old faults_new : Option (List ℕ)) : Type 0 where

@@ -25,8 +25,8 @@ use Rattle.hc_command.specs.declared.surveying.Outcome.TheVariants.{Whole, Broke
 use Rattle.hc_command.specs.declared.surveying.Heard.{Heard}
 use Rattle.hc_command.specs.declared.surveying.Heard.TheVariants as heard
 use Rattle.hc_command.specs.declared.surveying.Heard.TheVariants.{More, End}
-use Rattle.hc_command.specs.Audit.{SaysLine}
-use Rattle.hc_command.specs.Line.{IsVerdictLine, status_of}
+use Rattle.hc_auditing.specs.Audit.{SaysLine}
+use Rattle.hc_auditing.specs.Line.{IsVerdictLine, status_of}
 
 -- ---- how the reading of octets ends
 

@@ -14,12 +14,12 @@ use Rattle.hc_report.specs.declared.counting.CountingReport.{CountingReport}
 use Rattle.hc_report.specs.Counting.{HasCountedIn, HasHeardOf, TellsAllOf}
 use Rattle.hc_report.specs.Json.{WritesAll}
 use Rattle.hc_report.specs.Kinds.{kinds_in}
-use Rattle.hc_arguments.specs.declared.order.AuditTerms.{AuditTerms}
-use Rattle.hc_arguments.specs.declared.order.Minimums.{Minimums}
+use Rattle.hc_options.specs.declared.auditing.AuditTerms.{AuditTerms}
+use Rattle.hc_options.specs.declared.auditing.Minimums.{Minimums}
 use Rattle.hc_command.specs.declared.surveying.Outcome.{Outcome}
 use Rattle.hc_command.specs.declared.surveying.Outcome.TheVariants.{Whole, Broken}
-use Rattle.hc_command.specs.Line.{status_of}
-use Rattle.hc_command.specs.Minimums.{EndsBy}
+use Rattle.hc_auditing.specs.Line.{status_of}
+use Rattle.hc_auditing.specs.Minimums.{EndsBy}
 use Rattle.hc_command.specs.Report.{IsSurveyed, SaysLineFirst, ending_of, whole_counts}
 
 -- ---- by which verdict it ends

@@ -9,7 +9,7 @@ use Rattle.hc_showing.specs.declared.span.Span.{Span}
 use Rattle.hc_showing.specs.Showings.{Reaches, Shows, ShowsAll, ShowsBefore, ShowsFewer}
 use Rattle.hc_command.specs.declared.showing.Shown.{Shown}
 use Rattle.hc_command.specs.declared.showing.Shown.TheVariants.{All, Fewer, Broken}
-use Rattle.hc_command.specs.Line.{malformed_line}
+use Rattle.hc_auditing.specs.Line.{malformed_line}
 
 -- what was shown of the octets, as far as they were read, and how that ended
 abbrev pub ShowsOf : Shown → Span → List ℕ → List ℕ → Type 0

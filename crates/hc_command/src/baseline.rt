@@ -7,9 +7,7 @@ ghost use Rattle.hc_baseline.specs.Reports.{IsBaseline};
 ghost use Rattle.hc_baseline.specs.declared.fault.BaselineFault.{BaselineFault};
 ghost use Rattle.hc_command.specs.Baseline.{IsNoBaseline, status_without};
 
-use crate::input::all_of;
-use crate::print::printed;
-use crate::trouble::Trouble;
+use hc_auditing::{Trouble, all_of, printed};
 use hc_baseline::{Baseline, BaselineFault};
 use std::alloc::Global;
 use std::io::{Read, Write};

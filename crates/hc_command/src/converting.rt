@@ -1,14 +1,10 @@
 //! The conversion of one transcript to the first format: from a reader to a transcript on a writer and an exit status.
 ghost use Rattle.std.specs.Prelude.{◌⊎◌, Some, IfOk, OnOk};
 ghost use Rattle.std.specs.Io.KnownBytes.{Appends, IsAtEnd, Keeps};
-ghost use Rattle.hc_command.specs.Audit.{SaysLine};
+ghost use Rattle.hc_auditing.specs.Audit.{SaysLine};
 ghost use Rattle.hc_command.specs.Convert.{ConvertsFor};
 
-use crate::auditing::status;
-use crate::input::all_of;
-use crate::line::verdict_line;
-use crate::print::printed;
-use crate::trouble::Trouble;
+use hc_auditing::{Trouble, all_of, printed, verdict_line, verdict_status};
 use hc_history::Verdict;
 use hc_transcript::ConvertFault;
 use std::alloc::Global;
@@ -74,7 +70,7 @@ fn said<E: Write>(alloc: Global, verdict: &Verdict, faults: &mut E) -> Result<u8
 {
     let line = verdict_line(alloc, verdict)?;
     match printed(line.as_str(), faults) {
-        Ok(()) => Ok(status(verdict)),
+        Ok(()) => Ok(verdict_status(verdict)),
         Err(error) => Err(Trouble::Device(error)),
     }
 }

@@ -7,13 +7,11 @@ ghost use Rattle.hc_why.specs.Explaining.{finding_of, position_of};
 ghost use Rattle.hc_why.specs.Seeking.{HasPassed, first_of};
 ghost use Rattle.hc_command.specs.Report.{BreaksIfSome, ExplainsAt, IsHeadLine, ReportsFor, SaysBreakIn, SaysIfSome, SaysOf, SaysReplyIn, SaysReport, WritesIfSome, reply_status};
 
-use crate::auditing::{said, status};
 use crate::objects::object;
-use crate::print::printed;
 use crate::saying::said_first;
 use crate::surveying::{Outcome, Reading, surveyed};
-use crate::trouble::Trouble;
 use hc_arguments::ExplainTerms;
+use hc_auditing::{Trouble, printed, said, verdict_status};
 use hc_explain::{say, say_head};
 use hc_history::{Finding, Settings, Verdict};
 use hc_index::Index;
@@ -147,7 +145,7 @@ fn verdict_said<W: Write>(
 {
     if json {
         let text = object(alloc, Some(verdict), found)?;
-        written_as(text.as_str(), status(verdict), output)
+        written_as(text.as_str(), verdict_status(verdict), output)
     } else {
         let text = lines_of(alloc, found)?;
         said_first(alloc, verdict, text.as_str(), output)
@@ -293,7 +291,7 @@ fn break_said<W: Write>(
 {
     if json {
         let text = object(alloc, Some(verdict), None)?;
-        written_as(text.as_str(), status(verdict), output)
+        written_as(text.as_str(), verdict_status(verdict), output)
     } else {
         said(alloc, verdict, output)
     }

@@ -1,6 +1,6 @@
 //! A verdict and an explanation as one JSON object.
 
-use crate::line::verdict_line;
+use hc_auditing::verdict_line;
 use hc_explain::json;
 use hc_history::Verdict;
 use hc_why::Retracing;

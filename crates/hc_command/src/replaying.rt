@@ -1,14 +1,10 @@
 //! The replay of one script: from a reader to a transcript on a writer, a line on another, and an exit status.
 ghost use Rattle.std.specs.Prelude.{◌≡◌, Some, IfOk, OnOk};
 ghost use Rattle.std.specs.Io.KnownBytes.{Appends};
-ghost use Rattle.hc_command.specs.Audit.{SaysLine};
+ghost use Rattle.hc_auditing.specs.Audit.{SaysLine};
 ghost use Rattle.hc_command.specs.Replay.{ReplaysFor, refusal_status};
 
-use crate::auditing::status;
-use crate::input::all_of;
-use crate::line::verdict_line;
-use crate::print::printed;
-use crate::trouble::Trouble;
+use hc_auditing::{Trouble, all_of, printed, verdict_line, verdict_status};
 use hc_history::Verdict;
 use hc_scripts::ScriptFault;
 use std::alloc::Global;
@@ -70,7 +66,7 @@ fn said<W: Write, E: Write>(
 {
     let line = verdict_line(alloc, verdict)?;
     match written(transcript, line.as_str(), output, faults) {
-        Ok(()) => Ok(status(verdict)),
+        Ok(()) => Ok(verdict_status(verdict)),
         Err(error) => Err(Trouble::Output(error)),
     }
 }

@@ -6,14 +6,10 @@ ghost use Rattle.hc_report.specs.Counting.{HasCountedIn, TellsAllOf};
 ghost use Rattle.hc_command.specs.Report.{SaysLineFirst};
 ghost use Rattle.hc_command.specs.Reporting.{IsLast, IsLastBy, ReportsBy, SaysReportOf, WritesIn, WritesInJson};
 
-use crate::auditing::status;
-use crate::line::verdict_line;
-use crate::minimums::ended;
-use crate::print::printed;
 use crate::saying::said_first;
 use crate::surveying::{Outcome, Reading, surveyed};
-use crate::trouble::Trouble;
 use hc_arguments::AuditTerms;
+use hc_auditing::{Trouble, ended, printed, verdict_line, verdict_status};
 use hc_baseline::Baseline;
 use hc_history::{Settings, Verdict};
 use hc_index::Index;
@@ -204,7 +200,7 @@ fn said_in_json<W: Write>(
     let mut text = report.json(baseline, outcome.ending(), outcome.counts())?;
     text.push('\n')?;
     match printed(text.as_str(), output) {
-        Ok(()) => Ok(status(verdict)),
+        Ok(()) => Ok(verdict_status(verdict)),
         Err(error) => Err(Trouble::Output(error)),
     }
 }

@@ -1,10 +1,13 @@
 //! What the program does, over any system and any two writers.
 ghost use Rattle.std.specs.Prelude.{◌≡◌, ◌⊎◌, ◌<◌, ◌∷◌, [], ℕ, None, Some, codes, false, map, option_map};
 ghost use Rattle.std.specs.Io.KnownBytes.{Keeps};
-ghost use Rattle.clap.specs.Words.{Text, fault_of, kind_of};
-ghost use Rattle.hc_arguments.specs.Command.{Asks, CanBeDone, IsErrorStatus, IsFileName, IsWord, Task, hcache, proxy_words, service_words, task_of};
-ghost use Rattle.hc_arguments.specs.Values.{connections_of, no_minimums, plain_audit};
-ghost use Rattle.hc_command.specs.Audit.{Answers};
+ghost use Rattle.clap.specs.Words.{Text, fault_of};
+ghost use Rattle.hc_options.specs.Auditing.{no_minimums, plain_audit};
+ghost use Rattle.hc_options.specs.Commands.{IsFileName, IsWord};
+ghost use Rattle.hc_arguments.specs.Commands.{hcache};
+ghost use Rattle.hc_arguments.specs.Positions.{positive_of};
+ghost use Rattle.hc_arguments.specs.Tasks.{Asks, CanBeDone, Task, proxy_words, service_words, task_of};
+ghost use Rattle.hc_auditing.specs.Audit.{Answers};
 ghost use Rattle.hc_command.specs.Convert.{Converted};
 ghost use Rattle.hc_command.specs.Ends.{Does, Ends, Proxied, Served};
 ghost use Rattle.hc_command.specs.Replay.{Played};
@@ -14,21 +17,17 @@ ghost use Rattle.hc_command.specs.Reporting.{ReportedBy, ReportedIn, ReportedOn}
 ghost use Rattle.hc_service.specs.Settings.{AreGood};
 ghost use Rattle.hc_notices.specs.Notices.{SaysSome};
 
-use crate::auditing::audit;
 use crate::baseline::{BaselineTrouble, baseline_of};
 use crate::converting::convert;
 use crate::explaining::explain;
-use crate::print::printed;
 use crate::replaying::replay;
 use crate::reporting::{ReportForm, report};
 use crate::showing::show;
-use crate::trouble::Trouble;
-use clap::Error;
-use clap::error::ErrorKind;
 use hc_arguments::{
     AuditTerms, ExplainTerms, Order, ProxyLimits, ProxyPatience, Proxying, RecordTerms, not_text,
     parsed,
 };
+use hc_auditing::{Trouble, audited, input_name, input_of, opened, shown, unread, words_of};
 use hc_baseline::Baseline;
 use hc_crowd::{Limits, Patience};
 use hc_history::Settings;
@@ -36,20 +35,12 @@ use hc_service::CoreSettings;
 use hc_showing::Span;
 use hc_sockets::{Claim, Proxy, RecordTo, ServeFault, Service, serve, serve_proxy};
 use std::convert::AsStr;
+use std::io;
 use std::io::Write;
 use std::net::Net;
 use std::random::RandomSource;
 use std::rt::{Env, Files};
 use std::time::Clock;
-use std::{env, fs, io};
-
-const USAGE: &str =
-    "\nUsage: hcache audit [OPTIONS] <FILE>\n       hcache report [OPTIONS] <FILE>\n       \
-    hcache explain [OPTIONS] <FILE> [POSITION]\n       hcache show <FILE> <POSITION[-POSITION]>\n       \
-    hcache replay <FILE>\n       \
-    hcache serve [OPTIONS] --listen <HOST:PORT> --origin <HOST:PORT> --connections <N> --record <FILE>\n       \
-    hcache proxy [OPTIONS] --listen <HOST:PORT> --origin <HOST:PORT>\n       \
-    hcache convert <FILE>\n";
 
 /// Does what the program's own arguments ask, and answers its exit status.
 pub fn status<R, W: Write, E: Write>(rt: &R, output: &mut W, faults: &mut E) -> u8
@@ -59,21 +50,10 @@ where
     ensures { Ends result (W.contents output.old) (W.contents output.new)
         (E.contents faults.old) (E.contents faults.new) }
 {
-    match arguments(rt) {
+    match words_of(rt) {
         Ok(words) => answered(rt, words.as_slice(), output, faults),
-        Err(error) if error.kind() == io::ErrorKind::OutOfMemory => Trouble::Memory.told(
-            "", faults,
-        ),
-        Err(_) => match not_text(rt.alloc()) {
-            Ok(error) => shown(&error, output, faults),
-            Err(_) => Trouble::Memory.told("", faults),
-        },
+        Err(error) => unread(&error, not_text(rt.alloc()), output, faults),
     }
-}
-
-// The program's name and its arguments. One that is not text is an error.
-fn arguments<R: Env + AllocGlobal>(rt: &R) -> io::Result<Vec<String>> {
-    Ok(env::args(rt)?.collect(rt.alloc())?)
 }
 
 /// Does what the words ask, of which the first is the program's name, and answers the exit status.
@@ -122,7 +102,7 @@ where
 
     // And `serve` with the four options that it needs, each value behind its `=`, by serving.
     ensures serve { (name listen origin number file : Text) (connections : ℕ)
-        → connections_of number ≡ Some connections
+        → positive_of number ≡ Some connections
         → map S.text words.now ≡ name ∷ service_words listen origin number file
         → Served result (W.contents output.old) (W.contents output.new)
         (E.contents faults.old) (E.contents faults.new) }
@@ -189,35 +169,6 @@ where
     }
 }
 
-// Audits the file, or standard input for `-`.
-fn audited<R, W: Write, E: Write>(
-    rt: &R,
-    file: &str,
-    terms: AuditTerms,
-    output: &mut W,
-    faults: &mut E,
-) -> u8
-where
-    R: Files + Input + AllocGlobal,
-    ensures { Answers terms.minimums result (W.contents output.old) (W.contents output.new)
-        (E.contents faults.old) (E.contents faults.new) }
-{
-    if file == "-" {
-        return audit(
-            rt.alloc(),
-            terms,
-            "standard input",
-            &mut rt.reader(),
-            output,
-            faults,
-        );
-    }
-    match fs::open(rt, file) {
-        Ok(mut opened) => audit(rt.alloc(), terms, file, &mut opened, output, faults),
-        Err(error) => Trouble::Device(error).told(file, faults),
-    }
-}
-
 // In which form a report is asked for.
 #[derive(Clone, Copy)]
 struct AskedForm<'a> {
@@ -263,8 +214,8 @@ where
 
 // The baseline in the file of that name.
 fn baseline_in<R: Files + AllocGlobal>(rt: &R, name: &str) -> Result<Baseline, BaselineTrouble> {
-    match fs::open(rt, name) {
-        Ok(mut opened) => baseline_of(rt.alloc(), &mut opened),
+    match opened(rt, name) {
+        Ok(mut file) => baseline_of(rt.alloc(), &mut file),
         Err(error) => Err(BaselineTrouble::Trouble(Trouble::Device(error))),
     }
 }
@@ -283,21 +234,16 @@ where
     ensures { ReportedIn form.json form.baseline terms result (W.contents output.old) (W.contents output.new)
         (E.contents faults.old) (E.contents faults.new) }
 {
-    let alloc = rt.alloc();
-    if file == "-" {
-        let mut input = rt.reader();
-        return report(
-            alloc,
+    match input_of(rt, file) {
+        Ok(mut input) => report(
+            rt.alloc(),
             terms,
             form,
-            "standard input",
+            input_name(file),
             &mut input,
             output,
             faults,
-        );
-    }
-    match fs::open(rt, file) {
-        Ok(mut opened) => report(alloc, terms, form, file, &mut opened, output, faults),
+        ),
         Err(error) => Trouble::Device(error).told(file, faults),
     }
 }
@@ -316,15 +262,9 @@ where
         (E.contents faults.old) (E.contents faults.new) }
 {
     let alloc = rt.alloc();
-    match (fs::open(rt, file), fs::open(rt, file)) {
-        (Ok(mut opened), Ok(mut again)) => explain(
-            alloc,
-            terms,
-            file,
-            &mut opened,
-            &mut again,
-            output,
-            faults,
+    match (opened(rt, file), opened(rt, file)) {
+        (Ok(mut first), Ok(mut again)) => explain(
+            alloc, terms, file, &mut first, &mut again, output, faults,
         ),
         (Err(error), _) | (_, Err(error)) => Trouble::Device(error).told(file, faults),
     }
@@ -344,13 +284,15 @@ where
     ensures { ShownFor span result (W.contents output.old) (W.contents output.new)
         (E.contents faults.old) (E.contents faults.new) }
 {
-    let alloc = rt.alloc();
-    if file == "-" {
-        let mut input = rt.reader();
-        return show(alloc, span, "standard input", &mut input, output, faults);
-    }
-    match fs::open(rt, file) {
-        Ok(mut opened) => show(alloc, span, file, &mut opened, output, faults),
+    match input_of(rt, file) {
+        Ok(mut input) => show(
+            rt.alloc(),
+            span,
+            input_name(file),
+            &mut input,
+            output,
+            faults,
+        ),
         Err(error) => Trouble::Device(error).told(file, faults),
     }
 }
@@ -362,8 +304,8 @@ where
     ensures { Played result (W.contents output.old) (W.contents output.new)
         (E.contents faults.old) (E.contents faults.new) }
 {
-    match fs::open(rt, file) {
-        Ok(mut opened) => replay(rt.alloc(), file, &mut opened, output, faults),
+    match opened(rt, file) {
+        Ok(mut input) => replay(rt.alloc(), file, &mut input, output, faults),
         Err(error) => Trouble::Device(error).told(file, faults),
     }
 }
@@ -375,8 +317,8 @@ where
     ensures { Converted result (W.contents output.old) (W.contents output.new)
         (E.contents faults.old) (E.contents faults.new) }
 {
-    match fs::open(rt, file) {
-        Ok(mut opened) => convert(rt.alloc(), file, &mut opened, output, faults),
+    match opened(rt, file) {
+        Ok(mut input) => convert(rt.alloc(), file, &mut input, output, faults),
         Err(error) => Trouble::Device(error).told(file, faults),
     }
 }
@@ -494,33 +436,6 @@ fn unserved<E: Write>(fault: ServeFault, names: Proxy<'_>, faults: &mut E) -> u8
         ServeFault::Clock => {
             let reason = io::Error::other("it is past the year 9999");
             Trouble::Device(reason).told("clock", faults)
-        }
-    }
-}
-
-/// Shows an error of the parse: help and the version on `output`, and a mistake on `faults`. Answers the
-/// exit status.
-pub fn shown<W: Write, E: Write>(error: &Error, output: &mut W, faults: &mut E) -> u8
-    ensures status { IsErrorStatus (kind_of error.now) result }
-    ensures memory { kind_of error.now ≡ ErrorKind.OutOfMemory → Keeps (W.contents output.old) (W.contents output.new) }
-    ensures mistake { result ≡ 64 → Keeps (W.contents output.old) (W.contents output.new) }
-    ensures asked { result ≡ 0 → Keeps (E.contents faults.old) (E.contents faults.new) }
-{
-    match error.kind() {
-        ErrorKind::OutOfMemory => Trouble::Memory.told("", faults),
-        ErrorKind::DisplayHelp | ErrorKind::DisplayVersion => match printed(error, output) {
-            Ok(()) => 0,
-            Err(error) => Trouble::Output(error).told("", faults),
-        },
-        // Of the errors of a parse these alone don't show the usage.
-        ErrorKind::InvalidValue => {
-            let _ = printed(error, faults);
-            let _ = printed(USAGE, faults);
-            64
-        }
-        _ => {
-            let _ = printed(error, faults);
-            64
         }
     }
 }

@@ -3,10 +3,7 @@ ghost use Rattle.std.specs.Prelude.{◌++◌, IfOk, OnOk};
 ghost use Rattle.std.specs.Io.KnownBytes.{Appends};
 ghost use Rattle.hc_command.specs.Report.{SaysLineFirst};
 
-use crate::auditing::status;
-use crate::line::verdict_line;
-use crate::print::printed;
-use crate::trouble::Trouble;
+use hc_auditing::{Trouble, printed, verdict_line, verdict_status};
 use hc_history::Verdict;
 use std::alloc::Global;
 use std::io;
@@ -23,7 +20,7 @@ pub(crate) fn said_first<W: Write>(
 {
     let line = verdict_line(alloc, verdict)?;
     match written(line.as_str(), more, output) {
-        Ok(()) => Ok(status(verdict)),
+        Ok(()) => Ok(verdict_status(verdict)),
         Err(error) => Err(Trouble::Output(error)),
     }
 }

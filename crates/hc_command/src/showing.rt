@@ -5,10 +5,7 @@ ghost use Rattle.hc_showing.specs.declared.span.Span.{Span};
 ghost use Rattle.hc_showing.specs.Showings.{Reaches, Shows};
 ghost use Rattle.hc_command.specs.Show.{GoesOn, PutsOut, ReadsOn, SaysOfShown, ShowsFor, ShowsOf, if_reached, shown_end, shown_status};
 
-use crate::auditing::{READS, buffer};
-use crate::line::verdict_line;
-use crate::print::printed;
-use crate::trouble::Trouble;
+use hc_auditing::{READS, Trouble, buffer, printed, verdict_line};
 use hc_history::Verdict;
 use hc_showing::{Ending, Reach, Showing, Span};
 use hc_transcript::RecordFault;

@@ -10,11 +10,10 @@ ghost use Rattle.hc_audit.specs.Surveying.{Surveys};
 ghost use Rattle.hc_audit.specs.Told.{IsToldOf};
 ghost use Rattle.hc_command.specs.Report.{FeedsPieceOfSurvey, FeedsSurvey, IsSurveyed, SurveysFor, ending_at, ending_of, settled_of, whole_counts};
 ghost use Rattle.hc_command.specs.Reporting.{verdict_without};
-ghost use Rattle.hc_command.specs.Trouble.{is_of_output};
+ghost use Rattle.hc_auditing.specs.Trouble.{is_of_output};
 
-use crate::auditing::{READS, buffer};
-use crate::trouble::Trouble;
 use hc_audit::{AuditFault, Ending, Survey, Witness};
+use hc_auditing::{READS, Trouble, buffer};
 use hc_history::{Counts, Settings, Verdict, WrongReply};
 use hc_index::{Index, MapIndex};
 use hc_transcript::RecordFault;

@@ -1,9 +1,12 @@
-use Rattle.std.proofs.Common.{refl}
+use Rattle.std.proofs.Common.{inl, refl}
 use Rattle.std.proofs.lemmas.Result.{err_from_is_err_and}
-use Rattle.hc_arguments.specs.Command.Command.{Explains}
+use Rattle.hc_options.proofs.FaultLemmas.{missing_at}
+use Rattle.hc_arguments.specs.Tables.{entries_of, taken_by, explained}
+use Rattle.hc_arguments.specs.Tables.Command.{Explains}
 use Rattle.hc_arguments.proofs.arguments.explain_in.Goals as goal
 
-pub returns-in_err-settings-clause-err : goal.returns-in_err-settings-clause-err
-returns-in_err-settings-clause-err c =
-    let same = err_from_is_err_and c.from_residual-in_err-settings.result c.from_residual-in_err-settings.ensures.1 in
-    rw (same.1, same.2) (c.in_err-settings.ensures.err Explains refl)
+pub returns-in_err-file-clause-err : goal.returns-in_err-file-clause-err
+returns-in_err-file-clause-err c =
+    let same = err_from_is_err_and c.from_residual.result c.from_residual.ensures.1 in
+    let missing = c.in_err-file.ensures.err in
+    rw (same.1, same.2) (missing_at taken_by (entries_of Explains) _ explained _ (inl refl) refl missing.0 missing.1)

@@ -1,6 +1,6 @@
 use Rattle.std.proofs.Common.{rules}
 use Rattle.clap.specs.Words.{found_of}
-use Rattle.hc_arguments.specs.Command.Command.{Audits, Reports, Explains, Shows, Replays, Serves, Proxies, Converts}
+use Rattle.hc_arguments.specs.Tables.Command.{Audits, Reports, Explains, Shows, Replays, Serves, Proxies, Converts}
 use Rattle.hc_arguments.proofs.ArgumentLemmas.{asks_in, refuses_in}
 use Rattle.hc_arguments.proofs.arguments.order_in.Goals as goal
 

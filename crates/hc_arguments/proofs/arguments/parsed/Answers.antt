@@ -1,5 +1,5 @@
 use Rattle.std.proofs.lemmas.Result.{IfOk-weaker}
-use Rattle.hc_arguments.specs.Command.{task_of}
+use Rattle.hc_arguments.specs.Tasks.{task_of}
 use Rattle.hc_arguments.proofs.ArgumentLemmas.{audit_words, convert_words, explain_at_words, explain_words, possible_from, replay_words, report_words, serve_words, words_give, words_of_proxy}
 use Rattle.hc_arguments.proofs.arguments.parsed.Goals as goal
 

@@ -1,9 +1,19 @@
-use Rattle.std.proofs.Common.{refl}
+use Rattle.std.proofs.Common.{codes, inl, inr, refl}
 use Rattle.std.proofs.lemmas.Result.{err_from_is_err_and}
-use Rattle.hc_arguments.specs.Command.Command.{Proxies}
+use Rattle.hc_options.proofs.FaultLemmas.{missing_at}
+use Rattle.hc_options.specs.declared.rows.Takes.TheVariants.{AnyText}
+use Rattle.hc_arguments.specs.Tables.{entries_of, taken_by, wanted}
+use Rattle.hc_arguments.specs.Tables.Command.{Proxies}
 use Rattle.hc_arguments.proofs.arguments.proxy_in.Goals as goal
 
-pub returns-in_err-cache_in-clause-err : goal.returns-in_err-cache_in-clause-err
-returns-in_err-cache_in-clause-err c =
-    let same = err_from_is_err_and c.from_residual-in_err-cache_in.result c.from_residual-in_err-cache_in.ensures.1 in
-    rw (same.1, same.2) (c.in_err-cache_in.ensures.err Proxies refl)
+pub returns-in_err-required-clause-err : goal.returns-in_err-required-clause-err
+returns-in_err-required-clause-err c =
+    let same = err_from_is_err_and c.from_residual.result c.from_residual.ensures.1 in
+    let missing = c.in_err-required.ensures.err in
+    rw (same.1, same.2) (missing_at taken_by (entries_of Proxies) _ (wanted (codes "listen") AnyText) _ (inl refl) refl missing.0 missing.1)
+
+pub returns-in_err-required-2-clause-err : goal.returns-in_err-required-2-clause-err
+returns-in_err-required-2-clause-err c =
+    let same = err_from_is_err_and c.from_residual-in_err-required-2.result c.from_residual-in_err-required-2.ensures.1 in
+    let missing = c.in_err-required-2.ensures.err in
+    rw (same.1, same.2) (missing_at taken_by (entries_of Proxies) _ (wanted (codes "origin") AnyText) _ (inr (inl refl)) refl missing.0 missing.1)

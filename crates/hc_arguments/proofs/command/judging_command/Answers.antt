@@ -1,5 +1,6 @@
 use Rattle.clap.specs.Words.{with_subcommand}
-use Rattle.hc_arguments.specs.Command.{audit, explain, program, report}
+use Rattle.hc_options.specs.Commands.{audit, program}
+use Rattle.hc_arguments.specs.Commands.{explain, report}
 use Rattle.hc_arguments.proofs.command.judging_command.Goals as goal
 
 pub returns : goal.returns

@@ -1,13 +1,13 @@
-use Rattle.std.proofs.Common.{codes}
-use Rattle.clap.specs.Words.{new_app, with_rule}
-use Rattle.hc_arguments.specs.Command.{file_rule, with_terms}
-use Rattle.hc_arguments.proofs.ArgumentLemmas.{ruled}
+use Rattle.std.proofs.Common.{[], ◌∷◌, codes, map}
+use Rattle.clap.specs.Words.{new_app}
+use Rattle.hc_options.specs.Commands.{with_rules}
+use Rattle.hc_options.specs.Rows.{audited, counting, judging, rule_by}
 use Rattle.hc_arguments.proofs.command.report_command.Goals as goal
 
 pub returns : goal.returns
 returns c =
     let bare = new_app (codes "report") in
-    let filed = with_rule bare file_rule in
-    let with_file = ruled bare c.with_argument-with_file.result _ file_rule c.file_argument.ensures.rule
-    (c.with_argument-with_file.ensures bare c.file_argument.ensures.local c.begun-bare.ensures) in
-    c.with_options.ensures (with_terms filed) (c.with_terms-set.ensures filed with_file)
+    let after_filed = with_rules bare (map rule_by (audited ∷ [])) in
+    let after_judging = with_rules after_filed (map rule_by judging) in
+    let after_counting = with_rules after_judging (map rule_by counting) in
+    c.with_rows.ensures after_counting (c.with_rows-counting.ensures after_judging (c.with_rows-judging.ensures after_filed (c.with_rows-filed.ensures bare c.begun-bare.ensures)))

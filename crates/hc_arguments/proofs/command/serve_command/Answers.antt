@@ -1,9 +1,12 @@
-use Rattle.std.proofs.Common.{codes}
+use Rattle.std.proofs.Common.{codes, map}
 use Rattle.clap.specs.Words.{new_app}
-use Rattle.hc_arguments.specs.Command.{with_service}
+use Rattle.hc_options.specs.Commands.{with_rules}
+use Rattle.hc_options.specs.Rows.{rule_by}
+use Rattle.hc_arguments.specs.Tables.{serving}
 use Rattle.hc_arguments.proofs.command.serve_command.Goals as goal
 
 pub returns : goal.returns
 returns c =
     let bare = new_app (codes "serve") in
-    c.with_cache.ensures (with_service bare) (c.with_service.ensures bare c.begun-bare.ensures)
+    let after_serving = with_rules bare (map rule_by serving) in
+    c.with_rows.ensures after_serving (c.with_rows-serving.ensures bare c.begun-bare.ensures)

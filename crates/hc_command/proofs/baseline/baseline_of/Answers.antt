@@ -5,7 +5,7 @@ use Rattle.hc_baseline.specs.Reports.{IsBaseline}
 use Rattle.hc_baseline.specs.declared.baseline.Baseline.{Baseline}
 use Rattle.hc_command.specs.Baseline.{IsNoBaseline}
 use Rattle.hc_command.specs.declared.baseline.BaselineTrouble.{BaselineTrouble}
-use Rattle.hc_command.proofs.AuditLemmas.{at_end}
+use Rattle.hc_auditing.proofs.AuditLemmas.{at_end}
 use Rattle.hc_command.proofs.HeldLemmas.{no_baseline_in}
 use Rattle.hc_command.proofs.baseline.baseline_of.Goals as goal
 

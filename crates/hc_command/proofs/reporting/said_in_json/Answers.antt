@@ -9,7 +9,7 @@ returns-in-Ok g c =
     c.as_str.ensures.value ∙ c.in_ok-push.ensures.bytes ∙ ap (λ (e : List ℕ). text ++ e) (c.in_ok-push.ensures.ascii (omega arith)) in
     record {
       text = text;
-      has_status = c.status.ensures;
+      has_status = c.verdict_status.ensures;
       written = subst (λ (octets : List ℕ). Appends (g.W.Write.contents c.args.output.now) (g.W.Write.contents c.printed.new.to) octets) is c.in-Ok.ensures;
       all = λ h wrongs told counted. rw (c.ending.ensures, c.counts.ensures) at (c.in_ok-text.ensures h wrongs told counted);
     }

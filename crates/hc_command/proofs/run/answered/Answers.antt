@@ -1,8 +1,12 @@
 use Rattle.std.proofs.Common.{false, inl, map, None, subst}
 use Rattle.clap.specs.declared.error.ErrorKind.{ErrorKind}
-use Rattle.hc_arguments.specs.Command.{IsErrorStatus, task_of}
-use Rattle.hc_arguments.specs.Command.Task.{ToAudit, ToReport, ToExplain, ToReplay, ToConvert, ToServe, ToProxy}
-use Rattle.hc_arguments.specs.Values.{explaining, plain_audit, plain_cache, plain_limits, plain_terms}
+use Rattle.hc_options.specs.Commands.{IsErrorStatus}
+use Rattle.hc_arguments.specs.Tasks.{task_of}
+use Rattle.hc_arguments.specs.Tasks.Task.{ToAudit, ToReport, ToExplain, ToReplay, ToConvert, ToServe, ToProxy}
+use Rattle.hc_options.specs.Auditing.{plain_audit}
+use Rattle.hc_arguments.specs.Cache.{plain_cache}
+use Rattle.hc_arguments.specs.Limits.{plain_limits, plain_terms}
+use Rattle.hc_arguments.specs.Tasks.{explaining}
 use Rattle.hc_arguments.proofs.ArgumentLemmas.{asked_from, one_task}
 use Rattle.hc_command.proofs.EndLemmas.{does_as, does_ends, fails_with_3}
 use Rattle.hc_command.proofs.run.answered.Goals as goal

@@ -1,8 +1,5 @@
 use Rattle.hc_command.proofs.ShowLemmas.{of_any}
 use Rattle.hc_command.proofs.run.records_shown.Goals as goal
 
-pub returns-then-eq : goal.returns-then-eq
-returns-then-eq g c = of_any c.args.span _ _ c.show.result _ _ _ _ c.show.ensures
-
 pub returns-in-Ok : goal.returns-in-Ok
-returns-in-Ok g c = of_any c.args.span _ _ c.show-in-Ok.result _ _ _ _ c.show-in-Ok.ensures
+returns-in-Ok g c = of_any c.args.span _ _ c.show.result _ _ _ _ c.show.ensures

@@ -1,4 +1,0 @@
-use Rattle.hc_arguments.proofs.command.with_proxy.Goals as goal
-
-pub returns : goal.returns
-returns c = λ app made. c.with_options.ensures app made

@@ -1,0 +1,185 @@
+-- What the words of a command line ask, and why they are refused.
+use Rattle.std.specs.Prelude.{◌≡◌, ◌<◌, ◌⊎◌, ⊤, ℕ, List, [], ◌∷◌, ◌++◌, Option, None, Some, Bool, false, codes, option_and_then, option_map}
+use Rattle.std.specs.Str.{bytes_eq}
+use Rattle.clap.specs.Words.{HasKind, Row, Text, fault_of, kind_of, subcommand_of}
+use Rattle.clap.specs.declared.error.Error.{Error}
+use Rattle.clap.specs.declared.error.ErrorKind.TheVariants.{OutOfMemory}
+use Rattle.hc_transcript.specs.Limits.{greatest_number}
+use Rattle.hc_service.specs.declared.settings.CoreSettings.{CoreSettings}
+use Rattle.hc_service.specs.Settings.{AreGood}
+use Rattle.hc_showing.specs.declared.span.Span.{Span}
+use Rattle.hc_options.specs.declared.auditing.AuditTerms.{AuditTerms}
+use Rattle.hc_options.specs.declared.refusal.Refusal.{Refusal}
+use Rattle.hc_options.specs.declared.refusal.Refusal.TheVariants.{Memory, Missing, Value}
+use Rattle.hc_options.specs.declared.rows.Takes.TheVariants.{Number}
+use Rattle.hc_options.specs.Auditing.{AsksAudit, AsksAuditTerms}
+use Rattle.hc_options.specs.Commands.{value_in}
+use Rattle.hc_options.specs.Refusals.{Refuses, refused_kind}
+use Rattle.hc_options.specs.Settings.{AsksSettings, plain}
+use Rattle.hc_options.specs.Values.{flag_by, number_by}
+use Rattle.hc_arguments.specs.declared.order.ExplainTerms.{ExplainTerms}
+use Rattle.hc_arguments.specs.declared.order.Order.{Order}
+use Rattle.hc_arguments.specs.declared.order.Order.TheVariants.{Audit, Report, Explain, Show, Replay, Convert, Serve, Proxy}
+use Rattle.hc_arguments.specs.declared.order.ProxyLimits.{ProxyLimits}
+use Rattle.hc_arguments.specs.declared.order.RecordTerms.{RecordTerms}
+use Rattle.hc_arguments.specs.Cache.{AsksCache}
+use Rattle.hc_arguments.specs.Commands.{hcache}
+use Rattle.hc_arguments.specs.Limits.{AsksLimits, AsksTerms}
+use Rattle.hc_arguments.specs.Positions.{span_of}
+use Rattle.hc_arguments.specs.Tables.{Command, command_named, entries_of, taken_by}
+use Rattle.hc_arguments.specs.Tables.Command.{Audits, Reports, Explains, Shows, Replays, Converts, Serves, Proxies}
+
+-- ---- what is asked
+
+-- what the commands can be asked
+pub data Task : Type 0 where
+  -- to audit that file on those terms
+  ToAudit : (file : Text) (terms : AuditTerms) → Task
+  -- to report on it on those terms, by one JSON object or else in text, and not to hold against it what an earlier report has, if one is named
+  ToReport : (file : Text) (terms : AuditTerms) (json : Bool) (baseline : Option Text) → Task
+  -- to explain a reply of it on those terms
+  ToExplain : (file : Text) (terms : ExplainTerms) → Task
+  -- to show its records at these positions
+  ToShow : (file : Text) (span : Span) → Task
+  -- to replay it
+  ToReplay : (file : Text) → Task
+  -- to convert it
+  ToConvert : (file : Text) → Task
+  -- to serve so many connections there, before that origin, to record them to that file, from a cache of those settings
+  ToServe : (listen origin : Text) (connections : ℕ) (file : Text) (settings : CoreSettings) → Task
+  -- to serve all that connect there at once, before that origin, to record them to that file, if any, on those terms, within those
+  -- limits, from a cache of those settings
+  ToProxy : (listen origin : Text) (file : Option Text) (terms : RecordTerms) (limits : ProxyLimits) (settings : CoreSettings) → Task
+
+abbrev pub command_of : Task → Command
+command_of (ToAudit file terms) = Audits
+command_of (ToReport file terms json baseline) = Reports
+command_of (ToExplain file terms) = Explains
+command_of (ToShow file span) = Shows
+command_of (ToReplay file) = Replays
+command_of (ToConvert file) = Converts
+command_of (ToServe listen origin connections file settings) = Serves
+command_of (ToProxy listen origin file terms limits settings) = Proxies
+
+abbrev pub task_of : Order → Task
+task_of (Audit file terms) = ToAudit file.now terms
+task_of (Report file terms json baseline) = ToReport file.now terms json (option_map (λ name. name.now) baseline)
+task_of (Explain file terms) = ToExplain file.now terms
+task_of (Show file span) = ToShow file.now span
+task_of (Replay file) = ToReplay file.now
+task_of (Convert file) = ToConvert file.now
+task_of (Serve listen origin connections file settings) = ToServe listen.now origin.now connections file.now settings
+task_of (Proxy p) = ToProxy p.listen.now p.origin.now (option_map (λ file. file.now) p.file) p.terms p.limits p.settings
+
+-- the values, by their names, ask that of `report`
+pub record AsksReport (value : Text → Option Text) (file : Text) (terms : AuditTerms) (json : Bool) (baseline : Option Text) : Type 0 where
+  pub file_is : value (codes "FILE") ≡ Some file
+  pub terms_are : AsksAuditTerms value terms
+  pub baseline_is : value (codes "baseline") ≡ baseline
+  pub json_is : flag_by (value (codes "json")) ≡ json
+
+-- and that of `explain`, which can't read standard input twice
+pub record AsksExplain (value : Text → Option Text) (file : Text) (terms : ExplainTerms) : Type 0 where
+  pub file_is : value (codes "FILE") ≡ Some file
+  pub file_has_name : bytes_eq file (codes "-") ≡ false
+  pub position_is : number_by (Number 1 greatest_number) (value (codes "POSITION")) ≡ Some terms.position
+  pub settings_are : AsksSettings value terms.settings
+  pub json_is : flag_by (value (codes "json")) ≡ terms.json
+
+-- and that of `show`
+pub record AsksShow (value : Text → Option Text) (file : Text) (span : Span) : Type 0 where
+  pub file_is : value (codes "FILE") ≡ Some file
+  pub span_is : option_and_then span_of (value (codes "POSITION[-POSITION]")) ≡ Some span
+
+-- and that of `serve`
+pub record AsksService (value : Text → Option Text) (listen origin : Text) (connections : ℕ) (file : Text) (settings : CoreSettings) : Type 0 where
+  pub listen_is : value (codes "listen") ≡ Some listen
+  pub origin_is : value (codes "origin") ≡ Some origin
+  pub connections_is : number_by (Number 1 greatest_number) (value (codes "connections")) ≡ Some (Some connections)
+  pub file_is : value (codes "record") ≡ Some file
+  pub settings_are : AsksCache value settings
+
+-- and that of `proxy`
+pub record AsksProxy (value : Text → Option Text) (listen origin : Text) (file : Option Text) (terms : RecordTerms) (limits : ProxyLimits) (settings : CoreSettings) : Type 0 where
+  pub listen_is : value (codes "listen") ≡ Some listen
+  pub origin_is : value (codes "origin") ≡ Some origin
+  pub file_is : value (codes "record") ≡ file
+  pub terms_are : AsksTerms value terms
+  pub limits_are : AsksLimits value limits
+  pub settings_are : AsksCache value settings
+
+abbrev pub ValuesAsk : (Text → Option Text) → Task → Type 0
+ValuesAsk value (ToAudit file terms) = AsksAudit value file terms
+ValuesAsk value (ToReport file terms json baseline) = AsksReport value file terms json baseline
+ValuesAsk value (ToExplain file terms) = AsksExplain value file terms
+ValuesAsk value (ToShow file span) = AsksShow value file span
+ValuesAsk value (ToReplay file) = value (codes "FILE") ≡ Some file
+ValuesAsk value (ToConvert file) = value (codes "FILE") ≡ Some file
+ValuesAsk value (ToServe listen origin connections file settings) = AsksService value listen origin connections file settings
+ValuesAsk value (ToProxy listen origin file terms limits settings) = AsksProxy value listen origin file terms limits settings
+
+-- the command and its values ask that
+abbrev pub AsksBy : Option Command → (Text → Option Text) → Task → Type 0
+AsksBy command value task = (command ≡ Some (command_of task)) × ValuesAsk value task
+
+-- the command that the subcommand is
+abbrev pub command_in : Option (Text × List Row) → Option Command
+command_in given = option_and_then (λ p. command_named p.0) given
+
+-- the subcommand and the values after it ask that
+abbrev pub AsksIn : Option (Text × List Row) → Task → Type 0
+AsksIn given = AsksBy (command_in given) (value_in given)
+
+-- the words, of which the first is the program's name, ask that
+abbrev pub Asks : List Text → Task → Type 0
+Asks words = AsksIn (subcommand_of hcache words)
+
+-- what a task can be asked with: of those settings there are caches, and the last of these positions is one
+abbrev pub CanBeDone : Task → Type 0
+CanBeDone (ToShow file span) = 0 < span.last
+CanBeDone (ToServe listen origin connections file settings) = AreGood settings
+CanBeDone (ToProxy listen origin file terms limits settings) = AreGood settings
+CanBeDone task = ⊤
+
+-- ---- plain words
+
+-- the words after the program's name that ask to serve
+abbrev pub service_words : Text → Text → Text → Text → List Text
+service_words listen origin number file = codes "serve" ∷ (codes "--listen=" ++ listen) ∷ (codes "--origin=" ++ origin)
+    ∷ (codes "--connections=" ++ number) ∷ (codes "--record=" ++ file) ∷ []
+
+-- and those that ask for a proxy
+abbrev pub proxy_words : Text → Text → List Text
+proxy_words listen origin = codes "proxy" ∷ (codes "--listen=" ++ listen) ∷ (codes "--origin=" ++ origin) ∷ []
+
+-- the explanation in text of the reply at that position, or else of the first wrong one, by plain settings
+abbrev pub explaining : Option ℕ → ExplainTerms
+explaining position = record { position = position; settings = plain; json = false }
+
+-- ---- why words are refused
+
+-- why the command and its values ask nothing; without a command nothing is asked
+abbrev pub RefusesBy : Option Command → (Text → Option Text) → Refusal → Type 0
+RefusesBy None value Memory = ⊤
+RefusesBy None value Missing = ⊤
+RefusesBy None value (Value row) = ⊥
+RefusesBy (Some command) value refusal = Refuses taken_by (entries_of command) value refusal
+
+abbrev pub RefusesIn : Option (Text × List Row) → Refusal → Type 0
+RefusesIn given = RefusesBy (command_in given) (value_in given)
+
+-- a value is missing, or out of its range, and the error is of the kind for that
+pub record IsOutside (given : Option (Text × List Row)) (e : Error) : Type 0 where
+  pub refusal : Refusal
+  pub refuses : RefusesIn given refusal
+  pub kind_is : refused_kind refusal ≡ Some (kind_of e)
+
+-- memory ran out, or the words are refused for a reason that the command has, or by what they ask
+abbrev pub IsRefused : List Text → Error → Type 0
+IsRefused words e = HasKind (fault_of hcache words) e ⊎ IsOutside (subcommand_of hcache words) e
+
+-- ---- what private functions return
+
+-- memory ran out, or the subcommand and the values after it are refused by what they ask
+abbrev pub IsRefusedIn : Option (Text × List Row) → Error → Type 0
+IsRefusedIn given e = (kind_of e ≡ OutOfMemory) ⊎ IsOutside given e

@@ -1,0 +1,48 @@
+//! An input that is read a piece at a time.
+ghost use Rattle.std.specs.Prelude.{◌≡◌, ◌<◌, length, IfOk, OnOk, vec_len};
+ghost use Rattle.std.specs.Io.KnownBytes.{Consumes, IsAtEnd};
+
+use crate::trouble::Trouble;
+use std::alloc::{AllocError, Global};
+use std::io;
+use std::io::{ErrorKind, Read};
+
+/// The most octets that one read takes.
+pub const PIECE: usize = 65_536;
+
+/// The most reads of one input. One that has not ended by then counts as a device that failed.
+pub const READS: u64 = 4_294_967_296;
+
+/// Room for one read.
+pub fn buffer(alloc: Global) -> Result<Vec<u8>, AllocError>
+    ensures { IfOk result (λ piece. vec_len piece ≡ PIECE) }
+{
+    vec![in alloc; 0u8; PIECE]
+}
+
+/// What `input` gives up to its end.
+pub fn all_of<R: Read>(alloc: Global, input: &mut R) -> Result<Vec<u8>, Trouble>
+    ensures consumed { IfOk result (λ octets. Consumes (R.remaining input.old) (R.remaining input.new) octets.items) }
+    ensures end { OnOk result (IsAtEnd (R.remaining input.new)) }
+{
+    let mut piece = buffer(alloc)?;
+    read_all(alloc, input, piece.as_mut_slice())
+}
+
+// The same, read a piece at a time.
+fn read_all<R: Read>(alloc: Global, input: &mut R, piece: &mut [u8]) -> Result<Vec<u8>, Trouble>
+    requires { 0 < length piece.old }
+    ensures consumed { IfOk result (λ octets. Consumes (R.remaining input.old) (R.remaining input.new) octets.items) }
+    ensures end { OnOk result (IsAtEnd (R.remaining input.new)) }
+{
+    let mut octets = Vec::new(alloc);
+    'pieces: for _ in 0..READS {
+        match input.read(piece) {
+            Ok(0) => return Ok(octets),
+            Ok(count) => octets.extend_from_slice(&piece[..count])?,
+            Err(error) if error.kind() == ErrorKind::Interrupted => {}
+            Err(error) => return Err(Trouble::Device(error)),
+        }
+    }
+    Err(Trouble::Device(io::Error::other("too many reads")))
+}

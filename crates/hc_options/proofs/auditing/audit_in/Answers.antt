@@ -1,0 +1,11 @@
+use Rattle.std.proofs.Common.{inl, refl}
+use Rattle.std.proofs.lemmas.Result.{err_from_is_err_and}
+use Rattle.hc_options.specs.Rows.{audit_entries, audited, is_taken}
+use Rattle.hc_options.proofs.FaultLemmas.{missing_at}
+use Rattle.hc_options.proofs.auditing.audit_in.Goals as goal
+
+pub returns-in_err-file-clause-err : goal.returns-in_err-file-clause-err
+returns-in_err-file-clause-err c =
+    let same = err_from_is_err_and c.from_residual.result c.from_residual.ensures.1 in
+    let missing = c.in_err-file.ensures.err in
+    rw (same.1, same.2) (missing_at is_taken audit_entries _ audited _ (inl refl) refl missing.0 missing.1)
