@@ -1,3 +1,4 @@
 pub mod GivenLemmas
 pub mod CutLemmas
 pub mod RunLemmas
+pub mod OnceLemmas

@@ -4,6 +4,7 @@
 #![tactic(auto)]
 
 mod fault;
+mod laws;
 mod outcome;
 mod recording;
 mod running;
@@ -12,5 +13,6 @@ pub use fault::RunFault;
 pub use hc_events::{Event, Happening};
 pub use hc_machine::{Core, CoreFault};
 pub use hc_service::{Action, CoreSettings, StepFault};
+pub use laws::{no_request_is_held_back, one_reaction, what_takes_no_memory_is_put};
 pub use outcome::{Run, StepResult};
 pub use running::run;

@@ -1,0 +1,38 @@
+//! What no cache can do otherwise. Each law holds of the definitions, and the functions that bear them do nothing.
+
+ghost use Rattle.std.specs.Prelude.{◌≡◌, ℕ, true, false, Some, None};
+ghost use Rattle.std.specs.FinMap.{get};
+ghost use Rattle.hc_head.specs.declared.head.Target.{Target};
+ghost use Rattle.hc_update.specs.declared.stored.Stored.{Stored};
+ghost use Rattle.hc_links.specs.Requests.{HasRequest};
+ghost use Rattle.hc_store.specs.declared.putting.Put.{Put};
+ghost use Rattle.hc_store.specs.declared.putting.Put.TheVariants as answers;
+ghost use Rattle.hc_store.specs.Calls.{Puts, grows, is_small_enough};
+ghost use Rattle.hc_store.specs.Entries.{Holdings};
+ghost use Rattle.hc_service.specs.Agreement.{Agrees, History};
+ghost use Rattle.hc_service.specs.Reactions.{Reaction, Reacts, WholeRequest};
+ghost use Rattle.hc_service.specs.State.{Connection, OpenNow, State};
+
+/// What a whole request gets at once is one thing, and so is what is stored then: its reply, with all its fields and
+/// its mark; or a forward; or that it waits for another one's. So no cache forwards what it may answer, serves what
+/// it may not, or leaves the mark off.
+pub fn one_reaction()
+    ensures { (whole : WholeRequest) (underway : OpenNow) (old new changed : Holdings) (one other : Reaction)
+        → Reacts whole underway old one new → Reacts whole underway old other changed → (one ≡ other) × (new ≡ changed) }
+{}
+
+/// What is small enough is put where that takes no memory; and each answer leaves one store.
+pub fn what_takes_no_memory_is_put()
+    ensures put { (target : Target) (stored : Stored) (old new : Holdings) (answer : Put)
+        → is_small_enough stored old ≡ true → grows target old.entries ≡ false
+        → Puts target stored old answer new → answer ≡ answers.Stored }
+    ensures one { (target : Target) (stored : Stored) (old new changed : Holdings) (answer : Put)
+        → Puts target stored old answer new → Puts target stored old answer changed → new ≡ changed }
+{}
+
+/// No request is held back, whatever else is open: where a cache agrees with what has happened, no whole request is
+/// unread on a connection on which none awaits its reply.
+pub fn no_request_is_held_back()
+    ensures { (s : State) (h : History) (c : ℕ) (connection : Connection) → Agrees s h
+        → get s.connections c ≡ Some connection → connection.exchange ≡ None → ¬ (HasRequest connection.unread) }
+{}
