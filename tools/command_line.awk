@@ -13,7 +13,7 @@ BEGIN {
     for (count = 0; count + 3 < ARGC; count++) words[count + 1] = ARGV[count + 3]
     for (i = 1; i < 256; i++) octet[sprintf("%c", i)] = i
     read_help("hcache", "hcache")
-    for (i = 1; i <= commands; i++) if (command_named[i] != "help") read_help(command_named[i], "hcache " command_named[i])
+    for (i = 1; i <= commands; i++) read_help(command_named[i], "hcache " command_named[i])
     for (i = 1; i <= count; i++)
         if (!is_text(words[i])) refuse("invalid UTF-8 was detected in one or more arguments", plain_usage("hcache"))
     parse_whole()
@@ -31,9 +31,10 @@ function show_help(name,    line, file) {
     exit 0
 }
 
-# Ends with what is wrong, and with the usage.
+# Ends with what is wrong, and with the usage. The command `help` has no help.
 function refuse(message, usage) {
-    printf "error: %s\n\nUsage: %s\n\nFor more information, try '--help'.\n", message, usage
+    printf "error: %s\n\nUsage: %s\n", message, usage
+    if (usage != usage_of["help"]) print "\nFor more information, try '--help'."
     exit 64
 }
 
@@ -154,7 +155,7 @@ function answer_help(i,    command) {
     command = words[i]
     if (!is_command(command)) refuse("unrecognized subcommand '" command "'", plain_usage("hcache"))
     if (i == count) show_help(command)
-    refuse("unrecognized subcommand '" words[i + 1] "'", command == "help" ? "hcache help [COMMAND]..." : plain_usage(command))
+    refuse("unrecognized subcommand '" words[i + 1] "'", plain_usage(command))
 }
 
 function refuse_command(word,    i, best, names, text) {

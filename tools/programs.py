@@ -10,6 +10,8 @@ import shutil
 import subprocess
 import sys
 
+import unproved as without_proof
+
 HERE = pathlib.Path(__file__).resolve().parent.parent
 
 Ran = collections.namedtuple("Ran", "status output faults requests octets")
@@ -46,7 +48,7 @@ class Options(argparse.ArgumentParser):
         text = "the program hcache, in place of the proved one, which ./hcache builds"
         self.add_argument("--program", metavar="PATH", help=text)
         if can_be_unproved:
-            text = "run the program that isn't proved, or say that the one of --program isn't, and so is slow"
+            text = "run the program that isn't proved, which is built in some minutes"
             self.add_argument("--unproved", action="store_true", help=text)
 
     def error(self, message):
@@ -88,22 +90,25 @@ def hcache(is_unproved=False):
     if "HCACHE" in os.environ:
         need(os.environ["HCACHE"])
         return [os.path.abspath(shutil.which(os.environ["HCACHE"]))]
-    launcher = [HERE / "hcache", *["--unproved"] * is_unproved]
-    ran = subprocess.run([*launcher, "audit", HERE / "examples/first.hct"], stdout=subprocess.DEVNULL, check=False)
-    if ran.returncode:
+    if is_unproved:
+        return unproved()
+    # An audit would do with a program of its own.
+    words = [HERE / "hcache", "report", HERE / "examples/first.hct"]
+    if subprocess.run(words, stdout=subprocess.DEVNULL, check=False).returncode:
         print("hcache doesn't run", file=sys.stderr)
         sys.exit(70)
-    return unproved() if is_unproved else [HERE / "crates/hc_prog/out/hc_prog"]
+    return [HERE / "crates/hc_prog/out/hc_prog"]
 
 
-def unproved():
-    """The words by which the kept program is run that isn't proved: ./hcache has put down beside it how."""
+def unproved(name="hc_prog"):
+    """The words by which the program of a crate is run without a proof, once it is built."""
     try:
-        _, loader, libraries = (HERE / "out/unproved.how").read_text(encoding="utf-8").split("\n")[:3]
-    except (OSError, ValueError):
+        return without_proof.program_of(name)
+    except without_proof.CantKeep:
         print("this toolchain's program can't be kept", file=sys.stderr)
-        sys.exit(70)
-    return [loader, "--inhibit-cache", "--library-path", libraries, HERE / "out/unproved"]
+    except without_proof.CantBuild as fault:
+        print(fault, f"{name} can't be built", sep="\n", file=sys.stderr)
+    sys.exit(70)
 
 
 class Shim:
