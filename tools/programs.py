@@ -119,19 +119,18 @@ class Shim:
         source = HERE / "tools/refused_allocation.c"
         subprocess.run(["cc", "-O2", "-shared", "-fPIC", "-o", self.object, source], check=True)
 
-    def environment(self, which, hooks=None):
-        """The environment of a process whose request of that number is refused, none for 0. A program that was compiled
-        with AddressSanitizer has its table of hooks there."""
+    def environment(self, which):
+        """The environment of a process whose request of that number is refused, none for 0."""
         self.count.write_bytes(bytes(16))
         said = {"LD_PRELOAD": self.object, "REFUSED_REQUEST": str(which), "REFUSED_COUNT": self.count}
-        return {**os.environ, **said, **({"REFUSED_HOOKS": hooks} if hooks else {})}
+        return {**os.environ, **said}
 
     def counts(self):
         """How many requests there were, and for how many octets."""
         octets = self.count.read_bytes()
         return tuple(int.from_bytes(it, sys.byteorder) for it in (octets[:8], octets[8:]))
 
-    def run(self, which, *words, given=b"", hooks=None):
-        environment = self.environment(which, hooks)
+    def run(self, which, *words, given=b""):
+        environment = self.environment(which)
         ran = subprocess.run(words, input=given, capture_output=True, timeout=self.limit, env=environment, check=False)
         return Ran(ran.returncode, ran.stdout, ran.stderr, *self.counts())
