@@ -44,12 +44,11 @@ class Options(argparse.ArgumentParser):
     def __init__(self, name, text):
         super().__init__(f"tools/{name}", description=text, formatter_class=argparse.RawDescriptionHelpFormatter)
 
-    def add_program(self, can_be_unproved=True):
+    def add_program(self):
         text = "the program hcache, in place of the proved one, which ./hcache builds"
         self.add_argument("--program", metavar="PATH", help=text)
-        if can_be_unproved:
-            text = "run the program that isn't proved, which is built in some minutes"
-            self.add_argument("--unproved", action="store_true", help=text)
+        text = "run the program that isn't proved, which is built in some minutes"
+        self.add_argument("--unproved", action="store_true", help=text)
 
     def error(self, message):
         """Ends with the status that tells of words that nothing can be made of."""
@@ -81,7 +80,7 @@ def hcache_by(options):
     """The words by which hcache is run, by the options of `add_program`."""
     if options.program:
         os.environ["HCACHE"] = options.program
-    return hcache(getattr(options, "unproved", False))
+    return hcache(options.unproved)
 
 
 def hcache(is_unproved=False):
