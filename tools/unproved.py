@@ -1,5 +1,5 @@
-"""usage: tools/unproved.py build [NAME]
-       tools/unproved.py run [WORD..]
+"""usage: python3 tools/unproved.py build [NAME]
+       python3 tools/unproved.py run [WORD..]
 
 Builds the program of a crate (hc_prog) without a proof, and keeps it in out/unproved/; or runs hcache so by these words,
 where that can't be. `./hcache --unproved` and the tools call it.
@@ -30,6 +30,8 @@ KEPT = HERE / "out/unproved"
 STANDS_IN = HERE / "tools/unproved_toolchain"
 SMALL = 1_000_000  # octets of a file of the kit that is a script, at most
 CANT_KEEP, CANT_BUILD = 75, 70
+REFUSED = 1  # the status of `rt try` where the sources are wrong
+SOON = 5  # seconds in which a program has started
 
 
 class CantKeep(Exception):
@@ -176,7 +178,7 @@ def end(ran, room):
 
 
 def linked(name, room):
-    """The program of the crate, once it is linked; none where it can't be built so."""
+    """The program of the crate, once it is linked; none where it can't be built so. What the sources break is told."""
     of = kit()
     lay_out(of, room / "kit")
     made = room / "kit/toolchain/bin/linked"
@@ -187,14 +189,20 @@ def linked(name, room):
         try:
             while ran.poll() is None and not made.exists():
                 time.sleep(0.1)
+            is_refused = ran.poll() == REFUSED
         finally:
             end(ran, room)
+    if is_refused:
+        raise CantBuild((room / "log").read_text(encoding="utf-8", errors="replace"))
     return made if made.exists() else None
 
 
 def runs(words):
     """Whether a program starts, be its words right or wrong."""
-    ran = subprocess.run([*words, "--version"], stdin=subprocess.DEVNULL, capture_output=True, timeout=60, check=False)
+    try:
+        ran = subprocess.run([*words, "--version"], stdin=subprocess.DEVNULL, capture_output=True, timeout=SOON, check=False)
+    except subprocess.TimeoutExpired:
+        return True
     return ran.returncode in range(0, 126)
 
 
@@ -244,7 +252,7 @@ def program_of(name="hc_prog"):
 
 
 def run(words):
-    """Has `rt try` build hcache and run it by these words, and answers its status. A word that names a file is handed on
+    """Has `rt try` build hcache and run it by these words, and returns its status. A word that names a file is handed on
     as the name of the copy alone, which is how the program finds that."""
     given, handed, names = [], [], set()
     for word in words:
