@@ -12,6 +12,7 @@ BEGIN {
     folder = ARGV[1]
     for (count = 0; count + 3 < ARGC; count++) words[count + 1] = ARGV[count + 3]
     for (i = 1; i < 256; i++) octet[sprintf("%c", i)] = i
+    uses = 0
     read_help("hcache", "hcache")
     for (i = 1; i <= commands; i++) read_help(command_named[i], "hcache " command_named[i])
     for (i = 1; i <= count; i++)
