@@ -110,11 +110,17 @@ function usage_with(command, extra,    text, i, name, is_told, wanted, last) {
     text = whole[command]
     for (i = 1; i <= arguments[command]; i++) {
         name = argument[command, i]
-        if ((command, name) in is_option && required[command, name]) { text = text " " shown(command, name); is_told[name] = 1 }
+        if ((command, name) in is_option && required[command, name]) {
+            text = text " " shown(command, name)
+            is_told[name] = 1
+        }
     }
     for (i = 1; i <= last; i++) {
         name = wanted[i]
-        if ((command, name) in is_option && !(name in is_told)) { text = text " " shown(command, name); is_told[name] = 1 }
+        if ((command, name) in is_option && !(name in is_told)) {
+            text = text " " shown(command, name)
+            is_told[name] = 1
+        }
         is_wanted[name] = 1
     }
     for (i = 1; i <= positionals[command]; i++) {
@@ -137,7 +143,8 @@ function parse_whole(    i, word, name) {
         else if (!trailing && word ~ /^-./) take_short(word)
         else refuse_command(word)
     }
-    refuse("'hcache' requires a subcommand but one was not provided\n  [subcommands: " all_commands() "]", plain_usage("hcache"))
+    refuse("'hcache' requires a subcommand but one was not provided\n  [subcommands: " all_commands() "]",
+        plain_usage("hcache"))
 }
 
 function is_command(word,    i) {
@@ -161,8 +168,8 @@ function answer_help(i,    command) {
 
 function refuse_command(word,    i, best, names, text) {
     if (trailing && is_command(word))
-        refuse("unexpected argument '" word "' found\n\n  tip: subcommand '" word "' exists; to use it, remove the '--' before it",
-            plain_usage("hcache"))
+        refuse("unexpected argument '" word "' found\n\n  tip: subcommand '" word \
+            "' exists; to use it, remove the '--' before it", plain_usage("hcache"))
     for (i = 1; i <= commands; i++) add_candidate(names, best, word, command_named[i])
     if (best[0] == 0) refuse("unrecognized subcommand '" word "'", plain_usage("hcache"))
     for (i = 1; i <= best[0]; i++) text = text (i > 1 ? ", " : "") "'" names[i] "'"
@@ -180,7 +187,10 @@ function parse_command(command, i,    word, place) {
         else if (!trailing && word ~ /^-./) take_short(word)
         else if (awaited != "") { hold(awaited, word, i, ""); awaited = "" }
         else {
-            if (place > positionals[command]) { settle(1); refuse("unexpected argument '" word "' found", plain_usage(command)) }
+            if (place > positionals[command]) {
+                settle(1)
+                refuse("unexpected argument '" word "' found", plain_usage(command))
+            }
             settle(0)
             pending = positional[command, place++]
             hold(pending, word, i, "")
@@ -287,7 +297,8 @@ function refuse_option(name, i,    like, command) {
     like = similar_option(asked, name)
     if (like != "") {
         if (!is_used(like)) used[++uses] = like
-        refuse("unexpected argument '--" name "' found\n\n  tip: a similar argument exists: '--" like "'", usage_with(asked, ""))
+        refuse("unexpected argument '--" name "' found\n\n  tip: a similar argument exists: '--" like "'",
+            usage_with(asked, ""))
     }
     if (asked == "hcache")
         for (i++; i <= count; i++) {
@@ -295,7 +306,8 @@ function refuse_option(name, i,    like, command) {
             if (!is_command(command) || command == "help") continue
             like = similar_option(command, name)
             if (like != "")
-                refuse("unexpected argument '--" name "' found\n\n  tip: '" command " --" like "' exists", usage_with(asked, ""))
+                refuse("unexpected argument '--" name "' found\n\n  tip: '" command " --" like "' exists",
+                    usage_with(asked, ""))
         }
     refuse("unexpected argument '--" name "' found" tip_of_value("--" name), usage_with(asked, ""))
 }
@@ -394,7 +406,8 @@ function check_values(file,    line, parts, name) {
         if (line ~ /^#/ || split(line, parts, " ") < 2) continue
         name = parts[1]
         if (is_used(name) && !is_right(parts[2], value[name], parts[3], parts[4]))
-            refuse("invalid value for '" shown(asked, name) "': " fault_of(parts[2], parts[3], parts[4]), plain_usage(asked))
+            refuse("invalid value for '" shown(asked, name) "': " fault_of(parts[2], parts[3], parts[4]),
+                plain_usage(asked))
     }
 }
 

@@ -30,6 +30,7 @@ KEPT = HERE / "out/unproved"
 STANDS_IN = HERE / "tools/unproved_toolchain"
 SMALL = 1_000_000  # octets of a file of the kit that is a script, at most
 CANT_KEEP, CANT_BUILD = 75, 70
+QUICKLY = ("try", "--steps", "1", "--seconds", "1")  # it is to be built, and hardly run
 REFUSED = 1  # the status of `rt try` where the sources are wrong
 SOON = 5  # seconds in which a program has started
 
@@ -65,6 +66,10 @@ def kit_name():
     return subprocess.run(["rt", "version"], capture_output=True, text=True, check=False).stdout.strip()
 
 
+def is_script(file):
+    return file.stat().st_size < SMALL and not file.read_bytes().startswith(b"\x7fELF")
+
+
 def link_all(folder, to, but=()):
     """Makes a folder of links to all that lies in another, but for those names."""
     to.mkdir()
@@ -77,7 +82,7 @@ def lay_out(of, to):
     """Makes a folder of links to the kit, with another compiler and another linker. A script looks for the kit where it
     lies itself, so those are copied. What `rt try` proves beside, for a hint, it doesn't get to."""
     bins = of / "toolchain/bin"
-    scripts = [it for it in (of / "bin").iterdir() if it.stat().st_size < SMALL and not it.read_bytes().startswith(b"\x7fELF")]
+    scripts = [it for it in (of / "bin").iterdir() if is_script(it)]
     if not all((bins / it.name).is_file() for it in STANDS_IN.iterdir()) or of / "bin/rt" not in scripts:
         raise CantKeep
     link_all(of, to, ("bin", "toolchain"))
@@ -121,7 +126,8 @@ def checksum(file):
 def crates_of(name):
     """The crate, and those of the repository that it stands on."""
     lines = (HERE / "crates.txt").read_text(encoding="utf-8").splitlines()
-    named = {head: below.split() for head, _, below in (line.partition(":") for line in lines if line[:1] not in ("", "#"))}
+    parts = (line.partition(":") for line in lines if line and not line.startswith("#"))
+    named = {head: below.split() for head, _, below in parts}
     found, left = set(), [name]
     for it in left:
         if it in named and it not in found:
@@ -183,7 +189,7 @@ def linked(name, room):
     lay_out(of, room / "kit")
     made = room / "kit/toolchain/bin/linked"
     with open(room / "log", "wb") as log:
-        words = [room / "kit/bin/rt", "try", "--steps", "1", "--seconds", "1"]
+        words = [room / "kit/bin/rt", *QUICKLY]
         ran = subprocess.Popen(words, cwd=HERE / "crates" / name, stdin=subprocess.DEVNULL, stdout=log, stderr=log,
                                env={**os.environ, "TMPDIR": str(room)}, start_new_session=True)
         try:
@@ -200,7 +206,8 @@ def linked(name, room):
 def runs(words):
     """Whether a program starts, be its words right or wrong."""
     try:
-        ran = subprocess.run([*words, "--version"], stdin=subprocess.DEVNULL, capture_output=True, timeout=SOON, check=False)
+        ran = subprocess.run([*words, "--version"], stdin=subprocess.DEVNULL, capture_output=True, timeout=SOON,
+                             check=False)
     except subprocess.TimeoutExpired:
         return True
     return ran.returncode in range(0, 126)
@@ -208,8 +215,8 @@ def runs(words):
 
 def fault_in(name, room):
     """What is wrong with the sources, by the way of every kit; nothing where they are right."""
-    ran = subprocess.run(["rt", "try", "--steps", "1", "--seconds", "1"], cwd=HERE / "crates" / name, stdin=subprocess.DEVNULL,
-                         capture_output=True, text=True, errors="replace", env={**os.environ, "TMPDIR": str(room)}, check=False)
+    ran = subprocess.run(["rt", *QUICKLY], cwd=HERE / "crates" / name, stdin=subprocess.DEVNULL, capture_output=True,
+                         text=True, errors="replace", env={**os.environ, "TMPDIR": str(room)}, check=False)
     lines = ran.stderr.splitlines() or [""]
     return None if lines[-1].startswith(("run=ended ", "run=no-answer ", "run=fault ")) else "\n".join(lines)
 
@@ -298,7 +305,7 @@ def main(words):
     except CantBuild as fault:
         text = "\n".join(line for line in str(fault).splitlines() if not re.match("races: |run=", line))
         print(text, file=sys.stderr)
-        say("the program can't be built" if words[0] == "build" else "the program can't be built, or doesn't run to its end")
+        say("the program can't be built" + (", or doesn't run to its end" if words[0] == "run" else ""))
         return CANT_BUILD
 
 
