@@ -6,9 +6,9 @@ where that can't be. `./hcache --unproved` and the tools call it.
 
 `rt try` builds such a program, compiled with the address sanitizer and without optimising, and runs it in a folder of its
 own. So it is called from a folder of links to the kit, in which its compiler and its linker are those of
-tools/unproved_toolchain: the one leaves the sanitizer out and optimises a program that runs for long, and the other hands
-the program over. Bounds and sums stay checked: where a check fails, the program ends without a message. In a kit that isn't laid out so nothing can be kept, and `run` has `rt
-try` build and run the program as it does.
+tools/unproved_toolchain: the one leaves the sanitizer out, and optimises a program that runs for long, and the other hands
+the program over. Bounds and sums stay checked: where a check fails, the program ends without a message. In a kit that
+isn't laid out so nothing can be kept, and `run` has `rt try` build and run the program as it does.
 
 `build` ends with 0 where the program is kept, with 75 where it can't be, and with 70 where it can't be built. Beside the
 program, in a file whose name ends in `.how`, stand its checksum, the kit's name, and the loader and the folder of
