@@ -6,9 +6,9 @@ where that can't be. `./hcache --unproved` and the tools call it.
 
 `rt try` builds such a program, compiled with the address sanitizer and without optimising, and runs it in a folder of its
 own. So it is called from a folder of links to the kit, in which its compiler and its linker are those of
-tools/unproved_toolchain: the one leaves the sanitizer out, and optimises a program that runs for long, and the other hands
-the program over. Bounds and sums stay checked: where a check fails, the program ends without a message. In a kit that
-isn't laid out so nothing can be kept, and `run` has `rt try` build and run the program as it does.
+tools/unproved_toolchain: the one optimises, and the other hands the program over. Bounds and sums stay checked: where a
+check fails, the program ends without a message. In a kit that isn't laid out so nothing can be kept, and `run` has `rt
+try` build and run the program as it does.
 
 `build` ends with 0 where the program is kept, with 75 where it can't be, and with 70 where it can't be built. Beside the
 program, in a file whose name ends in `.how`, stand its checksum, the kit's name, and the loader and the folder of
@@ -28,7 +28,6 @@ import time
 HERE = pathlib.Path(__file__).resolve().parent.parent
 KEPT = HERE / "out/unproved"
 STANDS_IN = HERE / "tools/unproved_toolchain"
-LONG = ("hc_prog", "hc_bench", "hc_crowd_cases")  # programs that run for long, which are optimised
 SMALL = 1_000_000  # octets of a file of the kit that is a script, at most
 CANT_KEEP, CANT_BUILD = 75, 70
 QUICKLY = ("try", "--steps", "1", "--seconds", "1")  # it is to be built, and hardly run
@@ -79,8 +78,8 @@ def link_all(folder, to, but=()):
             (to / it.name).symlink_to(it)
 
 
-def lay_out(of, to, level):
-    """Makes a folder of links to the kit, with another compiler, which optimises so, and another linker. A script looks for the kit where it
+def lay_out(of, to):
+    """Makes a folder of links to the kit, with another compiler and another linker. A script looks for the kit where it
     lies itself, so those are copied. What `rt try` proves beside, for a hint, it doesn't get to."""
     bins = of / "toolchain/bin"
     scripts = [it for it in (of / "bin").iterdir() if is_script(it)]
@@ -92,7 +91,6 @@ def lay_out(of, to, level):
     for it in STANDS_IN.iterdir():
         (to / "toolchain/bin" / it.name).symlink_to(it)
     (to / "toolchain/bin/real").symlink_to(bins)
-    (to / "toolchain/bin/level").write_text(f"{level}\n", encoding="utf-8")
     link_all(of / "bin", to / "bin", ["rattle", *(it.name for it in scripts)])
     for it in scripts:
         shutil.copy(it, to / "bin")
@@ -188,7 +186,7 @@ def end(ran, room):
 def linked(name, room):
     """The program of the crate, once it is linked; none where it can't be built so. What the sources break is told."""
     of = kit()
-    lay_out(of, room / "kit", "-O1" if name in LONG else "-O0")
+    lay_out(of, room / "kit")
     made = room / "kit/toolchain/bin/linked"
     with open(room / "log", "wb") as log:
         words = [room / "kit/bin/rt", *QUICKLY]
