@@ -27,23 +27,8 @@ OWN = ""  # a reply of the cache's own has no mark
 
 BATCH = 50  # requests that are asked at once
 BATCHES = 20  # of a connection
-
-
-class Scale:
-    """How much is asked, and how long it may take."""
-
-    large = 4 << 20  # octets of a large body
-    patience = 1  # by which the seconds are multiplied that something may take
-
-    @classmethod
-    def for_unproved(cls):
-        """A program that isn't proved checks bounds and sums, and is a hundred times as slow."""
-        cls.large, cls.patience = 1 << 18, 10
-
-    @classmethod
-    def limit(cls):
-        """Seconds that anything may take."""
-        return 60 * cls.patience
+LARGE = 4 << 20  # octets of a large body
+LIMIT = 60  # seconds that anything may take
 
 
 class Wrong(Exception):
@@ -89,7 +74,7 @@ class Client:
 
     def __init__(self, port, host=HOST):
         self.port, self.host, self.came = port, host, bytearray()
-        self.link = socket.create_connection((host, port), timeout=Scale.limit())
+        self.link = socket.create_connection((host, port), timeout=LIMIT)
         self.link.setsockopt(socket.IPPROTO_TCP, socket.TCP_NODELAY, 1)
 
     def __enter__(self):
@@ -290,21 +275,21 @@ def other_statuses(client, number):
 
 
 def large_path(name):
-    return f"/large/{name}/{Scale.large}"
+    return f"/large/{name}/{LARGE}"
 
 
 def large_bodies(client, number):
-    path, body = large_path(number), pattern(Scale.large)
+    path, body = large_path(number), pattern(LARGE)
     got(client.ask(path), 200, STORED, body)
     got(client.ask(path), 200, HIT, body)
 
 
 def reads_slowly(client, number):
-    path, body = large_path(f"slowly-{number}"), pattern(Scale.large)
+    path, body = large_path(f"slowly-{number}"), pattern(LARGE)
     got(client.ask(path), 200, STORED, body)
     client.send(request(path) * 2)
     for _ in range(40):
-        client.came += client.link.recv(Scale.large // 100)
+        client.came += client.link.recv(LARGE // 100)
         time.sleep(0.05)
     got(client.reply(), 200, HIT, body)
     got(client.reply(), 200, HIT, body)
@@ -486,7 +471,7 @@ def at_once(port, count, kinds=KINDS):
         kind = kinds[number % len(kinds)]
         try:
             with Client(port) as client:
-                barrier.wait(Scale.limit())
+                barrier.wait(LIMIT)
                 kind(client, number)
         except (Wrong, OSError, threading.BrokenBarrierError) as trouble:
             return f"{kind.__name__}: {type(trouble).__name__} {trouble}"

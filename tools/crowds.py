@@ -13,7 +13,7 @@ import threading
 import time
 
 import programs
-from clients import Scale, Wrong, request, want
+from clients import LIMIT, Wrong, request, want
 from small_origin import HOST, reset
 
 BATCH = 1000  # connections that are made at once
@@ -36,7 +36,7 @@ def begun(port):
 
 
 def await_connected(links):
-    poll, left, until = select.poll(), len(links), time.monotonic() + Scale.limit()
+    poll, left, until = select.poll(), len(links), time.monotonic() + LIMIT
     for link in links:
         poll.register(link, select.POLLOUT)
     while left and time.monotonic() < until:
@@ -75,7 +75,7 @@ class Crowd:
 
     def __exit__(self, *_):
         self.is_over = True
-        self.thread.join(Scale.limit())
+        self.thread.join(LIMIT)
         for member in self.members.values():
             member.link.close()
 
@@ -243,7 +243,7 @@ def reset_often(port, path, count):
     for way in itertools.islice(itertools.cycle(WAYS), count):
         with socket.socket() as link:
             link.setsockopt(socket.SOL_SOCKET, socket.SO_RCVBUF, SMALL)
-            link.settimeout(Scale.limit())
+            link.settimeout(LIMIT)
             link.connect((HOST, port))
             with contextlib.suppress(ConnectionError):
                 way(link, path)

@@ -10,6 +10,8 @@ import shutil
 import subprocess
 import sys
 
+import unproved as without_proof
+
 HERE = pathlib.Path(__file__).resolve().parent.parent
 
 Ran = collections.namedtuple("Ran", "status output faults requests octets")
@@ -42,12 +44,11 @@ class Options(argparse.ArgumentParser):
     def __init__(self, name, text):
         super().__init__(f"tools/{name}", description=text, formatter_class=argparse.RawDescriptionHelpFormatter)
 
-    def add_program(self, can_be_unproved=True):
+    def add_program(self):
         text = "the program hcache, in place of the proved one, which ./hcache builds"
         self.add_argument("--program", metavar="PATH", help=text)
-        if can_be_unproved:
-            text = "run the program that isn't proved, or say that the one of --program isn't, and so is slow"
-            self.add_argument("--unproved", action="store_true", help=text)
+        text = "run the program that isn't proved, which is built in some minutes"
+        self.add_argument("--unproved", action="store_true", help=text)
 
     def error(self, message):
         """Ends with the status that tells of words that nothing can be made of."""
@@ -79,7 +80,7 @@ def hcache_by(options):
     """The words by which hcache is run, by the options of `add_program`."""
     if options.program:
         os.environ["HCACHE"] = options.program
-    return hcache(getattr(options, "unproved", False))
+    return hcache(options.unproved)
 
 
 def hcache(is_unproved=False):
@@ -88,22 +89,25 @@ def hcache(is_unproved=False):
     if "HCACHE" in os.environ:
         need(os.environ["HCACHE"])
         return [os.path.abspath(shutil.which(os.environ["HCACHE"]))]
-    launcher = [HERE / "hcache", *["--unproved"] * is_unproved]
-    ran = subprocess.run([*launcher, "audit", HERE / "examples/first.hct"], stdout=subprocess.DEVNULL, check=False)
-    if ran.returncode:
+    if is_unproved:
+        return unproved()
+    # An audit would do with a program of its own.
+    words = [HERE / "hcache", "report", HERE / "examples/first.hct"]
+    if subprocess.run(words, stdout=subprocess.DEVNULL, check=False).returncode:
         print("hcache doesn't run", file=sys.stderr)
         sys.exit(70)
-    return unproved() if is_unproved else [HERE / "crates/hc_prog/out/hc_prog"]
+    return [HERE / "crates/hc_prog/out/hc_prog"]
 
 
-def unproved():
-    """The words by which the kept program is run that isn't proved: ./hcache has put down beside it how."""
+def unproved(name="hc_prog"):
+    """The words by which the program of a crate is run without a proof, once it is built."""
     try:
-        _, loader, libraries = (HERE / "out/unproved.how").read_text(encoding="utf-8").split("\n")[:3]
-    except (OSError, ValueError):
+        return without_proof.program_of(name)
+    except without_proof.CantKeep:
         print("this toolchain's program can't be kept", file=sys.stderr)
-        sys.exit(70)
-    return [loader, "--inhibit-cache", "--library-path", libraries, HERE / "out/unproved"]
+    except without_proof.CantBuild as fault:
+        print(fault, f"{name} can't be built", sep="\n", file=sys.stderr)
+    sys.exit(70)
 
 
 class Shim:
@@ -114,19 +118,18 @@ class Shim:
         source = HERE / "tools/refused_allocation.c"
         subprocess.run(["cc", "-O2", "-shared", "-fPIC", "-o", self.object, source], check=True)
 
-    def environment(self, which, hooks=None):
-        """The environment of a process whose request of that number is refused, none for 0. A program that was compiled
-        with AddressSanitizer has its table of hooks there."""
+    def environment(self, which):
+        """The environment of a process whose request of that number is refused, none for 0."""
         self.count.write_bytes(bytes(16))
         said = {"LD_PRELOAD": self.object, "REFUSED_REQUEST": str(which), "REFUSED_COUNT": self.count}
-        return {**os.environ, **said, **({"REFUSED_HOOKS": hooks} if hooks else {})}
+        return {**os.environ, **said}
 
     def counts(self):
         """How many requests there were, and for how many octets."""
         octets = self.count.read_bytes()
         return tuple(int.from_bytes(it, sys.byteorder) for it in (octets[:8], octets[8:]))
 
-    def run(self, which, *words, given=b"", hooks=None):
-        environment = self.environment(which, hooks)
+    def run(self, which, *words, given=b""):
+        environment = self.environment(which)
         ran = subprocess.run(words, input=given, capture_output=True, timeout=self.limit, env=environment, check=False)
         return Ran(ran.returncode, ran.stdout, ran.stderr, *self.counts())

@@ -14,7 +14,7 @@ import threading
 import time
 
 import programs
-from clients import Scale, Wrong, want
+from clients import LIMIT, Wrong, want
 from small_origin import HOST
 
 HCACHE = []  # the words by which it is run
@@ -57,7 +57,7 @@ class Proxy:
         self.ran = subprocess.Popen(self.words, **how)
         self.hears = threading.Thread(target=self.hear, daemon=True)
         self.hears.start()
-        self.is_told.wait(Scale.limit())
+        self.is_told.wait(LIMIT)
         found = [found for line in self.said if (found := LISTENING.fullmatch(line))]
         if not found:
             with contextlib.suppress(subprocess.TimeoutExpired):
@@ -79,7 +79,7 @@ class Proxy:
     def __exit__(self, *_):
         self.ran.kill()
         self.ran.wait()
-        self.hears.join(Scale.limit())
+        self.hears.join(LIMIT)
         self.ran.stdout.close()
         self.ran.stderr.close()
 
@@ -109,13 +109,13 @@ class Proxy:
 
     def ends_well(self, drain=DRAIN):
         """Ends with 0 within the time, and its recording is right. Answers what the audit says."""
-        begun, seconds = time.monotonic(), drain + LINGERS * Scale.patience
+        begun, seconds = time.monotonic(), drain + LINGERS
         try:
             status = self.ran.wait(seconds)
         except subprocess.TimeoutExpired:
             raise Wrong(f"an end within {seconds} seconds") from None
         self.took = time.monotonic() - begun
-        self.hears.join(Scale.limit())
+        self.hears.join(LIMIT)
         want(f"status 0: {status} {self.said}", status == 0)
         want("nothing on standard output", not self.ran.stdout.read())
         return audited(self.record) if self.record else ""

@@ -1,13 +1,10 @@
 /* Lets one request of a process for memory fail, put before a program by LD_PRELOAD. REFUSED_REQUEST says which, from 1
    on; 0 is none. REFUSED_COUNT names a file of sixteen octets, in which the requests and the octets that they ask for
-   are counted as they come, also where the process is killed. A program that was compiled with AddressSanitizer has a
-   malloc of its own, and a table of whom it tells of each request: REFUSED_HOOKS says where in the program that stands.
-   There requests are counted, and none fails. */
+   are counted as they come, also where the process is killed. */
 
 #define _GNU_SOURCE
 #include <errno.h>
 #include <fcntl.h>
-#include <link.h>
 #include <stddef.h>
 #include <stdint.h>
 #include <stdlib.h>
@@ -38,32 +35,6 @@ static int is_refused(size_t size)
     return 1;
 }
 
-struct hooks {
-    void (*granted)(const volatile void *place, size_t size);
-    void (*given_back)(const volatile void *place);
-};
-
-static void granted(const volatile void *place, size_t size)
-{
-    (void)place;
-    is_refused(size);
-}
-
-static void given_back(const volatile void *place)
-{
-    (void)place;
-}
-
-/* Enters this library into the table of the program, the first of what is loaded. */
-static int enter(struct dl_phdr_info *info, size_t size, void *offset)
-{
-    (void)size;
-    struct hooks *hooks = (struct hooks *)(info->dlpi_addr + *(uint64_t *)offset);
-    hooks->granted = granted;
-    hooks->given_back = given_back;
-    return 1;
-}
-
 __attribute__((constructor)) static void begin(void)
 {
     const char *which = getenv("REFUSED_REQUEST");
@@ -79,11 +50,6 @@ __attribute__((constructor)) static void begin(void)
         return;
     counts = place;
     refused = strtoull(which, NULL, 10);
-    const char *hooks = getenv("REFUSED_HOOKS");
-    if (hooks) {
-        uint64_t offset = strtoull(hooks, NULL, 16);
-        dl_iterate_phdr(enter, &offset);
-    }
 }
 
 void *malloc(size_t size)
