@@ -1,7 +1,6 @@
 //! An auditor that is fed a transcript, also behind a refusal.
 
-use crate::answers::{Next, Seen};
-use crate::trouble::Trouble;
+use crate::refusals_seen::{Next, Seen};
 use hc_audit::{Allowed, AuditFault, Auditor, FieldNames, Settings, UnmarkedReplies, Verdict};
 use hc_index::MapIndex;
 use std::alloc::Global;

@@ -1,7 +1,7 @@
 //! A store that finds no memory for what it is given.
 
-use crate::answers::Seen;
-use crate::messages::{MOMENT, forward, not_modified, stored, target};
+use crate::refusals_messages::{MOMENT, forward, not_modified, stored, target};
+use crate::refusals_seen::Seen;
 use crate::trouble::Trouble;
 use hc_store::{Put, Store};
 use std::alloc::Global;
