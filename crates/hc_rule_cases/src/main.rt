@@ -4,6 +4,7 @@
 //! It answers the cases of its list, each by one line.
 #![tactic(auto)]
 
+mod blocks;
 mod messages_describing;
 mod messages_faults;
 mod messages_heads;
@@ -26,6 +27,7 @@ mod rules_states;
 mod rules_storing;
 mod rules_updates;
 mod rules_writing;
+mod starts;
 
 use crate::messages_questions::OfMessage;
 use crate::messages_whole::Asked;

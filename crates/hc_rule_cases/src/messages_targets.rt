@@ -3,8 +3,10 @@ ghost use Rattle.std.specs.Prelude.{◌≡◌, Some, OnOk};
 ghost use Rattle.std.specs.BTreeMap.{get};
 ghost use Rattle.hc_head.specs.declared.head.Target.{Target};
 
+use crate::blocks::fields_of_lines;
 use crate::messages_describing::head_fault;
-use hc_cases::{Case, Unanswered, fields_of_lines, method_of, show, yes_or_no};
+use crate::starts::method_of;
+use hc_cases::{Case, Unanswered, show, yes_or_no};
 use hc_fields::Octets;
 use hc_head::{HeadFault, RequestHead, Target, Version};
 use std::alloc::{AllocError, AllocFailed, Global};

@@ -1,8 +1,10 @@
 //! Heads that are written.
 
+use crate::blocks::fields_of_lines;
 use crate::messages_parts::{length, room, version};
 use crate::messages_targets::head;
-use hc_cases::{Case, Unanswered, fields_of_lines, show, status_of, yes_or_no};
+use crate::starts::status_of;
+use hc_cases::{Case, Unanswered, show, yes_or_no};
 use hc_head::{ResponseHead, Version};
 use std::alloc::{AllocError, Global};
 use std::fmt::Write;

@@ -1,8 +1,9 @@
 //! Fields, by their names.
 
+use crate::blocks::fields_of_block;
 use crate::rules_describing::{bracketed, lines, optional};
 use crate::rules_questions::OfFields;
-use hc_cases::{Case, Unanswered, fields_of_block, yes_or_no};
+use hc_cases::{Case, Unanswered, yes_or_no};
 use hc_fields::{Field, Fields};
 use std::alloc::{AllocError, Global};
 use std::mem;

@@ -1,9 +1,10 @@
 //! Dates, ages and lifetimes.
 
+use crate::blocks::fields_of_block;
 use crate::rules_describing::lines;
 use crate::rules_parts::{moment, number, seconds};
 use crate::rules_questions::OfFreshness;
-use hc_cases::{Case, Unanswered, fields_of_block, show, yes_or_no};
+use hc_cases::{Case, Unanswered, show, yes_or_no};
 use hc_fields::Fields;
 use hc_fresh::{
     Times, age_value, current_age, date_stated, date_text, dated, explicit, fresh, lifetime,

@@ -1,8 +1,9 @@
 //! Lists, numbers, tokens and the directives of Cache-Control.
 
+use crate::blocks::fields_of_block;
 use crate::rules_describing::bracketed;
 use crate::rules_questions::OfLists;
-use hc_cases::{Case, Unanswered, fields_of_block, yes_or_no};
+use hc_cases::{Case, Unanswered, yes_or_no};
 use hc_directives::{Directives, Seconds};
 use hc_fields::{Fields, SharedOctets, decimal, is_among, is_token, list_members, number};
 use std::alloc::{AllocError, Global};

@@ -1,8 +1,10 @@
 //! Storing, selecting and validating.
 
+use crate::blocks::fields_of_block;
 use crate::rules_describing::optional;
 use crate::rules_questions::OfRules;
-use hc_cases::{Case, Unanswered, fields_of_block, method_of, status_of, yes_or_no};
+use crate::starts::{method_of, status_of};
+use hc_cases::{Case, Unanswered, yes_or_no};
 use hc_fields::{Fields, Octets};
 use hc_head::{RequestHead, ResponseHead, StatusCode, Version};
 use hc_rules::{

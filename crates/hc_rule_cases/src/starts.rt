@@ -1,9 +1,9 @@
 //! Methods and statuses in cases.
 
-use crate::asking::Unanswered;
+use hc_cases::Unanswered;
 use hc_fields::decimal;
+use hc_head::{Method, StatusCode};
 use http::method::MethodError;
-use http::{Method, StatusCode};
 use std::alloc::Global;
 
 /// The method that a part is.
