@@ -3,12 +3,14 @@ counted and refused."""
 
 import argparse
 import collections
+import importlib.machinery
 import os
 import pathlib
 import resource
 import shutil
 import subprocess
 import sys
+import types
 
 import unproved as without_proof
 
@@ -36,6 +38,32 @@ def need(*commands):
         if not shutil.which(command):
             print(f"needs {command} in PATH", file=sys.stderr)
             sys.exit(70)
+
+
+def toolchain(name):
+    """A module of the toolchain's own, which lies beside `rt`."""
+    file = pathlib.Path(shutil.which("rt")).resolve().parent / name
+    if not file.is_file():
+        print(f"the toolchain has no {file}", file=sys.stderr)
+        sys.exit(70)
+    found = types.ModuleType(file.stem)
+    found.__file__ = str(file)
+    sys.dont_write_bytecode = True
+    importlib.machinery.SourceFileLoader(file.stem, found.__file__).exec_module(found)
+    return found
+
+
+def crate_here(rt):
+    """The crate of this folder, over libraries of statements; `rt` is a module of the toolchain's. It ends where one of
+    the libraries lacks."""
+    here = os.getcwd()
+    crate = rt.Crate(here, rt.root_above(here) or here, {})
+    lacking = [below.name for below in crate.below() if not os.path.isdir(below.rlib)]
+    if lacking:
+        print(f"run `rt ci` first: no library of {', '.join(lacking)}", file=sys.stderr)
+        sys.exit(70)
+    os.makedirs("out", exist_ok=True)
+    return crate
 
 
 class Options(argparse.ArgumentParser):

@@ -2,7 +2,7 @@
 use Rattle.std.specs.Prelude.{ℕ, List, [], ◌∷◌, Option, Some, None, if◌then◌else◌, codes}
 use Rattle.std.specs.Str.{bytes_eq}
 use Rattle.hc_bench.specs.declared.command.Task.{Task}
-use Rattle.hc_bench.specs.declared.command.Task.TheVariants.{Count, Measure, Audit, AuditLong, Transcript, Store, Hits, Report, Idle}
+use Rattle.hc_bench.specs.declared.command.Task.TheVariants.{Count, Measure, Audit, AuditLong, Transcript, Store, Hits, Report, Idle, Refusals}
 
 -- what a word asks for, if it is a known one
 abbrev pub task_of : List ℕ → Option Task
@@ -14,7 +14,8 @@ task_of word =
     else (if bytes_eq word (codes "store") then Some Store
     else (if bytes_eq word (codes "hits") then Some Hits
     else (if bytes_eq word (codes "report") then Some Report
-    else (if bytes_eq word (codes "idle") then Some Idle else None)))))))
+    else (if bytes_eq word (codes "idle") then Some Idle
+    else (if bytes_eq word (codes "refusals") then Some Refusals else None))))))))
 
 -- what the words ask for, of which the first is the program's name
 abbrev pub asked : List (List ℕ) → Option Task

@@ -6,7 +6,7 @@ use crate::way::Way;
 use hc_events::{Event, Happening};
 use hc_fields::Octets;
 use hc_machine::Core;
-use hc_service::{Action, CoreSettings};
+use hc_service::{Action, CoreSettings, StepFault};
 use std::alloc::{AllocError, Global};
 use std::hash::BuildHasherDefault;
 
@@ -70,5 +70,13 @@ fn response(alloc: Global, size: Size, way: Way) -> Result<Octets, AllocError> {
 
 /// Hands the cache what happens, and answers what it does.
 pub fn happen(core: &mut Core, of: Happening) -> Result<Vec<Action>, Trouble> {
-    Ok(core.step(Event { moment: MOMENT, of })?)
+    match step(core, MOMENT, of) {
+        Ok(actions) => Ok(actions),
+        Err(fault) => Err(Trouble::from(fault)),
+    }
+}
+
+/// Hands the cache what happens at that moment, and answers what it does.
+pub fn step(core: &mut Core, moment: u64, of: Happening) -> Result<Vec<Action>, StepFault> {
+    core.step(Event { moment, of })
 }

@@ -25,11 +25,13 @@ pub enum Task {
     Report,
     /// To measure how much memory idle connections take.
     Idle,
+    /// To say what is answered behind a refusal of memory.
+    Refusals,
 }
 
 /// How the program is called.
 pub const USAGE: &str =
-    "usage: hc_bench [measure|audit|audit-long|transcript|store|hits|report|idle]\n";
+    "usage: hc_bench [measure|audit|audit-long|transcript|store|hits|report|idle|refusals]\n";
 
 /// What the word asks for, if it is a known one.
 fn task_of(word: &str) -> Option<Task>
@@ -51,6 +53,8 @@ fn task_of(word: &str) -> Option<Task>
         Some(Task::Report)
     } else if word == "idle" {
         Some(Task::Idle)
+    } else if word == "refusals" {
+        Some(Task::Refusals)
     } else {
         None
     }

@@ -9,6 +9,7 @@ use crate::hits::hits;
 use crate::idle::idle;
 use crate::measures::measure;
 use crate::print::printed;
+use crate::refusals::refusals;
 use crate::reports::report;
 use crate::samples::sample;
 use crate::stores::store;
@@ -59,6 +60,7 @@ where
         Some(Task::Hits) => hits(rt.alloc(), rt, output),
         Some(Task::Report) => report(rt.alloc(), rt, output),
         Some(Task::Idle) => idle(rt, output),
+        Some(Task::Refusals) => refusals(rt.alloc(), output),
         None => return refused(faults),
     };
     match done {

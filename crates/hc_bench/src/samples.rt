@@ -6,6 +6,7 @@ use crate::counts::count;
 use crate::hits::count_hits;
 use crate::measures::{Pair, compare};
 use crate::messages::long_request;
+use crate::refusals::refusals;
 use crate::stores::store_sized;
 use crate::trouble::Trouble;
 use hc_framing::Kind;
@@ -51,7 +52,8 @@ impl Clock for Ticks {
 }
 
 /// Counts calls, then measures short messages, a short transcript and a small store, each in a
-/// microsecond, so that what is said is always the same, and counts hits and what waits for another.
+/// microsecond, so that what is said is always the same, counts hits and what waits for another, and says what is
+/// answered where no memory is refused.
 pub fn sample<W: Write>(alloc: Global, output: &mut W) -> Result<(), Trouble> {
     let clock = Ticks {
         microseconds: Cell::new(0),
@@ -62,7 +64,8 @@ pub fn sample<W: Write>(alloc: Global, output: &mut W) -> Result<(), Trouble> {
     audit_sample(alloc, &clock, &FEW_RECORDS_WITH_CAUSES, output)?;
     store_sized(alloc, &clock, 3, 2, 20, output)?;
     count_hits(alloc, output)?;
-    count_bursts(alloc, output)
+    count_bursts(alloc, output)?;
+    refusals(alloc, output)
 }
 
 // Two requests of 73 octets, and one of 146.

@@ -6,22 +6,16 @@
 
 mod answers;
 mod asking;
-mod blocks;
 mod escapes;
-mod folders;
 mod list;
 mod print;
 mod questions;
 mod showing;
-mod starts;
 mod words;
 
 pub use answers::{answer_all, status};
 pub use asking::{Ask, Case, Unanswered};
-pub use blocks::{fields_of_block, fields_of_lines};
 pub use escapes::unescaped;
-pub use folders::{Compare, octets_in, status_with_folder};
 pub use questions::question_of;
 pub use showing::{show, show_line, show_named, show_short, yes_or_no};
-pub use starts::{method_of, status_of};
 pub use words::octets_of;

@@ -23,17 +23,19 @@ pub fn octets_of<R: Files + AllocGlobal>(rt: &R, part: &str) -> Result<Vec<u8>, 
 // further one.
 fn repeated<R: AllocGlobal>(rt: &R, recipe: &str) -> Result<Vec<u8>, Unanswered> {
     let pieces: Vec<&str> = recipe.split(':').collect(rt.alloc())?;
-    let Some((count, rest)) = pieces.as_slice().split_first() else {
-        return Err(Unanswered::Unknown);
-    };
-    let Some((text, others)) = rest.split_first() else {
+    octets_by(rt.alloc(), pieces.as_slice())
+}
+
+// The octets of the pieces of a recipe.
+fn octets_by(alloc: Global, pieces: &[&str]) -> Result<Vec<u8>, Unanswered> {
+    let [count, text, others @ ..] = pieces else {
         return Err(Unanswered::Unknown);
     };
     let Ok(count) = count.parse::<u32>() else {
         return Err(Unanswered::Unknown);
     };
-    let mut octets = Vec::new(rt.alloc());
-    append_recipe(rt.alloc(), &mut octets, count, text, others)?;
+    let mut octets = Vec::new(alloc);
+    append_recipe(alloc, &mut octets, count, text, others)?;
     Ok(octets)
 }
 
@@ -45,14 +47,24 @@ fn append_recipe(
     others: &[&str],
 ) -> Result<(), Unanswered> {
     let once = unescaped(alloc, text.as_bytes())?;
+    append_around(alloc, octets, once.as_slice(), count, others)
+}
+
+fn append_around(
+    alloc: Global,
+    octets: &mut Vec<u8>,
+    once: &[u8],
+    count: u32,
+    others: &[&str],
+) -> Result<(), Unanswered> {
     let Some((before, behind)) = others.split_first() else {
-        return Ok(append_times(octets, once.as_slice(), count)?);
+        return Ok(append_times(octets, once, count)?);
     };
     append_unescaped(alloc, octets, before)?;
-    append_times(octets, once.as_slice(), count)?;
+    append_times(octets, once, count)?;
     for (place, text) in behind.iter().enumerate() {
         if place > 0 {
-            append_times(octets, once.as_slice(), count)?;
+            append_times(octets, once, count)?;
         }
         append_unescaped(alloc, octets, text)?;
     }

@@ -1,29 +1,43 @@
-//! The cases of the program: what it answers to words, what it makes of scripts, and where what it reads or writes fails,
-//! of those that `cases.txt` lists, a line a case; or what comes of the scripts of a folder, where one is named: a line for
-//! each of which something else comes than is wanted, and how many come out as wanted.
+//! The cases of the program: what it answers to words, what it makes of scripts, where what it reads or writes fails, and
+//! what it and others say of transcripts, of those that `cases.txt` lists, a line a case.
 #![tactic(auto)]
 
-mod answers;
-mod burst;
-mod devices;
-mod folder;
-mod fronts;
-mod names;
-mod orders;
-mod played;
-mod scripts;
-mod steps;
-mod tasks;
-mod words;
+mod commands_answers;
+mod commands_burst;
+mod commands_devices;
+mod commands_fronts;
+mod commands_names;
+mod commands_orders;
+mod commands_played;
+mod commands_scripts;
+mod commands_steps;
+mod commands_tasks;
+mod commands_words;
+mod verdicts_answers;
+mod verdicts_changes;
+mod verdicts_converting;
+mod verdicts_lines;
+mod verdicts_marking;
+mod verdicts_names;
+mod verdicts_others;
+mod verdicts_pieces;
+mod verdicts_program;
+mod verdicts_reading;
+mod verdicts_records;
+mod verdicts_reports;
+mod verdicts_runs;
+mod verdicts_shown;
+mod verdicts_surveys;
+mod verdicts_tellers;
+mod verdicts_words;
+mod verdicts_writing;
+mod written;
 
-use crate::answers::Commands;
-use crate::folder::Replays;
-use hc_cases::status_with_folder;
+use crate::commands_answers::Commands;
+use hc_cases::status;
 use std::process::ExitCode;
 
 fn main(rt: HostRuntime) -> ExitCode {
-    let (mut output, mut faults) = (rt.stdout(), rt.stderr());
     let asked = Commands { system: &rt };
-    let status = status_with_folder(&rt, &asked, &Replays, &mut output, &mut faults);
-    ExitCode::from(status)
+    ExitCode::from(status(&rt, &asked, &mut rt.stdout(), &mut rt.stderr()))
 }

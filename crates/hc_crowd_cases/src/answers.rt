@@ -4,7 +4,7 @@ use crate::comparing::{Judged, compare};
 use crate::playing::perform;
 use crate::telling::{Told, say_played};
 use hc_cases::{Ask, Case, Unanswered, unescaped};
-use hc_crowd_scripts::{Script, script_in, script_of};
+use hc_crowd_world::{Script, script_in, script_of};
 use hc_fields::decimal;
 use std::alloc::{AllocError, Global};
 use std::fmt::Write;

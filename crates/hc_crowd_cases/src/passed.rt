@@ -2,7 +2,7 @@
 
 use crate::by_link::ByLink;
 use hc_core::{Action, StepResult};
-use hc_crowd_scripts::has_within;
+use hc_crowd_world::has_within;
 use hc_events::{Event, Happening};
 use hc_framing::MessageText;
 use hc_order::Receiver;

@@ -1,7 +1,12 @@
 //! What the origin does.
 
+use crate::cues::Cues;
+use crate::deeds::{Act, Deed};
+use crate::dice::Dice;
 use crate::play::{Play, key_of};
-use hc_crowd_scripts::{ALL, Act, Cues, Deed, Dice, Line, Origin, has_within, say_in_pieces};
+use crate::schedules::say_in_pieces;
+use crate::script::{ALL, Line, Origin};
+use crate::within::has_within;
 use hc_order::Receiver;
 use std::alloc::{AllocError, Global};
 use std::fmt::Write;

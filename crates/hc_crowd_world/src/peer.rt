@@ -4,8 +4,8 @@ ghost use Rattle.hc_flow.specs.Reads.{FitsBuffer};
 ghost use Rattle.hc_crowd_world.specs.Taking.{FitsText};
 ghost use Rattle.std.specs.Prelude.{◌++◌, ◌≤◌, ℕ, List, length};
 
+use crate::deeds::Act;
 use crate::standing::Standing;
-use hc_crowd_scripts::Act;
 use hc_flow::{Arrival, Presence, Readiness, Uptake};
 use std::alloc::{AllocError, Global};
 

@@ -4,11 +4,12 @@ ghost use Rattle.hc_flow.specs.Reads.{FitsBuffer};
 ghost use Rattle.hc_crowd_world.specs.Taking.{FitsText};
 ghost use Rattle.std.specs.Prelude.{◌++◌};
 
+use crate::deeds::{Act, Deed};
 use crate::peer::Peer;
+use crate::script::Script;
 use crate::standing::Standing;
 use crate::tally::Tally;
 use hc_crowd::Ready;
-use hc_crowd_scripts::{Act, Deed, Script};
 use hc_flow::{Arrival, Uptake};
 use hc_order::Receiver;
 use std::alloc::{AllocError, Global};

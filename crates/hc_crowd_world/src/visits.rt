@@ -1,8 +1,8 @@
 //! Those who connect: each is a guest, and then a client of the cache, or is turned away.
 
+use crate::deeds::{Act, Deed};
 use crate::play::{Play, key_of};
 use crate::standing::Standing;
-use hc_crowd_scripts::{Act, Deed};
 use hc_flow::Presence;
 use hc_order::Receiver;
 use std::alloc::AllocError;

@@ -8,7 +8,7 @@ use hc_connection::{Link, LinkFailure};
 use std::alloc::Global;
 
 /// Octets that are given out, and how many were.
-#[derive(Drop)]
+#[derive(Clone, Copy)]
 pub(crate) struct Source<'a> {
     octets: &'a [u8],
     at: usize,
@@ -42,7 +42,6 @@ impl<'a> Source<'a> {
 }
 
 /// A link that gives octets and then ends, keeps what it gets, and fails where its notebook says so.
-#[derive(Drop)]
 pub(crate) struct Memory<'a> {
     source: Source<'a>,
     got: Vec<u8>,
@@ -52,6 +51,21 @@ pub(crate) struct Memory<'a> {
     most: usize,
     device: Device,
     notebook: &'a Notebook,
+}
+
+impl<'a> Drop for Memory<'a> {
+    fn drop(self) {
+        let Memory {
+            source: _,
+            got,
+            reads: _,
+            failures: _,
+            most: _,
+            device: _,
+            notebook: _,
+        } = self;
+        drop(got);
+    }
 }
 
 impl<'a> Memory<'a> {

@@ -42,7 +42,6 @@ pub(crate) struct Fault {
 }
 
 /// A notebook that links share. Where memory is refused, something is missing in it.
-#[derive(Drop)]
 pub(crate) struct Notebook {
     fault: Option<Fault>,
     /// How many calls of the fault's device there were.
@@ -54,6 +53,21 @@ pub(crate) struct Notebook {
     notes: RefCell<String>,
     /// What was written to origins, all forwards one behind another.
     forwards: RefCell<Vec<u8>>,
+}
+
+impl Drop for Notebook {
+    fn drop(self) {
+        let Notebook {
+            fault: _,
+            calls: _,
+            silent: _,
+            reads: _,
+            notes,
+            forwards,
+        } = self;
+        drop(notes);
+        drop(forwards);
+    }
 }
 
 impl Notebook {
@@ -144,7 +158,15 @@ impl Notebook {
 
     /// All notes, the oldest first, and what was written to origins.
     pub(crate) fn contents(self) -> (String, Vec<u8>) {
-        (self.notes.into_inner(), self.forwards.into_inner())
+        let Notebook {
+            fault: _,
+            calls: _,
+            silent: _,
+            reads: _,
+            notes,
+            forwards,
+        } = self;
+        (notes.into_inner(), forwards.into_inner())
     }
 }
 

@@ -15,7 +15,6 @@ use hc_transcript::Format;
 use std::alloc::Global;
 
 /// What came of a connection.
-#[derive(Drop)]
 pub(crate) struct Served {
     pub(crate) result: Result<(), DriveFault>,
     /// Whether the cache is idle then.
@@ -28,8 +27,21 @@ pub(crate) struct Served {
     pub(crate) recording: Vec<u8>,
 }
 
+impl Drop for Served {
+    fn drop(self) {
+        let Served {
+            result: _,
+            idle: _,
+            read: _,
+            reply,
+            recording,
+        } = self;
+        drop(reply);
+        drop(recording);
+    }
+}
+
 /// The same, and what its notebook has.
-#[derive(Drop)]
 pub(crate) struct Outcome {
     pub(crate) served: Served,
     /// Whether the call that was to fail was made.
@@ -44,6 +56,22 @@ pub(crate) struct Outcome {
     pub(crate) forwards: Vec<u8>,
 }
 
+impl Drop for Outcome {
+    fn drop(self) {
+        let Outcome {
+            served,
+            failed: _,
+            silent: _,
+            reads: _,
+            notes,
+            forwards,
+        } = self;
+        drop(served);
+        drop(notes);
+        drop(forwards);
+    }
+}
+
 /// Serves the scene's connection to a new cache. That call fails, if one is named.
 pub(crate) fn run(
     alloc: Global,
@@ -56,8 +84,10 @@ pub(crate) fn run(
         scene,
         notebook: &notebook,
     };
-    let served = serve(alloc, scene, &notebook, &site)?;
-    Ok(outcome_of(served, notebook))
+    match serve(alloc, scene, &notebook, &site) {
+        Ok(served) => Ok(outcome_of(served, notebook)),
+        Err(why) => Err(why),
+    }
 }
 
 /// The same, where no call fails, origins give one octet a read, and nothing of their links is noted.
@@ -68,8 +98,10 @@ pub(crate) fn run_by_octets(alloc: Global, scene: &Scene<'_>) -> Result<Outcome,
         scene,
         notebook: &notebook,
     };
-    let served = serve(alloc, scene, &notebook, &Trickle { site })?;
-    Ok(outcome_of(served, notebook))
+    match serve(alloc, scene, &notebook, &Trickle { site }) {
+        Ok(served) => Ok(outcome_of(served, notebook)),
+        Err(why) => Err(why),
+    }
 }
 
 fn outcome_of(served: Served, notebook: Notebook) -> Outcome {
@@ -121,15 +153,16 @@ fn seen_at_links(
     client: &Memory<'_>,
     recorder: &Memory<'_>,
 ) -> Result<Served, Unanswered> {
-    let reply = Vec::from_slice(alloc, client.got())?;
-    let recording = Vec::from_slice(alloc, recorder.got())?;
-    Ok(Served {
+    let mut served = Served {
         result: answer,
         idle,
         read: client.given(),
-        reply,
-        recording,
-    })
+        reply: Vec::new(alloc),
+        recording: Vec::new(alloc),
+    };
+    served.reply.extend_from_slice(client.got())?;
+    served.recording.extend_from_slice(recorder.got())?;
+    Ok(served)
 }
 
 /// The verdict of an audit that lets nothing pass on what was recorded.

@@ -124,7 +124,7 @@ impl<'a> Scene<'a> {
 }
 
 /// Origins in memory, which have an answer for each forward, in order.
-#[derive(Drop)]
+#[derive(Clone, Copy)]
 pub(crate) struct Site<'a> {
     pub(crate) alloc: Global,
     pub(crate) scene: &'a Scene<'a>,
@@ -155,7 +155,7 @@ impl<'a> Origins for Site<'a> {
 }
 
 /// The same origins, which give one octet a read. Nothing of their links is noted.
-#[derive(Drop)]
+#[derive(Clone, Copy)]
 pub(crate) struct Trickle<'a> {
     pub(crate) site: Site<'a>,
 }

@@ -14,7 +14,7 @@ use hc_sockets::{Claim, ServeFault, Service, serve};
 use hc_transcript::Format;
 use std::alloc::{AllocError, Global};
 use std::io::Write;
-use std::net::{Net, OpenListener, SocketAddr, TcpListener};
+use std::net::{Net, TcpListener};
 use std::random::RandomSource;
 use std::rt::Files;
 use std::{fs, io};
@@ -85,22 +85,39 @@ where
     R::File: Claim,
 {
     let play = Play::of(about)?;
-    let (origin, address) = listener(system)?;
-    let address = format!(in alloc; "{address}")?;
-    let held = before(system, alloc, play.file, manner)?;
+    let origin = TcpListener::bind(system, "127.0.0.1:0")?;
     let staged = Staged::new(system, alloc, manner, origin, play.clients, play.answers);
-    let settings = settings_by(alloc, manner)?;
-    let answer = serve(&staged, play.service(address.as_str()), settings);
-    drop(held);
-    out.push_str(word_of(answer))?;
-    say_left(staged, play.file, out)
+    out.push_str(served_beside(system, &staged, &play, manner)?)?;
+    say_left(alloc, &staged, play.file, out)
 }
 
-/// A listener at a port that the system picks, and its address.
-fn listener<R: Net>(net: &R) -> io::Result<(R::Listener, SocketAddr)> {
-    let listener = TcpListener::bind(net, "127.0.0.1:0")?;
-    let address = listener.local_addr()?;
-    Ok((listener, address))
+/// A word for what `serve` answers over what is set up, with the file as it stands there before.
+fn served_beside<R: Net + Files + RandomSource>(
+    system: &R,
+    staged: &Staged<'_, R>,
+    play: &Play<'_>,
+    manner: Manner,
+) -> Result<&'static str, Unanswered>
+where
+    R::File: Claim,
+{
+    let held = before(system, staged.alloc, play.file, manner)?;
+    let word = served(staged, play, manner);
+    drop(held);
+    Ok(word?)
+}
+
+fn served<R: Net + Files + RandomSource>(
+    staged: &Staged<'_, R>,
+    play: &Play<'_>,
+    manner: Manner,
+) -> io::Result<&'static str>
+where
+    R::File: Claim,
+{
+    let address = staged.origin_address()?;
+    let settings = settings_by(staged.alloc, manner)?;
+    Ok(word_of(serve(staged, play.service(address.as_str()), settings)))
 }
 
 /// Makes the file that stands there before, if one does, and answers it where another program holds it.
@@ -125,18 +142,20 @@ where
 
 /// Writes what clients are replied, what the origin is sent, and the verdict on the file, which is removed.
 fn say_left<R: Net + Files>(
-    staged: Staged<'_, R>,
+    alloc: Global,
+    staged: &Staged<'_, R>,
     file: &str,
     out: &mut String,
 ) -> Result<(), Unanswered> {
-    let alloc = staged.alloc;
-    let recorded = fs::read(&staged, file);
-    let _ = fs::remove_file(&staged, file);
-    let (early, connected, forwards) = staged.contents();
-    out.push_str(early.as_str())?;
-    say_streams(alloc, "reply", connected, out)?;
-    say_streams(alloc, "forward", forwards, out)?;
-    say_file(alloc, recorded, out)
+    staged.say_early(out)?;
+    say_streams(alloc, "reply", staged.connected()?, out)?;
+    say_streams(alloc, "forward", staged.forwards()?, out)?;
+    let recorded = fs::read(staged, file);
+    let _ = fs::remove_file(staged, file);
+    match recorded {
+        Ok(octets) => say_file(alloc, octets.as_slice(), out),
+        Err(_) => Ok(out.push_str("; no file")?),
+    }
 }
 
 /// What the cache is.
@@ -182,13 +201,9 @@ fn word_of(answer: Result<(), ServeFault>) -> &'static str {
     }
 }
 
-/// Writes the verdict on what was recorded to the file, if there is one.
-fn say_file(alloc: Global, file: io::Result<Vec<u8>>, out: &mut String) -> Result<(), Unanswered> {
-    let Ok(file) = file else {
-        out.push_str("; no file")?;
-        return Ok(());
-    };
-    let Some(recording) = file.as_slice().strip_prefix(Format::Second.opening()) else {
+/// Writes the verdict on what was recorded to the file.
+fn say_file(alloc: Global, file: &[u8], out: &mut String) -> Result<(), Unanswered> {
+    let Some(recording) = file.strip_prefix(Format::Second.opening()) else {
         out.push_str("; no opening")?;
         return Ok(());
     };

@@ -41,7 +41,6 @@ pub(crate) enum Manner {
 }
 
 /// What a case sets up.
-#[derive(Drop)]
 pub(crate) struct Staged<'a, R: Net> {
     system: &'a R,
     pub(crate) alloc: Global,
@@ -59,6 +58,27 @@ pub(crate) struct Staged<'a, R: Net> {
     early: RefCell<String>,
     /// The origin's sides of forwards.
     forwards: RefCell<Vec<R::Stream>>,
+}
+
+impl<'a, R: Net> Drop for Staged<'a, R> {
+    fn drop(self) {
+        let Staged {
+            system: _,
+            alloc: _,
+            clients: _,
+            manner: _,
+            answers: _,
+            origin,
+            tried: _,
+            connected,
+            early,
+            forwards,
+        } = self;
+        drop(origin);
+        drop(connected);
+        drop(early);
+        drop(forwards);
+    }
 }
 
 impl<'a, R: Net> Staged<'a, R> {
@@ -85,14 +105,26 @@ impl<'a, R: Net> Staged<'a, R> {
         }
     }
 
-    /// What clients read before the last answer, the clients' sides of their connections, and the origin's sides of
-    /// forwards.
-    pub(crate) fn contents(self) -> (String, Vec<R::Stream>, Vec<R::Stream>) {
-        (
-            self.early.into_inner(),
-            self.connected.into_inner(),
-            self.forwards.into_inner(),
-        )
+    /// The address at which the origin listens, as text.
+    pub(crate) fn origin_address(&self) -> io::Result<String> {
+        let address = self.origin.local_addr()?;
+        Ok(format!(in self.alloc; "{address}")?)
+    }
+
+    /// Writes what clients read before the last answer.
+    pub(crate) fn say_early(&self, out: &mut String) -> io::Result<()> {
+        out.push_str(self.early.try_borrow()?.as_str())?;
+        Ok(())
+    }
+
+    /// The clients' sides of their connections, which it gives out.
+    pub(crate) fn connected(&self) -> io::Result<Vec<R::Stream>> {
+        taken(self.alloc, &self.connected)
+    }
+
+    /// The origin's sides of forwards, which it gives out.
+    pub(crate) fn forwards(&self) -> io::Result<Vec<R::Stream>> {
+        taken(self.alloc, &self.forwards)
     }
 
     /// The moment, in seconds since 1970.
@@ -128,7 +160,7 @@ impl<'a, R: Net> Staged<'a, R> {
 
     /// Lets clients read what they are replied, and then go.
     fn hear(&self) -> io::Result<()> {
-        let streams = mem::replace(&mut *self.connected.try_borrow_mut()?, Vec::new(self.alloc));
+        let streams = self.connected()?;
         let mut early = self.early.try_borrow_mut()?;
         match say_streams(
             self.alloc,
@@ -152,6 +184,11 @@ impl<'a, R: Net> Staged<'a, R> {
         self.tried.set(place.saturating_add(1));
         answer_at(self.answers, place)
     }
+}
+
+/// The streams that are kept, of which none is left.
+fn taken<S: Drop>(alloc: Global, kept: &RefCell<Vec<S>>) -> io::Result<Vec<S>> {
+    Ok(mem::replace(&mut *kept.try_borrow_mut()?, Vec::new(alloc)))
 }
 
 /// Keeps a stream behind the others.

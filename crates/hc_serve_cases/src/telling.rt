@@ -19,10 +19,14 @@ pub(crate) fn say_order(
     fault: Option<Fault>,
     out: &mut String,
 ) -> Result<(), Unanswered> {
-    let run = run(alloc, scene, fault)?;
+    say_notes(alloc, &run(alloc, scene, fault)?, out)
+}
+
+/// Writes the notes of a run, and how it ended.
+fn say_notes(alloc: Global, run: &Outcome, out: &mut String) -> Result<(), Unanswered> {
     out.push_str(run.notes.as_str())?;
     out.push_str("; ")?;
-    say_end(alloc, &run, out)
+    say_end(alloc, run, out)
 }
 
 /// Writes how many octets of the client are read, and how it ended.
@@ -31,10 +35,13 @@ pub(crate) fn say_read(
     scene: &Scene<'_>,
     out: &mut String,
 ) -> Result<(), Unanswered> {
-    let run = run(alloc, scene, None)?;
+    say_octets_read(alloc, &run(alloc, scene, None)?, out)
+}
+
+fn say_octets_read(alloc: Global, run: &Outcome, out: &mut String) -> Result<(), Unanswered> {
     let read = run.served.read;
     write!(out, "{read} octets read; ")?;
-    say_end(alloc, &run, out)
+    say_end(alloc, run, out)
 }
 
 /// Writes the calls at the links of the client and the recorder, how many reads there were at all links, and how it
@@ -44,11 +51,14 @@ pub(crate) fn say_reads(
     scene: &Scene<'_>,
     out: &mut String,
 ) -> Result<(), Unanswered> {
-    let run = run_by_octets(alloc, scene)?;
+    say_all_reads(alloc, &run_by_octets(alloc, scene)?, out)
+}
+
+fn say_all_reads(alloc: Global, run: &Outcome, out: &mut String) -> Result<(), Unanswered> {
     out.push_str(run.notes.as_str())?;
     let reads = run.reads;
     write!(out, "; {reads} reads; ")?;
-    say_end(alloc, &run, out)
+    say_end(alloc, run, out)
 }
 
 /// Lets the first call of the device's links fail, then the second, and so on until none does, and writes how each of
@@ -61,18 +71,43 @@ pub(crate) fn say_failures(
 ) -> Result<(), Unanswered> {
     let whole = run(alloc, scene, None)?;
     for call in 1..=MOST_CALLS {
-        let run = run(alloc, scene, Some(Fault { device, call }))?;
-        if !run.failed {
+        let fault = Fault { device, call };
+        if !fails(alloc, scene, fault, whole.served.recording.as_slice(), out)? {
             break;
         }
-        if call > 1 {
-            out.push_str("; ")?;
-        }
-        write!(out, "{call}: ")?;
-        say_failed(&run, whole.served.recording.as_slice(), out)?;
-        say_end(alloc, &run, out)?;
     }
     Ok(())
+}
+
+/// Lets that call fail, writes how that ended, beside what is recorded where none fails, and answers whether there is
+/// that call.
+fn fails(
+    alloc: Global,
+    scene: &Scene<'_>,
+    fault: Fault,
+    whole: &[u8],
+    out: &mut String,
+) -> Result<bool, Unanswered> {
+    let run = run(alloc, scene, Some(fault))?;
+    if run.failed {
+        say_failure(alloc, &run, fault.call, whole, out)?;
+    }
+    Ok(run.failed)
+}
+
+fn say_failure(
+    alloc: Global,
+    run: &Outcome,
+    call: u64,
+    whole: &[u8],
+    out: &mut String,
+) -> Result<(), Unanswered> {
+    if call > 1 {
+        out.push_str("; ")?;
+    }
+    write!(out, "{call}: ")?;
+    say_failed(run, whole, out)?;
+    say_end(alloc, run, out)
 }
 
 /// Writes what stands behind a call that failed, and how much was recorded, beside what is where none fails.
@@ -136,19 +171,28 @@ pub(crate) fn say_octets(
     out: &mut String,
 ) -> Result<(), Unanswered> {
     let whole = run(alloc, scene, None)?;
-    let split = run(alloc, &Scene { most: 1, ..*scene }, None)?;
-    let pairs = [
-        ("reply", &whole.served.reply, &split.served.reply),
-        ("forwards", &whole.forwards, &split.forwards),
-        (
-            "recording",
-            &whole.served.recording,
-            &split.served.recording,
-        ),
-    ];
-    for (what, one, other) in pairs {
-        say_same(what, one.as_slice(), other.as_slice(), out)?;
-    }
+    say_split(
+        &whole,
+        &run(alloc, &Scene { most: 1, ..*scene }, None)?,
+        out,
+    )
+}
+
+fn say_split(whole: &Outcome, split: &Outcome, out: &mut String) -> Result<(), Unanswered> {
+    let (one, other) = (&whole.served, &split.served);
+    say_same("reply", one.reply.as_slice(), other.reply.as_slice(), out)?;
+    say_same(
+        "forwards",
+        whole.forwards.as_slice(),
+        split.forwards.as_slice(),
+        out,
+    )?;
+    say_same(
+        "recording",
+        one.recording.as_slice(),
+        other.recording.as_slice(),
+        out,
+    )?;
     Ok(())
 }
 

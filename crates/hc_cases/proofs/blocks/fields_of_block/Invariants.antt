@@ -1,5 +1,0 @@
-use Rattle.std.proofs.Common.{length}
-use Rattle.hc_cases.proofs.blocks.fields_of_block.Given as goal
-
-abbrev pub decreases-lines : goal.decreases-lines
-decreases-lines l = length l.rest

@@ -1,0 +1,99 @@
+//! Words, and what the program answers to them.
+
+use crate::written::Written;
+use hc_cases::Unanswered;
+use hc_command::answered;
+use hc_sockets::Claim;
+use std::alloc::Global;
+use std::net::Net;
+use std::random::RandomSource;
+use std::rt::Files;
+use std::time::Clock;
+
+/// The words that the parts of a case are, behind the program's name.
+pub(crate) fn words_of(alloc: Global, parts: &[Vec<u8>]) -> Result<Vec<&str>, Unanswered> {
+    let mut words = Vec::new(alloc);
+    words.push("hcache")?;
+    push_words(parts, &mut words)?;
+    Ok(words)
+}
+
+/// Adds the words that the parts of a case are.
+pub(crate) fn push_words<'a>(
+    parts: &'a [Vec<u8>],
+    words: &mut Vec<&'a str>,
+) -> Result<(), Unanswered> {
+    for part in parts {
+        words.push(word_of(part.as_slice())?)?;
+    }
+    Ok(())
+}
+
+fn word_of(part: &[u8]) -> Result<&str, Unanswered> {
+    match str::from_utf8(part) {
+        Ok(word) => Ok(word),
+        Err(_) => Err(Unanswered::Unknown),
+    }
+}
+
+// What the program writes by those words, of which the first is its name, and its exit status.
+fn written_by<R>(system: &R, words: &[&str]) -> Written
+where
+    R: Files + Input + Net + Clock + RandomSource + AllocGlobal,
+    R::File: Claim,
+{
+    let mut written = Written::nothing(system.alloc());
+    written.status = answered(system, words, &mut written.output, &mut written.faults);
+    written
+}
+
+// What the program writes by the words that the parts of a case are, behind its name, and its exit status.
+fn written_for<R>(system: &R, parts: &[Vec<u8>]) -> Result<Written, Unanswered>
+where
+    R: Files + Input + Net + Clock + RandomSource + AllocGlobal,
+    R::File: Claim,
+{
+    let words = words_of(system.alloc(), parts)?;
+    Ok(written_by(system, words.as_slice()))
+}
+
+/// Writes the exit status by which the program answers the words, and what it writes.
+pub(crate) fn say_answer<R>(
+    system: &R,
+    parts: &[Vec<u8>],
+    out: &mut String,
+) -> Result<(), Unanswered>
+where
+    R: Files + Input + Net + Clock + RandomSource + AllocGlobal,
+    R::File: Claim,
+{
+    Ok(written_for(system, parts)?.say(out)?)
+}
+
+/// Writes the exit status by which the program answers the words behind the first part, and on which of the two writers
+/// that part stands. What stands there is written where it is another text.
+pub(crate) fn say_text_of<R>(
+    system: &R,
+    parts: &[Vec<u8>],
+    out: &mut String,
+) -> Result<(), Unanswered>
+where
+    R: Files + Input + Net + Clock + RandomSource + AllocGlobal,
+    R::File: Claim,
+{
+    let (wanted, parts) = parts.split_first().ok_or(Unanswered::Unknown)?;
+    Ok(written_for(system, parts)?.say_beside(wanted.as_slice(), out)?)
+}
+
+/// Writes the exit status, and whether anything is written on either of the two writers.
+pub(crate) fn say_status<R>(
+    system: &R,
+    parts: &[Vec<u8>],
+    out: &mut String,
+) -> Result<(), Unanswered>
+where
+    R: Files + Input + Net + Clock + RandomSource + AllocGlobal,
+    R::File: Claim,
+{
+    Ok(written_for(system, parts)?.say_whether(out)?)
+}

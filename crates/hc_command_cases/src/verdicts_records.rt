@@ -1,0 +1,136 @@
+//! The records of a transcript.
+
+use crate::verdicts_lines::line_of;
+use hc_cases::{Unanswered, show_short};
+use hc_framing::Message;
+use hc_head::{ResponseHead, Target};
+use hc_history::Verdict;
+use hc_transcript::{Format, Meaning, OwnedItem, RecordFault, RecordReader};
+use std::alloc::{AllocError, Global};
+use std::fmt::Write;
+
+/// Writes what the records mean that the pieces make, and how they end.
+pub fn say_records(alloc: Global, pieces: &[&[u8]], out: &mut String) -> Result<(), Unanswered> {
+    let mut reader = RecordReader::new(alloc);
+    say_read(alloc, &mut reader, pieces, out)
+}
+
+fn say_read(
+    alloc: Global,
+    reader: &mut RecordReader,
+    pieces: &[&[u8]],
+    out: &mut String,
+) -> Result<(), Unanswered> {
+    for piece in pieces {
+        say_piece(reader, piece, out)?;
+    }
+    let ended = reader.finish();
+    say_end(alloc, reader, ended, out)
+}
+
+/// Writes the format that the reader answers behind all records that the pieces make, and behind a fault.
+pub fn say_format(alloc: Global, pieces: &[&[u8]], out: &mut String) -> Result<(), AllocError> {
+    let mut reader = RecordReader::new(alloc);
+    let mut records = String::new(alloc);
+    for piece in pieces {
+        say_piece(&mut reader, piece, &mut records)?;
+    }
+    let _ = reader.finish();
+    out.push_str(match reader.format() {
+        None => "none",
+        Some(Format::First) => "first",
+        Some(Format::Second) => "second",
+    })
+}
+
+// Writes the records that end in the next piece; no more do than it has octets. A fault is met again
+// behind it, and at the end.
+fn say_piece(reader: &mut RecordReader, piece: &[u8], out: &mut String) -> Result<(), AllocError> {
+    let _ = reader.feed(piece);
+    for _ in piece {
+        if !say_next(reader, out)? {
+            return Ok(());
+        }
+    }
+    Ok(())
+}
+
+// Writes the next record, and answers whether there was one.
+fn say_next(reader: &mut RecordReader, out: &mut String) -> Result<bool, AllocError> {
+    match reader.advance() {
+        Ok(true) => {
+            say_item(reader.item(), out)?;
+            out.push_str(", ")?;
+            Ok(true)
+        }
+        Ok(false) | Err(_) => Ok(false),
+    }
+}
+
+fn say_end(
+    alloc: Global,
+    reader: &RecordReader,
+    ended: Result<(), RecordFault>,
+    out: &mut String,
+) -> Result<(), Unanswered> {
+    let records = reader.records();
+    let position = reader.position();
+    match ended {
+        Ok(()) => write!(out, "records={records} position={position}")?,
+        Err(RecordFault::Memory) => return Err(Unanswered::Memory),
+        Err(fault) => {
+            let line = line_of(alloc, &Verdict::Malformed(position, fault))?;
+            out.push_str(line.as_str())?;
+        }
+    }
+    Ok(())
+}
+
+fn say_item(item: &OwnedItem, out: &mut String) -> Result<(), AllocError> {
+    let number = item.number;
+    let moment = item.moment;
+    match &item.of {
+        Meaning::ClientRequest { target, .. } => say_request('q', number, moment, target, out),
+        Meaning::OriginRequest { target, cause, .. } => {
+            say_request('f', number, moment, target, out)?;
+            say_cause(*cause, out)
+        }
+        Meaning::OriginResponse(response) => say_response('r', number, moment, response, out),
+        Meaning::OriginFailure => write!(out, "x {number} {moment}"),
+        Meaning::ClientReply(reply) => say_response('a', number, moment, reply, out),
+    }
+}
+
+fn say_request(
+    letter: char,
+    number: u64,
+    moment: u64,
+    target: &Target,
+    out: &mut String,
+) -> Result<(), AllocError> {
+    write!(out, "{letter} {number} {moment} ")?;
+    show_short(target.host.as_slice(), out)?;
+    out.push(' ')?;
+    show_short(target.path.as_slice(), out)
+}
+
+// Writes the exchange that a forward was made for, where it has one.
+fn say_cause(cause: Option<u64>, out: &mut String) -> Result<(), AllocError> {
+    match cause {
+        Some(exchange) => write!(out, " cause={exchange}"),
+        None => Ok(()),
+    }
+}
+
+fn say_response(
+    letter: char,
+    number: u64,
+    moment: u64,
+    response: &Message<ResponseHead>,
+    out: &mut String,
+) -> Result<(), AllocError> {
+    let status = response.head.status.as_u16();
+    write!(out, "{letter} {number} {moment} {status} \"")?;
+    show_short(response.body.as_slice(), out)?;
+    out.push('"')
+}

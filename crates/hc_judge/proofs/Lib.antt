@@ -1,4 +1,0 @@
-pub mod PastLemmas
-pub mod ReadingLemmas
-pub mod CountLemmas
-pub mod JudgingLemmas

@@ -1,3 +1,0 @@
-pub mod Past
-pub mod Reading
-pub mod Judging

@@ -1,4 +1,0 @@
-use Rattle.hc_message_cases.proofs.links.read_requests.Goals as goal
-
-pub refused-requires : goal.refused-requires
-refused-requires c = c.in_ok-hear.ensures.can c.pieces.invariant

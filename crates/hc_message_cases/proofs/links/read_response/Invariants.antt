@@ -1,6 +1,0 @@
-use Rattle.hc_links.specs.ResponseReading.{CanRead}
-use Rattle.hc_message_cases.proofs.links.read_response.Given as goal
-
--- the reader can read on
-abbrev pub invariant-pieces : goal.invariant-pieces
-invariant-pieces l = CanRead l.reader

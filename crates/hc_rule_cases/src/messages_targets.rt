@@ -1,0 +1,116 @@
+//! What requests are about.
+ghost use Rattle.std.specs.Prelude.{◌≡◌, Some, OnOk};
+ghost use Rattle.std.specs.BTreeMap.{get};
+ghost use Rattle.hc_head.specs.declared.head.Target.{Target};
+
+use crate::blocks::fields_of_lines;
+use crate::messages_describing::head_fault;
+use crate::starts::method_of;
+use hc_cases::{Case, Unanswered, show, yes_or_no};
+use hc_fields::Octets;
+use hc_head::{HeadFault, RequestHead, Target, Version};
+use std::alloc::{AllocError, AllocFailed, Global};
+use std::collections::BTreeMap;
+use std::fmt::Write;
+
+/// A request with that method, that target and those lines.
+pub fn head(
+    alloc: Global,
+    method: &[u8],
+    target: &[u8],
+    lines: &[Vec<u8>],
+) -> Result<RequestHead, Unanswered> {
+    let fields = fields_of_lines(alloc, lines)?;
+    let target = Octets::from_slice(alloc, target)?;
+    let method = method_of(alloc, method)?;
+    Ok(RequestHead {
+        method,
+        target,
+        version: Version::Http11,
+        fields,
+    })
+}
+
+/// Writes the host and the path that a request is for.
+pub fn target(case: &Case<'_>, out: &mut String) -> Result<(), Unanswered> {
+    let [method, path, lines @ ..] = case.about else {
+        return Err(Unanswered::Unknown);
+    };
+    let head = head(case.alloc, method, path, lines)?;
+    Ok(told(case.alloc, &head, out)?)
+}
+
+fn told(alloc: Global, head: &RequestHead, out: &mut String) -> Result<(), AllocError> {
+    match found(alloc, head) {
+        Ok(target) => described(&target, out),
+        Err(fault) => head_fault(fault, out),
+    }
+}
+
+fn found(alloc: Global, head: &RequestHead) -> Result<Target, HeadFault> {
+    Ok(hc_head::target(alloc, head)?.copy(alloc)?)
+}
+
+fn described(target: &Target, out: &mut String) -> Result<(), AllocError> {
+    out.push_str("host ")?;
+    show(target.host.as_slice(), out)?;
+    out.push_str("; path ")?;
+    show(target.path.as_slice(), out)
+}
+
+// Puts a number under a target, where a look-up then finds it.
+fn put(
+    numbers: &mut BTreeMap<Target, u64>,
+    target: Target,
+    number: u64,
+) -> Result<(), AllocFailed<(Target, u64)>>
+    ensures { OnOk result (get ⟦<Target as Ord>⟧.cmp numbers.new target ≡ Some number) }
+{
+    numbers.insert(target, number)?;
+    Ok(())
+}
+
+// The target of a host and a path with a space between them.
+fn target_of(alloc: Global, text: &[u8]) -> Result<Target, Unanswered> {
+    let Some(at) = text.iter().position(|octet| *octet == b' ') else {
+        return Err(Unanswered::Unknown);
+    };
+    Ok(Target {
+        host: Octets::from_slice(alloc, &text[..at])?,
+        path: Octets::from_slice(alloc, &text[at + 1..])?,
+    })
+}
+
+/// Writes targets in their order, each with its place in the list.
+pub fn in_order(case: &Case<'_>, out: &mut String) -> Result<(), Unanswered> {
+    let mut numbers = BTreeMap::new(case.alloc);
+    put_all(case, &mut numbers)?;
+    Ok(numbered(&numbers, out)?)
+}
+
+fn put_all(case: &Case<'_>, numbers: &mut BTreeMap<Target, u64>) -> Result<(), Unanswered> {
+    for (index, text) in case.about.iter().enumerate() {
+        put(numbers, target_of(case.alloc, text)?, index as u64)?;
+    }
+    Ok(())
+}
+
+fn numbered(numbers: &BTreeMap<Target, u64>, out: &mut String) -> Result<(), AllocError> {
+    for (target, number) in numbers {
+        write!(out, "{number}: ")?;
+        described(target, out)?;
+        out.push_str("; ")?;
+    }
+    Ok(())
+}
+
+/// Writes whether a method is unsafe.
+pub fn is_unsafe(case: &Case<'_>, out: &mut String) -> Result<(), Unanswered> {
+    let [method] = case.about else {
+        return Err(Unanswered::Unknown);
+    };
+    let method = method_of(case.alloc, method)?;
+    let is = hc_head::is_unsafe(&method);
+    drop(method);
+    Ok(yes_or_no(is, out)?)
+}
