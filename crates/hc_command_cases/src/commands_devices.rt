@@ -1,7 +1,8 @@
 //! What the program does over devices in memory.
 
 use hc_arguments::{AuditTerms, Minimums};
-use hc_command::{audit, convert, replay};
+use hc_auditing::audit;
+use hc_command::{convert, replay};
 use hc_history::{Allowed, FieldNames, Settings, UnmarkedReplies};
 use std::alloc::Global;
 use std::io;

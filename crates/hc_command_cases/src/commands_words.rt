@@ -47,14 +47,34 @@ where
     written
 }
 
-// What the program writes by the words that the parts of a case are, behind its name, and its exit status.
+// What the program writes by the words that the parts of a case are, after its name, and its exit status. An audit is asked
+// of the program that only audits, too.
 fn written_for<R>(system: &R, parts: &[Vec<u8>]) -> Result<Written, Unanswered>
 where
     R: Files + Input + Net + Clock + RandomSource + AllocGlobal,
     R::File: Claim,
 {
     let words = words_of(system.alloc(), parts)?;
-    Ok(written_by(system, words.as_slice()))
+    let mut written = written_by(system, words.as_slice());
+    if asks_for_audit(words.as_slice()) {
+        written.compare(&written_alone(system, words.as_slice()));
+    }
+    Ok(written)
+}
+
+/// Whether the words, of which the first is the program's name, ask for an audit.
+pub(crate) fn asks_for_audit(words: &[&str]) -> bool {
+    match words {
+        [_, command, ..] => *command == "audit",
+        _ => false,
+    }
+}
+
+// What the program that only audits writes by those words, and its exit status.
+fn written_alone<R: Files + Input + AllocGlobal>(system: &R, words: &[&str]) -> Written {
+    let mut written = Written::nothing(system.alloc());
+    written.status = hc_auditing::answered(system, words, &mut written.output, &mut written.faults);
+    written
 }
 
 /// Writes the exit status by which the program answers the words, and what it writes.

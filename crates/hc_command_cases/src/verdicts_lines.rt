@@ -1,6 +1,6 @@
 //! Lines without their line feeds.
 
-use hc_command::verdict_line;
+use hc_auditing::verdict_line;
 use hc_history::Verdict;
 use std::alloc::{AllocError, Global};
 

@@ -1,11 +1,14 @@
 //! What the program makes of a transcript that it reads.
 
+use crate::commands_words::asks_for_audit;
 use crate::verdicts_pieces::Pieces;
 use crate::written::Written;
 use hc_arguments::{Order, parsed};
+use hc_auditing::{audit, shown};
 use hc_baseline::Baseline;
 use hc_cases::Unanswered;
-use hc_command::{BaselineTrouble, ReportForm, audit, baseline_of, explain, report, shown};
+use hc_command::{BaselineTrouble, ReportForm, baseline_of, explain, report};
+use hc_options::audit_asked;
 use std::alloc::Global;
 
 /// What the program writes by those words, which ask for an audit, a report or an explanation, of the transcript that the
@@ -23,7 +26,25 @@ pub(crate) fn written_of(
         &mut written.output,
         &mut written.faults,
     )?;
+    if asks_for_audit(words) {
+        written.compare(&written_alone(alloc, words, pieces));
+    }
     Ok(written)
+}
+
+// What the program that only audits writes by those words of that transcript, and its exit status.
+fn written_alone(alloc: Global, words: &[&str], pieces: &[&[u8]]) -> Written {
+    let mut written = Written::nothing(alloc);
+    let output = &mut written.output;
+    let faults = &mut written.faults;
+    written.status = match audit_asked(alloc, words) {
+        Ok(order) => {
+            let mut input = Pieces::new(pieces);
+            audit(alloc, order.terms, order.file, &mut input, output, faults)
+        }
+        Err(error) => shown(&error, output, faults),
+    };
+    written
 }
 
 // Writes that, and answers the exit status.

@@ -4,6 +4,9 @@ use hc_cases::show_short;
 use std::alloc::{AllocError, Global};
 use std::fmt::Write;
 
+/// The status that stands for programs that differ.
+const DIFFERENT: u8 = 255;
+
 /// What the program wrote, and its exit status.
 pub(crate) struct Written {
     pub(crate) output: Vec<u8>,
@@ -30,6 +33,16 @@ impl Written {
             output: Vec::new(alloc),
             faults: Vec::new(alloc),
             status: 0,
+        }
+    }
+
+    /// Takes a status that no program has, unless that is the same.
+    pub(crate) fn compare(&mut self, other: &Written) {
+        let same = self.status == other.status
+            && self.output.as_slice() == other.output.as_slice()
+            && self.faults.as_slice() == other.faults.as_slice();
+        if !same {
+            self.status = DIFFERENT;
         }
     }
 
