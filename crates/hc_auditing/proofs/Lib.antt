@@ -1,1 +1,2 @@
 pub mod AuditLemmas
+pub mod PullLemmas

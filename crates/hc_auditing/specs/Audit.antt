@@ -9,8 +9,6 @@ use Rattle.hc_audit.specs.declared.auditor.Auditor.{Auditor}
 use Rattle.hc_audit.specs.Agreement.{Agrees}
 use Rattle.hc_audit.specs.Standing.{Stands}
 use Rattle.hc_options.specs.declared.auditing.Minimums.{Minimums}
-use Rattle.hc_auditing.specs.declared.auditing.Fed.{Fed}
-use Rattle.hc_auditing.specs.declared.auditing.Fed.TheVariants.{More, End, Settled}
 use Rattle.hc_auditing.specs.Line.{IsVerdictLine, status_of}
 use Rattle.hc_auditing.specs.Minimums.{EndsBy}
 
@@ -57,20 +55,7 @@ Answers least status old new faults_old faults_new =
 
 -- ---- what private functions promise
 
--- the verdict that a piece leads to, which stands
-abbrev pub verdict_of : Fed → Option Verdict
-verdict_of More = None
-verdict_of End = None
-verdict_of (Settled verdict) = Some verdict
-
--- the auditor was fed what the reader gave, up to its end or to a verdict that stands
-pub record Feeds {I : Type 0} (seen : I → Seen) (a : Auditor I) (settings : Settings) (octets : List ℕ) (old new : Option (List ℕ)) (settled : Option Verdict) : Type 0 where
-  pub bytes : List ℕ
-  pub agrees : Agrees seen a settings (octets ++ bytes)
-  pub consumed : Consumes old new bytes
-  pub stands : IfSome settled (λ verdict. Stands verdict settings (octets ++ bytes))
-
--- the auditor was fed that piece, and a verdict that it gives stands
+-- the auditor was fed these octets, and a verdict that it gives stands
 pub record FeedsPiece {I : Type 0} (seen : I → Seen) (a : Auditor I) (settings : Settings) (octets : List ℕ) (settled : Option Verdict) : Type 0 where
   pub agrees : Agrees seen a settings octets
   pub stands : IfSome settled (λ verdict. Stands verdict settings octets)

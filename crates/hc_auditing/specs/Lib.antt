@@ -1,5 +1,7 @@
 pub mod Audit
 pub mod Ends
+pub mod Laws
 pub mod Line
 pub mod Minimums
+pub mod Pulling
 pub mod Trouble

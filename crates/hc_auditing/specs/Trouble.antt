@@ -1,5 +1,5 @@
 -- What the program says where a task isn't done.
-use Rattle.std.specs.Prelude.{List, ℕ, Bool, true, false, [], ◌∷◌, ◌++◌, codes}
+use Rattle.std.specs.Prelude.{⊤, List, ℕ, Bool, true, false, [], ◌∷◌, ◌++◌, codes}
 use Rattle.hc_auditing.specs.declared.trouble.Trouble.{Trouble}
 use Rattle.hc_auditing.specs.declared.trouble.Trouble.TheVariants.{Memory, Device, Output}
 
@@ -13,3 +13,9 @@ trouble_line (Output reason) = codes "error: device" ++ 10 ∷ []
 abbrev pub is_of_output : Trouble → Bool
 is_of_output (Output reason) = true
 is_of_output trouble = false
+
+-- it is that the input failed
+abbrev pub IsOfInput : Trouble → Type 0
+IsOfInput Memory = ⊥
+IsOfInput (Device reason) = ⊤
+IsOfInput (Output reason) = ⊥

@@ -4,22 +4,22 @@ ghost use Rattle.std.specs.Io.KnownBytes.{IsAtEnd, Keeps};
 ghost use Rattle.hc_history.specs.declared.settings.Settings.{Settings};
 ghost use Rattle.hc_history.specs.Verdicts.{IsVerdict};
 ghost use Rattle.hc_audit.specs.Agreement.{Agrees};
-ghost use Rattle.hc_auditing.specs.Audit.{AnswersFor, Feeds, FeedsPiece, IsConcluded, IsReadUp, SaysLine, SaysVerdict, verdict_of};
+ghost use Rattle.hc_auditing.specs.Audit.{AnswersFor, FeedsPiece, IsConcluded, IsReadUp, SaysLine, SaysVerdict};
+ghost use Rattle.hc_auditing.specs.Laws.{auditor_goes_on, auditor_stays};
 ghost use Rattle.hc_auditing.specs.Line.{status_of};
 ghost use Rattle.hc_auditing.specs.Trouble.{is_of_output};
 
-use crate::input::{READS, buffer};
 use crate::line::verdict_line;
 use crate::minimums::ended;
 use crate::print::printed;
+use crate::pulling::{Fed, buffer, pull};
 use crate::trouble::Trouble;
-use hc_audit::{AuditFault, Auditor};
+use hc_audit::Auditor;
 use hc_history::{Settings, Verdict};
 use hc_index::{Index, MapIndex};
 use hc_options::AuditTerms;
 use std::alloc::Global;
-use std::io;
-use std::io::{ErrorKind, Read, Write};
+use std::io::{Read, Write};
 
 /// Audits the transcript that `input` gives up to its end, or up to where a verdict stands, and answers
 /// the exit status. `name` is what the input is called where it fails.
@@ -96,7 +96,7 @@ fn judged_by<I: Index + Drop, R: Read>(
         → IfOk result (λ verdict. IsConcluded settings verdict (R.remaining input.old) (R.remaining input.new)) }
     ensures err { IfErr result (λ trouble. is_of_output trouble ≡ false) }
 {
-    match feed_all(&mut auditor, input, piece)? {
+    match pull(&mut auditor, input, piece)? {
         Some(verdict) => Ok(verdict),
         None => finished(auditor),
     }
@@ -111,71 +111,24 @@ fn finished<I: Index + Drop>(auditor: Auditor<I>) -> Result<Verdict, Trouble>
     Ok(auditor.finish()?)
 }
 
-// Feeds the auditor what `input` gives, a piece at a time, up to its end or to a verdict that stands, which
-// is the answer.
-fn feed_all<I: Index + Drop, R: Read>(
-    auditor: &mut Auditor<I>,
-    input: &mut R,
-    piece: &mut [u8],
-) -> Result<Option<Verdict>, Trouble>
-    requires { 0 < length piece.old }
-    ensures fed { (settings : Settings) (octets : List ℕ) → Agrees I.seen auditor.old settings octets
-        → IfOk result (Feeds I.seen auditor.new settings octets (R.remaining input.old) (R.remaining input.new)) }
-    ensures end { IfOk result (λ settled. settled ≡ None → IsAtEnd (R.remaining input.new)) }
-    ensures err { IfErr result (λ trouble. is_of_output trouble ≡ false) }
-{
-    'pieces: for _ in 0..READS {
-        match feed_next(auditor, input, piece)? {
-            Fed::More => {}
-            Fed::End => return Ok(None),
-            Fed::Settled(verdict) => return Ok(Some(verdict)),
+impl<I: Index + Drop> Fed for Auditor<I> {
+    type Answer = Verdict;
+
+    ghost goes = { λ first last octets settled. (settings : Settings) (before : List ℕ) → Agrees I.seen first settings before
+        → FeedsPiece I.seen last settings (before ++ octets) settled };
+
+    ghost fails = { λ trouble. is_of_output trouble ≡ false };
+
+    ghost stays = { auditor_stays I.seen };
+
+    ghost goes_on = { auditor_goes_on I.seen };
+
+    fn take(&mut self, piece: &[u8]) -> Result<Option<Verdict>, Trouble> {
+        self.feed(piece)?;
+        match self.settled() {
+            Some(verdict) => Ok(Some(*verdict)),
+            None => Ok(None),
         }
-    }
-    Err(Trouble::Device(io::Error::other("too many reads")))
-}
-
-// What a piece of the input comes to.
-#[derive(Clone, Copy)]
-enum Fed {
-    // More may come.
-    More,
-    // The input is at its end.
-    End,
-    // This verdict stands.
-    Settled(Verdict),
-}
-
-// Feeds the auditor the next piece that `input` gives.
-fn feed_next<I: Index + Drop, R: Read>(
-    auditor: &mut Auditor<I>,
-    input: &mut R,
-    piece: &mut [u8],
-) -> Result<Fed, Trouble>
-    requires { 0 < length piece.old }
-    ensures fed { (settings : Settings) (octets : List ℕ) → Agrees I.seen auditor.old settings octets
-        → IfOk result (λ fed. Feeds I.seen auditor.new settings octets (R.remaining input.old) (R.remaining input.new) (verdict_of fed)) }
-    ensures end { result ≡ Ok Fed.End → IsAtEnd (R.remaining input.new) }
-    ensures room { length piece.new ≡ length piece.old }
-    ensures err { IfErr result (λ trouble. is_of_output trouble ≡ false) }
-{
-    match input.read(piece) {
-        Ok(0) => Ok(Fed::End),
-        Ok(count) => Ok(feed(auditor, &piece[..count])?),
-        Err(error) if error.kind() == ErrorKind::Interrupted => Ok(Fed::More),
-        Err(error) => Err(Trouble::Device(error)),
-    }
-}
-
-// Feeds the auditor a piece.
-fn feed<I: Index + Drop>(auditor: &mut Auditor<I>, piece: &[u8]) -> Result<Fed, AuditFault>
-    ensures fed { (settings : Settings) (octets : List ℕ) → Agrees I.seen auditor.old settings octets
-        → IfOk result (λ fed. FeedsPiece I.seen auditor.new settings (octets ++ piece.now) (verdict_of fed)) }
-    ensures on { result ≡ Ok Fed.End → ⊥ }
-{
-    auditor.feed(piece)?;
-    match auditor.settled() {
-        Some(verdict) => Ok(Fed::Settled(*verdict)),
-        None => Ok(Fed::More),
     }
 }
 

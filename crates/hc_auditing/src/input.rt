@@ -1,24 +1,12 @@
 //! An input that is read a piece at a time.
-ghost use Rattle.std.specs.Prelude.{◌≡◌, ◌<◌, length, IfOk, OnOk, vec_len};
+ghost use Rattle.std.specs.Prelude.{◌<◌, length, IfOk, OnOk};
 ghost use Rattle.std.specs.Io.KnownBytes.{Consumes, IsAtEnd};
 
+use crate::pulling::{READS, buffer};
 use crate::trouble::Trouble;
-use std::alloc::{AllocError, Global};
+use std::alloc::Global;
 use std::io;
 use std::io::{ErrorKind, Read};
-
-/// The most octets that one read takes.
-pub const PIECE: usize = 65_536;
-
-/// The most reads of one input. One that has not ended by then counts as a device that failed.
-pub const READS: u64 = 4_294_967_296;
-
-/// Room for one read.
-pub fn buffer(alloc: Global) -> Result<Vec<u8>, AllocError>
-    ensures { IfOk result (λ piece. vec_len piece ≡ PIECE) }
-{
-    vec![in alloc; 0u8; PIECE]
-}
 
 /// What `input` gives up to its end.
 pub fn all_of<R: Read>(alloc: Global, input: &mut R) -> Result<Vec<u8>, Trouble>

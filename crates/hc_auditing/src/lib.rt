@@ -9,15 +9,17 @@ mod minimums;
 mod opening;
 mod print;
 mod program;
+mod pulling;
 mod trouble;
 mod usage;
 
 pub use auditing::{audit, said, verdict_status};
-pub use input::{PIECE, READS, all_of, buffer};
+pub use input::all_of;
 pub use line::verdict_line;
 pub use minimums::ended;
 pub use opening::{input_name, input_of, opened};
 pub use print::printed;
 pub use program::{answered, audited, status, unread, words_of};
+pub use pulling::{Fed, PIECE, READS, buffer, pull};
 pub use trouble::Trouble;
 pub use usage::shown;
