@@ -55,20 +55,15 @@ impl<'a> Play<'a> {
             answers,
         })
     }
+}
 
-    /// What is served, where the origin has that address.
-    fn service(&self, origin: &'a str) -> Service<'a> {
-        let listen = if self.listen == TAKEN {
-            origin
-        } else {
-            self.listen
-        };
-        Service {
-            listen,
-            origin,
-            connections: self.clients.len() as u64,
-            file: self.file,
-        }
+/// What is served to so many clients, where they connect to the first address and the origin has the second.
+fn service<'a>(listen: &'a str, origin: &'a str, file: &'a str, clients: usize) -> Service<'a> {
+    Service {
+        listen: if listen == TAKEN { origin } else { listen },
+        origin,
+        connections: clients as u64,
+        file,
     }
 }
 
@@ -117,7 +112,9 @@ where
 {
     let address = staged.origin_address()?;
     let settings = settings_by(staged.alloc, manner)?;
-    Ok(word_of(serve(staged, play.service(address.as_str()), settings)))
+    let origin = address.as_str();
+    let service = service(play.listen, origin, play.file, play.clients.len());
+    Ok(word_of(serve(staged, service, settings)))
 }
 
 /// Makes the file that stands there before, if one does, and answers it where another program holds it.
