@@ -7,8 +7,8 @@ abbrev pub IsNextPiece : Option (List ℕ) → Option (List ℕ) → List ℕ �
 IsNextPiece old new piece None = IsAtEnd new × Consumes old new []
 IsNextPiece old new piece (Some count) = (count ≤ length piece) × Consumes old new (take count piece)
 
--- the octets that the input gave led from the first state to the last one, and to that answer, if any
-pub record IsPulled {F A : Type 0} (goes : F → F → List ℕ → Option A → Type 0) (first last : F) (old new : Option (List ℕ)) (answer : Option A) : Type 0 where
+-- the octets that the input gave led what is fed, and who is told, from the first states to the last ones, and to that answer, if any
+pub record IsPulled {F T A : Type 0} (goes : F → T → F → T → List ℕ → Option A → Type 0) (first : F) (before : T) (last : F) (after : T) (old new : Option (List ℕ)) (answer : Option A) : Type 0 where
   pub octets : List ℕ
-  pub goes_by : goes first last octets answer
+  pub goes_by : goes first before last after octets answer
   pub consumed : Consumes old new octets

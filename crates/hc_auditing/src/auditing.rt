@@ -96,7 +96,7 @@ fn judged_by<I: Index + Drop, R: Read>(
         → IfOk result (λ verdict. IsConcluded settings verdict (R.remaining input.old) (R.remaining input.new)) }
     ensures err { IfErr result (λ trouble. is_of_output trouble ≡ false) }
 {
-    match pull(&mut auditor, input, piece)? {
+    match pull(&mut auditor, &mut (), input, piece)? {
         Some(verdict) => Ok(verdict),
         None => finished(auditor),
     }
@@ -111,10 +111,10 @@ fn finished<I: Index + Drop>(auditor: Auditor<I>) -> Result<Verdict, Trouble>
     Ok(auditor.finish()?)
 }
 
-impl<I: Index + Drop> Fed for Auditor<I> {
+impl<I: Index + Drop> Fed<()> for Auditor<I> {
     type Answer = Verdict;
 
-    ghost goes = { λ first last octets settled. (settings : Settings) (before : List ℕ) → Agrees I.seen first settings before
+    ghost goes = { λ first _ last _ octets settled. (settings : Settings) (before : List ℕ) → Agrees I.seen first settings before
         → FeedsPiece I.seen last settings (before ++ octets) settled };
 
     ghost fails = { λ trouble. is_of_output trouble ≡ false };
@@ -123,7 +123,7 @@ impl<I: Index + Drop> Fed for Auditor<I> {
 
     ghost goes_on = { auditor_goes_on I.seen };
 
-    fn take(&mut self, piece: &[u8]) -> Result<Option<Verdict>, Trouble> {
+    fn take(&mut self, piece: &[u8], _told: &mut ()) -> Result<Option<Verdict>, Trouble> {
         self.feed(piece)?;
         match self.settled() {
             Some(verdict) => Ok(Some(*verdict)),

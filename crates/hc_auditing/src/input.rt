@@ -1,12 +1,13 @@
-//! An input that is read a piece at a time.
-ghost use Rattle.std.specs.Prelude.{◌<◌, length, IfOk, OnOk};
+//! An input that is read up to its end.
+ghost use Rattle.std.specs.Prelude.{◌≡◌, ◌++◌, None, IfOk, OnOk};
 ghost use Rattle.std.specs.Io.KnownBytes.{Consumes, IsAtEnd};
+ghost use Rattle.hc_auditing.specs.declared.trouble.Trouble.TheVariants.{Memory};
+ghost use Rattle.hc_auditing.specs.Laws.{gathers_nothing, gathers_on};
 
-use crate::pulling::{READS, buffer};
+use crate::pulling::{Fed, buffer, pull};
 use crate::trouble::Trouble;
 use std::alloc::Global;
-use std::io;
-use std::io::{ErrorKind, Read};
+use std::io::Read;
 
 /// What `input` gives up to its end.
 pub fn all_of<R: Read>(alloc: Global, input: &mut R) -> Result<Vec<u8>, Trouble>
@@ -14,23 +15,25 @@ pub fn all_of<R: Read>(alloc: Global, input: &mut R) -> Result<Vec<u8>, Trouble>
     ensures end { OnOk result (IsAtEnd (R.remaining input.new)) }
 {
     let mut piece = buffer(alloc)?;
-    read_all(alloc, input, piece.as_mut_slice())
+    let mut octets = Vec::new(alloc);
+    pull(&mut octets, &mut (), input, piece.as_mut_slice())?;
+    Ok(octets)
 }
 
-// The same, read a piece at a time.
-fn read_all<R: Read>(alloc: Global, input: &mut R, piece: &mut [u8]) -> Result<Vec<u8>, Trouble>
-    requires { 0 < length piece.old }
-    ensures consumed { IfOk result (λ octets. Consumes (R.remaining input.old) (R.remaining input.new) octets.items) }
-    ensures end { OnOk result (IsAtEnd (R.remaining input.new)) }
-{
-    let mut octets = Vec::new(alloc);
-    'pieces: for _ in 0..READS {
-        match input.read(piece) {
-            Ok(0) => return Ok(octets),
-            Ok(count) => octets.extend_from_slice(&piece[..count])?,
-            Err(error) if error.kind() == ErrorKind::Interrupted => {}
-            Err(error) => return Err(Trouble::Device(error)),
-        }
+// It needs more of them, however many it has.
+impl Fed<()> for Vec<u8> {
+    type Answer = ();
+
+    ghost goes = { λ first _ last _ octets answer. (last.items ≡ first.items ++ octets) × (answer ≡ None) };
+
+    ghost fails = { λ trouble. trouble ≡ Memory };
+
+    ghost stays = { gathers_nothing };
+
+    ghost goes_on = { gathers_on };
+
+    fn take(&mut self, piece: &[u8], _told: &mut ()) -> Result<Option<()>, Trouble> {
+        self.extend_from_slice(piece)?;
+        Ok(None)
     }
-    Err(Trouble::Device(io::Error::other("too many reads")))
 }

@@ -20,6 +20,6 @@ pub use minimums::ended;
 pub use opening::{input_name, input_of, opened};
 pub use print::printed;
 pub use program::{answered, audited, status, unread, words_of};
-pub use pulling::{Fed, PIECE, READS, buffer, pull};
+pub use pulling::{Fed, buffer, pull};
 pub use trouble::Trouble;
 pub use usage::shown;

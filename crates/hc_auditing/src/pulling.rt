@@ -11,10 +11,10 @@ use std::io;
 use std::io::{ErrorKind, Read};
 
 /// The most octets that one read takes.
-pub const PIECE: usize = 65_536;
+const PIECE: usize = 65_536;
 
 /// The most reads of one input. One that has not ended by then counts as a device that failed.
-pub const READS: u64 = 4_294_967_296;
+const READS: u64 = 4_294_967_296;
 
 /// Room for one read.
 pub fn buffer(alloc: Global) -> Result<Vec<u8>, AllocError>
@@ -23,38 +23,40 @@ pub fn buffer(alloc: Global) -> Result<Vec<u8>, AllocError>
     vec![in alloc; 0u8; PIECE]
 }
 
-/// What is fed the octets of an input, until it needs no more of them.
-pub trait Fed {
+/// What is fed the octets of an input, until it needs no more of them, and tells another of what it makes of them.
+pub trait Fed<T> {
     /// What it comes to where it needs no more.
     type Answer: Drop;
 
-    /// It went from the one to the other by these octets, and came to that answer, if it needs no more.
-    ghost goes: { Self → Self → List ℕ → Option Self.Answer → Type 0 };
+    /// By these octets it went from the one to the other, as did who was told, and came to that answer, if it needs no more.
+    ghost goes: { Self → T → Self → T → List ℕ → Option Self.Answer → Type 0 };
 
     /// Why it may give up.
     ghost fails: { Trouble → Type 0 };
 
     /// Takes the next octets, of which there may be none. There is an answer where it needs no more.
-    fn take(&mut self, piece: &[u8]) -> Result<Option<Self::Answer>, Trouble>
-        ensures goes { IfOk result (λ answer. goes self.old self.new piece.now answer) }
+    fn take(&mut self, piece: &[u8], told: &mut T) -> Result<Option<Self::Answer>, Trouble>
+        ensures goes { IfOk result (goes self.old told.old self.new told.new piece.now) }
         ensures fails { IfErr result fails };
 
     /// By no octets it stays as it is.
-    ghost stays: { (fed : Self) → goes fed fed [] None };
+    ghost stays: { (fed : Self) (told : T) → goes fed told fed told [] None };
 
     /// What goes on after some octets has gone by all of them.
-    ghost goes_on: { (first middle last : Self) (some more : List ℕ) (answer : Option Self.Answer) → goes first middle some None
-        → goes middle last more answer → goes first last (some ++ more) answer };
+    ghost goes_on: { (first middle last : Self) (before between after : T) (some more : List ℕ) (answer : Option Self.Answer)
+        → goes first before middle between some None → goes middle between last after more answer
+        → goes first before last after (some ++ more) answer };
 }
 
 /// Feeds it what `input` gives, a piece at a time, up to the end or to where it needs no more, of which there is its answer.
-pub fn pull<F: Fed, R: Read>(
+pub fn pull<T, F: Fed<T>, R: Read>(
     fed: &mut F,
+    told: &mut T,
     input: &mut R,
     piece: &mut [u8],
 ) -> Result<Option<F::Answer>, Trouble>
     requires { 0 < length piece.old }
-    ensures pulled { IfOk result (IsPulled F.goes fed.old fed.new (R.remaining input.old) (R.remaining input.new)) }
+    ensures pulled { IfOk result (IsPulled F.goes fed.old told.old fed.new told.new (R.remaining input.old) (R.remaining input.new)) }
     ensures end { IfOk result (λ answer. answer ≡ None → IsAtEnd (R.remaining input.new)) }
     ensures fails { IfErr result (λ trouble. IsOfInput trouble ⊎ F.fails trouble) }
 {
@@ -62,7 +64,7 @@ pub fn pull<F: Fed, R: Read>(
         let Some(count) = next_piece(input, piece)? else {
             return Ok(None);
         };
-        match fed.take(&piece[..count])? {
+        match fed.take(&piece[..count], told)? {
             Some(answer) => return Ok(Some(answer)),
             None => {}
         }

@@ -17,7 +17,7 @@ use Rattle.hc_framing.specs.Forms.{Form}
 use Rattle.hc_framing.specs.Messages.{BeginsMessage}
 use Rattle.hc_framing.specs.Faults.{StandsIn}
 use Rattle.hc_framing.specs.Reader.{Agrees, BeginsIn, CanFeed, EndsAfter, FeedGives, HasNoMessage, Holds}
-use Rattle.hc_bench.specs.declared.feeding.Fed.{Fed}
+use Rattle.hc_bench.specs.declared.feeding.FedMessage.{FedMessage}
 use Rattle.hc_bench.specs.declared.trouble.Trouble.{Trouble}
 use Rattle.hc_bench.specs.Feeding.{AreReadThen, FeedsTo, IsFed, IsRead, trouble_of}
 
@@ -92,7 +92,7 @@ module _ {H : Type 0} (form : Form H) where
     some_used (suc used) ends = omega arith
 
     -- after the piece with which the message ends
-    pub feeding_whole : (used : ℕ) → result ≡ Ok (Whole used) → (fed : Fed H) → ((message : Message H) → Holds new message → fed.message ≡ message)
+    pub feeding_whole : (used : ℕ) → result ≡ Ok (Whole used) → (fed : FedMessage H) → ((message : Message H) → Holds new message → fed.message ≡ message)
         → fed.octets ≡ before + used → fed.calls ≡ calls + 1
         → IsFed form kind room octets size fed
     feeding_whole used whole fed takes octets_is calls_is =
@@ -117,7 +117,7 @@ module _ {H : Type 0} (form : Form H) where
         }
 
     -- after the piece that shows a fault
-    pub feeding_fault : (fault : FrameFault) → result ≡ Err fault → (answer : Result (Fed H) Trouble) → IsErrAnd answer (λ trouble. trouble ≡ trouble_of fault)
+    pub feeding_fault : (fault : FrameFault) → result ≡ Err fault → (answer : Result (FedMessage H) Trouble) → IsErrAnd answer (λ trouble. trouble ≡ trouble_of fault)
         → FeedsTo form answer kind room octets size
     feeding_fault fault failed answer told_so =
         let whole : take before octets ++ piece ≡ take (before + length piece) octets =
@@ -125,7 +125,7 @@ module _ {H : Type 0} (form : Form H) where
         ∙ next_front octets size before (length piece) piece next (omega arith) in
         let stands = subst (λ (r : Result Progress FrameFault). FeedGives form r kind room new (take before octets) piece) failed gives in
         let is = err_from_is_err_and answer told_so in
-        subst (λ (r : Result (Fed H) Trouble). FeedsTo form r kind room octets size) (sym (is.1 ∙ ap Err is.2))
+        subst (λ (r : Result (FedMessage H) Trouble). FeedsTo form r kind room octets size) (sym (is.1 ∙ ap Err is.2))
         (told fault (subst (λ (o : List ℕ). StandsIn form kind fault o room) whole stands))
       where
         told : (fault : FrameFault) → StandsIn form kind fault (take (before + length piece) octets) room

@@ -8,7 +8,7 @@ use Rattle.hc_framing.specs.declared.message.Message.{Message}
 use Rattle.hc_framing.specs.Forms.{Form}
 use Rattle.hc_framing.specs.Faults.{StandsIn}
 use Rattle.hc_framing.specs.Reader.{BeginsIn, HasNoMessage}
-use Rattle.hc_bench.specs.declared.feeding.Fed.{Fed}
+use Rattle.hc_bench.specs.declared.feeding.FedMessage.{FedMessage}
 use Rattle.hc_bench.specs.declared.rate.Rate.{Rate}
 use Rattle.hc_bench.specs.declared.trouble.Trouble.{Trouble}
 use Rattle.hc_bench.specs.declared.trouble.Trouble.TheVariants.{Memory, Device, Fault, Unended, NotRight, NotStored, NotServed}
@@ -24,7 +24,7 @@ module _ {H : Type 0} (form : Form H) where
   IsRead kind room octets message len = BeginsIn form kind (take len octets) room message len
 
   -- the octets begin with the message, which takes so many pieces of that size
-  pub record IsFed (kind : Kind) (room : Room) (octets : List ℕ) (size : ℕ) (fed : Fed H) : Type 0 where
+  pub record IsFed (kind : Kind) (room : Room) (octets : List ℕ) (size : ℕ) (fed : FedMessage H) : Type 0 where
     pub read : IsRead kind room octets fed.message fed.octets
     pub some : 0 < fed.octets
     pub within : fed.octets ≤ length octets
@@ -32,7 +32,7 @@ module _ {H : Type 0} (form : Form H) where
     pub needed : fed.calls * size < fed.octets + size
 
   -- each answer stands only where this says so
-  abbrev pub FeedsTo : Result (Fed H) Trouble → Kind → Room → List ℕ → ℕ → Type 0
+  abbrev pub FeedsTo : Result (FedMessage H) Trouble → Kind → Room → List ℕ → ℕ → Type 0
   FeedsTo (Ok fed) kind room octets size = IsFed kind room octets size fed
   FeedsTo (Err Memory) kind room octets size = Unit {0}
   FeedsTo (Err Device) kind room octets size = ⊥

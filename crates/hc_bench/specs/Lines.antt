@@ -1,6 +1,6 @@
 -- The lines that the program prints.
 use Rattle.std.specs.Prelude.{ℕ, List, [], ◌∷◌, ◌++◌, length, codes, decimal}
-use Rattle.hc_bench.specs.declared.feeding.Fed.{Fed}
+use Rattle.hc_bench.specs.declared.feeding.FedMessage.{FedMessage}
 use Rattle.hc_bench.specs.declared.rate.Rate.{Rate}
 use Rattle.hc_bench.specs.Rates.{count_per_second, octets_per_second, percent_of}
 
@@ -9,7 +9,7 @@ abbrev pub start : List ℕ → ℕ → List ℕ → List ℕ
 start name size rest = name ++ (codes " piece=" ++ (decimal size ++ rest))
 
 -- what was counted
-abbrev pub counts_line : {H : Type 0} → List ℕ → ℕ → Fed H → List ℕ
+abbrev pub counts_line : {H : Type 0} → List ℕ → ℕ → FedMessage H → List ℕ
 counts_line name size fed = start name size
     (codes " octets=" ++ (decimal fed.octets ++ (codes " body=" ++ (decimal (length fed.message.body)
     ++ (codes " calls=" ++ (decimal fed.calls ++ 10 ∷ []))))))

@@ -5,7 +5,7 @@ ghost use Rattle.hc_bench.specs.Command.{asked, task_of};
 use std::convert::AsStr;
 
 /// What the program is asked to do.
-#[derive(Clone, Copy, PartialEq, Eq)]
+#[derive(Clone, Copy)]
 pub enum Task {
     /// To count calls, and to measure small samples by a clock that always goes alike.
     Count,

@@ -9,7 +9,7 @@ use std::alloc::Global;
 
 /// A message that was fed.
 #[derive(Drop)]
-pub struct Fed<H> {
+pub struct FedMessage<H> {
     pub message: Message<H>,
     /// How many octets it has.
     pub octets: usize,
@@ -24,7 +24,7 @@ pub fn feed<H: MessageHead>(
     room: Room,
     octets: &[u8],
     size: usize,
-) -> Result<Fed<H>, Trouble>
+) -> Result<FedMessage<H>, Trouble>
     requires { 0 < size }
     ensures { FeedsTo H.form result kind room octets.now size }
 {
@@ -38,7 +38,7 @@ pub fn feed<H: MessageHead>(
         match reader.feed(piece)? {
             Progress::More => before += piece.len(),
             Progress::Whole(used) => {
-                return Ok(Fed {
+                return Ok(FedMessage {
                     message: reader.take(),
                     octets: before + used,
                     calls,

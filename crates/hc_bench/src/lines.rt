@@ -2,7 +2,7 @@
 ghost use Rattle.std.specs.Prelude.{◌≡◌, IfOk, string_bytes};
 ghost use Rattle.hc_bench.specs.Lines.{audit_line, counts_line, rate_line, cost_line, report_line, sample_text, store_line};
 
-use crate::feeding::Fed;
+use crate::feeding::FedMessage;
 use crate::rate::Rate;
 use std::alloc::{AllocError, Global};
 
@@ -11,7 +11,7 @@ pub fn counts_line<H>(
     alloc: Global,
     name: &str,
     size: usize,
-    fed: &Fed<H>,
+    fed: &FedMessage<H>,
 ) -> Result<String, AllocError>
     ensures { IfOk result (λ line. string_bytes line ≡ counts_line name.now size fed.now) }
 {

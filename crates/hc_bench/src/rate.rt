@@ -3,7 +3,7 @@
 use std::time::Duration;
 
 /// So many messages, records or calls, with so many octets together, in so much time.
-#[derive(Clone, Copy, PartialEq, Eq)]
+#[derive(Clone, Copy)]
 pub struct Rate {
     pub count: usize,
     pub octets: usize,

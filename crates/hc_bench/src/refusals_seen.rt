@@ -1,7 +1,7 @@
 //! What was seen of calls.
 
 /// What was seen of calls, one after another.
-#[derive(Clone, Copy, PartialEq, Eq)]
+#[derive(Clone, Copy)]
 pub enum Seen {
     /// Each was answered. A cache whose store finds no memory answers too, in another way.
     Answered,
@@ -33,7 +33,7 @@ impl Seen {
 }
 
 /// What the next call of what fails for ever answers.
-#[derive(Clone, Copy, PartialEq, Eq)]
+#[derive(Clone, Copy)]
 pub enum Next {
     /// It does what it is asked for.
     Answered,

@@ -13,7 +13,7 @@ use std::io::Write;
 use thiserror::Error;
 
 /// Why the program ends without what it was asked for.
-#[derive(Clone, Copy, Debug, PartialEq, Eq, Error)]
+#[derive(Clone, Copy, Debug, Error)]
 pub enum Trouble {
     /// Memory was refused.
     #[error("memory")]

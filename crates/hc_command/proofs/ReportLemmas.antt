@@ -1,9 +1,8 @@
 -- What a survey of what was read says of all octets of an input, and what is said of it.
-use Rattle.std.proofs.Common.{◌≡◌, ◌≤◌, ◌⊎◌, inl, inr, ℕ, Bool, true, length, List, [], ◌∷◌, ◌++◌, Option, None, Some, IfSome, append-nil, append_assoc, arith, refl, rules, subst, sym}
+use Rattle.std.proofs.Common.{◌≡◌, ◌≤◌, inl, inr, ℕ, Bool, true, length, List, [], ◌∷◌, ◌++◌, Option, None, Some, IfSome, append-nil, arith, refl, rules, subst, sym}
 use Rattle.std.specs.Prelude.{nat_le, slice_get, IsSome}
 use Rattle.std.proofs.lemmas.Bool.Decides.{nat_tests}
 use Rattle.std.specs.Io.KnownBytes.{Consumes, IsAtEnd, Keeps}
-use Rattle.std.proofs.KnownBytes.{Consumes-trans}
 use Rattle.hc_transcript.specs.declared.fault.RecordFault.{RecordFault}
 use Rattle.hc_transcript.specs.Items.{Item}
 use Rattle.hc_history.specs.declared.settings.Settings.{Settings}
@@ -12,7 +11,6 @@ use Rattle.hc_history.specs.declared.verdicts.Counts.{Counts}
 use Rattle.hc_history.specs.declared.verdicts.Finding.{Finding}
 use Rattle.hc_history.specs.declared.verdicts.Verdict.TheVariants.{Yes, No, Malformed}
 use Rattle.hc_history.specs.declared.wrong.WrongReply.{WrongReply}
-use Rattle.hc_history.specs.declared.wrong.Ending.{Ending}
 use Rattle.hc_history.specs.declared.wrong.Ending.TheVariants as ending
 use Rattle.hc_history.specs.Seen.{Seen}
 use Rattle.hc_history.specs.Verdicts.{IsVerdict}
@@ -20,95 +18,16 @@ use Rattle.hc_history.proofs.VerdictLemmas.{no_stays}
 use Rattle.hc_history.proofs.WrongLemmas.{first_is_no, none_is_malformed}
 use Rattle.hc_audit.specs.declared.survey.Survey.{Survey}
 use Rattle.hc_audit.specs.Endings.{EndsSo}
-use Rattle.hc_audit.specs.Surveying.{Surveys}
-use Rattle.hc_audit.specs.Told.{IsToldOf}
 use Rattle.hc_audit.proofs.SurveyLemmas.{counted_whole}
 use Rattle.hc_why.specs.Seeking.{IsOfPlace, wrong_at}
 use Rattle.hc_why.specs.Standing.{stands_at}
 use Rattle.hc_auditing.proofs.AuditLemmas.{at_end, before_end}
-use Rattle.hc_command.specs.declared.surveying.Heard.{Heard}
+use Rattle.hc_command.specs.declared.surveying.Stop.{Stop}
+use Rattle.hc_command.specs.declared.surveying.Stop.TheVariants as stop
 use Rattle.hc_command.specs.declared.surveying.Outcome.{Outcome}
 use Rattle.hc_command.specs.declared.surveying.Outcome.TheVariants.{Whole, Broken}
 use Rattle.hc_auditing.specs.Line.{status_of}
-use Rattle.hc_command.specs.Report.{BreaksIfSome, Explained, ExplainsAt, FeedsPieceOfSurvey, FeedsSurvey, HasNoWrongAt, IsReadOf, IsSurveyed, Reported, ReportsFor, SaysLineFirst, SaysReplyIn, SurveysFor, WritesIfSome, ending_of, settled_of}
-
--- ---- what was fed
-
--- a piece, and the ending that it leads to
-pub fed_piece : {I : Type 0} (seen : I → Seen) (survey : Survey I) (tells : List WrongReply → Type 0) (hears : List Item → Type 0) (settings : Settings) (octets : List ℕ) (settled : Option Ending)
-    → IsToldOf (Surveys seen survey settings octets) tells hears
-    → ((h : List Item) (wrongs : List WrongReply) → Surveys seen survey settings octets h wrongs → IfSome settled (λ e. EndsSo e settings octets h wrongs))
-    → FeedsPieceOfSurvey seen survey tells hears settings octets settled
-fed_piece seen survey tells hears settings octets settled told stands =
-    record { history = told.0; wrongs = told.1; surveys = told.2; told = told.3; heard = told.4; stands = stands told.0 told.1 told.2 }
-
-consumes_nothing : (o : Option (List ℕ)) → Consumes o o []
-consumes_nothing None = tt
-consumes_nothing (Some xs) = refl
-
--- nothing yet
-pub fed_nothing : {I : Type 0} (seen : I → Seen) (survey : Survey I) (tells : List WrongReply → Type 0) (hears : List Item → Type 0) (settings : Settings) (octets : List ℕ)
-    (old : Option (List ℕ)) → IsToldOf (Surveys seen survey settings octets) tells hears → FeedsSurvey seen survey tells hears settings octets old old None
-fed_nothing seen survey tells hears settings octets old told = record {
-  bytes = [];
-  history = told.0;
-  wrongs = told.1;
-  surveys = subst (λ (o : List ℕ). Surveys seen survey settings o told.0 told.1) (sym (append-nil octets)) told.2;
-  told = told.3;
-  heard = told.4;
-  consumed = consumes_nothing old;
-  stands = tt;
-}
-
--- no octets more
-pub fed_no_more : {I : Type 0} (seen : I → Seen) (survey : Survey I) (tells : List WrongReply → Type 0) (hears : List Item → Type 0) (settings : Settings) (octets : List ℕ)
-    (old new : Option (List ℕ)) → IsToldOf (Surveys seen survey settings octets) tells hears → Consumes old new [] → FeedsSurvey seen survey tells hears settings octets old new None
-fed_no_more seen survey tells hears settings octets old new told consumed = record {
-  bytes = [];
-  history = told.0;
-  wrongs = told.1;
-  surveys = subst (λ (o : List ℕ). Surveys seen survey settings o told.0 told.1) (sym (append-nil octets)) told.2;
-  told = told.3;
-  heard = told.4;
-  consumed = consumed;
-  stands = tt;
-}
-
--- one piece
-pub fed_once : {I : Type 0} (seen : I → Seen) (survey : Survey I) (tells : List WrongReply → Type 0) (hears : List Item → Type 0) (settings : Settings) (octets : List ℕ)
-    (old new : Option (List ℕ)) (piece : List ℕ) (settled : Option Ending) → Consumes old new piece → FeedsPieceOfSurvey seen survey tells hears settings (octets ++ piece) settled
-    → FeedsSurvey seen survey tells hears settings octets old new settled
-fed_once seen survey tells hears settings octets old new piece settled consumed fed =
-    record { bytes = piece; history = fed.history; wrongs = fed.wrongs; surveys = fed.surveys; told = fed.told; heard = fed.heard; consumed = consumed; stands = fed.stands }
-
--- and behind what was fed before what was fed after
-fed_on_behind : {I : Type 0} (seen : I → Seen) (before after : Survey I) (told : List WrongReply → Type 0) (heard : List Item → Type 0) (tells : List WrongReply → Type 0)
-    (hears : List Item → Type 0) (settings : Settings) (octets : List ℕ) (old mid new : Option (List ℕ)) (settled : Option Ending)
-    (f : FeedsSurvey seen before told heard settings octets old mid None) → FeedsSurvey seen after tells hears settings (octets ++ f.bytes) mid new settled
-    → FeedsSurvey seen after tells hears settings octets old new settled
-fed_on_behind seen before after told heard tells hears settings octets old mid new settled f then_fed =
-    let all : (octets ++ f.bytes) ++ then_fed.bytes ≡ octets ++ (f.bytes ++ then_fed.bytes) = append_assoc octets f.bytes then_fed.bytes in
-    record {
-      bytes = f.bytes ++ then_fed.bytes;
-      history = then_fed.history;
-      wrongs = then_fed.wrongs;
-      surveys = subst (λ (o : List ℕ). Surveys seen after settings o then_fed.history then_fed.wrongs) all then_fed.surveys;
-      told = then_fed.told;
-      heard = then_fed.heard;
-      consumed = Consumes-trans old mid new f.bytes then_fed.bytes f.consumed then_fed.consumed;
-      stands = subst (λ (o : List ℕ). IfSome settled (λ e. EndsSo e settings o then_fed.history then_fed.wrongs)) all then_fed.stands;
-    }
-
--- the same of what a piece came to
-pub fed_to : {I : Type 0} (seen : I → Seen) (before after : Survey I) (told : List WrongReply → Type 0) (heard : List Item → Type 0) (tells : List WrongReply → Type 0)
-    (hears : List Item → Type 0) (settings : Settings) (octets : List ℕ) (old mid new : Option (List ℕ)) (met known : Heard)
-    (f : FeedsSurvey seen before told heard settings octets old mid None)
-    → ((o : List ℕ) → IsToldOf (Surveys seen before settings o) told heard → FeedsSurvey seen after tells hears settings o mid new (settled_of met)) → met ≡ known
-    → FeedsSurvey seen after tells hears settings octets old new (settled_of known)
-fed_to seen before after told heard tells hears settings octets old mid new met known f feeds is =
-    subst (λ (m : Heard). FeedsSurvey seen after tells hears settings octets old new (settled_of m)) is
-    (fed_on_behind seen before after told heard tells hears settings octets old mid new (settled_of met) f
-    (feeds (octets ++ f.bytes) (f.history, f.wrongs, f.surveys, f.told, f.heard)))
+use Rattle.hc_command.specs.Report.{BreaksIfSome, Explained, ExplainsAt, FeedsSurvey, HasNoWrongAt, IsReadOf, IsSurveyed, Reported, ReportsFor, SaysLineFirst, SaysReplyIn, StopsBy, SurveysFor, WritesIfSome, ending_of}
 
 -- ---- the verdict
 
@@ -136,39 +55,55 @@ yes_of octets settings h counts is = counted_whole octets settings h counts is.i
 
 -- ---- all octets of an input
 
-module _ {I : Type 0} (seen : I → Seen) (survey : Survey I) (tells : List WrongReply → Type 0) (hears : List Item → Type 0) (enough : Type 0) (settings : Settings) (old new : Option (List ℕ)) where
+module _ {I : Type 0} (seen : I → Seen) (survey : Survey I) (tells : List WrongReply → Type 0) (hears : List Item → Type 0) (enough : Type 0) (settings : Settings)
+    (old new : Option (List ℕ)) (read : List ℕ) (consumed : Consumes old new read) (stopped : Option Stop) (f : FeedsSurvey seen survey tells hears enough settings read stopped) where
+  -- why it stopped
+  stops_by : (known : Stop) → stopped ≡ Some known → StopsBy enough settings read f.history f.wrongs known
+  stops_by known is = subst (λ s. IfSome s (StopsBy enough settings read f.history f.wrongs)) is f.stops
+
   -- a break that stands
-  pub surveyed_to_a_break : (settled : Option Ending) (position : ℕ) (fault : RecordFault) → FeedsSurvey seen survey tells hears settings [] old new settled
-      → settled ≡ Some (ending.Broken position fault) → SurveysFor tells hears enough settings old new (Broken position fault)
-  surveyed_to_a_break settled position fault f is =
-      let ends : EndsSo (ending.Broken position fault) settings f.bytes f.history f.wrongs = subst (λ s. IfSome s (λ e. EndsSo e settings f.bytes f.history f.wrongs)) is f.stands in
-      let so : (more : List ℕ) → IsSurveyed (f.bytes ++ more) settings f.history f.wrongs (Broken position fault) = λ more. record { is = ends.holds more; counted = tt } in
+  pub surveyed_to_a_break : (position : ℕ) (fault : RecordFault) → stopped ≡ Some (stop.Broken position fault)
+      → SurveysFor tells hears enough settings old new (Broken position fault)
+  surveyed_to_a_break position fault is =
+      let ends : EndsSo (ending.Broken position fault) settings read f.history f.wrongs = stops_by (stop.Broken position fault) is in
+      let so : (more : List ℕ) → IsSurveyed (read ++ more) settings f.history f.wrongs (Broken position fault) = λ more. record { is = ends.holds more; counted = tt } in
       record {
-        read = f.bytes;
-        consumed = f.consumed;
+        read = read;
+        consumed = consumed;
         history = f.history;
         wrongs = f.wrongs;
         told = f.told;
         heard = f.heard;
-        are = subst (λ (o : List ℕ). IsSurveyed o settings f.history f.wrongs (Broken position fault)) (append-nil f.bytes) (so []);
-        all = inr (before_end (λ o. IsSurveyed o settings f.history f.wrongs (Broken position fault)) old new f.bytes f.consumed so);
+        are = subst (λ (o : List ℕ). IsSurveyed o settings f.history f.wrongs (Broken position fault)) (append-nil read) (so []);
+        all = inr (before_end (λ o. IsSurveyed o settings f.history f.wrongs (Broken position fault)) old new read consumed so);
       }
 
-  -- the end of the input, or of what the witness wants to see
-  pub surveyed_to_the_end : (settled : Option Ending) (outcome : Outcome) (f : FeedsSurvey seen survey tells hears settings [] old new settled) → enough ⊎ IsAtEnd new
-      → IsSurveyed f.bytes settings f.history f.wrongs outcome → SurveysFor tells hears enough settings old new outcome
-  surveyed_to_the_end settled outcome f end is = record {
-    read = f.bytes;
-    consumed = f.consumed;
+  -- what the witness wants to see
+  pub surveyed_enough : (outcome : Outcome) → stopped ≡ Some stop.Enough → IsSurveyed read settings f.history f.wrongs outcome
+      → SurveysFor tells hears enough settings old new outcome
+  surveyed_enough outcome is surveyed = record {
+    read = read;
+    consumed = consumed;
     history = f.history;
     wrongs = f.wrongs;
     told = f.told;
     heard = f.heard;
-    are = is;
-    all = elim end [
-      | inl has ↦ inl has
-      | inr ended ↦ inr (at_end (λ o. IsSurveyed o settings f.history f.wrongs outcome) old new f.bytes f.consumed ended is)
-    ];
+    are = surveyed;
+    all = inl (stops_by stop.Enough is);
+  }
+
+  -- the end of the input
+  pub surveyed_to_the_end : (outcome : Outcome) → IsAtEnd new → IsSurveyed read settings f.history f.wrongs outcome
+      → SurveysFor tells hears enough settings old new outcome
+  surveyed_to_the_end outcome end surveyed = record {
+    read = read;
+    consumed = consumed;
+    history = f.history;
+    wrongs = f.wrongs;
+    told = f.told;
+    heard = f.heard;
+    are = surveyed;
+    all = inr (at_end (λ o. IsSurveyed o settings f.history f.wrongs outcome) old new read consumed end surveyed);
   }
 
 -- ---- what is said

@@ -4,4 +4,6 @@ pub mod Replay
 pub mod Report
 pub mod Reporting
 pub mod Show
+pub mod ShowLaws
+pub mod SurveyLaws
 pub mod Convert

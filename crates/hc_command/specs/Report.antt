@@ -22,9 +22,9 @@ use Rattle.hc_why.specs.Standing.{stands_at}
 use Rattle.hc_explain.specs.Heads.{IsHead}
 use Rattle.hc_command.specs.declared.surveying.Outcome.{Outcome}
 use Rattle.hc_command.specs.declared.surveying.Outcome.TheVariants.{Whole, Broken}
-use Rattle.hc_command.specs.declared.surveying.Heard.{Heard}
-use Rattle.hc_command.specs.declared.surveying.Heard.TheVariants as heard
-use Rattle.hc_command.specs.declared.surveying.Heard.TheVariants.{More, End}
+use Rattle.hc_command.specs.declared.surveying.Stop.{Stop}
+use Rattle.hc_command.specs.declared.surveying.Stop.TheVariants as stop
+use Rattle.hc_command.specs.declared.surveying.Stop.TheVariants.{Enough}
 use Rattle.hc_auditing.specs.Audit.{SaysLine}
 use Rattle.hc_auditing.specs.Line.{IsVerdictLine, status_of}
 
@@ -227,35 +227,17 @@ Explained json (Some place) status old new faults_old faults_new = (status ≡ 3
 
 -- ---- what private functions promise
 
--- the ending that a piece leads to, which stands
-abbrev pub settled_of : Heard → Option Ending
-settled_of More = None
-settled_of End = None
-settled_of (heard.Broken position fault) = Some (ending.Broken position fault)
+-- a survey stops by that only where the ending that it gives stands, and its witness has seen enough
+abbrev pub StopsBy : Type 0 → Settings → List ℕ → List Item → List WrongReply → Stop → Type 0
+StopsBy enough settings octets h wrongs Enough = enough
+StopsBy enough settings octets h wrongs (stop.Broken position fault) = EndsSo (ending.Broken position fault) settings octets h wrongs
 
--- the same of where a record breaks the octets, if one does
-abbrev pub ending_at : Option (ℕ × RecordFault) → Option Ending
-ending_at None = None
-ending_at (Some broken) = Some (ending.Broken broken.0 broken.1)
-
--- the survey was fed what the reader gave, up to its end or to an ending that stands, and who was told of it has heard of the items and tells the wrong replies
-pub record FeedsSurvey {I : Type 0} (seen : I → Seen) (survey : Survey I) (tells : List WrongReply → Type 0) (hears : List Item → Type 0) (settings : Settings) (octets : List ℕ)
-    (old new : Option (List ℕ)) (settled : Option Ending) : Type 0 where
-  pub bytes : List ℕ
-  pub history : List Item
-  pub wrongs : List WrongReply
-  pub surveys : Surveys seen survey settings (octets ++ bytes) history wrongs
-  pub told : tells wrongs
-  pub heard : hears history
-  pub consumed : Consumes old new bytes
-  pub stands : IfSome settled (λ ending. EndsSo ending settings (octets ++ bytes) history wrongs)
-
--- the survey was fed that piece, and an ending that it gives stands
-pub record FeedsPieceOfSurvey {I : Type 0} (seen : I → Seen) (survey : Survey I) (tells : List WrongReply → Type 0) (hears : List Item → Type 0) (settings : Settings) (octets : List ℕ)
-    (settled : Option Ending) : Type 0 where
+-- the survey was fed these octets, who was told of it has heard of their items and tells their wrong replies, and it stops only where it may
+pub record FeedsSurvey {I : Type 0} (seen : I → Seen) (survey : Survey I) (tells : List WrongReply → Type 0) (hears : List Item → Type 0) (enough : Type 0) (settings : Settings)
+    (octets : List ℕ) (stop : Option Stop) : Type 0 where
   pub history : List Item
   pub wrongs : List WrongReply
   pub surveys : Surveys seen survey settings octets history wrongs
   pub told : tells wrongs
   pub heard : hears history
-  pub stands : IfSome settled (λ ending. EndsSo ending settings octets history wrongs)
+  pub stops : IfSome stop (StopsBy enough settings octets history wrongs)

@@ -1,12 +1,12 @@
 -- What is left on the two writers where records of a transcript are shown.
-use Rattle.std.specs.Prelude.{◌≡◌, ◌⊎◌, ◌++◌, ℕ, List, [], Option, None, Some}
+use Rattle.std.specs.Prelude.{◌≡◌, ◌≢◌, ◌⊎◌, ◌++◌, ℕ, List, [], Option, None, Some}
 use Rattle.std.specs.Io.KnownBytes.{Appends, Consumes, IsAtEnd, Keeps}
 use Rattle.hc_transcript.specs.Names.{fault_number, fault_name}
 use Rattle.hc_showing.specs.declared.showing.Reach.{Reach}
 use Rattle.hc_showing.specs.declared.showing.Reach.TheVariants as reach
 use Rattle.hc_showing.specs.declared.showing.Showing.{Showing}
 use Rattle.hc_showing.specs.declared.span.Span.{Span}
-use Rattle.hc_showing.specs.Showings.{Reaches, Shows, ShowsAll, ShowsBefore, ShowsFewer}
+use Rattle.hc_showing.specs.Showings.{Shows, ShowsAll, ShowsBefore, ShowsFewer}
 use Rattle.hc_command.specs.declared.showing.Shown.{Shown}
 use Rattle.hc_command.specs.declared.showing.Shown.TheVariants.{All, Fewer, Broken}
 use Rattle.hc_auditing.specs.Line.{malformed_line}
@@ -56,25 +56,17 @@ ShownFor span status old new faults_old faults_new = ShowsFor span None None sta
 
 -- ---- what private functions promise
 
--- a showing that was fed these octets, and of which that text was put out, has come to this, where more may come if nothing is said
-abbrev pub ComesTo : Showing → Span → List ℕ → List ℕ → Option Reach → Type 0
+-- a showing that was fed these octets, and of which that text was put out, needs no more where that is shown, and else may go on
+abbrev pub ComesTo : Showing → Span → List ℕ → List ℕ → Option Shown → Type 0
 ComesTo s span octets text None = Shows s span octets text
-ComesTo s span octets text (Some reach) = Reaches reach s span octets text
+ComesTo s span octets text (Some shown) = ShowsOf shown span octets text × (shown ≢ Fewer)
 
 -- some text was put out
-abbrev pub GoesOn : Showing → Span → List ℕ → List ℕ → Option (List ℕ) → Option (List ℕ) → Option Reach → Type 0
-GoesOn s span octets text old new reach = (more : List ℕ) × Appends old new more × ComesTo s span octets (text ++ more) reach
+abbrev pub GoesOn : Showing → Span → List ℕ → List ℕ → Option (List ℕ) → Option (List ℕ) → Option Shown → Type 0
+GoesOn s span octets text old new shown = (more : List ℕ) × Appends old new more × ComesTo s span octets (text ++ more) shown
 
--- and some octets were read
-pub record ReadsOn (s : Showing) (span : Span) (octets text : List ℕ) (input left old new : Option (List ℕ)) (reach : Option Reach) : Type 0 where
-  pub bytes : List ℕ
-  pub more : List ℕ
-  pub consumed : Consumes input left bytes
-  pub written : Appends old new more
-  pub comes : ComesTo s span (octets ++ bytes) (text ++ more) reach
-
--- what isn't the end may go on
-abbrev pub if_reached : Reach → Option Reach
-if_reached reach.More = None
-if_reached reach.Last = Some reach.Last
-if_reached (reach.Broken position f) = Some (reach.Broken position f)
+-- what was shown, where the records have come so far that no more are to
+abbrev pub stopped_by : Reach → Option Shown
+stopped_by reach.More = None
+stopped_by reach.Last = Some All
+stopped_by (reach.Broken position f) = Some (Broken position f)

@@ -1,17 +1,17 @@
 //! Records of one transcript as text: from a reader to text on a writer and an exit status.
-ghost use Rattle.std.specs.Prelude.{◌≡◌, ◌<◌, ◌++◌, ℕ, List, [], Some, Ok, length, IfOk, OnOk};
-ghost use Rattle.std.specs.Io.KnownBytes.{Appends, IsAtEnd};
+ghost use Rattle.std.specs.Prelude.{◌≡◌, ◌<◌, ◌++◌, ℕ, List, None, ⊤, IfOk, OnOk};
+ghost use Rattle.std.specs.Io.KnownBytes.{Appends};
 ghost use Rattle.hc_showing.specs.declared.span.Span.{Span};
-ghost use Rattle.hc_showing.specs.Showings.{Reaches, Shows};
-ghost use Rattle.hc_command.specs.Show.{GoesOn, PutsOut, ReadsOn, SaysOfShown, ShowsFor, ShowsOf, if_reached, shown_end, shown_status};
+ghost use Rattle.hc_showing.specs.Showings.{Shows};
+ghost use Rattle.hc_command.specs.Show.{ComesTo, GoesOn, PutsOut, SaysOfShown, ShowsFor, ShowsOf, shown_end, shown_status, stopped_by};
+ghost use Rattle.hc_command.specs.ShowLaws.{showing_goes_on, showing_stays};
 
-use hc_auditing::{READS, Trouble, buffer, printed, verdict_line};
+use hc_auditing::{Fed, Trouble, buffer, printed, pull, verdict_line};
 use hc_history::Verdict;
 use hc_showing::{Ending, Reach, Showing, Span};
 use hc_transcript::RecordFault;
 use std::alloc::Global;
-use std::io;
-use std::io::{ErrorKind, Read, Write};
+use std::io::{Read, Write};
 
 /// The exit status where the last position is past the end.
 const NO_RECORD: u8 = 64;
@@ -78,22 +78,24 @@ fn show_records<R: Read, W: Write>(
     ensures { IfOk result (PutsOut span (R.remaining input.old) (R.remaining input.new) (W.contents output.old) (W.contents output.new)) }
 {
     let mut piece = buffer(alloc)?;
-    let mut showing = Showing::new(alloc, span);
-    let reached = show_pieces(alloc, &mut showing, input, piece.as_mut_slice(), output)?;
-    let shown = shown_by(showing, reached);
+    let mut putting = Putting {
+        alloc,
+        showing: Showing::new(alloc, span),
+    };
+    let stopped = pull(&mut putting, output, input, piece.as_mut_slice())?;
+    let shown = shown_by(putting.showing, stopped);
     said_behind(alloc, shown, output)?;
     Ok(shown)
 }
 
-// What was shown, by how far a showing has come, which was fed all octets if it hasn't come to its end before.
-fn shown_by(showing: Showing, reached: Reach) -> Shown
-    ensures shows { (span : Span) (octets text : List ℕ) → Reaches reached showing span octets text → ShowsOf result span octets text }
-    ensures fewer { result ≡ Shown.Fewer → reached ≡ Reach.More }
+// What was shown, by where a showing stopped, which was fed all octets if it didn't.
+fn shown_by(showing: Showing, stopped: Option<Shown>) -> Shown
+    ensures shows { (span : Span) (octets text : List ℕ) → ComesTo showing span octets text stopped → ShowsOf result span octets text }
+    ensures fewer { (span : Span) (octets text : List ℕ) → ComesTo showing span octets text stopped → result ≡ Shown.Fewer → stopped ≡ None }
 {
-    match reached {
-        Reach::Last => Shown::All,
-        Reach::Broken(position, fault) => Shown::Broken(position, fault),
-        Reach::More => match showing.finish() {
+    match stopped {
+        Some(shown) => shown,
+        None => match showing.finish() {
             Ending::Short => Shown::Fewer,
             Ending::Broken(position, fault) => Shown::Broken(position, fault),
         },
@@ -114,77 +116,42 @@ fn said_behind<W: Write>(alloc: Global, shown: Shown, output: &mut W) -> Result<
     }
 }
 
-// Shows what `input` gives, a piece at a time, up to the last position, to where a record breaks the octets however they
-// go on, or to the end.
-fn show_pieces<R: Read, W: Write>(
+// A showing whose text is put out.
+#[derive(Drop)]
+struct Putting {
     alloc: Global,
-    showing: &mut Showing,
-    input: &mut R,
-    piece: &mut [u8],
-    output: &mut W,
-) -> Result<Reach, Trouble>
-    requires { 0 < length piece.old }
-    ensures on { (span : Span) → Shows showing.old span [] []
-        → IfOk result (λ reach. ReadsOn showing.new span [] [] (R.remaining input.old) (R.remaining input.new) (W.contents output.old) (W.contents output.new) (Some reach)) }
-    ensures end { result ≡ Ok Reach.More → IsAtEnd (R.remaining input.new) }
-{
-    'pieces: for _ in 0..READS {
-        match show_piece(alloc, showing, input, piece, output)? {
-            Some(reach) => return Ok(reach),
-            None => {}
+    showing: Showing,
+}
+
+impl<W: Write> Fed<W> for Putting {
+    type Answer = Shown;
+
+    ghost goes = { λ first before last after octets shown. (span : Span) (read text : List ℕ) → Shows first.showing span read text
+        → GoesOn last.showing span (read ++ octets) text (W.contents before) (W.contents after) shown };
+
+    ghost fails = { λ _. ⊤ };
+
+    ghost stays = { showing_stays W.contents };
+
+    ghost goes_on = { showing_goes_on W.contents };
+
+    fn take(&mut self, piece: &[u8], told: &mut W) -> Result<Option<Shown>, Trouble> {
+        let mut text = String::new(self.alloc);
+        let reach = self.showing.feed(piece, &mut text)?;
+        match printed(text.as_str(), told) {
+            Ok(()) => Ok(stopped_by(reach)),
+            Err(error) => Err(Trouble::Output(error)),
         }
     }
-    Err(Trouble::Device(io::Error::other("too many reads")))
 }
 
-// Shows the next piece that `input` gives. Where more may come, there is no answer.
-fn show_piece<R: Read, W: Write>(
-    alloc: Global,
-    showing: &mut Showing,
-    input: &mut R,
-    piece: &mut [u8],
-    output: &mut W,
-) -> Result<Option<Reach>, Trouble>
-    requires { 0 < length piece.old }
-    ensures on { (span : Span) (octets text : List ℕ) → Shows showing.old span octets text
-        → IfOk result (ReadsOn showing.new span octets text (R.remaining input.old) (R.remaining input.new) (W.contents output.old) (W.contents output.new)) }
-    ensures end { result ≡ Ok (Some Reach.More) → IsAtEnd (R.remaining input.new) }
-    ensures room { length piece.new ≡ length piece.old }
-{
-    match input.read(piece) {
-        Ok(0) => Ok(Some(Reach::More)),
-        Ok(count) => written(alloc, showing, &piece[..count], output),
-        Err(error) if error.kind() == ErrorKind::Interrupted => Ok(None),
-        Err(error) => Err(Trouble::Device(error)),
-    }
-}
-
-// Writes what a piece shows. Where more may come, there is no answer.
-fn written<W: Write>(
-    alloc: Global,
-    showing: &mut Showing,
-    piece: &[u8],
-    output: &mut W,
-) -> Result<Option<Reach>, Trouble>
-    ensures on { (span : Span) (octets text : List ℕ) → Shows showing.old span octets text
-        → IfOk result (GoesOn showing.new span (octets ++ piece.now) text (W.contents output.old) (W.contents output.new)) }
-    ensures more { result ≡ Ok (Some Reach.More) → ⊥ }
-{
-    let mut text = String::new(alloc);
-    let reach = showing.feed(piece, &mut text)?;
-    match printed(text.as_str(), output) {
-        Ok(()) => Ok(if_reached(reach)),
-        Err(error) => Err(Trouble::Output(error)),
-    }
-}
-
-// How far the records have come, where no more are to.
-fn if_reached(reach: Reach) -> Option<Reach>
-    ensures is { result ≡ if_reached reach }
-    ensures more { result ≡ Some Reach.More → ⊥ }
+// What was shown, where the records have come so far that no more are to.
+fn stopped_by(reach: Reach) -> Option<Shown>
+    ensures { result ≡ stopped_by reach }
 {
     match reach {
         Reach::More => None,
-        Reach::Last | Reach::Broken(_, _) => Some(reach),
+        Reach::Last => Some(Shown::All),
+        Reach::Broken(position, fault) => Some(Shown::Broken(position, fault)),
     }
 }

@@ -1,6 +1,5 @@
 //! The survey of one transcript: what a reader gives is told to a witness.
-ghost use Rattle.std.specs.Prelude.{◌≡◌, ◌⊎◌, ◌<◌, ◌++◌, ℕ, List, [], None, Ok, false, true, length, slice_get, IfErr, IfOk, IfSome};
-ghost use Rattle.std.specs.Io.KnownBytes.{IsAtEnd};
+ghost use Rattle.std.specs.Prelude.{◌≡◌, ◌<◌, ◌++◌, ℕ, List, [], false, true, length, slice_get, IfErr, IfOk, IfSome};
 ghost use Rattle.hc_transcript.specs.Items.{Item};
 ghost use Rattle.hc_history.specs.declared.settings.Settings.{Settings};
 ghost use Rattle.hc_history.specs.declared.wrong.WrongReply.{WrongReply};
@@ -8,18 +7,18 @@ ghost use Rattle.hc_history.specs.declared.verdicts.Verdict.TheVariants.{No};
 ghost use Rattle.hc_history.specs.Verdicts.{IsVerdict};
 ghost use Rattle.hc_audit.specs.Surveying.{Surveys};
 ghost use Rattle.hc_audit.specs.Told.{IsToldOf};
-ghost use Rattle.hc_command.specs.Report.{FeedsPieceOfSurvey, FeedsSurvey, IsSurveyed, SurveysFor, ending_at, ending_of, settled_of, whole_counts};
+ghost use Rattle.hc_command.specs.Report.{FeedsSurvey, IsSurveyed, SurveysFor, ending_of, whole_counts};
 ghost use Rattle.hc_command.specs.Reporting.{verdict_without};
+ghost use Rattle.hc_command.specs.SurveyLaws.{survey_goes_on, survey_stays};
 ghost use Rattle.hc_auditing.specs.Trouble.{is_of_output};
 
 use hc_audit::{AuditFault, Ending, Survey, Witness};
-use hc_auditing::{READS, Trouble, buffer};
+use hc_auditing::{Fed, Trouble, buffer, pull};
 use hc_history::{Counts, Settings, Verdict, WrongReply};
 use hc_index::{Index, MapIndex};
 use hc_transcript::RecordFault;
 use std::alloc::Global;
-use std::io;
-use std::io::{ErrorKind, Read};
+use std::io::Read;
 
 /// How the octets of a transcript end, and what was counted of them where they are whole.
 #[derive(Clone, Copy)]
@@ -100,24 +99,25 @@ pub(crate) fn surveyed<R: Read, T: Reading<MapIndex>>(
 {
     let mut piece = buffer(alloc)?;
     let survey = Survey::new(alloc, MapIndex::new(alloc), settings);
-    surveyed_by(survey, input, piece.as_mut_slice(), witness)
+    surveyed_by(Surveying { survey }, input, piece.as_mut_slice(), witness)
 }
 
 // The same by that survey.
 fn surveyed_by<I: Index + Drop, R: Read, T: Reading<I>>(
-    mut survey: Survey<I>,
+    mut surveying: Surveying<I>,
     input: &mut R,
     piece: &mut [u8],
     witness: &mut T,
 ) -> Result<Outcome, Trouble>
     requires { 0 < length piece.old }
-    ensures surveyed { (settings : Settings) → IsToldOf (Surveys I.seen survey settings []) (T.tells witness.old) (T.hears witness.old)
+    ensures surveyed { (settings : Settings) → IsToldOf (Surveys I.seen surveying.survey settings []) (T.tells witness.old) (T.hears witness.old)
         → IfOk result (SurveysFor (T.tells witness.new) (T.hears witness.new) (T.enough witness.new) settings (R.remaining input.old) (R.remaining input.new)) }
     ensures err { IfErr result (λ trouble. is_of_output trouble ≡ false) }
 {
-    match survey_all(&mut survey, input, piece, witness)? {
-        Some((position, fault)) => Ok(Outcome::Broken(position, fault)),
-        None => concluded(survey),
+    match pull(&mut surveying, witness, input, piece)? {
+        Some(Stop::Broken(position, fault)) => Ok(Outcome::Broken(position, fault)),
+        Some(Stop::Enough) => concluded(surveying.survey),
+        None => concluded(surveying.survey),
     }
 }
 
@@ -137,82 +137,55 @@ fn concluded<I: Index + Drop>(survey: Survey<I>) -> Result<Outcome, Trouble>
     }
 }
 
-// Feeds the survey what `input` gives, a piece at a time, up to its end, to where the witness has seen enough, or
-// to where a record breaks the octets however they go on, which is the answer.
-fn survey_all<I: Index + Drop, R: Read, T: Reading<I>>(
-    survey: &mut Survey<I>,
-    input: &mut R,
-    piece: &mut [u8],
-    witness: &mut T,
-) -> Result<Option<(u64, RecordFault)>, Trouble>
-    requires { 0 < length piece.old }
-    ensures fed { (settings : Settings) (octets : List ℕ)
-        → IsToldOf (Surveys I.seen survey.old settings octets) (T.tells witness.old) (T.hears witness.old)
-        → IfOk result (λ broken. FeedsSurvey I.seen survey.new (T.tells witness.new) (T.hears witness.new) settings octets (R.remaining input.old) (R.remaining input.new) (ending_at broken)) }
-    ensures end { IfOk result (λ broken. broken ≡ None → T.enough witness.new ⊎ IsAtEnd (R.remaining input.new)) }
-    ensures err { IfErr result (λ trouble. is_of_output trouble ≡ false) }
-{
-    'pieces: for _ in 0..READS {
-        match survey_piece(survey, input, piece, witness)? {
-            Heard::More => {}
-            Heard::End => return Ok(None),
-            Heard::Broken(position, fault) => return Ok(Some((position, fault))),
-        }
-    }
-    Err(Trouble::Device(io::Error::other("too many reads")))
+// A survey that is fed an input.
+#[derive(Drop)]
+struct Surveying<I> {
+    survey: Survey<I>,
 }
 
-// What a piece of the input comes to.
+// Why a survey needs no more octets.
 #[derive(Clone, Copy)]
-enum Heard {
-    // More may come.
-    More,
-    // The input is at its end, or the witness has seen enough.
-    End,
+enum Stop {
+    // The witness has seen enough.
+    Enough,
     // A record breaks the octets, however they go on.
     Broken(u64, RecordFault),
 }
 
-// Feeds the survey the next piece that `input` gives.
-fn survey_piece<I: Index + Drop, R: Read, T: Reading<I>>(
-    survey: &mut Survey<I>,
-    input: &mut R,
-    piece: &mut [u8],
-    witness: &mut T,
-) -> Result<Heard, Trouble>
-    requires { 0 < length piece.old }
-    ensures fed { (settings : Settings) (octets : List ℕ)
-        → IsToldOf (Surveys I.seen survey.old settings octets) (T.tells witness.old) (T.hears witness.old)
-        → IfOk result (λ heard. FeedsSurvey I.seen survey.new (T.tells witness.new) (T.hears witness.new) settings octets (R.remaining input.old) (R.remaining input.new) (settled_of heard)) }
-    ensures end { result ≡ Ok Heard.End → T.enough witness.new ⊎ IsAtEnd (R.remaining input.new) }
-    ensures room { length piece.new ≡ length piece.old }
-    ensures err { IfErr result (λ trouble. is_of_output trouble ≡ false) }
-{
-    match input.read(piece) {
-        Ok(0) => Ok(Heard::End),
-        Ok(count) => Ok(feed(survey, &piece[..count], witness)?),
-        Err(error) if error.kind() == ErrorKind::Interrupted => Ok(Heard::More),
-        Err(error) => Err(Trouble::Device(error)),
+impl<I: Index + Drop, T: Reading<I>> Fed<T> for Surveying<I> {
+    type Answer = Stop;
+
+    ghost goes = { λ first before last after octets stop. (settings : Settings) (read : List ℕ)
+        → IsToldOf (Surveys I.seen first.survey settings read) (T.tells before) (T.hears before)
+        → FeedsSurvey I.seen last.survey (T.tells after) (T.hears after) (T.enough after) settings (read ++ octets) stop };
+
+    ghost fails = { λ trouble. is_of_output trouble ≡ false };
+
+    ghost stays = { survey_stays I.seen T.tells T.hears T.enough };
+
+    ghost goes_on = { survey_goes_on I.seen T.tells T.hears T.enough };
+
+    fn take(&mut self, piece: &[u8], told: &mut T) -> Result<Option<Stop>, Trouble> {
+        Ok(feed(&mut self.survey, piece, told)?)
     }
 }
 
-// Feeds the survey a piece.
+// Feeds the survey a piece, and answers whether it needs no more.
 fn feed<I: Index + Drop, T: Reading<I>>(
     survey: &mut Survey<I>,
     piece: &[u8],
     witness: &mut T,
-) -> Result<Heard, AuditFault>
-    ensures fed { (settings : Settings) (octets : List ℕ)
+) -> Result<Option<Stop>, AuditFault>
+    ensures { (settings : Settings) (octets : List ℕ)
         → IsToldOf (Surveys I.seen survey.old settings octets) (T.tells witness.old) (T.hears witness.old)
-        → IfOk result (λ heard. FeedsPieceOfSurvey I.seen survey.new (T.tells witness.new) (T.hears witness.new) settings (octets ++ piece.now) (settled_of heard)) }
-    ensures end { result ≡ Ok Heard.End → T.enough witness.new }
+        → IfOk result (FeedsSurvey I.seen survey.new (T.tells witness.new) (T.hears witness.new) (T.enough witness.new) settings (octets ++ piece.now)) }
 {
     survey.feed(piece, witness)?;
     if let Some(Ending::Broken(position, fault)) = survey.ended() {
-        return Ok(Heard::Broken(*position, *fault));
+        return Ok(Some(Stop::Broken(*position, *fault)));
     }
     if witness.has_enough() {
-        return Ok(Heard::End);
+        return Ok(Some(Stop::Enough));
     }
-    Ok(Heard::More)
+    Ok(None)
 }

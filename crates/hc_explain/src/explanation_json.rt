@@ -115,7 +115,7 @@ fn put_asked(
     reply: &AskedReply,
     members: &mut Map<String, Value>,
 ) -> Result<(), AllocError> {
-    let method = octets_json(alloc, reply.method.as_str().as_bytes());
+    let method = octets_json(alloc, reply.method.as_slice());
     put_made(alloc, "method", method, members)?;
     let mut target = String::new(alloc);
     push_target(&reply.target, &mut target)?;

@@ -36,7 +36,7 @@ impl Told for Shortfall {
     fn put(&self, alloc: Global, members: &mut Map<String, Value>) -> Result<(), AllocError> {
         match self {
             Shortfall::Asked(method) => {
-                let method = octets_json(alloc, method.as_str().as_bytes());
+                let method = octets_json(alloc, method.as_slice());
                 put_made(alloc, "method", method, members)
             }
             Shortfall::Selected(selection) => {

@@ -45,7 +45,7 @@ pub(crate) fn push_method(
     out: &mut String,
 ) -> Result<(), AllocError> {
     out.push_str(before)?;
-    push_octets(method.as_str().as_bytes(), out)?;
+    push_octets(method.as_slice(), out)?;
     out.push_str(behind)
 }
 

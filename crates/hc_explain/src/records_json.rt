@@ -40,7 +40,7 @@ fn put_method(
     method: &Method,
     members: &mut Map<String, Value>,
 ) -> Result<(), AllocError> {
-    let method = octets_json(alloc, method.as_str().as_bytes());
+    let method = octets_json(alloc, method.as_slice());
     put_made(alloc, "method", method, members)
 }
 

@@ -9,12 +9,19 @@ use std::marker::Model;
 
 /// A field line (RFC 9110 section 5): its name, in lower case, and its value without the white
 /// space around it.
-#[derive(Drop)]
 pub struct Field {
     /// In lower case.
     pub name: Octets,
     /// Without the white space around it.
     pub value: Octets,
+}
+
+impl Drop for Field {
+    fn drop(self) {
+        let Field { name, value } = self;
+        drop(name);
+        drop(value);
+    }
 }
 
 impl Field {

@@ -1,5 +1,4 @@
 pub mod SameTargetLemmas
-pub mod MethodLemmas
 pub mod DigitLemmas
 pub mod FrontLemmas
 pub mod ReadingLemmas

@@ -1,7 +1,6 @@
 -- The head of a request is read in one way, whatever follows it.
 use Rattle.std.proofs.Common.{◌≡◌, ℕ, List, ◌++◌, length, take, drop, map, sym, ap, subst, ◌∙◌, arith, length-take}
 use Rattle.std.proofs.lemmas.List.{take-append-drop, length-map}
-use Rattle.http.specs.Token.{IsToken}
 use Rattle.httparse.specs.declared.spans.HeaderSpan.{HeaderSpan}
 use Rattle.httparse.specs.declared.spans.RequestSpans.{RequestSpans}
 use Rattle.httparse.specs.Grammar
@@ -14,7 +13,6 @@ use Rattle.hc_head.specs.Heads.{field_at, field_of, version_of, request_head_of,
 pub use Rattle.hc_head.specs.Laws.{request_goes_on as begins-append, request_within as begins_within, request_some as begins_some, request_front as begins-take}
 use Rattle.hc_head.specs.Reading.{IsWholeHead, HasNoHead, NeverHasHead, HasManyFields, CanBecomeHead}
 use Rattle.hc_head.specs.Unfinished.{HasHopelessTarget, MayHaveTarget}
-use Rattle.hc_head.proofs.MethodLemmas.{token_is}
 use Rattle.hc_head.proofs.ReadingLemmas.{fields_same}
 use Rattle.hc_head.proofs.UnfinishedLemmas.{never_request, can_request}
 
@@ -31,13 +29,6 @@ head_same octets spans found syntax head at method target version fields =
     let version-is = version ∙ ap version_of at.version in
     let fields-is = fields ∙ fields_same octets (take found.headers spans) syntax.fields at.fields in
     λ i. record { method = method-is i; target = target-is i; version = version-is i; fields = fields-is i }
-
--- the method that the spans cover is a token
-pub method_is_token : (octets : List ℕ) (spans : List HeaderSpan) (found : RequestSpans) → IsRequestOf octets spans found
-    → IsToken (span_bytes octets found.method)
-method_is_token octets spans found of =
-    let at = of.1 in
-    subst IsToken (sym at.method) (token_is of.0.method at.reads.0.method)
 
 -- ---- laws of the relation
 

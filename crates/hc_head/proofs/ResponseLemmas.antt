@@ -1,7 +1,6 @@
 -- The head of a response is read in one way, whatever follows it.
 use Rattle.std.proofs.Common.{◌≡◌, ℕ, ◌≤◌, ◌<◌, true, false, List, ◌++◌, length, take, drop, map, sym, ap, subst, ◌∙◌, arith, length-take}
 use Rattle.std.proofs.lemmas.List.{take-append-drop, length-map}
-use Rattle.http.specs.StatusCode.{IsStatusCode}
 use Rattle.httparse.specs.declared.spans.HeaderSpan.{HeaderSpan}
 use Rattle.httparse.specs.declared.spans.ResponseSpans.{ResponseSpans}
 use Rattle.httparse.specs.Grammar
@@ -14,6 +13,7 @@ use Rattle.hc_head.specs.Heads.{field_at, field_of, version_of, response_head_of
 -- other names of its laws
 pub use Rattle.hc_head.specs.Laws.{response_goes_on as begins-append, response_within as begins_within, response_some as begins_some, response_front as begins-take}
 use Rattle.hc_head.specs.Reading.{IsWholeHead, HasNoHead, NeverHasHead, HasManyFields, CanBecomeHead}
+use Rattle.hc_head.specs.Statuses.{IsStatus}
 use Rattle.hc_head.specs.Unfinished.{has_low_status}
 use Rattle.hc_head.proofs.DigitLemmas.{status_small}
 use Rattle.hc_head.proofs.ReadingLemmas.{fields_same}
@@ -76,7 +76,7 @@ many_fields octets front room limit front-is limit-is over more head len begins 
 
 -- a number that is no status makes no head, whatever follows
 pub no_status : (octets front : List ℕ) (room : Room) (spans : List HeaderSpan) (found : ResponseSpans)
-    → front ≡ take room.octets octets → IsResponseOf front spans found → ¬ (IsStatusCode found.code)
+    → front ≡ take room.octets octets → IsResponseOf front spans found → ¬ (IsStatus found.code)
     → NeverHasHead BeginsResponseHead response_field_count octets room
 no_status octets front room spans found front-is of none more head len begins =
     let at = of.1 in
@@ -84,7 +84,7 @@ no_status octets front room spans found front-is of none more head len begins =
     let begins' = subst (λ (o : List ℕ). BeginsResponseHead (o ++ more) head len) (sym front-is) begins in
     let same = response_prefix_free front more of.0 begins'.syntax (drop found.len front) begins'.rest at.reads begins'.reads in
     let least : 100 ≤ found.code = omega (arith, at.code, ap status_code same.0, ap (λ (h : ResponseHead). h.status) begins'.head_is, begins'.has_status) in
-    let greatest : found.code < 1000 = omega (arith, at.code, small) in
+    let greatest : found.code ≤ 999 = omega (arith, at.code, small) in
     none (least, greatest)
 
 -- a status that begins with 0 makes none either

@@ -13,4 +13,5 @@ pub mod Writable
 pub mod Plain
 pub mod Weights
 pub mod Methods
+pub mod MethodNames
 pub mod Statuses

@@ -1,6 +1,10 @@
 -- Statuses of which caches treat each in its own way (RFC 9110 section 15).
-use Rattle.std.specs.Prelude.{ℕ, Bool, ◌&&◌, ◌==◌, [], ◌∷◌, nat_le}
+use Rattle.std.specs.Prelude.{ℕ, ◌≤◌, Bool, ◌&&◌, ◌==◌, [], ◌∷◌, nat_le}
 use Rattle.std.specs.List.{list_any}
+
+-- the number of a status: three digits, the first of which is no 0 (RFC 9112 section 4)
+abbrev pub IsStatus : ℕ → Type 0
+IsStatus number = (100 ≤ number) × (number ≤ 999)
 
 -- a response without content (section 15.3.5)
 abbrev pub no_content : ℕ

@@ -1,8 +1,9 @@
 ghost use Rattle.std.specs.Prelude.{◌≡◌, IfOk};
 ghost use Rattle.hc_head.specs.declared.head.Target.{Target};
 
+use crate::methods::Method;
+use crate::statuses::StatusCode;
 use hc_fields::{Fields, Octets};
-use http::{Method, StatusCode};
 use std::alloc::{AllocError, Global};
 
 /// The version of a message (RFC 9112 section 2.3).

@@ -21,12 +21,11 @@ mod writing;
 pub use empty_line::{Search, find_empty_line};
 pub use fault::HeadFault;
 pub use head::{RequestHead, ResponseHead, Room, Step, Target, Version};
-pub use http::{Method, StatusCode};
-pub use methods::{is_get, is_get_or_head, is_head, is_unsafe};
+pub use methods::{Method, is_get, is_get_or_head, is_head, is_unsafe};
 pub use plain::{plain_fields_stay_plain, plain_names, plain_values, read_head_is_plain};
 pub use requests::{one_request_head, read_request};
 pub use responses::{one_response_head, read_response};
-pub use statuses::{is_error_status, is_interim};
+pub use statuses::{StatusCode, is_error_status, is_interim};
 pub use targets::{
     forwarded_target_is_the_same, one_target, same_target, target, target_parts_are_plain,
     targets_compare_by_host_and_path,

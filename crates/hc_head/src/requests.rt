@@ -1,35 +1,21 @@
 //! Heads of requests.
 
 ghost use Rattle.std.specs.Prelude.{◌≡◌, ℕ, List, ◌++◌, length, take, IfOk};
-ghost use Rattle.http.specs.Token.{IsToken};
 ghost use Rattle.httparse.specs.Grammar.{RequestHead as Syntax};
-ghost use Rattle.httparse.specs.Spans.{IsRequestWithin, IsRequestAt, RequestExceeds, span_bytes};
+ghost use Rattle.httparse.specs.Spans.{IsRequestWithin, IsRequestAt, RequestExceeds};
 ghost use Rattle.hc_head.specs.declared.head.RequestHead.{RequestHead};
 ghost use Rattle.hc_head.specs.Heads.{BeginsRequestHead, request_field_count, request_head_of};
 ghost use Rattle.hc_head.specs.Reading.{IsWholeHead, GivesHead, FindsHead, CanBecomeHead, OnUnfinished, OnTooManyFields};
 
 use crate::fault::HeadFault;
 use crate::head::{FEW, RequestHead, Room, Step};
+use crate::methods::Method;
 use crate::parts::{fields_at, front_of, has_too_many, version_of};
 use crate::unfinished::has_hopeless_target;
 use hc_fields::Octets;
-use http::Method;
-use http::method::MethodError;
 use httparse::spans::{EMPTY_HEADER_SPAN, HeaderSpan, RequestSpans, parse_request};
 use httparse::{Error, Status};
 use std::alloc::{AllocError, Global};
-
-/// The method of a token.
-fn method_of(alloc: Global, token: &[u8]) -> Result<Method, AllocError>
-    requires { IsToken token.now }
-    ensures { IfOk result (λ method. method ≡ token.now) }
-{
-    match Method::from_bytes(alloc, token) {
-        Ok(method) => Ok(method),
-        Err(MethodError::OutOfMemory) => Err(AllocError),
-        Err(MethodError::Invalid) => unreachable!(),
-    }
-}
 
 /// The head that the spans cover.
 fn head_at(
@@ -38,13 +24,12 @@ fn head_at(
     found: RequestSpans,
     spans: &[HeaderSpan],
 ) -> Result<RequestHead, AllocError>
-    requires within { IsRequestWithin bytes.now spans.now found }
-    requires token { IsToken (span_bytes bytes.now found.method) }
+    requires { IsRequestWithin bytes.now spans.now found }
     ensures { (syntax : Syntax) → IsRequestAt bytes.now spans.now found syntax
         → IfOk result (λ head. head ≡ request_head_of syntax) }
 {
     Ok(RequestHead {
-        method: method_of(alloc, found.method.of(bytes))?,
+        method: Method::from_slice(alloc, found.method.of(bytes))?,
         target: Octets::from_slice(alloc, found.path.of(bytes))?,
         version: version_of(found.version),
         fields: fields_at(alloc, bytes, &spans[..found.headers])?,

@@ -10,8 +10,8 @@ ghost use Rattle.hc_head.specs.Reading.{IsWholeHead, GivesHead, FindsHead, CanBe
 use crate::fault::HeadFault;
 use crate::head::{FEW, ResponseHead, Room, Step};
 use crate::parts::{fields_at, front_of, has_too_many, version_of};
+use crate::statuses::StatusCode;
 use crate::unfinished::has_low_status;
-use http::StatusCode;
 use httparse::spans::{EMPTY_HEADER_SPAN, HeaderSpan, ResponseSpans, parse_response};
 use httparse::{Error, Status};
 use std::alloc::{AllocError, Global};
@@ -51,7 +51,7 @@ fn read_into(
     let front = front_of(bytes, room.octets);
     match parse_response(front, spans) {
         Ok(Status::Complete(found)) => {
-            let Ok(status) = StatusCode::from_u16(found.code) else {
+            let Some(status) = StatusCode::from_u16(found.code) else {
                 return Err(HeadFault::Syntax);
             };
             let head = head_at(alloc, front, status, found, spans)?;

@@ -20,8 +20,8 @@ ghost use Rattle.hc_head.specs.Targets.{Asterisk, FindsTarget, FollowsScheme, Gi
 use crate::fault::HeadFault;
 use crate::head::{RequestHead, Target};
 use crate::hosts::{HostAndPort, host_and_port, normal_host};
+use crate::methods::{Method, is_connect, is_options};
 use hc_fields::Octets;
-use http::Method;
 use http_uri::{PathAndQuery, UriError};
 use std::alloc::{AllocError, Global};
 
@@ -99,7 +99,7 @@ fn is_origin_form(alloc: Global, text: &[u8]) -> Result<bool, HeadFault>
 fn is_asterisk_form(head: &RequestHead) -> bool
     ensures { IsTrue result ↔ HasForm head.now Asterisk }
 {
-    head.target.as_slice() == b"*".as_slice() && head.method == Method::OPTIONS
+    head.target.as_slice() == b"*".as_slice() && is_options(&head.method)
 }
 
 /// What follows the scheme.
@@ -155,7 +155,7 @@ fn absolute_path(alloc: Global, method: &Method, rest: &[u8]) -> Result<Octets, 
     ensures { IfOk result (λ path. path ≡ absolute_path method.now rest.now) }
 {
     match rest.first() {
-        None if *method == Method::OPTIONS => Octets::from_slice(alloc, b"*"),
+        None if is_options(method) => Octets::from_slice(alloc, b"*"),
         None => Octets::from_slice(alloc, b"/"),
         Some(b'?') => {
             let mut path = Octets::from_slice(alloc, b"/")?;
@@ -169,7 +169,7 @@ fn absolute_path(alloc: Global, method: &Method, rest: &[u8]) -> Result<Octets, 
 fn may_name(head: &RequestHead) -> bool
     ensures { IsTrue result ↔ MayName head.now }
 {
-    head.method != Method::CONNECT
+    !is_connect(&head.method)
         && !head.target.as_slice().contains(&b'#')
         && head.target.len() <= LONGEST_TARGET
 }

@@ -78,7 +78,7 @@ fn is_plain_target(target: &[u8]) -> bool
 fn is_plain_request(head: &RequestHead) -> bool
     ensures { IsTrue result ↔ IsPlainRequest head.now }
 {
-    is_token(head.method.as_str().as_bytes())
+    is_token(head.method.as_slice())
         && is_plain_target(head.target.as_slice())
         && are_plain_fields(head.fields.lines())
 }
@@ -95,7 +95,7 @@ fn room_behind_request(room: usize, head: &RequestHead) -> Option<usize>
     ensures { SomeIff result (length (request_head_text head.now (Some longest_body)) ≤ room)
         (room - length (request_head_text head.now (Some longest_body))) }
 {
-    let room = room.checked_sub(head.method.as_str().len())?;
+    let room = room.checked_sub(head.method.as_slice().len())?;
     let room = room.checked_sub(head.target.len())?;
     let room = room.checked_sub(REQUEST_FRAME.len())?;
     room_behind_lines(room, head.fields.lines())

@@ -20,7 +20,7 @@ fn version_text(version: Version) -> &'static str
 fn write_request_line(text: &mut Vec<u8>, head: &RequestHead) -> Result<(), AllocError>
     ensures { OnOk result (text.new.items ≡ text.old.items ++ request_line head.now) }
 {
-    text.extend_from_slice(head.method.as_str().as_bytes())?;
+    text.extend_from_slice(head.method.as_slice())?;
     text.extend_from_slice(b" ")?;
     text.extend_from_slice(head.target.as_slice())?;
     text.extend_from_slice(b" ")?;

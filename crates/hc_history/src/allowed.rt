@@ -7,7 +7,6 @@ use crate::settings::FieldNames;
 use std::alloc::{AllocError, Global};
 
 /// What an audit allows beside its strict rules, which are narrower than the RFCs where these leave a choice.
-#[derive(Drop)]
 pub struct Allowed {
     /// Whether a reply may have fields that the stored response lacks, but for those that say what its body is
     /// (RFC 9110 sections 7.7 and 15.4.5).
@@ -29,6 +28,22 @@ pub struct Allowed {
     pub inferred_marks: bool,
     /// By how many seconds an Age may be off, where that is more than the slack (RFC 9111 section 4.2.3).
     pub age_slack: u32,
+}
+
+impl Drop for Allowed {
+    fn drop(self) {
+        let Allowed {
+            added_fields: _,
+            joined_lines: _,
+            ranges: _,
+            default_lifetime: _,
+            grace: _,
+            normalized,
+            inferred_marks: _,
+            age_slack: _,
+        } = self;
+        drop(normalized);
+    }
 }
 
 impl Allowed {

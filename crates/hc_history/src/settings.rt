@@ -10,9 +10,15 @@ use std::alloc::{AllocError, Global};
 use std::marker::Model;
 
 /// Names of fields, in lower case, which contracts see as the list of them.
-#[derive(Drop)]
 pub struct FieldNames {
     names: Vec<Octets>,
+}
+
+impl Drop for FieldNames {
+    fn drop(self) {
+        let FieldNames { names } = self;
+        drop(names);
+    }
 }
 
 impl Model for FieldNames {
@@ -76,7 +82,6 @@ pub enum UnmarkedReplies {
 }
 
 /// What an audit is asked to let pass.
-#[derive(Drop)]
 pub struct Settings {
     /// By how many seconds an Age, the seconds that are left, a lifetime and what permits staleness may be
     /// off.
@@ -87,6 +92,19 @@ pub struct Settings {
     pub unmarked: UnmarkedReplies,
     /// What is allowed beside the strict rules.
     pub allowed: Allowed,
+}
+
+impl Drop for Settings {
+    fn drop(self) {
+        let Settings {
+            slack: _,
+            ignored,
+            unmarked: _,
+            allowed,
+        } = self;
+        drop(ignored);
+        drop(allowed);
+    }
 }
 
 impl Settings {

@@ -30,7 +30,6 @@ use std::collections::{BTreeMap, BTreeSet};
 
 /// An index that keeps lists and walks them: the time for a reply grows with the number of live responses,
 /// and that for a response with the number of live responses and open exchanges.
-#[derive(Drop)]
 pub struct ListIndex {
     pub(crate) alloc: Global,
     /// The live responses, by rising position.
@@ -43,6 +42,26 @@ pub struct ListIndex {
     pub(crate) errors: BTreeMap<Target, u64>,
     /// The position of the latest failure of a forward of each target.
     pub(crate) failures: BTreeMap<Target, u64>,
+}
+
+impl Drop for ListIndex {
+    fn drop(self) {
+        let ListIndex {
+            alloc: _,
+            lives,
+            exchanges,
+            forwards,
+            forwarded,
+            errors,
+            failures,
+        } = self;
+        drop(lives);
+        drop(exchanges);
+        drop(forwards);
+        drop(forwarded);
+        drop(errors);
+        drop(failures);
+    }
 }
 
 /// Keeps the position for that target.

@@ -25,7 +25,6 @@ use std::collections::{BTreeMap, BTreeSet};
 
 /// An index that looks at one target alone: the time for a record doesn't grow with the records of other
 /// targets, and a hit that the newest response passes is found at once.
-#[derive(Drop)]
 pub struct MapIndex {
     pub(crate) alloc: Global,
     pub(crate) targets: BTreeMap<Target, AtTarget>,
@@ -33,6 +32,22 @@ pub struct MapIndex {
     pub(crate) forwards: BTreeMap<u64, OpenForward>,
     /// The open exchanges for which a forward was made.
     pub(crate) forwarded: BTreeSet<u64>,
+}
+
+impl Drop for MapIndex {
+    fn drop(self) {
+        let MapIndex {
+            alloc: _,
+            targets,
+            exchanges,
+            forwards,
+            forwarded,
+        } = self;
+        drop(targets);
+        drop(exchanges);
+        drop(forwards);
+        drop(forwarded);
+    }
 }
 
 impl MapIndex {

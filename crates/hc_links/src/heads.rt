@@ -59,7 +59,7 @@ pub(crate) fn fault_status(fault: FrameFault) -> StatusCode
     match fault {
         FrameFault::Head(HeadFault::TooManyFields | HeadFault::TooLong) =>
             StatusCode::REQUEST_HEADER_FIELDS_TOO_LARGE,
-        FrameFault::BodyTooLong => StatusCode::PAYLOAD_TOO_LARGE,
+        FrameFault::BodyTooLong => StatusCode::CONTENT_TOO_LARGE,
         FrameFault::BadCoding => StatusCode::NOT_IMPLEMENTED,
         _ => StatusCode::BAD_REQUEST,
     }

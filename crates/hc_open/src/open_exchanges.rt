@@ -11,10 +11,17 @@ use std::collections::BTreeMap;
 const MOST_WAITING: usize = 64;
 
 /// The exchanges that are open, by number, and those among them that wait for a forward, by its number.
-#[derive(Drop)]
 pub struct OpenExchanges {
     by_number: BTreeMap<u64, OpenExchange>,
     waiting: Groups<u64>,
+}
+
+impl Drop for OpenExchanges {
+    fn drop(self) {
+        let OpenExchanges { by_number, waiting } = self;
+        drop(by_number);
+        drop(waiting);
+    }
 }
 
 impl OpenExchanges {

@@ -14,13 +14,25 @@ use std::collections::BTreeMap;
 
 /// The forwards that are open, by number, and by target those among them that are for the store alone, and those that
 /// other requests may wait for.
-#[derive(Drop)]
 pub struct OpenLinks {
     pub by_number: BTreeMap<u64, Link>,
     /// The number of the one for the store alone that is open for a target.
     pub behind: BTreeMap<Target, u64>,
     /// Those that other requests may wait for, by their target.
     joinable: Groups<Target>,
+}
+
+impl Drop for OpenLinks {
+    fn drop(self) {
+        let OpenLinks {
+            by_number,
+            behind,
+            joinable,
+        } = self;
+        drop(by_number);
+        drop(behind);
+        drop(joinable);
+    }
 }
 
 /// Whether a forward is for the store alone.

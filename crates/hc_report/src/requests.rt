@@ -38,7 +38,7 @@ fn shown_of(alloc: Global, claim: &ReplyClaim<'_>) -> Result<ShownRequest, Alloc
     ensures target { IfOk result (λ shown. string_bytes shown.target ≡ target_text claim.now.target) }
 {
     let mut method = String::new(alloc);
-    push_octets(claim.request.method.as_str().as_bytes(), &mut method)?;
+    push_octets(claim.request.method.as_slice(), &mut method)?;
     let mut target = String::new(alloc);
     push_target(claim.target, &mut target)?;
     Ok(ShownRequest { method, target })

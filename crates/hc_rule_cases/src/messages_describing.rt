@@ -18,7 +18,7 @@ pub trait ShownHead: MessageHead {
 
 impl ShownHead for RequestHead {
     fn show(&self, out: &mut String) -> Result<(), AllocError> {
-        show_short(self.method.as_str().as_bytes(), out)?;
+        show_short(self.method.as_slice(), out)?;
         out.push_str(" ")?;
         show(self.target.as_slice(), out)?;
         out.push_str(" ")?;

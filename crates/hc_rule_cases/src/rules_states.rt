@@ -108,7 +108,7 @@ pub fn described(state: &Stored, out: &mut String) -> Result<(), AllocError> {
 }
 
 fn asked(request: &RequestHead, out: &mut String) -> Result<(), AllocError> {
-    show(request.method.as_str().as_bytes(), out)?;
+    show(request.method.as_slice(), out)?;
     out.push_str(" ")?;
     show(request.target.as_slice(), out)?;
     out.push_str(" ")?;

@@ -21,7 +21,7 @@ pub(crate) fn push_request(
 ) -> Result<(), AllocError>
     ensures { OnOk result (string_bytes out.new ≡ string_bytes out.old ++ request_text request.now target.now) }
 {
-    push_octets(request.head.method.as_str().as_bytes(), out)?;
+    push_octets(request.head.method.as_slice(), out)?;
     out.push(' ')?;
     push_target(target, out)?;
     let version = version_name(request.head.version);

@@ -134,5 +134,5 @@ impl Stored {
 pub fn invalidates(method: &Method, status: StatusCode) -> bool
     ensures { result ≡ invalidates method.now status }
 {
-    is_unsafe(method) && (status.is_success() || status.is_redirection())
+    is_unsafe(method) && (200..=399).contains(&status.as_u16())
 }

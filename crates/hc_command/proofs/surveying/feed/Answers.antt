@@ -1,22 +1,28 @@
-use Rattle.std.proofs.Common.{◌++◌, None, subst}
+use Rattle.std.proofs.Common.{◌++◌, rules, subst}
 use Rattle.hc_history.specs.declared.wrong.Ending.{Ending}
 use Rattle.hc_audit.specs.Endings.{EndsSo}
-use Rattle.hc_command.proofs.ReportLemmas.{fed_piece}
 use Rattle.hc_command.proofs.surveying.feed.Goals as goal
 
-pub returns-in-Some-Broken-clause-fed : goal.returns-in-Some-Broken-clause-fed
-returns-in-Some-Broken-clause-fed g c = λ settings octets told.
-    fed_piece g.I.Index.seen c.feed.new.self (g.T.Witness.tells c.feed.new.witness) (g.T.Witness.hears c.feed.new.witness) settings (octets ++ c.args.piece.now) _
-    (c.in_ok-feed.ensures.ok settings octets told)
-    (λ h wrongs surveys. subst (λ (e : Ending). EndsSo e settings (octets ++ c.args.piece.now) h wrongs) c.in-Some-Broken.field-0-is
-    (c.in-Some-Broken.ensures.stands settings (octets ++ c.args.piece.now) h wrongs surveys))
+pub returns-in-Some-Broken : goal.returns-in-Some-Broken
+returns-in-Some-Broken g c = λ settings octets so_far.
+    let told = c.in_ok-feed.ensures.ok settings octets so_far in
+    record {
+      history = told.0;
+      wrongs = told.1;
+      surveys = told.2;
+      told = told.3;
+      heard = told.4;
+      stops =
+          subst (λ (e : Ending). EndsSo e settings (octets ++ c.args.piece.now) told.0 told.1) c.in-Some-Broken.field-0-is
+          (c.in-Some-Broken.ensures.stands settings (octets ++ c.args.piece.now) told.0 told.1 told.2);
+    }
 
-pub returns-then-has_enough-clause-fed : goal.returns-then-has_enough-clause-fed
-returns-then-has_enough-clause-fed g c = λ settings octets told.
-    fed_piece g.I.Index.seen c.feed.new.self (g.T.Witness.tells c.feed.new.witness) (g.T.Witness.hears c.feed.new.witness) settings (octets ++ c.args.piece.now) None
-    (c.in_ok-feed.ensures.ok settings octets told) (λ h wrongs surveys. tt)
+pub returns-then-has_enough : goal.returns-then-has_enough
+returns-then-has_enough g c = λ settings octets so_far.
+    let told = c.in_ok-feed.ensures.ok settings octets so_far in
+    record { history = told.0; wrongs = told.1; surveys = told.2; told = told.3; heard = told.4; stops = search rules }
 
-pub returns-clause-fed : goal.returns-clause-fed
-returns-clause-fed g c = λ settings octets told.
-    fed_piece g.I.Index.seen c.feed.new.self (g.T.Witness.tells c.feed.new.witness) (g.T.Witness.hears c.feed.new.witness) settings (octets ++ c.args.piece.now) None
-    (c.in_ok-feed.ensures.ok settings octets told) (λ h wrongs surveys. tt)
+pub returns : goal.returns
+returns g c = λ settings octets so_far.
+    let told = c.in_ok-feed.ensures.ok settings octets so_far in
+    record { history = told.0; wrongs = told.1; surveys = told.2; told = told.3; heard = told.4; stops = tt }

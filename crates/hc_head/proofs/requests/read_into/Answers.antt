@@ -1,10 +1,6 @@
 use Rattle.std.proofs.Common.{arith}
-use Rattle.hc_head.proofs.RequestLemmas.{whole_head, method_is_token, no_head_in_room, many_fields, no_text, may_become}
+use Rattle.hc_head.proofs.RequestLemmas.{whole_head, no_head_in_room, many_fields, no_text, may_become}
 use Rattle.hc_head.proofs.requests.read_into.Goals as goal
-
-pub head_at-requires-clause-token : goal.head_at-requires-clause-token
-head_at-requires-clause-token c =
-    method_is_token c.front_of-front.result.now c.parse_request.new.headers c.in-Ok-Complete.found (rw c.in-Ok-Complete.field-0-is at c.in-Ok-Complete.ensures.complete)
 
 pub returns-in_ok-head-in-Ok-Complete-clause-gives : goal.returns-in_ok-head-in-Ok-Complete-clause-gives
 returns-in_ok-head-in-Ok-Complete-clause-gives c =
