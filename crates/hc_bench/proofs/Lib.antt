@@ -1,3 +1,1 @@
-pub mod AuditingLemmas
 pub mod FeedingLemmas
-pub mod TranscriptLemmas

@@ -11,7 +11,7 @@ use Rattle.hc_framing.specs.Reader.{BeginsIn, HasNoMessage}
 use Rattle.hc_bench.specs.declared.feeding.FedMessage.{FedMessage}
 use Rattle.hc_bench.specs.declared.rate.Rate.{Rate}
 use Rattle.hc_bench.specs.declared.trouble.Trouble.{Trouble}
-use Rattle.hc_bench.specs.declared.trouble.Trouble.TheVariants.{Memory, Device, Fault, Unended, NotRight, NotStored, NotServed}
+use Rattle.hc_bench.specs.declared.trouble.Trouble.TheVariants.{Memory, Device, Fault, Unended, NotStored, NotServed}
 
 -- a fault of a message as a trouble
 abbrev pub trouble_of : FrameFault → Trouble
@@ -39,7 +39,6 @@ module _ {H : Type 0} (form : Form H) where
   FeedsTo (Err (Fault fault)) kind room octets size =
       (len : ℕ) × StandsIn form kind fault (take len octets) room
   FeedsTo (Err Unended) kind room octets size = HasNoMessage form kind octets
-  FeedsTo (Err NotRight) kind room octets size = ⊥
   FeedsTo (Err NotStored) kind room octets size = ⊥
   FeedsTo (Err NotServed) kind room octets size = ⊥
 

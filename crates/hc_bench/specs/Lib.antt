@@ -1,4 +1,3 @@
-pub mod Auditing
 pub mod Command
 pub mod Feeding
 pub mod Lines
@@ -6,4 +5,3 @@ pub mod Messages
 pub mod Rates
 pub mod Responses
 pub mod Storing
-pub mod Transcripts

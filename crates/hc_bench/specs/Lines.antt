@@ -25,26 +25,6 @@ abbrev pub cost_line : List ℕ → ℕ → Rate → Rate → List ℕ
 cost_line name size short long =
     start name size (codes " cost_percent=" ++ (decimal (percent_of long short) ++ 10 ∷ []))
 
--- which transcript was audited: its format, its records, its targets, and how many octets each body has
-abbrev pub sample_text : ℕ → ℕ → ℕ → ℕ → List ℕ
-sample_text format records targets body =
-    codes "format=" ++ (decimal format ++ (codes " records=" ++ (decimal records
-    ++ (codes " targets=" ++ (decimal targets ++ (codes " body=" ++ decimal body))))))
-
--- how fast its records were audited
-abbrev pub audit_line : ℕ → ℕ → ℕ → Rate → List ℕ
-audit_line format targets body rate =
-    codes "audit " ++ (sample_text format rate.count targets body
-    ++ (codes " octets=" ++ (decimal rate.octets ++ (codes " records_per_second=" ++ (decimal (count_per_second rate)
-    ++ (codes " octets_per_second=" ++ (decimal (octets_per_second rate) ++ 10 ∷ [])))))))
-
--- how fast its records were audited and how fast they were reported, and what an octet of a report cost, in percent of one of an audit
-abbrev pub report_line : ℕ → ℕ → ℕ → Rate → Rate → List ℕ
-report_line format targets body audited reported =
-    codes "report " ++ (sample_text format audited.count targets body
-    ++ (codes " audited_per_second=" ++ (decimal (count_per_second audited) ++ (codes " reported_per_second="
-    ++ (decimal (count_per_second reported) ++ (codes " cost_percent=" ++ (decimal (percent_of reported audited) ++ 10 ∷ [])))))))
-
 -- how fast as many calls of both kinds were, of a store of so many keys of which so many were used in turn
 abbrev pub store_line : ℕ → ℕ → Rate → Rate → List ℕ
 store_line keys used choose put =

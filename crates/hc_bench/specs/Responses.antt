@@ -30,7 +30,8 @@ forward number = record { method = codes "GET"; target = path number; version = 
 -- the fields of each response, which is fresh for ten minutes
 abbrev pub response_fields : List Field
 response_fields =
-    line (codes "date") (codes "Thu, 01 Jan 1970 00:16:40 GMT") ∷ line (codes "cache-control") (codes "max-age=600") ∷ []
+    line (codes "date") (codes "Thu, 01 Jan 1970 00:16:40 GMT") ∷ line (codes "cache-control") (codes "max-age=600")
+    ∷ line (codes "last-modified") (codes "Thu, 01 Jan 1970 00:00:00 GMT") ∷ []
 
 -- a response with them, and a short body
 abbrev pub response : Message ResponseHead

@@ -15,12 +15,7 @@ use Rattle.hc_bench.specs.Responses.{stored_of, target_of}
 abbrev pub number_at : ℕ → ℕ → ℕ
 number_at keys before = before * 7919 % keys
 
--- so many targets, of so many different ones in turn
-abbrev pub targets : ℕ → ℕ → List Target
-targets keys zero = []
-targets keys (suc before) = targets keys before ++ target_of (number_at keys before) ∷ []
-
--- a response for each of them
+-- responses for so many targets, of so many different ones in turn, each with its target
 abbrev pub responses : ℕ → ℕ → List (Target × Stored)
 responses keys zero = []
 responses keys (suc before) =
@@ -41,9 +36,9 @@ behind_question presented None target = None
 behind_question presented (Some store) target =
     option_map (λ stored. holding (after_choose target store.entries) store) (chosen presented (variants_of target store.entries))
 
--- and behind those for all of them in turn
-abbrev pub behind_all : List Field → List Target → Holdings → Option Holdings
-behind_all presented targets store = fold (behind_question presented) (Some store) targets
+-- and behind those for all of their targets in turn
+abbrev pub behind_all : List Field → List (Target × Stored) → Holdings → Option Holdings
+behind_all presented responses store = fold (λ before response. behind_question presented before response.0) (Some store) responses
 
 -- a store that was given all of them in turn
 abbrev pub given_all : List (Target × Stored) → Holdings → Holdings

@@ -11,18 +11,10 @@ pub enum Task {
     Count,
     /// To measure what calls cost.
     Measure,
-    /// To measure what audits cost.
-    Audit,
-    /// The same, also that of the longest transcript.
-    AuditLong,
-    /// To write the transcript of long bodies that is audited.
-    Transcript,
     /// To measure what calls of a store cost.
     Store,
     /// To measure how many hits a cache serves.
     Hits,
-    /// To measure what reports cost beside audits.
-    Report,
     /// To measure how much memory idle connections take.
     Idle,
     /// To say what is answered behind a refusal of memory.
@@ -30,8 +22,7 @@ pub enum Task {
 }
 
 /// How the program is called.
-pub const USAGE: &str =
-    "usage: hc_bench [measure|audit|audit-long|transcript|store|hits|report|idle|refusals]\n";
+pub const USAGE: &str = "usage: hc_bench [measure|store|hits|idle|refusals]\n";
 
 /// What the word asks for, if it is a known one.
 fn task_of(word: &str) -> Option<Task>
@@ -39,18 +30,10 @@ fn task_of(word: &str) -> Option<Task>
 {
     if word == "measure" {
         Some(Task::Measure)
-    } else if word == "audit" {
-        Some(Task::Audit)
-    } else if word == "audit-long" {
-        Some(Task::AuditLong)
-    } else if word == "transcript" {
-        Some(Task::Transcript)
     } else if word == "store" {
         Some(Task::Store)
     } else if word == "hits" {
         Some(Task::Hits)
-    } else if word == "report" {
-        Some(Task::Report)
     } else if word == "idle" {
         Some(Task::Idle)
     } else if word == "refusals" {

@@ -1,4 +1,5 @@
 //! Two short messages, and what is counted while they are read.
+ghost use Rattle.std.specs.Prelude.{◌<◌};
 
 use crate::feeding::feed;
 use crate::lines::counts_line;
@@ -35,8 +36,20 @@ fn counted<H: MessageHead, W: Write>(
     output: &mut W,
 ) -> Result<(), Trouble> {
     for size in SIZES {
-        let fed = feed::<H>(alloc, kind, Room::RECORDED, octets, size)?;
-        printed(counts_line(alloc, name, size, &fed)?.as_str(), output)?;
+        printed(counted_line::<H>(alloc, name, kind, octets, size)?, output)?;
     }
     Ok(())
+}
+
+fn counted_line<H: MessageHead>(
+    alloc: Global,
+    name: &str,
+    kind: Kind,
+    octets: &[u8],
+    size: usize,
+) -> Result<String, Trouble>
+    requires { 0 < size }
+{
+    let fed = feed::<H>(alloc, kind, Room::RECORDED, octets, size)?;
+    Ok(counts_line(alloc, name, size, &fed)?)
 }

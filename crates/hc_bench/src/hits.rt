@@ -1,130 +1,178 @@
-//! How many hits a second a cache serves, and how many validations.
+//! How many replies a second a cache gives: hits, such as were validated, and such as waited for the forward of another
+//! request.
 
-use crate::bursts::measure_bursts;
-use crate::caches::{Size, filled};
-use crate::exchanges::{Exchange, Validated, exchanges, serve_all, validated_reply};
+use crate::caches::{empty, replies_to_all};
+use crate::loads::{Load, Way, exchanges, filling};
+use crate::rate::Rate;
 use crate::trouble::Trouble;
-use crate::way::Way;
 use hc_machine::Core;
 use std::alloc::Global;
 use std::io::Write;
 use std::rt::Clock;
 use std::time::Instant;
 
-/// How often the exchanges are timed. The fastest time counts.
-const ROUNDS: u32 = 9;
+/// How often replies are timed. The fastest time counts.
+const ROUNDS: u64 = 9;
 
-/// How many exchanges are timed together.
-const EXCHANGES: u64 = 20_000;
+/// How many targets the cache stores at most.
+const KEYS: usize = 1_024;
 
-/// The sizes that are measured: octets of a body, keys and connections.
-const SIZES: [(usize, u64, u64); 8] = [
-    (1_024, 10, 1),
-    (1_024, 10, 10_000),
-    (1_024, 1_000, 1),
-    (1_024, 1_000, 10_000),
-    (65_536, 10, 1),
-    (65_536, 10, 10_000),
-    (65_536, 1_000, 1),
-    (65_536, 1_000, 10_000),
-];
+/// How many octets it stores at most.
+const BYTES: u64 = 1 << 30;
 
-/// Says how many hits a few exchanges are, and how many validations a few others.
+/// The sizes that are measured: octets of a body, and keys.
+const SIZES: [(usize, u64); 4] = [(1_024, 10), (1_024, 1_000), (65_536, 10), (65_536, 1_000)];
+
+/// How many connections are open, and how many exchanges are timed together.
+const IN_TURN: [(u64, u64); 2] = [(1, 20_000), (10_000, 20_000)];
+
+/// The same where requests wait: how many ask at once, and for how many targets.
+const AT_ONCE: [(u64, u64); 1] = [(65, 300)];
+
+/// Says how many of a few replies are of each way.
 pub fn count_hits<W: Write>(alloc: Global, output: &mut W) -> Result<(), Trouble> {
-    count_way(alloc, Way::Hits, output)?;
-    count_way(alloc, Way::Validations, output)
+    count(alloc, Way::Hits, 2, 6, output)?;
+    count(alloc, Way::Validations, 2, 6, output)?;
+    count(alloc, Way::Collapsed, 65, 2, output)
 }
 
-// Says how many of a few exchanges are of that way.
-fn count_way<W: Write>(alloc: Global, way: Way, output: &mut W) -> Result<(), Trouble> {
-    let size = Size {
+fn count<W: Write>(
+    alloc: Global,
+    way: Way,
+    connections: u64,
+    exchanges: u64,
+    output: &mut W,
+) -> Result<(), Trouble> {
+    let load = Load {
+        way,
         body: 1_024,
         keys: 3,
-        connections: 2,
+        connections,
+        exchanges,
     };
-    let served = few_served(alloc, size, way)?;
-    let word = way.word();
-    writeln!(output, "{word}={served} of=6")?;
+    let (word, count, all) = (way.word(), count_of(alloc, load)?, load.replies());
+    writeln!(output, "{word}={count} of={all}")?;
     Ok(output.flush()?)
 }
 
-// How many of a few exchanges are served as they have to be.
-fn few_served(alloc: Global, size: Size, way: Way) -> Result<u64, Trouble> {
-    let reply = validated_reply(alloc, size)?;
-    let made = exchanges(alloc, size, way, 6)?;
-    let mut core = filled(alloc, size, way)?;
-    serve_all(&mut core, made, &reply)
+fn count_of(alloc: Global, load: Load) -> Result<usize, Trouble> {
+    let mut core = empty(alloc, KEYS, BYTES)?;
+    count_replies(alloc, &mut core, load)
 }
 
-/// Says how many hits a second are served, for each size, then how many validations, and how many requests that
+// Fills the cache, and answers how many replies are of that way then.
+fn count_replies(alloc: Global, core: &mut Core, load: Load) -> Result<usize, Trouble> {
+    let head = load.reply_head(alloc)?;
+    replies_to_all(core, filling(alloc, load)?, head.as_slice(), load.body)?;
+    let happenings = exchanges(alloc, load, load.keys)?;
+    replies_to_all(core, happenings, head.as_slice(), load.body)
+}
+
+/// Says how many hits a second are given, for each size, then how many validated replies, and how many to requests that
 /// wait for the forward of another one.
 pub fn hits<C: Clock, W: Write>(alloc: Global, clock: &C, output: &mut W) -> Result<(), Trouble> {
-    measure_way(alloc, clock, Way::Hits, output)?;
-    measure_way(alloc, clock, Way::Validations, output)?;
-    measure_bursts(alloc, clock, output)
+    measure(alloc, clock, Way::Hits, &IN_TURN, output)?;
+    measure(alloc, clock, Way::Validations, &IN_TURN, output)?;
+    measure(alloc, clock, Way::Collapsed, &AT_ONCE, output)
 }
 
-// Says how many exchanges of that way are served a second, for each size.
-fn measure_way<C: Clock, W: Write>(
+// The same of one way.
+fn measure<C: Clock, W: Write>(
     alloc: Global,
     clock: &C,
     way: Way,
+    counts: &[(u64, u64)],
     output: &mut W,
 ) -> Result<(), Trouble> {
-    let word = way.word();
-    for (body, keys, connections) in SIZES {
-        let size = Size {
-            body,
-            keys,
-            connections,
+    for (body, keys) in &SIZES {
+        let load = Load {
+            way,
+            body: *body,
+            keys: *keys,
+            connections: 0,
+            exchanges: 0,
         };
-        let nanoseconds = fastest(alloc, clock, size, way)?;
-        let rate = u128::from(EXCHANGES) * 1_000_000_000 / nanoseconds.max(1);
-        writeln!(
-            output,
-            "body={body} keys={keys} connections={connections} {word}/s={rate}"
-        )?;
-        output.flush()?;
+        measure_each(alloc, clock, load, counts, output)?;
     }
     Ok(())
 }
 
-// The nanoseconds that the exchanges take at best.
-fn fastest<C: Clock>(alloc: Global, clock: &C, size: Size, way: Way) -> Result<u128, Trouble> {
-    let mut core = filled(alloc, size, way)?;
-    fastest_round(alloc, clock, &mut core, size, way)
+// The same of one size.
+fn measure_each<C: Clock, W: Write>(
+    alloc: Global,
+    clock: &C,
+    mut load: Load,
+    counts: &[(u64, u64)],
+    output: &mut W,
+) -> Result<(), Trouble> {
+    for (connections, exchanges) in counts {
+        load.connections = *connections;
+        load.exchanges = *exchanges;
+        let rate = rate_of(alloc, clock, load)?.count_per_second();
+        said(load, rate, output)?;
+    }
+    Ok(())
 }
 
-// The same, of a cache that has what is asked for.
+fn said<W: Write>(load: Load, rate: u128, output: &mut W) -> Result<(), Trouble> {
+    let (word, body, keys) = (load.way.word(), load.body, load.keys);
+    let connections = load.connections;
+    writeln!(
+        output,
+        "body={body} keys={keys} connections={connections} {word}/s={rate}"
+    )?;
+    Ok(output.flush()?)
+}
+
+fn rate_of<C: Clock>(alloc: Global, clock: &C, load: Load) -> Result<Rate, Trouble> {
+    let mut core = empty(alloc, KEYS, BYTES)?;
+    fastest(alloc, clock, &mut core, load)
+}
+
+// Fills the cache, and answers how fast replies of that way are then at best.
+fn fastest<C: Clock>(
+    alloc: Global,
+    clock: &C,
+    core: &mut Core,
+    load: Load,
+) -> Result<Rate, Trouble> {
+    let head = load.reply_head(alloc)?;
+    replies_to_all(core, filling(alloc, load)?, head.as_slice(), load.body)?;
+    fastest_round(alloc, clock, core, load, head.as_slice())
+}
+
 fn fastest_round<C: Clock>(
     alloc: Global,
     clock: &C,
     core: &mut Core,
-    size: Size,
-    way: Way,
-) -> Result<u128, Trouble> {
-    let reply = validated_reply(alloc, size)?;
-    let mut best = u128::MAX;
-    for _ in 0..ROUNDS {
-        let made = exchanges(alloc, size, way, EXCHANGES)?;
-        best = best.min(timed(clock, core, made, &reply)?);
+    load: Load,
+    head: &[u8],
+) -> Result<Rate, Trouble> {
+    let mut rate = timed(alloc, clock, core, load, head, 0)?;
+    for round in 1..ROUNDS {
+        rate = rate.faster(timed(alloc, clock, core, load, head, round)?);
     }
-    Ok(best)
+    Ok(rate)
 }
 
-// The nanoseconds that the exchanges take, each of which is served as it has to be.
+// How fast the exchanges of a round are, each reply of which has to be of that way.
 fn timed<C: Clock>(
+    alloc: Global,
     clock: &C,
     core: &mut Core,
-    exchanges: Vec<Exchange>,
-    reply: &Validated,
-) -> Result<u128, Trouble> {
-    let count = exchanges.len() as u64;
+    load: Load,
+    head: &[u8],
+    round: u64,
+) -> Result<Rate, Trouble> {
+    let first = load
+        .keys
+        .saturating_add(round.saturating_mul(load.exchanges));
+    let happenings = exchanges(alloc, load, first)?;
     let start = Instant::now(clock)?;
-    let served = serve_all(core, exchanges, reply)?;
+    let replies = replies_to_all(core, happenings, head, load.body)?;
     let time = start.elapsed(clock)?;
-    if served != count {
+    if replies != load.replies() {
         return Err(Trouble::NotServed);
     }
-    Ok(time.as_nanos())
+    Ok(Rate::new(replies, 0, time))
 }

@@ -1,10 +1,8 @@
 //! How much memory a cache takes for connections that are open, and on which nothing happens.
 
-use crate::caches::{Size, filled, happen};
-use crate::exchanged::request;
-use crate::exchanges::is_hit;
+use crate::caches::{empty, replies_to, replies_to_all};
+use crate::loads::{Load, Way, ask, filling};
 use crate::trouble::Trouble;
-use crate::way::Way;
 use hc_events::Happening;
 use hc_fields::decimal;
 use hc_machine::Core;
@@ -13,14 +11,18 @@ use std::fs;
 use std::io::Write;
 use std::rt::Files;
 
-/// How many connections are open when memory is looked at.
-const COUNTS: [u64; 2] = [10_000, 60_000];
+/// How many connections are open when memory is looked at, first and then.
+const FEW: u64 = 10_000;
 
-/// How large the cache is before: the first connection brings what is asked for.
-const BEFORE: Size = Size {
+const MANY: u64 = 60_000;
+
+/// What the cache has before: the first connection brings what is asked for.
+const BEFORE: Load = Load {
+    way: Way::Hits,
     body: 100,
     keys: 1,
     connections: 1,
+    exchanges: 0,
 };
 
 /// How many octets a page of memory has.
@@ -31,29 +33,50 @@ pub fn idle<R, W: Write>(rt: &R, output: &mut W) -> Result<(), Trouble>
 where
     R: Files + AllocGlobal,
 {
-    let mut core = filled(rt.alloc(), BEFORE, Way::Hits)?;
+    let mut core = empty(rt.alloc(), 1, 100_000)?;
+    let head = BEFORE.reply_head(rt.alloc())?;
+    measured(rt, &mut core, head.as_slice(), output)
+}
+
+fn measured<R, W: Write>(
+    rt: &R,
+    core: &mut Core,
+    head: &[u8],
+    output: &mut W,
+) -> Result<(), Trouble>
+where
+    R: Files + AllocGlobal,
+{
+    replies_to_all(core, filling(rt.alloc(), BEFORE)?, head, BEFORE.body)?;
     let before = resident(rt)?;
-    let mut open = BEFORE.connections;
-    for connections in COUNTS {
-        serve_new(rt.alloc(), &mut core, open, connections)?;
-        open = connections;
-        let octets = resident(rt)?.saturating_sub(before) / connections.max(1);
-        writeln!(
-            output,
-            "idle connections={connections} octets_per_connection={octets}"
-        )?;
-        output.flush()?;
-    }
-    Ok(())
+    serve_new(rt.alloc(), core, head, BEFORE.connections, FEW)?;
+    said(FEW, resident(rt)?.saturating_sub(before), output)?;
+    serve_new(rt.alloc(), core, head, FEW, MANY)?;
+    said(MANY, resident(rt)?.saturating_sub(before), output)
+}
+
+// Says how many octets that is for each connection.
+fn said<W: Write>(connections: u64, octets: u64, output: &mut W) -> Result<(), Trouble> {
+    let octets = octets / connections.max(1);
+    writeln!(
+        output,
+        "idle connections={connections} octets_per_connection={octets}"
+    )?;
+    Ok(output.flush()?)
 }
 
 // Opens the connections from that number on, and serves each a hit.
-fn serve_new(alloc: Global, core: &mut Core, open: u64, connections: u64) -> Result<(), Trouble> {
+fn serve_new(
+    alloc: Global,
+    core: &mut Core,
+    head: &[u8],
+    open: u64,
+    connections: u64,
+) -> Result<(), Trouble> {
     for connection in open..connections {
-        happen(core, Happening::ClientOpened(connection))?;
-        let asked = Happening::ClientBytes(connection, request(alloc, 0)?);
-        let actions = happen(core, asked)?;
-        if !is_hit(actions.as_slice()) {
+        replies_to(core, Happening::ClientOpened(connection), head, BEFORE.body)?;
+        let asked = ask(alloc, connection, 0)?;
+        if replies_to(core, asked, head, BEFORE.body)? != 1 {
             return Err(Trouble::NotServed);
         }
     }

@@ -1,6 +1,6 @@
 //! The lines that the program prints.
 ghost use Rattle.std.specs.Prelude.{◌≡◌, IfOk, string_bytes};
-ghost use Rattle.hc_bench.specs.Lines.{audit_line, counts_line, rate_line, cost_line, report_line, sample_text, store_line};
+ghost use Rattle.hc_bench.specs.Lines.{counts_line, rate_line, cost_line, store_line};
 
 use crate::feeding::FedMessage;
 use crate::rate::Rate;
@@ -45,58 +45,6 @@ pub fn cost_line(
 {
     let percent = long.percent_of(short);
     format!(in alloc; "{name} piece={size} cost_percent={percent}\n")
-}
-
-// Which transcript was audited.
-fn sample_text(
-    alloc: Global,
-    format: u32,
-    records: usize,
-    targets: usize,
-    body: usize,
-) -> Result<String, AllocError>
-    ensures { IfOk result (λ text. string_bytes text ≡ sample_text format records targets body) }
-{
-    format!(in alloc; "format={format} records={records} targets={targets} body={body}")
-}
-
-/// How fast a transcript of that format, of records of so many targets, was audited, with bodies of so many octets.
-pub fn audit_line(
-    alloc: Global,
-    format: u32,
-    targets: usize,
-    body: usize,
-    rate: &Rate,
-) -> Result<String, AllocError>
-    ensures { IfOk result (λ line. string_bytes line ≡ audit_line format targets body rate.now) }
-{
-    let sample = sample_text(alloc, format, rate.count, targets, body)?;
-    let octets = rate.octets;
-    let records_speed = rate.count_per_second();
-    let octets_speed = rate.octets_per_second();
-    format!(in alloc;
-        "audit {sample} octets={octets} records_per_second={records_speed} octets_per_second={octets_speed}\n"
-    )
-}
-
-/// How fast a transcript of hits was audited, how fast it was reported, and what the report cost, in percent of the audit.
-pub fn report_line(
-    alloc: Global,
-    format: u32,
-    targets: usize,
-    body: usize,
-    audited: &Rate,
-    reported: &Rate,
-) -> Result<String, AllocError>
-    ensures { IfOk result (λ line. string_bytes line ≡ report_line format targets body audited.now reported.now) }
-{
-    let sample = sample_text(alloc, format, audited.count, targets, body)?;
-    let audits = audited.count_per_second();
-    let reports = reported.count_per_second();
-    let percent = reported.percent_of(audited);
-    format!(in alloc;
-        "report {sample} audited_per_second={audits} reported_per_second={reports} cost_percent={percent}\n"
-    )
 }
 
 /// How fast as many calls of `choose` and of `put` were, of a store of so many keys of which so many were

@@ -10,7 +10,7 @@ use crate::rate::Rate;
 use crate::trouble::Trouble;
 use hc_framing::{Kind, MessageHead};
 use hc_head::{RequestHead, ResponseHead, Room};
-use std::alloc::Global;
+use std::alloc::{AllocError, Global};
 use std::io::Write;
 use std::rt::Clock;
 use std::time::Instant;
@@ -39,24 +39,30 @@ pub fn measure<C: Clock, W: Write>(
 
 // 16 MiB of heads of 8 KiB and of heads of 64 KiB, octet by octet and whole.
 fn heads<C: Clock, W: Write>(alloc: Global, clock: &C, output: &mut W) -> Result<(), Trouble> {
-    let short = long_request(alloc, 8, 1_008)?;
-    let short = short.as_str().repeat(alloc, 2_048)?;
-    let long = long_request(alloc, 64, 1_015)?;
-    let long = long.as_str().repeat(alloc, 256)?;
+    let short = repeated(alloc, long_request(alloc, 8, 1_008)?, 2_048)?;
+    let long = repeated(alloc, long_request(alloc, 64, 1_015)?, 256)?;
     let pair = Pair {
         name: "head",
         kind: Kind::Request,
         short: short.as_bytes(),
         long: long.as_bytes(),
     };
-    compare::<RequestHead, _, _>(alloc, clock, &pair, 1, output)?;
-    compare::<RequestHead, _, _>(alloc, clock, &pair, 65_536, output)
+    compare_heads(alloc, clock, &pair, output)
+}
+
+fn compare_heads<C: Clock, W: Write>(
+    alloc: Global,
+    clock: &C,
+    pair: &Pair<'_>,
+    output: &mut W,
+) -> Result<(), Trouble> {
+    compare::<RequestHead, _, _>(alloc, clock, pair, 1, output)?;
+    compare::<RequestHead, _, _>(alloc, clock, pair, 65_536, output)
 }
 
 // Sixteen chunked bodies of 1 MiB and one of 16 MiB.
 fn bodies<C: Clock, W: Write>(alloc: Global, clock: &C, output: &mut W) -> Result<(), Trouble> {
-    let short = chunked_response(alloc, 256, 4_096)?;
-    let short = short.as_str().repeat(alloc, 16)?;
+    let short = repeated(alloc, chunked_response(alloc, 256, 4_096)?, 16)?;
     let long = chunked_response(alloc, 4_096, 4_096)?;
     let pair = Pair {
         name: "chunked",
@@ -64,9 +70,23 @@ fn bodies<C: Clock, W: Write>(alloc: Global, clock: &C, output: &mut W) -> Resul
         short: short.as_bytes(),
         long: long.as_bytes(),
     };
-    compare::<ResponseHead, _, _>(alloc, clock, &pair, 1, output)?;
-    compare::<ResponseHead, _, _>(alloc, clock, &pair, 7, output)?;
-    compare::<ResponseHead, _, _>(alloc, clock, &pair, 8_192, output)
+    compare_bodies(alloc, clock, &pair, output)
+}
+
+fn compare_bodies<C: Clock, W: Write>(
+    alloc: Global,
+    clock: &C,
+    pair: &Pair<'_>,
+    output: &mut W,
+) -> Result<(), Trouble> {
+    compare::<ResponseHead, _, _>(alloc, clock, pair, 1, output)?;
+    compare::<ResponseHead, _, _>(alloc, clock, pair, 7, output)?;
+    compare::<ResponseHead, _, _>(alloc, clock, pair, 8_192, output)
+}
+
+/// The text so many times, one behind another.
+pub fn repeated(alloc: Global, text: String, times: usize) -> Result<String, AllocError> {
+    text.as_str().repeat(alloc, times)
 }
 
 /// Reads both texts in pieces of that size, and says how fast that was, and what an octet of the
@@ -80,19 +100,29 @@ pub fn compare<H: MessageHead, C: Clock, W: Write>(
 ) -> Result<(), Trouble>
     requires { 0 < size }
 {
-    let mut short = timed::<H, _>(alloc, clock, pair.kind, pair.short, size)?;
-    let mut long = timed::<H, _>(alloc, clock, pair.kind, pair.long, size)?;
+    let (mut short, mut long) = timed_both::<H, _>(alloc, clock, pair, size)?;
     for _ in 1..ROUNDS {
-        short = short.faster(timed::<H, _>(alloc, clock, pair.kind, pair.short, size)?);
-        long = long.faster(timed::<H, _>(alloc, clock, pair.kind, pair.long, size)?);
+        let next = timed_both::<H, _>(alloc, clock, pair, size)?;
+        short = short.faster(next.0);
+        long = long.faster(next.1);
     }
-    printed(rate_line(alloc, pair.name, size, &short)?.as_str(), output)?;
-    printed(rate_line(alloc, pair.name, size, &long)?.as_str(), output)?;
-    printed(
-        cost_line(alloc, pair.name, size, &short, &long)?.as_str(),
-        output,
-    )?;
-    Ok(())
+    printed(rate_line(alloc, pair.name, size, &short)?, output)?;
+    printed(rate_line(alloc, pair.name, size, &long)?, output)?;
+    Ok(printed(cost_line(alloc, pair.name, size, &short, &long)?, output)?)
+}
+
+// How fast both texts are read.
+fn timed_both<H: MessageHead, C: Clock>(
+    alloc: Global,
+    clock: &C,
+    pair: &Pair<'_>,
+    size: usize,
+) -> Result<(Rate, Rate), Trouble>
+    requires { 0 < size }
+{
+    let short = timed::<H, _>(alloc, clock, pair.kind, pair.short, size)?;
+    let long = timed::<H, _>(alloc, clock, pair.kind, pair.long, size)?;
+    Ok((short, long))
 }
 
 // How fast the messages of a text are read. Each is kept until all are, so that short ones and long

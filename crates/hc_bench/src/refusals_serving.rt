@@ -1,12 +1,12 @@
 //! A cache that is handed what happens, also behind a refusal.
 
-use crate::caches::step;
+use crate::caches::{empty, step};
 use crate::refusals_seen::{Next, Seen};
 use crate::trouble::Trouble;
 use hc_events::Happening;
 use hc_fields::Octets;
 use hc_machine::Core;
-use hc_service::{CoreSettings, StepFault};
+use hc_service::StepFault;
 use std::alloc::{AllocError, Global};
 
 /// A client's request.
@@ -45,12 +45,7 @@ const DEEDS: [(u64, Deed); 7] = [
 
 /// Hands a new cache all that happens.
 pub fn seen(alloc: Global) -> Result<Seen, Trouble> {
-    let settings = CoreSettings {
-        name: Octets::from_slice(alloc, b"hcache")?,
-        keys: 2,
-        bytes: 100_000,
-    };
-    let mut core = Core::new(alloc, settings)?;
+    let mut core = empty(alloc, 2, 100_000)?;
     Ok(seen_of(alloc, &mut core)?)
 }
 

@@ -1,28 +1,26 @@
 //! A store that finds no memory for what it is given.
 
-use crate::refusals_messages::{MOMENT, forward, not_modified, stored, target};
 use crate::refusals_seen::Seen;
+use crate::responses::{MOMENT, forward, response_fields, target_of};
+use crate::storing::{filled, response_of};
 use crate::trouble::Trouble;
+use hc_head::{ResponseHead, StatusCode, Version};
 use hc_store::{Put, Store};
-use std::alloc::Global;
+use std::alloc::{AllocError, Global};
 
 /// How many targets the store keeps.
 const KEYS: usize = 2;
-
-/// How many octets it keeps.
-const BYTES: usize = 100_000;
 
 /// The position of the 304 in its recording.
 const POSITION: u64 = 7;
 
 /// Puts a response for one target more than the store keeps. Where memory is refused, both that it had are there still.
 pub fn seen_of_put(alloc: Global) -> Result<Seen, Trouble> {
-    let mut store = filled(alloc)?;
-    let third = target(alloc, b"/c")?;
-    let stored = stored(alloc)?;
+    let mut store = filled(alloc, KEYS)?;
+    let (third, stored) = response_of(alloc, 2)?;
     match store.put(third, stored) {
-        Put::Stored if holds(&store, &[b"/c", b"/b"]) => Ok(Seen::Answered),
-        Put::NoMemory if holds(&store, &[b"/b", b"/a"]) => Ok(Seen::Refused),
+        Put::Stored if holds(&store, &[b"/2", b"/1"]) => Ok(Seen::Answered),
+        Put::NoMemory if holds(&store, &[b"/1", b"/0"]) => Ok(Seen::Refused),
         _ => Ok(Seen::Other),
     }
 }
@@ -30,36 +28,36 @@ pub fn seen_of_put(alloc: Global) -> Result<Seen, Trouble> {
 /// Freshens what is stored of one target. It is there afterwards as the 304 has left it, or it is gone, where memory is
 /// refused; and the other target keeps what it had.
 pub fn seen_of_freshen(alloc: Global) -> Result<Seen, Trouble> {
-    let mut store = filled(alloc)?;
-    let first = target(alloc, b"/a")?;
-    let forward = forward(alloc)?;
-    let not_modified = not_modified(alloc)?;
-    store.freshen(&first, &forward, &not_modified, MOMENT, MOMENT, POSITION);
-    let is_validated = store
-        .choose_validated(&first, &forward.fields, POSITION)?
-        .is_some();
-    if is_validated && holds(&store, &[b"/a", b"/b"]) {
+    let mut store = filled(alloc, KEYS)?;
+    if is_freshened(alloc, &mut store)? && holds(&store, &[b"/0", b"/1"]) {
         Ok(Seen::Answered)
-    } else if holds(&store, &[b"/b"]) {
+    } else if holds(&store, &[b"/1"]) {
         Ok(Seen::Refused)
     } else {
         Ok(Seen::Other)
     }
 }
 
-// A store that has a response for each of two targets.
-fn filled(alloc: Global) -> Result<Store, Trouble> {
-    let mut store = Store::new(alloc, KEYS, BYTES)?;
-    put(alloc, &mut store, b"/a")?;
-    put(alloc, &mut store, b"/b")?;
-    Ok(store)
+// Freshens what is stored of the first target, and answers whether it is there as the 304 has left it.
+fn is_freshened(alloc: Global, store: &mut Store) -> Result<bool, AllocError> {
+    let target = target_of(alloc, 0)?;
+    let forward = forward(alloc, 0)?;
+    let not_modified = not_modified(alloc)?;
+    store.freshen(&target, &forward, &not_modified, MOMENT, MOMENT, POSITION);
+    Ok(
+        store
+            .choose_validated(&target, &forward.fields, POSITION)?
+            .is_some(),
+    )
 }
 
-fn put(alloc: Global, store: &mut Store, path: &[u8]) -> Result<(), Trouble> {
-    match store.put(target(alloc, path)?, stored(alloc)?) {
-        Put::Stored => Ok(()),
-        _ => Err(Trouble::Memory),
-    }
+// What the origin answers where its responses still hold.
+fn not_modified(alloc: Global) -> Result<ResponseHead, AllocError> {
+    Ok(ResponseHead {
+        status: StatusCode::NOT_MODIFIED,
+        version: Version::Http11,
+        fields: response_fields(alloc)?,
+    })
 }
 
 // Whether the store has something for each of these targets and for no other, the most recent first.

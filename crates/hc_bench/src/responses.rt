@@ -1,5 +1,6 @@
 //! Responses of one host, as a store is given them.
-ghost use Rattle.std.specs.Prelude.{◌≡◌, IfOk};
+ghost use Rattle.std.specs.Prelude.{◌≡◌, ◌∷◌, ◌++◌, [], IfOk, OnOk};
+ghost use Rattle.hc_fields.specs.Values.{line};
 ghost use Rattle.hc_bench.specs.Responses.{forward, path, request_fields, response, response_fields, stored_of, target_of};
 
 use hc_fields::{Field, Fields, Octets, SharedOctets};
@@ -9,7 +10,7 @@ use hc_update::{Stored, initial};
 use std::alloc::{AllocError, Global};
 
 /// The moment of each request and response, in seconds since 1970, which the dates tell too.
-const MOMENT: u64 = 1_000;
+pub const MOMENT: u64 = 1_000;
 
 /// How many octets a body has.
 const BODY: usize = 100;
@@ -29,7 +30,7 @@ pub fn request_fields(alloc: Global) -> Result<Fields, AllocError>
     ensures { IfOk result (λ fields. fields ≡ request_fields) }
 {
     let mut fields = Fields::new(alloc);
-    fields.push(Field::new(alloc, b"host", b"h")?)?;
+    push(alloc, &mut fields, b"host", b"h")?;
     Ok(fields)
 }
 
@@ -51,8 +52,8 @@ fn path(alloc: Global, number: usize) -> Result<Octets, AllocError>
     Ok(Octets::from_vec(text.into_bytes()))
 }
 
-// A GET for the target of that number.
-fn forward(alloc: Global, number: usize) -> Result<RequestHead, AllocError>
+/// A GET for the target of that number.
+pub fn forward(alloc: Global, number: usize) -> Result<RequestHead, AllocError>
     ensures { IfOk result (λ head. head ≡ forward number) }
 {
     Ok(RequestHead {
@@ -63,14 +64,33 @@ fn forward(alloc: Global, number: usize) -> Result<RequestHead, AllocError>
     })
 }
 
-// The fields of each response.
-fn response_fields(alloc: Global) -> Result<Fields, AllocError>
+/// The fields of each response.
+pub fn response_fields(alloc: Global) -> Result<Fields, AllocError>
     ensures { IfOk result (λ fields. fields ≡ response_fields) }
 {
     let mut fields = Fields::new(alloc);
-    fields.push(Field::new(alloc, b"date", b"Thu, 01 Jan 1970 00:16:40 GMT")?)?;
-    fields.push(Field::new(alloc, b"cache-control", b"max-age=600")?)?;
+    push(
+        alloc,
+        &mut fields,
+        b"date",
+        b"Thu, 01 Jan 1970 00:16:40 GMT",
+    )?;
+    push(alloc, &mut fields, b"cache-control", b"max-age=600")?;
+    push(
+        alloc,
+        &mut fields,
+        b"last-modified",
+        b"Thu, 01 Jan 1970 00:00:00 GMT",
+    )?;
     Ok(fields)
+}
+
+// Puts a line behind the others.
+fn push(alloc: Global, fields: &mut Fields, name: &[u8], value: &[u8]) -> Result<(), AllocError>
+    ensures { OnOk result (fields.new ≡ fields.old ++ line name.now value.now ∷ []) }
+{
+    let field = Field::new(alloc, name, value)?;
+    fields.push(field)
 }
 
 // A response that is fresh for ten minutes.

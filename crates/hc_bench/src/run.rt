@@ -3,21 +3,19 @@ ghost use Rattle.std.specs.Prelude.{◌≡◌, ◌↔◌, None, map};
 ghost use Rattle.std.specs.Io.KnownBytes.{Keeps};
 ghost use Rattle.hc_bench.specs.Command.{asked};
 
-use crate::audits::{LONG_BODIES, audit, write_sample};
 use crate::command::{Task, USAGE, asked};
 use crate::hits::hits;
 use crate::idle::idle;
 use crate::measures::measure;
 use crate::print::printed;
 use crate::refusals::refusals;
-use crate::reports::report;
 use crate::samples::sample;
 use crate::stores::store;
 use crate::trouble::Trouble;
 use std::convert::AsStr;
+use std::env;
 use std::io::Write;
 use std::rt::{Clock, Env, Files};
-use std::{env, io};
 
 /// Does what the program's own arguments ask, and answers its exit status.
 pub fn status<R, W: Write, E: Write>(rt: &R, output: &mut W, faults: &mut E) -> u8
@@ -26,13 +24,13 @@ where
 {
     match arguments(rt) {
         Ok(words) => answered(rt, words.as_slice(), output, faults),
-        Err(error) if error.kind() == io::ErrorKind::OutOfMemory => Trouble::Memory.told(faults),
+        Err(Trouble::Memory) => Trouble::Memory.told(faults),
         Err(_) => refused(faults),
     }
 }
 
 // The program's name and its arguments. One that is not text is an error.
-fn arguments<R: Env + AllocGlobal>(rt: &R) -> io::Result<Vec<String>> {
+fn arguments<R: Env + AllocGlobal>(rt: &R) -> Result<Vec<String>, Trouble> {
     Ok(env::args(rt)?.collect(rt.alloc())?)
 }
 
@@ -53,12 +51,8 @@ where
     let done = match asked(words) {
         Some(Task::Count) => sample(rt.alloc(), output),
         Some(Task::Measure) => measure(rt.alloc(), rt, output),
-        Some(Task::Audit) => audit(rt.alloc(), rt, false, output),
-        Some(Task::AuditLong) => audit(rt.alloc(), rt, true, output),
-        Some(Task::Transcript) => write_sample(rt.alloc(), &LONG_BODIES, output),
         Some(Task::Store) => store(rt.alloc(), rt, output),
         Some(Task::Hits) => hits(rt.alloc(), rt, output),
-        Some(Task::Report) => report(rt.alloc(), rt, output),
         Some(Task::Idle) => idle(rt, output),
         Some(Task::Refusals) => refusals(rt.alloc(), output),
         None => return refused(faults),

@@ -1,37 +1,20 @@
 //! Small samples of what is measured, by a clock that always goes alike.
 
-use crate::audits::{Sample, audit_sample};
-use crate::bursts::count_bursts;
 use crate::counts::count;
 use crate::hits::count_hits;
-use crate::measures::{Pair, compare};
+use crate::measures::{Pair, compare, repeated};
 use crate::messages::long_request;
 use crate::refusals::refusals;
 use crate::stores::store_sized;
 use crate::trouble::Trouble;
 use hc_framing::Kind;
 use hc_head::RequestHead;
-use hc_transcript::Format;
 use std::alloc::Global;
 use std::cell::Cell;
 use std::io;
 use std::io::Write;
 use std::rt::Clock;
 use std::time::Duration;
-
-/// A transcript of few records.
-const FEW_RECORDS: Sample = Sample {
-    format: Format::First,
-    records: 20,
-    targets: 3,
-    body: 100,
-};
-
-/// The same, in the second format.
-const FEW_RECORDS_WITH_CAUSES: Sample = Sample {
-    format: Format::Second,
-    ..FEW_RECORDS
-};
 
 /// A clock that goes on by a microsecond whenever it is read.
 #[derive(Drop)]
@@ -51,27 +34,22 @@ impl Clock for Ticks {
     }
 }
 
-/// Counts calls, then measures short messages, a short transcript and a small store, each in a
-/// microsecond, so that what is said is always the same, counts hits and what waits for another, and says what is
-/// answered where no memory is refused.
+/// Counts calls, then measures short messages and a small store, each in a microsecond, so that what is said is always
+/// the same, counts replies, and says what is answered where no memory is refused.
 pub fn sample<W: Write>(alloc: Global, output: &mut W) -> Result<(), Trouble> {
     let clock = Ticks {
         microseconds: Cell::new(0),
     };
     count(alloc, output)?;
     heads(alloc, &clock, output)?;
-    audit_sample(alloc, &clock, &FEW_RECORDS, output)?;
-    audit_sample(alloc, &clock, &FEW_RECORDS_WITH_CAUSES, output)?;
     store_sized(alloc, &clock, 3, 2, 20, output)?;
     count_hits(alloc, output)?;
-    count_bursts(alloc, output)?;
     refusals(alloc, output)
 }
 
 // Two requests of 73 octets, and one of 146.
 fn heads<W: Write>(alloc: Global, clock: &Ticks, output: &mut W) -> Result<(), Trouble> {
-    let short = long_request(alloc, 1, 1)?;
-    let short = short.as_str().repeat(alloc, 2)?;
+    let short = repeated(alloc, long_request(alloc, 1, 1)?, 2)?;
     let long = long_request(alloc, 1, 74)?;
     let pair = Pair {
         name: "head",

@@ -5,11 +5,11 @@ use crate::lines::store_line;
 use crate::print::printed;
 use crate::rate::Rate;
 use crate::responses::request_fields;
-use crate::storing::{ask_all, filled, put_all, responses, targets};
+use crate::storing::{ask_all, filled, put_all, responses};
 use crate::trouble::Trouble;
-use hc_fields::Fields;
 use hc_head::Target;
 use hc_store::Store;
+use hc_update::Stored;
 use std::alloc::Global;
 use std::hash::BuildHasher;
 use std::io::Write;
@@ -42,6 +42,13 @@ pub fn store<C: Clock, W: Write>(alloc: Global, clock: &C, output: &mut W) -> Re
     Ok(())
 }
 
+/// How fast calls of each kind were.
+#[derive(Clone, Copy)]
+struct Rates {
+    choose: Rate,
+    put: Rate,
+}
+
 /// Fills a store of so many keys, and says how fast so many calls of each kind were, for the first so many
 /// of its keys in turn.
 pub fn store_sized<C: Clock, W: Write>(
@@ -57,82 +64,96 @@ pub fn store_sized<C: Clock, W: Write>(
     requires some_used { 0 < used }
     requires few_calls { calls ≤ 65536 }
 {
+    let rates = rates_of(alloc, clock, keys, used, calls)?;
+    let line = store_line(alloc, keys, used, &rates.choose, &rates.put)?;
+    Ok(printed(line, output)?)
+}
+
+// The same, but tells it.
+fn rates_of<C: Clock>(
+    alloc: Global,
+    clock: &C,
+    keys: usize,
+    used: usize,
+    calls: usize,
+) -> Result<Rates, Trouble>
+    requires some { 0 < keys }
+    requires few { keys ≤ 65536 }
+    requires some_used { 0 < used }
+    requires few_calls { calls ≤ 65536 }
+    ensures choose { IfOk result (λ rates. rates.choose.count ≡ calls) }
+    ensures put { IfOk result (λ rates. rates.put.count ≡ calls) }
+{
     let mut store = filled(alloc, keys)?;
-    let choose = fastest_choose(alloc, clock, &mut store, used, calls)?;
-    let put = fastest_put(alloc, clock, &mut store, used, calls)?;
-    let line = store_line(alloc, keys, used, &choose, &put)?;
-    printed(line.as_str(), output)?;
-    Ok(())
+    fastest(alloc, clock, &mut store, used, calls)
 }
 
-// How fast so many calls of `choose` are at best.
-fn fastest_choose<C: Clock, S: BuildHasher>(
+// How fast so many calls of each kind are at best.
+fn fastest<C: Clock, S: BuildHasher>(
     alloc: Global,
     clock: &C,
     store: &mut Store<S>,
     keys: usize,
     calls: usize,
-) -> Result<Rate, Trouble>
+) -> Result<Rates, Trouble>
     requires some { 0 < keys }
     requires few_calls { calls ≤ 65536 }
-    ensures { IfOk result (λ rate. rate.count ≡ calls) }
+    ensures choose { IfOk result (λ rates. rates.choose.count ≡ calls) }
+    ensures put { IfOk result (λ rates. rates.put.count ≡ calls) }
 {
-    let targets = targets(alloc, keys, calls)?;
-    let presented = request_fields(alloc)?;
-    let mut rate = timed_choose(clock, store, targets.as_slice(), &presented)?;
+    let mut best = timed(alloc, clock, store, keys, calls)?;
     'rounds: for _ in 1..ROUNDS {
-        rate = rate.faster(timed_choose(clock, store, targets.as_slice(), &presented)?);
+        let next = timed(alloc, clock, store, keys, calls)?;
+        best.choose = best.choose.faster(next.choose);
+        best.put = best.put.faster(next.put);
     }
-    Ok(rate)
+    Ok(best)
 }
 
-// How fast calls of `choose` for the targets in turn are.
-fn timed_choose<C: Clock, S: BuildHasher>(
-    clock: &C,
-    store: &mut Store<S>,
-    targets: &[Target],
-    presented: &Fields,
-) -> Result<Rate, Trouble>
-    ensures { IfOk result (λ rate. rate.count ≡ length targets.now) }
-{
-    let start = Instant::now(clock)?;
-    ask_all(store, targets, presented)?;
-    let time = start.elapsed(clock)?;
-    Ok(Rate::new(targets.len(), 0, time))
-}
-
-// How fast so many calls of `put` are at best.
-fn fastest_put<C: Clock, S: BuildHasher>(
+// How fast so many calls of each kind for the targets in turn are. The responses are made before.
+fn timed<C: Clock, S: BuildHasher>(
     alloc: Global,
     clock: &C,
     store: &mut Store<S>,
     keys: usize,
     calls: usize,
-) -> Result<Rate, Trouble>
+) -> Result<Rates, Trouble>
     requires some { 0 < keys }
     requires few_calls { calls ≤ 65536 }
-    ensures { IfOk result (λ rate. rate.count ≡ calls) }
-{
-    let mut rate = timed_put(alloc, clock, store, keys, calls)?;
-    'rounds: for _ in 1..ROUNDS {
-        rate = rate.faster(timed_put(alloc, clock, store, keys, calls)?);
-    }
-    Ok(rate)
-}
-
-// How fast so many calls of `put` for the targets in turn are. The responses are made before.
-fn timed_put<C: Clock, S: BuildHasher>(
-    alloc: Global,
-    clock: &C,
-    store: &mut Store<S>,
-    keys: usize,
-    calls: usize,
-) -> Result<Rate, Trouble>
-    requires some { 0 < keys }
-    requires few_calls { calls ≤ 65536 }
-    ensures { IfOk result (λ rate. rate.count ≡ calls) }
+    ensures choose { IfOk result (λ rates. rates.choose.count ≡ calls) }
+    ensures put { IfOk result (λ rates. rates.put.count ≡ calls) }
 {
     let responses = responses(alloc, keys, calls)?;
+    let choose = timed_choose(alloc, clock, store, responses.as_slice())?;
+    let put = timed_put(clock, store, responses)?;
+    Ok(Rates { choose, put })
+}
+
+// How fast calls of `choose` for the targets of the responses in turn are.
+fn timed_choose<C: Clock, S: BuildHasher>(
+    alloc: Global,
+    clock: &C,
+    store: &mut Store<S>,
+    responses: &[(Target, Stored)],
+) -> Result<Rate, Trouble>
+    ensures { IfOk result (λ rate. rate.count ≡ length responses.now) }
+{
+    let presented = request_fields(alloc)?;
+    let start = Instant::now(clock)?;
+    ask_all(store, responses, &presented)?;
+    let time = start.elapsed(clock)?;
+    Ok(Rate::new(responses.len(), 0, time))
+}
+
+// How fast calls of `put` for the responses in turn are.
+fn timed_put<C: Clock, S: BuildHasher>(
+    clock: &C,
+    store: &mut Store<S>,
+    responses: Vec<(Target, Stored)>,
+) -> Result<Rate, Trouble>
+    ensures { IfOk result (λ rate. rate.count ≡ length responses.items) }
+{
+    let calls = responses.len();
     let start = Instant::now(clock)?;
     put_all(store, responses)?;
     let time = start.elapsed(clock)?;

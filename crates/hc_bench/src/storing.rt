@@ -1,6 +1,7 @@
 //! Stores that are filled, asked and given responses.
 ghost use Rattle.std.specs.Prelude.{◌≡◌, ◌<◌, ◌≤◌, Some, length, IfOk, OnOk};
-ghost use Rattle.hc_bench.specs.Storing.{behind_all, behind_question, filled, given, given_all, number_at, responses, targets};
+ghost use Rattle.hc_bench.specs.Responses.{stored_of, target_of};
+ghost use Rattle.hc_bench.specs.Storing.{behind_all, behind_question, filled, given, given_all, number_at, responses};
 
 use crate::responses::{stored_of, target_of};
 use crate::trouble::Trouble;
@@ -27,22 +28,16 @@ fn number_at(keys: usize, before: usize) -> usize
     before * STRIDE % keys
 }
 
-/// So many targets, of so many different ones in turn.
-pub fn targets(alloc: Global, keys: usize, calls: usize) -> Result<Vec<Target>, AllocError>
-    requires some { 0 < keys }
-    requires few { calls ≤ 65536 }
-    ensures made { IfOk result (λ made. made.items ≡ targets keys calls) }
-    ensures count { IfOk result (λ made. length made.items ≡ calls) }
+/// A response for the target of that number, with its target.
+pub fn response_of(alloc: Global, number: usize) -> Result<(Target, Stored), AllocError>
+    ensures { IfOk result (λ made. made ≡ (target_of number, stored_of number)) }
 {
-    let mut made = Vec::with_capacity(alloc, calls)?;
-    'targets: for before in 0..calls {
-        let target = target_of(alloc, number_at(keys, before))?;
-        made.push(target)?;
-    }
-    Ok(made)
+    let target = target_of(alloc, number)?;
+    let stored = stored_of(alloc, number)?;
+    Ok((target, stored))
 }
 
-/// Responses for as many targets in the same order, each with its target.
+/// Responses for so many targets, of so many different ones in turn, each with its target.
 pub fn responses(
     alloc: Global,
     keys: usize,
@@ -50,14 +45,12 @@ pub fn responses(
 ) -> Result<Vec<(Target, Stored)>, AllocError>
     requires some { 0 < keys }
     requires few { calls ≤ 65536 }
-    ensures { IfOk result (λ made. made.items ≡ responses keys calls) }
+    ensures made { IfOk result (λ made. made.items ≡ responses keys calls) }
+    ensures count { IfOk result (λ made. length made.items ≡ calls) }
 {
     let mut made = Vec::with_capacity(alloc, calls)?;
     'responses: for before in 0..calls {
-        let number = number_at(keys, before);
-        let target = target_of(alloc, number)?;
-        let stored = stored_of(alloc, number)?;
-        made.push((target, stored))?;
+        made.push(response_of(alloc, number_at(keys, before))?)?;
     }
     Ok(made)
 }
@@ -77,6 +70,18 @@ fn put_one<S: BuildHasher>(
     }
 }
 
+/// Puts the response for the target of that number into the store.
+fn put_number<S: BuildHasher>(
+    alloc: Global,
+    store: &mut Store<S>,
+    number: usize,
+) -> Result<(), Trouble>
+    ensures { OnOk result (store.new ≡ given (target_of number) (stored_of number) store.old) }
+{
+    let (target, stored) = response_of(alloc, number)?;
+    put_one(store, target, stored)
+}
+
 /// A store of so many keys that has a response for each, the least recent first in the order of their numbers.
 pub fn filled(alloc: Global, keys: usize) -> Result<Store, Trouble>
     requires some { 0 < keys }
@@ -85,9 +90,7 @@ pub fn filled(alloc: Global, keys: usize) -> Result<Store, Trouble>
 {
     let mut store = Store::new(alloc, keys, BYTES)?;
     'keys: for number in 0..keys {
-        let target = target_of(alloc, number)?;
-        let stored = stored_of(alloc, number)?;
-        put_one(&mut store, target, stored)?;
+        put_number(alloc, &mut store, number)?;
     }
     Ok(store)
 }
@@ -106,16 +109,16 @@ fn ask_one<S: BuildHasher>(
     }
 }
 
-/// Asks the store for each target in turn, where it has to have a response for each.
+/// Asks the store for the target of each response in turn, where it has to have a response for each.
 pub fn ask_all<S: BuildHasher>(
     store: &mut Store<S>,
-    targets: &[Target],
+    responses: &[(Target, Stored)],
     presented: &Fields,
 ) -> Result<(), Trouble>
-    ensures { OnOk result (behind_all presented.now targets.now store.old ≡ Some store.new) }
+    ensures { OnOk result (behind_all presented.now responses.now store.old ≡ Some store.new) }
 {
-    'targets: for target in targets {
-        ask_one(store, target, presented)?;
+    'responses: for response in responses {
+        ask_one(store, &response.0, presented)?;
     }
     Ok(())
 }

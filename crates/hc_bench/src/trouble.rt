@@ -3,7 +3,6 @@ ghost use Rattle.std.specs.Prelude.{◌≡◌};
 ghost use Rattle.hc_bench.specs.declared.trouble.Trouble.TheVariants.{Memory};
 
 use crate::print::printed;
-use hc_audit::AuditFault;
 use hc_framing::FrameFault;
 use hc_machine::CoreFault;
 use hc_service::StepFault;
@@ -27,9 +26,6 @@ pub enum Trouble {
     /// What was fed ends within a message.
     #[error("the message doesn't end")]
     Unended,
-    /// What was audited isn't right, or has another count of records.
-    #[error("the transcript isn't right")]
-    NotRight,
     /// A store has no response for a target, or doesn't take one.
     #[error("a response isn't stored")]
     NotStored,
@@ -65,15 +61,6 @@ impl<T: Drop> From<AllocFailed<T>> for Trouble {
     ghost from_gives = { λ _ t. t ≡ Memory };
 
     fn from(_error: AllocFailed<T>) -> Trouble {
-        Trouble::Memory
-    }
-}
-
-impl From<AuditFault> for Trouble {
-    ghost from_gives = { λ _ t. t ≡ Memory };
-
-    // An auditor fails for want of memory alone.
-    fn from(_fault: AuditFault) -> Trouble {
         Trouble::Memory
     }
 }

@@ -9,13 +9,11 @@ mod asking;
 mod escapes;
 mod list;
 mod print;
-mod questions;
 mod showing;
 mod words;
 
 pub use answers::{answer_all, status};
 pub use asking::{Ask, Case, Unanswered};
 pub use escapes::unescaped;
-pub use questions::question_of;
 pub use showing::{show, show_line, show_named, show_short, yes_or_no};
 pub use words::octets_of;

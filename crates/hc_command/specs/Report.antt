@@ -227,7 +227,7 @@ Explained json (Some place) status old new faults_old faults_new = (status ≡ 3
 
 -- ---- what private functions promise
 
--- a survey stops by that only where the ending that it gives stands, and its witness has seen enough
+-- a survey stops by that only where its witness has seen enough, or where the ending that it gives stands
 abbrev pub StopsBy : Type 0 → Settings → List ℕ → List Item → List WrongReply → Stop → Type 0
 StopsBy enough settings octets h wrongs Enough = enough
 StopsBy enough settings octets h wrongs (stop.Broken position fault) = EndsSo (ending.Broken position fault) settings octets h wrongs

@@ -1,13 +1,11 @@
 //! The questions of words and of scripts.
 
 use crate::commands_burst::say_burst;
-use crate::commands_devices::Task;
-use crate::commands_names::{say_run_faults, say_script_faults};
-use crate::commands_orders::say_order;
-use crate::commands_scripts::answer_of_script;
+use crate::commands_scripts::say_replay;
+use crate::commands_steps::say_steps;
 use crate::commands_tasks::{say_full, say_task};
 use crate::commands_words::{say_answer, say_status, say_text_of};
-use crate::verdicts_answers::answer_of_verdicts;
+use crate::verdicts_answers::answer_of_octets;
 use hc_cases::{Ask, Case, Unanswered};
 use hc_sockets::Claim;
 use std::alloc::Global;
@@ -36,9 +34,6 @@ where
             "answer" => say_answer(self.system, about, out),
             "text" => say_text_of(self.system, about, out),
             "status" => say_status(self.system, about, out),
-            "replay" | "steps" | "fronts" => answer_of_script(alloc, question, about, out),
-            "run faults" => Ok(say_run_faults(out)?),
-            "script faults" => Ok(say_script_faults(out)?),
             _ => answer_in_memory(alloc, question, about, out),
         }
     }
@@ -51,15 +46,18 @@ fn answer_in_memory(
     about: &[Vec<u8>],
     out: &mut String,
 ) -> Result<(), Unanswered> {
+    if let Some(command) = question.strip_suffix(" in pieces") {
+        return say_task(alloc, command, about, out);
+    }
+    if let Some(command) = question.strip_suffix(" to a full device") {
+        return say_full(alloc, command, about, out);
+    }
+    let (first, parts) = about.split_first().ok_or(Unanswered::Unknown)?;
+    let octets = first.as_slice();
     match question {
-        "order" => say_order(alloc, about, out),
-        "burst" => say_burst(alloc, about, out),
-        "audit in pieces" => say_task(alloc, Task::Audit, about, out),
-        "replay in pieces" => say_task(alloc, Task::Replay, about, out),
-        "convert in pieces" => say_task(alloc, Task::Convert, about, out),
-        "audit to a full device" => say_full(alloc, Task::Audit, about, out),
-        "replay to a full device" => say_full(alloc, Task::Replay, about, out),
-        "convert to a full device" => say_full(alloc, Task::Convert, about, out),
-        _ => answer_of_verdicts(alloc, question, about, out),
+        "replay" => say_replay(alloc, octets, parts, out),
+        "steps" => say_steps(alloc, octets, out),
+        "burst" => say_burst(alloc, octets, parts, out),
+        _ => answer_of_octets(alloc, question, octets, parts, out),
     }
 }

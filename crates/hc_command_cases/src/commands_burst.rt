@@ -1,7 +1,7 @@
 //! Many connections that ask for the same at once.
 
-use crate::commands_played::Played;
 use crate::commands_tasks::number_of;
+use crate::program::written_of;
 use hc_cases::Unanswered;
 use std::alloc::{AllocError, Global};
 use std::fmt::Write;
@@ -20,27 +20,24 @@ const ANSWERS: &str =
 /// answered as are said: the line, and the exit status.
 pub(crate) fn say_burst(
     alloc: Global,
+    connections: &[u8],
     parts: &[Vec<u8>],
     out: &mut String,
 ) -> Result<(), Unanswered> {
-    let [connections, forwards] = parts else {
+    let [forwards] = parts else {
         return Err(Unanswered::Unknown);
     };
+    let (connections, forwards) = (number_of(connections)?, number_of(forwards.as_slice())?);
     let mut script = String::from_str(alloc, SETTINGS)?;
-    ask_at_once(number_of(connections)?, &mut script)?;
-    answer_all(number_of(forwards)?, &mut script)?;
-    Played::of(alloc, script.as_bytes())?.say(out)?;
-    Ok(())
+    ask_and_answer(connections, forwards, &mut script)?;
+    let words = ["hcache", "replay", "script"];
+    written_of(alloc, &words, &[script.as_bytes()])?.say_fault(out)
 }
 
-fn ask_at_once(connections: u64, script: &mut String) -> Result<(), AllocError> {
+fn ask_and_answer(connections: u64, forwards: u64, script: &mut String) -> Result<(), AllocError> {
     for connection in 1..=connections {
         write!(script, "open {connection} 1000\nclient {connection} {ASKS}")?;
     }
-    Ok(())
-}
-
-fn answer_all(forwards: u64, script: &mut String) -> Result<(), AllocError> {
     for forward in 1..=forwards {
         write!(script, "origin {forward} {ANSWERS}")?;
     }

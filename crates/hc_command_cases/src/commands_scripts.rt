@@ -1,29 +1,13 @@
-//! The questions about scripts.
+//! What the program makes of a script.
 
-use crate::commands_fronts::say_fronts;
-use crate::commands_played::Played;
-use crate::commands_steps::say_steps;
+use crate::program::written_of;
 use hc_cases::Unanswered;
-use std::alloc::Global;
+use std::alloc::{AllocError, Global};
+use std::fmt::Write;
 
-/// Answers a question of a script, the first part of the case.
-pub(crate) fn answer_of_script(
-    alloc: Global,
-    question: &str,
-    about: &[Vec<u8>],
-    out: &mut String,
-) -> Result<(), Unanswered> {
-    let (script, parts) = about.split_first().ok_or(Unanswered::Unknown)?;
-    let script = script.as_slice();
-    match question {
-        "replay" => say_replay(alloc, script, parts, out),
-        "steps" => say_steps(alloc, script, out),
-        _ => say_fronts(alloc, script, out),
-    }
-}
-
-// Writes what comes of the script, whose wanted transcript is the only part, or of which none is wanted.
-fn say_replay(
+/// Writes what comes of the script: the line, the exit status, and from which octet on the transcript is another than the
+/// only part, or than an empty one.
+pub(crate) fn say_replay(
     alloc: Global,
     script: &[u8],
     parts: &[Vec<u8>],
@@ -33,5 +17,26 @@ fn say_replay(
         Some(wanted) => wanted.as_slice(),
         None => b"",
     };
-    Ok(Played::of(alloc, script)?.say_of(wanted, out)?)
+    let words = ["hcache", "replay", "script"];
+    let written = written_of(alloc, &words, &[script])?;
+    written.say_fault(out)?;
+    Ok(say_difference(written.output.as_slice(), wanted, out)?)
+}
+
+fn say_difference(transcript: &[u8], wanted: &[u8], out: &mut String) -> Result<(), AllocError> {
+    if transcript == wanted {
+        return Ok(());
+    }
+    let place = common_len(transcript, wanted);
+    write!(out, ", but another transcript from octet {place}")
+}
+
+// How many octets both begin with.
+fn common_len(one: &[u8], other: &[u8]) -> usize {
+    for (place, octet) in one.iter().enumerate() {
+        if other.get(place) != Some(octet) {
+            return place;
+        }
+    }
+    one.len()
 }

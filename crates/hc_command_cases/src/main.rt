@@ -4,33 +4,22 @@
 
 mod commands_answers;
 mod commands_burst;
-mod commands_devices;
-mod commands_fronts;
-mod commands_names;
-mod commands_orders;
-mod commands_played;
 mod commands_scripts;
 mod commands_steps;
 mod commands_tasks;
 mod commands_words;
+mod devices;
+mod program;
 mod verdicts_answers;
 mod verdicts_changes;
 mod verdicts_converting;
-mod verdicts_lines;
-mod verdicts_marking;
-mod verdicts_names;
 mod verdicts_others;
-mod verdicts_pieces;
-mod verdicts_program;
-mod verdicts_reading;
 mod verdicts_records;
 mod verdicts_reports;
 mod verdicts_runs;
 mod verdicts_shown;
-mod verdicts_surveys;
 mod verdicts_tellers;
 mod verdicts_words;
-mod verdicts_writing;
 mod written;
 
 use crate::commands_answers::Commands;

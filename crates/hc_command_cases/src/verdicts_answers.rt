@@ -1,55 +1,29 @@
 //! The questions of transcripts.
 
-use crate::verdicts_changes::{say_changed, say_cuts, say_each, say_fronts, say_replaced};
+use crate::verdicts_changes::{say_changed, say_cuts, say_fronts, say_replaced};
 use crate::verdicts_converting::say_same;
-use crate::verdicts_marking::say_mark;
-use crate::verdicts_names::{say_audit_faults, say_convert_faults, say_faults, say_reasons};
 use crate::verdicts_reports::{say_by, say_many};
 use crate::verdicts_shown::{say_moment, say_value};
-use crate::verdicts_surveys::say_survey;
 use crate::verdicts_tellers::Teller;
-use crate::verdicts_words::{plain_words, say_ignored, words_of};
-use crate::verdicts_writing::say_written;
+use crate::verdicts_words::{plain_words, words_of};
 use hc_cases::Unanswered;
 use hc_shown::push_octets;
 use std::alloc::Global;
 
-/// Answers a question of transcripts and their verdicts.
-pub(crate) fn answer_of_verdicts(
+/// Answers a question of some octets, mostly of a transcript, the first part of the case.
+pub(crate) fn answer_of_octets(
     alloc: Global,
     question: &str,
-    about: &[Vec<u8>],
+    octets: &[u8],
+    parts: &[Vec<u8>],
     out: &mut String,
 ) -> Result<(), Unanswered> {
-    match question {
-        "reasons" => Ok(say_reasons(out)?),
-        "faults" => Ok(say_faults(out)?),
-        "audit faults" => Ok(say_audit_faults(out)?),
-        "convert faults" => Ok(say_convert_faults(out)?),
-        "written" => say_written(alloc, about, out),
-        _ => answer_of(alloc, question, about, out),
-    }
-}
-
-// Answers a question of some octets, the first part of the case.
-fn answer_of(
-    alloc: Global,
-    question: &str,
-    about: &[Vec<u8>],
-    out: &mut String,
-) -> Result<(), Unanswered> {
-    let (octets, parts) = about.split_first().ok_or(Unanswered::Unknown)?;
-    let octets = octets.as_slice();
     match question {
         "shown" => Ok(push_octets(octets, out)?),
         "shown value" => say_value(octets, parts, out),
         "shown moment" => say_moment(octets, out),
-        "mark" => say_mark(alloc, octets, out),
-        "ignored" => say_ignored(alloc, octets, parts, out),
-        "audit each" => say_each(alloc, octets, parts, out),
         "report" | "explain" => say_by(alloc, question, octets, parts, out),
         "report of many" => say_many(alloc, octets, out),
-        "survey" => say_survey(alloc, octets, parts, out),
         "converted to" => say_same(alloc, octets, parts, out),
         _ => tell(alloc, question, octets, parts, out),
     }
@@ -65,8 +39,8 @@ fn tell(
 ) -> Result<(), Unanswered> {
     match question.split_once(' ') {
         Some((who, how)) => {
-            let words = plain_words(alloc)?;
-            let teller = Teller::named(who, words.as_slice())?;
+            let words = plain_words();
+            let teller = Teller::named(who, &words)?;
             tell_of(alloc, &teller, how, octets, parts, out)
         }
         None => {

@@ -1,13 +1,10 @@
 //! What is told of parts and changes of a transcript.
 
-use crate::verdicts_program::Audited;
 use crate::verdicts_runs::Runs;
 use crate::verdicts_tellers::Teller;
-use crate::verdicts_words::plain_words;
 use hc_cases::Unanswered;
 use hc_fields::number;
 use std::alloc::{AllocError, Global};
-use std::fmt::Write;
 
 /// Writes what is told of the octets where the first that are the old ones are the new ones: the parts
 /// are the old and the new.
@@ -120,42 +117,6 @@ fn with_octet(
         *octet = other;
     }
     Ok(changed)
-}
-
-/// Writes how often the program gives a verdict, and others the same, on the octets where one of them is
-/// one of those of the part.
-pub fn say_each(
-    alloc: Global,
-    octets: &[u8],
-    parts: &[Vec<u8>],
-    out: &mut String,
-) -> Result<(), Unanswered> {
-    let [others] = parts else {
-        return Err(Unanswered::Unknown);
-    };
-    let words = plain_words(alloc)?;
-    let mut count = 0u64;
-    for other in others.as_slice() {
-        count = count.saturating_add(count_said_by_all(alloc, words.as_slice(), octets, *other)?);
-    }
-    write!(out, "{count} verdicts")?;
-    Ok(())
-}
-
-// How often there is a verdict, and those of others are the same, where one of the octets is another.
-fn count_said_by_all(
-    alloc: Global,
-    words: &[&str],
-    octets: &[u8],
-    other: u8,
-) -> Result<u64, Unanswered> {
-    let mut count = 0u64;
-    for place in 0..octets.len() {
-        let changed = with_octet(alloc, octets, place, other)?;
-        let audited = Audited::by(alloc, words, &[changed.as_slice()])?;
-        count = count.saturating_add(u64::from(audited.is_said_by_all()));
-    }
-    Ok(count)
 }
 
 /// Writes what is told of the octets in each two pieces that make them, and octet by octet.

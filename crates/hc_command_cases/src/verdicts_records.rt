@@ -1,11 +1,12 @@
 //! The records of a transcript.
 
-use crate::verdicts_lines::line_of;
+use crate::written::line_in;
+use hc_auditing::verdict_line;
 use hc_cases::{Unanswered, show_short};
 use hc_framing::Message;
 use hc_head::{ResponseHead, Target};
 use hc_history::Verdict;
-use hc_transcript::{Format, Meaning, OwnedItem, RecordFault, RecordReader};
+use hc_transcript::{Meaning, OwnedItem, RecordFault, RecordReader};
 use std::alloc::{AllocError, Global};
 use std::fmt::Write;
 
@@ -26,21 +27,6 @@ fn say_read(
     }
     let ended = reader.finish();
     say_end(alloc, reader, ended, out)
-}
-
-/// Writes the format that the reader answers behind all records that the pieces make, and behind a fault.
-pub fn say_format(alloc: Global, pieces: &[&[u8]], out: &mut String) -> Result<(), AllocError> {
-    let mut reader = RecordReader::new(alloc);
-    let mut records = String::new(alloc);
-    for piece in pieces {
-        say_piece(&mut reader, piece, &mut records)?;
-    }
-    let _ = reader.finish();
-    out.push_str(match reader.format() {
-        None => "none",
-        Some(Format::First) => "first",
-        Some(Format::Second) => "second",
-    })
 }
 
 // Writes the records that end in the next piece; no more do than it has octets. A fault is met again
@@ -79,8 +65,8 @@ fn say_end(
         Ok(()) => write!(out, "records={records} position={position}")?,
         Err(RecordFault::Memory) => return Err(Unanswered::Memory),
         Err(fault) => {
-            let line = line_of(alloc, &Verdict::Malformed(position, fault))?;
-            out.push_str(line.as_str())?;
+            let line = verdict_line(alloc, &Verdict::Malformed(position, fault))?;
+            out.push_str(line_in(line.as_bytes())?)?;
         }
     }
     Ok(())

@@ -1,6 +1,6 @@
 //! What the program reports of a transcript, and how it explains a reply.
 
-use crate::verdicts_reading::written_of;
+use crate::program::written_of;
 use crate::verdicts_words::words_for;
 use crate::written::Written;
 use hc_cases::Unanswered;
@@ -85,30 +85,43 @@ fn number_of(text: &[u8]) -> Result<u32, Unanswered> {
     text.parse::<u32>().or(Err(Unanswered::Unknown))
 }
 
+// What is stored, what asks for it, and how a hit of it begins.
+const STORED: &str = "HTTP/1.1 200 OK\r\ncontent-length: 0\r\ncache-control: max-age=600\r\n\r\n";
+
+const ASKED: &str = "GET /stored HTTP/1.1\r\nhost: h\r\n\r\n";
+
+const REPLY: &str =
+    "HTTP/1.1 200 OK\r\ncontent-length: 0\r\ncache-control: max-age=600\r\nage: 0\r\ncache-status: h;hit\r\n";
+
 // A transcript with so many hits of targets of which nothing is stored, and as many with a field more than is stored,
 // each of another name.
 fn many(alloc: Global, count: u32) -> Result<String, AllocError> {
-    const STORED: &str =
-        "HTTP/1.1 200 OK\r\ncontent-length: 0\r\ncache-control: max-age=600\r\n\r\n";
-    const REPLY: &str =
-        "HTTP/1.1 200 OK\r\ncontent-length: 0\r\ncache-control: max-age=600\r\nage: 0\r\n";
     let mut transcript = String::from_str(alloc, "HCT1\n")?;
-    let asked = "GET /stored HTTP/1.1\r\nhost: h\r\n\r\n";
-    push_record('q', 1, asked, &mut transcript)?;
-    push_record('f', 1, asked, &mut transcript)?;
+    push_record('q', 1, ASKED, &mut transcript)?;
+    push_record('f', 1, ASKED, &mut transcript)?;
     push_record('r', 1, STORED, &mut transcript)?;
     push_record('a', 1, STORED, &mut transcript)?;
-    for number in 0..count {
-        let exchange = u64::from(number) + 2;
-        let elsewhere = format!(in alloc; "GET /{number} HTTP/1.1\r\nhost: h\r\n\r\n")?;
-        let hit = format!(in alloc; "{REPLY}cache-status: h;hit\r\n\r\n")?;
-        let more = format!(in alloc; "{REPLY}x-{number}: 1\r\ncache-status: h;hit\r\n\r\n")?;
-        push_record('q', exchange, elsewhere.as_str(), &mut transcript)?;
-        push_record('a', exchange, hit.as_str(), &mut transcript)?;
-        push_record('q', exchange, asked, &mut transcript)?;
-        push_record('a', exchange, more.as_str(), &mut transcript)?;
+    for number in 2..count.saturating_add(2) {
+        push_elsewhere(alloc, u64::from(number), &mut transcript)?;
+        push_more(alloc, u64::from(number), &mut transcript)?;
     }
     Ok(transcript)
+}
+
+// Appends a hit of a target of its own.
+fn push_elsewhere(alloc: Global, number: u64, out: &mut String) -> Result<(), AllocError> {
+    let asked = format!(in alloc; "GET /{number} HTTP/1.1\r\nhost: h\r\n\r\n")?;
+    push_record('q', number, asked.as_str(), out)?;
+    drop(asked);
+    let reply = format!(in alloc; "{REPLY}\r\n")?;
+    push_record('a', number, reply.as_str(), out)
+}
+
+// Appends a hit of what is stored, with a field more.
+fn push_more(alloc: Global, number: u64, out: &mut String) -> Result<(), AllocError> {
+    push_record('q', number, ASKED, out)?;
+    let reply = format!(in alloc; "{REPLY}x-{number}: 1\r\n\r\n")?;
+    push_record('a', number, reply.as_str(), out)
 }
 
 // Appends the record of a message.

@@ -1,10 +1,13 @@
 //! Who tells something of a transcript.
 
+use crate::program::written_of;
 use crate::verdicts_converting::say_converted;
-use crate::verdicts_program::Audited;
-use crate::verdicts_records::{say_format, say_records};
+use crate::verdicts_others::say_listed;
+use crate::verdicts_records::say_records;
+use crate::verdicts_words::settings_of;
 use hc_cases::Unanswered;
 use std::alloc::Global;
+use std::fmt::Write;
 
 /// Who tells something of a transcript, which comes in pieces.
 #[derive(Clone, Copy)]
@@ -13,8 +16,6 @@ pub enum Teller<'a> {
     Program(&'a [&'a str]),
     /// The reader of records.
     Reader,
-    /// The same, of the format alone.
-    Format,
     /// The program, of what it is in the first format.
     Converted(&'a [&'a str]),
 }
@@ -25,7 +26,6 @@ impl<'a> Teller<'a> {
         match name {
             "audit" => Ok(Teller::Program(words)),
             "records" => Ok(Teller::Reader),
-            "format" => Ok(Teller::Format),
             "converted" => Ok(Teller::Converted(words)),
             _ => Err(Unanswered::Unknown),
         }
@@ -41,20 +41,24 @@ impl<'a> Teller<'a> {
         match self {
             Teller::Program(words) => say_audited(alloc, words, pieces, out),
             Teller::Reader => say_records(alloc, pieces, out),
-            Teller::Format => Ok(say_format(alloc, pieces, out)?),
             Teller::Converted(words) => say_converted(alloc, words, pieces, out),
         }
     }
 }
 
-/// Writes what the program says of the octets that the pieces make.
+/// Writes what the program says of the octets that the pieces make, and what is said by a list, where that is something
+/// else.
 pub(crate) fn say_audited(
     alloc: Global,
     words: &[&str],
     pieces: &[&[u8]],
     out: &mut String,
 ) -> Result<(), Unanswered> {
-    let audited = Audited::by(alloc, words, pieces)?;
-    audited.say(out)?;
-    Ok(audited.say_other(out)?)
+    let written = written_of(alloc, words, pieces)?;
+    let Some(settings) = settings_of(alloc, words) else {
+        let status = written.status;
+        return Ok(write!(out, "refused, {status}")?);
+    };
+    written.say_line(out)?;
+    say_listed(alloc, settings, pieces, written.output.as_slice(), out)
 }

@@ -2,25 +2,16 @@
 
 use crate::commands_words::push_words;
 use hc_arguments::{Order, parsed};
-use hc_cases::{Unanswered, yes_or_no};
+use hc_cases::Unanswered;
 use hc_history::Settings;
-use std::alloc::{AllocError, Global};
+use std::alloc::Global;
 
 /// What the transcript is called, where the program has to name it.
 const FILE: &str = "transcript";
 
 /// The words that ask for an audit without options.
-pub(crate) fn plain_words<'a>(alloc: Global) -> Result<Vec<&'a str>, AllocError> {
-    command_words(alloc, "audit")
-}
-
-// The words that ask for that without options.
-fn command_words<'a>(alloc: Global, command: &'a str) -> Result<Vec<&'a str>, AllocError> {
-    let mut words = Vec::new(alloc);
-    for word in ["hcache", command, FILE] {
-        words.push(word)?;
-    }
-    Ok(words)
+pub(crate) fn plain_words() -> [&'static str; 3] {
+    ["hcache", "audit", FILE]
 }
 
 /// The words that ask for an audit by the parts of a case, each of them a word.
@@ -34,7 +25,10 @@ pub(crate) fn words_for<'a>(
     command: &'a str,
     parts: &'a [Vec<u8>],
 ) -> Result<Vec<&'a str>, Unanswered> {
-    let mut words = command_words(alloc, command)?;
+    let mut words = Vec::new(alloc);
+    for word in ["hcache", command, FILE] {
+        words.push(word)?;
+    }
     push_words(parts, &mut words)?;
     Ok(words)
 }
@@ -44,19 +38,5 @@ pub(crate) fn settings_of(alloc: Global, words: &[&str]) -> Option<Settings> {
     match parsed(alloc, words) {
         Ok(Order::Audit { terms, .. }) => Some(terms.settings),
         _ => None,
-    }
-}
-
-/// Writes whether a name is among those that the words, the parts, ignore.
-pub(crate) fn say_ignored(
-    alloc: Global,
-    name: &[u8],
-    parts: &[Vec<u8>],
-    out: &mut String,
-) -> Result<(), Unanswered> {
-    let words = words_of(alloc, parts)?;
-    match settings_of(alloc, words.as_slice()) {
-        Some(settings) => Ok(yes_or_no(settings.ignored.contains(name), out)?),
-        None => Err(Unanswered::Unknown),
     }
 }

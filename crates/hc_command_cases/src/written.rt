@@ -1,6 +1,6 @@
 //! What the program writes, and the status by which it ends.
 
-use hc_cases::show_short;
+use hc_cases::{Unanswered, show_short};
 use std::alloc::{AllocError, Global};
 use std::fmt::Write;
 
@@ -69,6 +69,27 @@ impl Written {
         write!(out, "{status}")?;
         say_unless(self.output.is_empty(), ", something on output", out)?;
         say_unless(self.faults.is_empty(), ", something on errors", out)
+    }
+
+    /// Writes the line that stands on the two writers, and the status.
+    pub(crate) fn say_line(&self, out: &mut String) -> Result<(), Unanswered> {
+        out.push_str(line_in(self.output.as_slice())?)?;
+        self.say_fault(out)
+    }
+
+    /// Writes the line that stands on the errors, and the status.
+    pub(crate) fn say_fault(&self, out: &mut String) -> Result<(), Unanswered> {
+        let line = line_in(self.faults.as_slice())?;
+        let status = self.status;
+        Ok(write!(out, "{line}, {status}")?)
+    }
+}
+
+/// The text of the octets, without a line feed at its end.
+pub(crate) fn line_in(octets: &[u8]) -> Result<&str, Unanswered> {
+    match str::from_utf8(octets) {
+        Ok(text) => Ok(text.strip_suffix('\n').unwrap_or(text)),
+        Err(_) => Err(Unanswered::Unknown),
     }
 }
 

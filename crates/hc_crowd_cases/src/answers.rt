@@ -2,7 +2,7 @@
 
 use crate::comparing::{Judged, compare};
 use crate::playing::perform;
-use crate::telling::{Told, say_played};
+use crate::telling::say_played;
 use hc_cases::{Ask, Case, Unanswered, unescaped};
 use hc_crowd_world::{Script, script_in, script_of};
 use hc_fields::decimal;
@@ -20,27 +20,13 @@ impl Ask for Crowds {
             question,
             about,
         } = *case;
-        match question {
-            "replies" => say_schedule(alloc, Told::Replies, about, out),
-            "events" => say_schedule(alloc, Told::Events, about, out),
-            "reasons" => say_schedule(alloc, Told::Reasons, about, out),
-            "visits" => say_schedule(alloc, Told::Visits, about, out),
-            "seeds" => say_seeds(alloc, Seeds::of(about)?, out),
-            _ => Err(Unanswered::Unknown),
+        if question == "seeds" {
+            return say_seeds(alloc, Seeds::of(about)?, out);
         }
+        let script = script_about(alloc, about)?;
+        let mut played = perform(alloc, script)?;
+        say_played(alloc, question, &mut played, out)
     }
-}
-
-/// Writes what comes of a schedule.
-fn say_schedule(
-    alloc: Global,
-    told: Told,
-    about: &[Vec<u8>],
-    out: &mut String,
-) -> Result<(), Unanswered> {
-    let script = script_about(alloc, about)?;
-    let mut played = perform(alloc, script)?;
-    say_played(alloc, told, &mut played, out)
 }
 
 /// The schedule that is written down, or that of a seed.
@@ -81,8 +67,17 @@ impl<'a> Seeds<'a> {
     /// The schedule of a seed.
     fn script(&self, alloc: Global, seed: u64) -> Result<Script, Unanswered> {
         let requests = lines_of(alloc, self.requests)?;
+        self.script_by(alloc, seed, requests.as_slice())
+    }
+
+    fn script_by(
+        &self,
+        alloc: Global,
+        seed: u64,
+        requests: &[Vec<u8>],
+    ) -> Result<Script, Unanswered> {
         let answers = lines_of(alloc, self.answers)?;
-        Ok(script_of(alloc, seed, requests.as_slice(), answers)?)
+        Ok(script_of(alloc, seed, requests, answers)?)
     }
 
     /// What comes of a seed.
@@ -103,12 +98,17 @@ fn number_in(text: &[u8]) -> Result<u64, Unanswered> {
 /// The octets of each line, but for empty ones and those that begin with `#`.
 fn lines_of(alloc: Global, text: &[u8]) -> Result<Vec<Vec<u8>>, Unanswered> {
     let mut lines = Vec::new(alloc);
+    put_lines(alloc, text, &mut lines)?;
+    Ok(lines)
+}
+
+fn put_lines(alloc: Global, text: &[u8], lines: &mut Vec<Vec<u8>>) -> Result<(), Unanswered> {
     'lines: for line in text.split(|octet| *octet == b'\n') {
         if !line.is_empty() && !line.starts_with(b"#") {
             lines.push(unescaped(alloc, line)?)?;
         }
     }
-    Ok(lines)
+    Ok(())
 }
 
 /// Writes whether each seed gives what a run gives, and whether some requests were hits, collapsed and forwarded.
@@ -125,17 +125,16 @@ fn say_seeds(alloc: Global, seeds: Seeds<'_>, out: &mut String) -> Result<(), Un
 }
 
 fn say_sum(sum: Judged, out: &mut String) -> Result<(), AllocError> {
-    if sum.fault.is_none() {
-        out.push_str("same, yes")?;
-    }
-    say_some(", hits", sum.hits, out)?;
-    say_some(", collapsed", sum.collapsed, out)?;
-    say_some(", forwarded", sum.forwarded, out)
-}
-
-fn say_some(what: &str, some: bool, out: &mut String) -> Result<(), AllocError> {
-    if some {
-        out.push_str(what)?;
+    let parts = [
+        ("same, yes", sum.fault.is_none()),
+        (", hits", sum.hits),
+        (", collapsed", sum.collapsed),
+        (", forwarded", sum.forwarded),
+    ];
+    'parts: for (what, is_so) in parts.iter() {
+        if *is_so {
+            out.push_str(what)?;
+        }
     }
     Ok(())
 }

@@ -51,25 +51,10 @@ impl Judged {
 /// Compares what passed with a run of what happened, and takes what happened.
 pub(crate) fn compare(alloc: Global, played: &mut Played) -> Result<Judged, Unanswered> {
     let heard = heard_in(alloc, played.served.notes.events.as_slice())?;
-    let events = mem::replace(&mut played.served.notes.events, Vec::new(alloc));
-    compare_run(alloc, events, &heard, played)
-}
-
-fn compare_run(
-    alloc: Global,
-    events: Vec<Event>,
-    heard: &ByLink,
-    played: &Played,
-) -> Result<Judged, Unanswered> {
-    let run = run_of(alloc, events)?;
-    compared(alloc, &run, heard, played)
-}
-
-/// A run of what happened.
-fn run_of(alloc: Global, events: Vec<Event>) -> Result<Run, Unanswered> {
     let settings = settings(alloc)?;
+    let events = mem::replace(&mut played.served.notes.events, Vec::new(alloc));
     match run(alloc, settings, events) {
-        Ok(run) => Ok(run),
+        Ok(run) => compared(alloc, &run, &heard, played),
         Err(_) => Err(Unanswered::Memory),
     }
 }
@@ -81,31 +66,20 @@ fn compared(
     played: &Played,
 ) -> Result<Judged, Unanswered> {
     let transcript = run.transcript.as_slice();
-    let judged = judged_by(alloc, transcript)?;
+    let Some(counts) = counts_of(alloc, transcript)? else {
+        return Ok(Judged {
+            fault: Some("no"),
+            ..Judged::nothing()
+        });
+    };
     let kept = played.served.recording.len();
     let sent = sent_in(alloc, run.results.as_slice(), kept)?;
-    let fault = judged.fault.or(fault_of(&sent, heard, transcript, played));
     Ok(Judged {
-        fault,
+        fault: fault_of(&sent, heard, transcript, played),
+        hits: counts.hits > 0,
         collapsed: sent.collapsed,
-        ..judged
+        forwarded: counts.forwarded > 0,
     })
-}
-
-/// What the audit of a transcript says.
-fn judged_by(alloc: Global, transcript: &[u8]) -> Result<Judged, Unanswered> {
-    let nothing = Judged::nothing();
-    match counts_of(alloc, transcript)? {
-        Some(counts) => Ok(Judged {
-            hits: counts.hits > 0,
-            forwarded: counts.forwarded > 0,
-            ..nothing
-        }),
-        None => Ok(Judged {
-            fault: Some("no"),
-            ..nothing
-        }),
-    }
 }
 
 fn fault_of(
@@ -122,7 +96,7 @@ fn fault_of(
 /// What is wrong with how it ended, and with what was recorded.
 fn fault_of_end(served: &Served, transcript: &[u8]) -> Option<&'static str> {
     let recording = served.recording.as_slice();
-    if !served.signs.complete {
+    if served.notes.torn {
         return Some("memory was refused");
     }
     if !transcript.starts_with(recording) {
@@ -130,7 +104,7 @@ fn fault_of_end(served: &Served, transcript: &[u8]) -> Option<&'static str> {
     }
     match served.result {
         Ok(()) if transcript.len() != recording.len() => Some("a part of the recording"),
-        Ok(()) if !served.signs.idle => Some("left open in the cache"),
+        Ok(()) if !served.idle => Some("left open in the cache"),
         Ok(()) => None,
         Err(DriveFault::Recorder) => None,
         Err(fault) => Some(fault.name()),
@@ -139,11 +113,10 @@ fn fault_of_end(served: &Served, transcript: &[u8]) -> Option<&'static str> {
 
 /// What is wrong with the world.
 fn fault_of_play(play: &Play) -> Option<&'static str> {
-    let tally = play.tally();
-    if tally.broken {
+    if play.tally.broken {
         return Some("memory was refused");
     }
-    if tally.beyond {
+    if play.tally.beyond {
         return Some("too many links");
     }
     None

@@ -52,9 +52,10 @@ pub(crate) fn sent_in(
     results: &[StepResult],
     kept: usize,
 ) -> Result<Sent, AllocError> {
+    let text = Vec::from_slice(alloc, Format::Second.opening())?;
     let mut sent = Sent {
         table: ByLink::new(alloc),
-        text: Vec::from_slice(alloc, Format::Second.opening())?,
+        text,
         collapsed: false,
     };
     'steps: for result in results {

@@ -10,6 +10,7 @@ use hc_serve::{DriveFault, Unwatched, serve_crowd};
 use std::alloc::{AllocError, Global};
 use std::cell::RefCell;
 use std::hash::BuildHasher;
+use std::mem;
 
 /// What came of a script that was played.
 pub(crate) struct Played {
@@ -33,7 +34,12 @@ pub(crate) struct Served {
     /// What was recorded for good.
     pub(crate) recording: Vec<u8>,
     pub(crate) result: Result<(), DriveFault>,
-    pub(crate) signs: Signs,
+    /// Whether the cache is idle.
+    pub(crate) idle: bool,
+    /// Whether the wall clock is behind.
+    pub(crate) behind: bool,
+    /// How many forwards failed, and how many links were cut off.
+    pub(crate) failures: Failures,
 }
 
 impl Drop for Served {
@@ -42,24 +48,13 @@ impl Drop for Served {
             notes,
             recording,
             result: _,
-            signs: _,
+            idle: _,
+            behind: _,
+            failures: _,
         } = self;
         drop(notes);
         drop(recording);
     }
-}
-
-/// What else can be seen behind it.
-#[derive(Clone, Copy)]
-pub(crate) struct Signs {
-    /// Whether all that happened was noted.
-    pub(crate) complete: bool,
-    /// Whether the cache is idle.
-    pub(crate) idle: bool,
-    /// Whether the wall clock is behind.
-    pub(crate) behind: bool,
-    /// How many forwards failed, and how many links were cut off.
-    pub(crate) failures: Failures,
 }
 
 /// What the cache is.
@@ -121,17 +116,13 @@ fn serve_noted<W: World + Drop>(
 ) -> Result<Served, Unanswered> {
     let mut recorder = Buffered::new(alloc, Sheet::new(alloc, writes)?);
     let result = serve_links(alloc, core, noted, &mut recorder);
-    let signs = Signs {
-        complete: !noted.is_torn(),
+    Ok(Served {
+        notes: mem::replace(&mut noted.notes, Notes::new(alloc)),
+        recording: recorder.into_link().into_got(),
+        result,
         idle: core.idle(),
         behind: noted.links.is_behind(),
         failures: noted.links.failures(),
-    };
-    Ok(Served {
-        notes: noted.take_notes(),
-        recording: recorder.into_link().into_got(),
-        result,
-        signs,
     })
 }
 

@@ -9,15 +9,16 @@ pub(crate) fn say_replies_in(got: &[u8], out: &mut String) -> Result<(), AllocEr
     let mut last = 0;
     let mut times = 0u64;
     'places: for place in 0..got.len() {
-        if is_reply(got, place) {
-            if times > 0 && are_same(got, last, place) {
-                times = times.saturating_add(1);
-            } else {
-                say_times(got, last, times, out)?;
-                times = 1;
-            }
-            last = place;
+        if reply_at(got, place).is_none() {
+            continue;
         }
+        if times > 0 && are_same(got, last, place) {
+            times = times.saturating_add(1);
+        } else {
+            say_times(got, last, times, out)?;
+            times = 1;
+        }
+        last = place;
     }
     say_times(got, last, times, out)
 }
@@ -27,11 +28,6 @@ pub(crate) fn say_replies_in(got: &[u8], out: &mut String) -> Result<(), AllocEr
 struct Reply<'a> {
     status: &'a [u8],
     mark: &'a [u8],
-}
-
-/// Whether a reply begins there.
-fn is_reply(got: &[u8], place: usize) -> bool {
-    reply_at(got, place).is_some()
 }
 
 /// Whether the replies that begin there say the same.

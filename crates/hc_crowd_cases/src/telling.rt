@@ -1,6 +1,6 @@
 //! What is told of a schedule.
 
-use crate::comparing::{Judged, compare};
+use crate::comparing::compare;
 use crate::playing::{Played, Served};
 use crate::replies::say_replies_in;
 use hc_cases::Unanswered;
@@ -14,42 +14,36 @@ use std::fmt::Write;
 /// So many clients in a row who got the same are told of at once.
 const SEVERAL: u64 = 4;
 
-/// What is told of a schedule, before how it ended.
-#[derive(Clone, Copy)]
-pub(crate) enum Told {
-    /// What each client got, and when links to the origin began.
-    Replies,
-    /// What happened, by moments.
-    Events,
-    /// What happened that the other side didn't do, by moments, and why it was told.
-    Reasons,
-    /// When those who connected were accepted, and what came of them.
-    Visits,
-}
-
-/// Writes what came of a schedule, and how it ended, and takes what happened.
+/// Writes what is asked of a schedule that was played, and how it ended, and takes what happened.
 pub(crate) fn say_played(
     alloc: Global,
-    told: Told,
+    question: &str,
     played: &mut Played,
     out: &mut String,
 ) -> Result<(), Unanswered> {
-    match told {
-        Told::Replies => say_replies(&played.play, out)?,
-        Told::Events => say_happened(played.served.notes.events.as_slice(), out)?,
-        Told::Reasons => say_reasons(&played.served.notes, out)?,
-        Told::Visits => out.push_str(played.play.visits())?,
-    }
+    say_asked(question, played, out)?;
     say_end(alloc, played, out)
+}
+
+fn say_asked(question: &str, played: &Played, out: &mut String) -> Result<(), Unanswered> {
+    let Played { served, play } = played;
+    let told = match question {
+        "replies" => say_replies(play, out),
+        "events" => say_happened(served.notes.events.as_slice(), out),
+        "reasons" => say_reasons(&served.notes, out),
+        "visits" => out.push_str(play.visits.as_str()),
+        _ => return Err(Unanswered::Unknown),
+    };
+    Ok(told?)
 }
 
 fn say_replies(play: &Play, out: &mut String) -> Result<(), AllocError> {
     say_clients(play, out)?;
-    out.push_str(play.notes())
+    out.push_str(play.notes.as_str())
 }
 
 fn say_clients(play: &Play, out: &mut String) -> Result<(), AllocError> {
-    let last = play.tally().connected;
+    let last = play.tally.connected;
     let mut number = 1;
     'clients: for _ in 0..last {
         if number > last {
@@ -83,9 +77,9 @@ fn are_same(play: &Play, one: u64, other: u64) -> bool {
     let other = play.peer(Receiver::Client(other));
     match (one, other) {
         (Some(one), Some(other)) => {
-            one.got() == other.got()
+            one.got.as_slice() == other.got.as_slice()
                 && one.is_whole() == other.is_whole()
-                && one.is_gone() == other.is_gone()
+                && one.gone == other.gone
         }
         _ => false,
     }
@@ -114,11 +108,11 @@ fn say_clients_from(
 }
 
 fn say_client(peer: &Peer, out: &mut String) -> Result<(), AllocError> {
-    say_replies_in(peer.got(), out)?;
+    say_replies_in(peer.got.as_slice(), out)?;
     if peer.is_whole() {
         return out.push_str(" and its end");
     }
-    if peer.is_gone() {
+    if peer.gone {
         return out.push_str(" and is dropped");
     }
     Ok(())
@@ -154,80 +148,73 @@ fn say_reasons(notes: &Notes, out: &mut String) -> Result<(), AllocError> {
             out.push_str("; ")?;
         }
         is_first = false;
-        say_told(event, why, out)?;
+        let moment = event.moment;
+        write!(out, "{moment}:")?;
+        say_one(&event.of, out)?;
+        out.push_str(why)?;
     }
     Ok(())
-}
-
-/// Writes what happened, and why it was told.
-fn say_told(event: &Event, why: &str, out: &mut String) -> Result<(), AllocError> {
-    let moment = event.moment;
-    write!(out, "{moment}:")?;
-    say_one(&event.of, out)?;
-    out.push_str(", ")?;
-    out.push_str(why)
 }
 
 /// Why something is told, unless the other side did it.
 fn why(reason: Reason) -> Option<&'static str> {
     match reason {
         Reason::Peer => None,
-        Reason::Replies => Some("for its replies"),
-        Reason::Reads => Some("for the reads"),
-        Reason::Stop => Some("at a stop"),
-        Reason::Late => Some("late"),
-        Reason::Reset => Some("reset"),
-        Reason::Held => Some("for what was held"),
+        Reason::Replies => Some(", for its replies"),
+        Reason::Reads => Some(", for the reads"),
+        Reason::Stop => Some(", at a stop"),
+        Reason::Late => Some(", late"),
+        Reason::Reset => Some(", reset"),
+        Reason::Held => Some(", for what was held"),
     }
 }
 
 fn say_one(of: &Happening, out: &mut String) -> Result<(), AllocError> {
-    match of {
-        Happening::ClientOpened(c) => say_deed(" client", *c, "opens", out),
-        Happening::ClientBytes(c, octets) => {
-            say_deed(" client", *c, "sends", out)?;
-            let count = octets.len();
-            write!(out, " {count}")
-        }
-        Happening::ClientEnd(c) => say_deed(" client", *c, "ends", out),
-        Happening::OriginBytes(f, octets) => {
-            say_deed(" forward", *f, "gets", out)?;
-            let count = octets.len();
-            write!(out, " {count}")
-        }
-        Happening::OriginEnd(f) => say_deed(" forward", *f, "ends", out),
-        Happening::OriginFailed(f) => say_deed(" forward", *f, "fails", out),
+    let (whose, number, deed, octets) = match of {
+        Happening::ClientOpened(c) => ("client", *c, "opens", None),
+        Happening::ClientBytes(c, octets) => ("client", *c, "sends", Some(octets.len())),
+        Happening::ClientEnd(c) => ("client", *c, "ends", None),
+        Happening::OriginBytes(f, octets) => ("forward", *f, "gets", Some(octets.len())),
+        Happening::OriginEnd(f) => ("forward", *f, "ends", None),
+        Happening::OriginFailed(f) => ("forward", *f, "fails", None),
+    };
+    write!(out, " {whose} {number} {deed}")?;
+    match octets {
+        Some(count) => write!(out, " {count}"),
+        None => Ok(()),
     }
-}
-
-fn say_deed(whose: &str, number: u64, deed: &str, out: &mut String) -> Result<(), AllocError> {
-    write!(out, "{whose} {number} {deed}")
 }
 
 /// Writes how it ended.
 fn say_end(alloc: Global, played: &mut Played, out: &mut String) -> Result<(), Unanswered> {
     out.push_str("; ")?;
-    say_served(&played.served, played.play.tick(), out)?;
-    say_count(played.play.tally().missed, "deeds missed", out)?;
+    say_served(&played.served, played.play.tick, out)?;
+    say_count(played.play.tally.missed, "deeds missed", out)?;
     out.push_str(", ")?;
-    say_judged(compare(alloc, played)?, out)?;
-    Ok(())
+    let judged = compare(alloc, played)?;
+    Ok(out.push_str(judged.fault.unwrap_or("same, yes"))?)
 }
 
 fn say_served(served: &Served, tick: u64, out: &mut String) -> Result<(), AllocError> {
     out.push_str(name_of(served.result))?;
     write!(out, " at {tick}")?;
-    if served.signs.behind {
+    if served.behind {
         out.push_str(", clock behind")?;
     }
-    let failures = served.signs.failures;
-    say_count(failures.unreached, "not reached", out)?;
-    say_count(failures.late, "late", out)?;
-    say_count(failures.broken, "broken", out)?;
-    say_count(failures.silent, "silent", out)?;
-    say_count(failures.unfinished, "unfinished", out)?;
-    say_count(failures.unplaced, "without a place", out)?;
-    say_count(failures.heavy, "cut off", out)
+    let failures = served.failures;
+    let counts = [
+        (failures.unreached, "not reached"),
+        (failures.late, "late"),
+        (failures.broken, "broken"),
+        (failures.silent, "silent"),
+        (failures.unfinished, "unfinished"),
+        (failures.unplaced, "without a place"),
+        (failures.heavy, "cut off"),
+    ];
+    'counts: for (count, what) in counts.iter() {
+        say_count(*count, what, out)?;
+    }
+    Ok(())
 }
 
 fn name_of(ended: Result<(), DriveFault>) -> &'static str {
@@ -244,12 +231,4 @@ fn say_count(count: u64, what: &str, out: &mut String) -> Result<(), AllocError>
         return Ok(());
     }
     write!(out, ", {count} {what}")
-}
-
-/// Writes that it is the same as the run, and audited yes, or what isn't as it has to be.
-fn say_judged(judged: Judged, out: &mut String) -> Result<(), AllocError> {
-    match judged.fault {
-        Some(fault) => out.push_str(fault),
-        None => out.push_str("same, yes"),
-    }
 }

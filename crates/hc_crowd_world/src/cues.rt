@@ -9,7 +9,7 @@ use std::collections::BTreeMap;
 const DEEDS_OF_ONE: u64 = 1_048_576;
 
 /// What is to be done, by millisecond, and in the order in which it was put there.
-pub struct Cues {
+pub(crate) struct Cues {
     table: BTreeMap<u64, Deed>,
     /// How many were put there.
     count: u64,
@@ -24,7 +24,7 @@ impl Drop for Cues {
 
 impl Cues {
     /// None.
-    pub fn new(alloc: Global) -> Self {
+    pub(crate) fn new(alloc: Global) -> Self {
         Cues {
             table: BTreeMap::new(alloc),
             count: 0,
@@ -32,7 +32,7 @@ impl Cues {
     }
 
     /// That is to be done at that millisecond.
-    pub fn put(&mut self, tick: u64, deed: Deed) -> Result<(), AllocError> {
+    pub(crate) fn put(&mut self, tick: u64, deed: Deed) -> Result<(), AllocError> {
         self.count = self.count.saturating_add(1);
         let place = tick.saturating_mul(DEEDS_OF_ONE).saturating_add(self.count);
         self.table.insert(place, deed)?;
@@ -40,18 +40,18 @@ impl Cues {
     }
 
     /// The other side of that link is to do that.
-    pub fn act(&mut self, tick: u64, link: Receiver, act: Act) -> Result<(), AllocError> {
+    pub(crate) fn act(&mut self, tick: u64, link: Receiver, act: Act) -> Result<(), AllocError> {
         self.put(tick, Deed::Does(link, act))
     }
 
     /// The millisecond of the first of them.
-    pub fn first(&self) -> Option<u64> {
+    pub(crate) fn first(&self) -> Option<u64> {
         let (place, _) = self.table.first_key_value()?;
         Some(*place / DEEDS_OF_ONE)
     }
 
     /// The first, which is taken out, if it is to be done by that millisecond.
-    pub fn next(&mut self, tick: u64) -> Option<Deed> {
+    pub(crate) fn next(&mut self, tick: u64) -> Option<Deed> {
         if self.first()? > tick {
             return None;
         }

@@ -3,7 +3,7 @@
 use hc_order::Receiver;
 
 /// What the other side of a link does.
-pub enum Act {
+pub(crate) enum Act {
     /// It sends those octets.
     Says(Vec<u8>),
     /// It sends no more.
@@ -30,7 +30,7 @@ impl Drop for Act {
 }
 
 /// What is done in a world in memory.
-pub enum Deed {
+pub(crate) enum Deed {
     /// So many further clients connect.
     Connects(u64),
     /// The other side of a link does that.

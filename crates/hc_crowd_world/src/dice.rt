@@ -2,13 +2,13 @@
 
 /// Numbers by chance, the same for the same seed (splitmix64).
 #[derive(Clone, Copy)]
-pub struct Dice {
+pub(crate) struct Dice {
     state: u64,
 }
 
 impl Dice {
     /// Those of that seed.
-    pub fn of(seed: u64) -> Self {
+    pub(crate) fn of(seed: u64) -> Self {
         Dice { state: seed }
     }
 
@@ -20,36 +20,33 @@ impl Dice {
     }
 
     /// A number below that one; 0 below 0.
-    pub fn below(&mut self, bound: u64) -> u64 {
+    pub(crate) fn below(&mut self, bound: u64) -> u64 {
         self.throw() % bound.max(1)
     }
 
     /// A number from 1 up to that one.
-    pub fn up_to(&mut self, most: u64) -> u64 {
+    pub(crate) fn up_to(&mut self, most: u64) -> u64 {
         self.below(most).saturating_add(1)
     }
 
     /// Whether it is the one of so many times.
-    pub fn once_in(&mut self, times: u64) -> bool {
+    pub(crate) fn once_in(&mut self, times: u64) -> bool {
         self.below(times) == 0
     }
 
-    /// One of the texts, if there are any.
-    pub fn pick<'a>(&mut self, texts: &'a [Vec<u8>]) -> &'a [u8] {
-        match texts.get(self.below(texts.len() as u64) as usize) {
-            Some(text) => text.as_slice(),
-            None => b"",
-        }
+    /// A time of 100 milliseconds and more, by a number below that one.
+    pub(crate) fn timeout(&mut self, bound: u64) -> u64 {
+        self.below(bound).saturating_add(100)
     }
 
     /// A number from 1 up to the first one, and the one of so many times up to the second.
-    pub fn mostly(&mut self, times: u64, most: u64, other: u64) -> u64 {
+    pub(crate) fn mostly(&mut self, times: u64, most: u64, other: u64) -> u64 {
         let most = if self.once_in(times) { other } else { most };
         self.up_to(most)
     }
 
     /// Below so many milliseconds things follow one another.
-    pub fn scale(&mut self) -> u64 {
+    pub(crate) fn scale(&mut self) -> u64 {
         match self.below(4) {
             0 => 1,
             1 => 2_000,

@@ -21,8 +21,8 @@ mod strand;
 mod tally;
 mod visits;
 mod within;
+mod words;
 
-pub use deeds::{Act, Deed};
 pub use made::Made;
 pub use noted::Noted;
 pub use notes::Notes;
@@ -30,7 +30,7 @@ pub use peer::Peer;
 pub use play::{Play, is_client, key_of};
 pub use reading::script_in;
 pub use schedules::script_of;
-pub use script::{ALL, Line, Origin, Script};
+pub use script::Script;
 pub use sheet::Sheet;
 pub use standing::Standing;
 pub use strand::Strand;

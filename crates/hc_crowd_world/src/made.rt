@@ -8,7 +8,7 @@ use std::cell::RefCell;
 use std::time::Duration;
 
 /// A world in memory, as a crowd sees it.
-#[derive(Drop)]
+#[derive(Clone, Copy)]
 pub struct Made<'a> {
     /// The world behind it.
     pub play: &'a RefCell<Play>,
@@ -100,21 +100,21 @@ impl<'a> World for Made<'a> {
 
     fn tick(&self) -> u64 {
         match self.play.try_borrow() {
-            Ok(play) => play.tick(),
+            Ok(play) => play.tick,
             Err(_) => 0,
         }
     }
 
     fn stops(&mut self) -> bool {
         match self.play.try_borrow() {
-            Ok(play) => play.stops(),
+            Ok(play) => play.stops,
             Err(_) => true,
         }
     }
 
     fn stop_listening(&mut self) {
         if let Ok(mut play) = self.play.try_borrow_mut() {
-            play.stop_listening();
+            play.listens = false;
         }
     }
 }

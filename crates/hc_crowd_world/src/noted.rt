@@ -9,7 +9,6 @@ use hc_connection::{Awaiting, Batches, Links};
 use hc_framing::MessageText;
 use hc_order::{Occurrence, Receiver};
 use std::alloc::{AllocError, Global};
-use std::mem;
 
 /// So often it is waited for something at most.
 const MOST_WAITS: u64 = 100_000;
@@ -20,9 +19,8 @@ pub struct Noted<L: Batches> {
     alloc: Global,
     /// The links.
     pub links: L,
-    notes: Notes,
-    /// Whether memory was refused for a note.
-    torn: bool,
+    /// What has happened.
+    pub notes: Notes,
     /// How often something was waited for.
     waits: u64,
 }
@@ -34,19 +32,8 @@ impl<L: Batches + Drop> Noted<L> {
             alloc,
             links,
             notes: Notes::new(alloc),
-            torn: false,
             waits: 0,
         }
-    }
-
-    /// What has happened, which is noted no more.
-    pub fn take_notes(&mut self) -> Notes {
-        mem::replace(&mut self.notes, Notes::new(self.alloc))
-    }
-
-    /// Whether memory was refused for a note, which is missing.
-    pub fn is_torn(&self) -> bool {
-        self.torn
     }
 }
 
@@ -73,7 +60,7 @@ impl<L: Batches> Links for Noted<L> {
         let next = self.links.next(cache);
         if let Ok(Some(occurrence)) = &next {
             if self.notes.put(self.alloc, occurrence).is_err() {
-                self.torn = true;
+                self.notes.torn = true;
             }
         }
         next

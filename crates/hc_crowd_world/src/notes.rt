@@ -10,11 +10,17 @@ pub struct Notes {
     pub events: Vec<Event>,
     /// Why each of that was told.
     pub reasons: Vec<Reason>,
+    /// Whether memory was refused for a note, which is missing.
+    pub torn: bool,
 }
 
 impl Drop for Notes {
     fn drop(self) {
-        let Notes { events, reasons } = self;
+        let Notes {
+            events,
+            reasons,
+            torn: _,
+        } = self;
         drop(events);
         drop(reasons);
     }
@@ -22,10 +28,11 @@ impl Drop for Notes {
 
 impl Notes {
     /// Nothing has happened yet.
-    pub(crate) fn new(alloc: Global) -> Self {
+    pub fn new(alloc: Global) -> Self {
         Notes {
             events: Vec::new(alloc),
             reasons: Vec::new(alloc),
+            torn: false,
         }
     }
 

@@ -12,11 +12,11 @@ use std::alloc::{AllocError, Global};
 /// The other side of a link, in memory.
 pub struct Peer {
     /// What it has sent.
-    said: Vec<u8>,
+    pub said: Vec<u8>,
     /// How many octets of that were read.
     read: usize,
     /// What was written to it.
-    got: Vec<u8>,
+    pub got: Vec<u8>,
     /// So many octets more it takes now.
     room: usize,
     /// So many octets it takes at once at most.
@@ -28,12 +28,13 @@ pub struct Peer {
     /// Whether the link has failed.
     failed: bool,
     /// Whether what is written to it was ended.
-    has_end: bool,
+    pub(crate) has_end: bool,
     /// Whether it was ever offered more than it took.
-    pressed: bool,
+    pub pressed: bool,
     /// Whether the link was let go.
-    gone: bool,
-    standing: Standing,
+    pub gone: bool,
+    /// How it stands.
+    pub standing: Standing,
 }
 
 impl Drop for Peer {
@@ -229,53 +230,13 @@ impl Peer {
         Ok(())
     }
 
-    /// What is written to it is ended.
-    pub(crate) fn end(&mut self) {
-        self.has_end = true;
-    }
-
-    /// The link is let go.
-    pub(crate) fn let_go(&mut self) {
-        self.gone = true;
-    }
-
-    /// What was written to it.
-    pub fn got(&self) -> &[u8] {
-        self.got.as_slice()
-    }
-
     /// Whether all that was sent to it has to have come: what is written to it was ended, and the link hasn't failed.
     pub fn is_whole(&self) -> bool {
         self.has_end && !self.failed
     }
 
-    /// Whether the link was let go.
-    pub fn is_gone(&self) -> bool {
-        self.gone
-    }
-
-    /// Whether it took all that it was ever offered.
-    pub fn took_all(&self) -> bool {
-        !self.pressed
-    }
-
-    /// Whether it has sent anything.
-    pub fn has_said(&self) -> bool {
-        !self.said.is_empty()
-    }
-
     /// Whether somebody had a link to it, and hasn't let it go.
     pub fn is_linked(&self) -> bool {
         !matches!(self.standing, Standing::Waits) && !self.gone
-    }
-
-    /// How it stands.
-    pub fn standing(&self) -> Standing {
-        self.standing
-    }
-
-    /// It stands so from now on.
-    pub(crate) fn stand(&mut self, standing: Standing) {
-        self.standing = standing;
     }
 }

@@ -9,6 +9,7 @@ use crate::peer::Peer;
 use crate::script::Script;
 use crate::standing::Standing;
 use crate::tally::Tally;
+use crate::within::has_within;
 use hc_crowd::Ready;
 use hc_flow::{Arrival, Uptake};
 use hc_order::Receiver;
@@ -23,21 +24,27 @@ const SECOND: u64 = 1_000;
 /// A world in memory.
 pub struct Play {
     pub(crate) alloc: Global,
-    pub(crate) script: Script,
-    pub(crate) tick: u64,
+    /// What it does.
+    pub script: Script,
+    /// The milliseconds that have passed.
+    pub tick: u64,
     /// What the wall clock told at millisecond 0, as it is set now.
     wall: Option<Duration>,
-    pub(crate) peers: BTreeMap<u64, Peer>,
+    /// The other sides of all links that there were, by key.
+    pub peers: BTreeMap<u64, Peer>,
     ready: VecDeque<Ready>,
     /// For so many links at once the system has places.
     places: usize,
-    stops: bool,
-    listens: bool,
-    pub(crate) tally: Tally,
-    /// When links to the origin began to be made.
-    notes: String,
-    /// When those who connect were accepted, and what came of them.
-    pub(crate) visits: String,
+    /// Whether the program was asked to stop.
+    pub(crate) stops: bool,
+    /// Whether further clients can connect.
+    pub(crate) listens: bool,
+    /// What was counted.
+    pub tally: Tally,
+    /// When links to the origin began to be made, as text.
+    pub notes: String,
+    /// When those who connect were accepted, and what came of them, as text.
+    pub visits: String,
 }
 
 impl Drop for Play {
@@ -102,39 +109,9 @@ impl Play {
         }
     }
 
-    /// The milliseconds that have passed.
-    pub fn tick(&self) -> u64 {
-        self.tick
-    }
-
-    /// The other sides of all links that there were, by key.
-    pub fn peers(&self) -> &BTreeMap<u64, Peer> {
-        &self.peers
-    }
-
     /// The other side of that link.
     pub fn peer(&self, link: Receiver) -> Option<&Peer> {
         self.peers.get(&key_of(link))
-    }
-
-    /// What was counted.
-    pub fn tally(&self) -> Tally {
-        self.tally
-    }
-
-    /// When links to the origin began to be made, as text.
-    pub fn notes(&self) -> &str {
-        self.notes.as_str()
-    }
-
-    /// When those who connect were accepted, and what came of them, as text.
-    pub fn visits(&self) -> &str {
-        self.visits.as_str()
-    }
-
-    /// Whether all clients are to be served to their ends.
-    pub fn is_calm(&self) -> bool {
-        self.script.calm
     }
 
     /// Time passes, until something is ready or so many milliseconds are over.
@@ -171,9 +148,9 @@ impl Play {
 
     fn act(&mut self, deed: &Deed) -> Result<(), AllocError> {
         match deed {
-            Deed::Connects(count) => self.all_connect(*count),
+            Deed::Connects(count) => self.connects(*count),
             Deed::Does(link, act) => self.does(*link, act),
-            Deed::Answers(forward) => self.answers(*forward),
+            Deed::Answers(forward) => self.answer(*forward),
             Deed::Wall(second) => {
                 self.set_wall(*second);
                 Ok(())
@@ -201,16 +178,18 @@ impl Play {
         };
     }
 
-    /// A client connects, as long as one can.
-    pub(crate) fn connects(&mut self) -> Result<(), AllocError> {
-        if !self.listens {
-            return Ok(());
+    /// So many clients connect, as long as one can.
+    fn connects(&mut self, count: u64) -> Result<(), AllocError> {
+        'clients: for _ in 0..count {
+            if !self.listens {
+                return Ok(());
+            }
+            self.tally.connected = self.tally.connected.saturating_add(1);
+            let peer = Peer::new(self.alloc, true, self.script.room, usize::MAX);
+            let key = key_of(Receiver::Client(self.tally.connected));
+            self.peers.insert(key, peer)?;
+            self.ready.push_back(Ready::Clients)?;
         }
-        self.tally.connected = self.tally.connected.saturating_add(1);
-        let peer = Peer::new(self.alloc, true, self.script.room, usize::MAX);
-        let key = key_of(Receiver::Client(self.tally.connected));
-        self.peers.insert(key, peer)?;
-        self.ready.push_back(Ready::Clients)?;
         Ok(())
     }
 
@@ -220,7 +199,7 @@ impl Play {
             return Ok(());
         };
         let readiness = peer.acts(act)?;
-        if let Some(ready) = peer.standing().told(readiness) {
+        if let Some(ready) = peer.standing.told(readiness) {
             self.ready.push_back(ready)?;
         }
         Ok(())
@@ -238,7 +217,7 @@ impl Play {
 
     /// A link to the origin begins to be made, if it has so many addresses, and the system has a place.
     pub(crate) fn connect(&mut self, forward: u64, attempt: u32) -> bool {
-        if attempt >= self.script.addresses || !self.has_place() {
+        if u64::from(attempt) >= self.script.addresses || !self.has_place() {
             return false;
         }
         if self.reach(forward, attempt).is_err() {
@@ -254,17 +233,26 @@ impl Play {
     fn reach(&mut self, forward: u64, attempt: u32) -> Result<(), AllocError> {
         let tick = self.tick;
         write!(self.notes, "; forward {forward} at {tick}")?;
-        let (room, most) = self.room_at_origin();
+        let (room, most) = self.script.room_at_origin();
         let peer = Peer::new(self.alloc, false, room, most);
         self.peers.insert(key_of(Receiver::Origin(forward)), peer)?;
-        self.plan(forward, attempt)
+        self.script.plan(tick, forward, attempt)
+    }
+
+    /// The origin answers a forward by chance.
+    fn answer(&mut self, forward: u64) -> Result<(), AllocError> {
+        let conditional = match self.peer(Receiver::Origin(forward)) {
+            Some(peer) => has_within(peer.got.as_slice(), b"if-none-match"),
+            None => false,
+        };
+        self.script.answer(self.tick, forward, conditional)
     }
 
     /// What is written to the other side of a link is ended.
     pub(crate) fn end(&mut self, link: Receiver) {
         self.turn_away(link);
         if let Some(peer) = self.peers.get_mut(&key_of(link)) {
-            peer.end();
+            peer.has_end = true;
         }
     }
 
@@ -295,15 +283,5 @@ impl Play {
             Some(wall) => Some(wall.saturating_add(Duration::from_millis(self.tick))),
             None => None,
         }
-    }
-
-    /// Whether the program was asked to stop.
-    pub(crate) fn stops(&self) -> bool {
-        self.stops
-    }
-
-    /// No further client can connect.
-    pub(crate) fn stop_listening(&mut self) {
-        self.listens = false;
     }
 }

@@ -1,246 +1,121 @@
 //! Schedules that are written down, a line a thing.
 
 use crate::deeds::{Act, Deed};
-use crate::script::{Line, Origin, Script};
+use crate::script::{Line, Script};
+use crate::words::Words;
 use hc_cases::{Unanswered, unescaped};
+use hc_crowd::{Limits, Patience};
 use hc_order::Receiver;
-use std::alloc::{AllocError, Global};
+use std::alloc::Global;
 
 /// The schedule of a text.
 ///
-/// It has a thing a line; empty lines and those that begin with `#` are passed over. First what is set, by name and number;
-/// then `at T DEED`, and `forward F after D ACT`, or `again after`, of its second link.
+/// It has a thing a line; empty lines and those that begin with `#` are passed over. Each is something that is set, by name
+/// and number, or `at T DEED`, or `forward F after D ACT`, or `again after`, of its second link.
 pub fn script_in(alloc: Global, text: &[u8]) -> Result<Script, Unanswered> {
+    let mut script = Script::new(alloc, 0, Vec::new(alloc));
+    put_text(&mut script, text)?;
+    Ok(script)
+}
+
+fn put_text(script: &mut Script, text: &[u8]) -> Result<(), Unanswered> {
     let Ok(text) = str::from_utf8(text) else {
         return Err(Unanswered::Unknown);
     };
-    let mut draft = Draft::new(alloc);
+    let mut settings = Settings {
+        list: Vec::new(script.alloc),
+    };
+    put_lines(script, &mut settings, text)?;
+    set(script, &mut settings)
+}
+
+fn put_lines<'a>(
+    script: &mut Script,
+    settings: &mut Settings<'a>,
+    text: &'a str,
+) -> Result<(), Unanswered> {
     'lines: for line in text.lines() {
         if !line.is_empty() && !line.starts_with('#') {
-            draft.put(line)?;
+            put_line(script, settings, Words::of(line))?;
         }
     }
-    Ok(draft.into_script())
+    Ok(())
 }
 
-/// A schedule of which lines were read.
-#[derive(Drop)]
-struct Draft {
-    alloc: Global,
-    script: Script,
-    /// What the origin does.
-    lines: Vec<Line>,
-}
-
-impl Draft {
-    fn new(alloc: Global) -> Self {
-        Draft {
-            alloc,
-            script: Script::new(alloc),
-            lines: Vec::new(alloc),
-        }
-    }
-
-    fn into_script(self) -> Script {
-        let mut script = self.script;
-        script.origin = Origin::Lines(self.lines);
-        script
-    }
-
-    /// Takes a line in.
-    fn put(&mut self, line: &str) -> Result<(), Unanswered> {
-        let (word, rest) = word_of(line);
-        match word {
-            "at" => self.put_cue(rest),
-            "forward" => self.put_forward(rest),
-            _ => self.set(setting_of(word)?, number_of(rest)?),
-        }
-    }
-
-    fn set(&mut self, setting: Setting, value: u64) -> Result<(), Unanswered> {
-        let script = &mut self.script;
-        match setting {
-            Setting::Connections => script.limits.connections = value as usize,
-            Setting::OriginConnections => script.limits.origin_connections = value as usize,
-            Setting::Held => script.limits.held = value,
-            Setting::IdleTimeout => script.limits.patience.idle_timeout = value,
-            Setting::RequestTimeout => script.limits.patience.request_timeout = value,
-            Setting::SendTimeout => script.limits.patience.send_timeout = value,
-            Setting::OriginTimeout => script.limits.patience.origin_timeout = value,
-            Setting::OriginTotal => script.limits.patience.origin_total = value,
-            Setting::QueueTimeout => script.limits.queue_timeout = value,
-            Setting::ConnectTimeout => script.limits.connect_timeout = value,
-            Setting::DrainTimeout => script.limits.drain_timeout = value,
-            Setting::Clients => script.limits.clients = Some(value),
-            Setting::Wall => script.wall = Some(value),
-            Setting::Part => script.part = value,
-            Setting::Addresses => script.addresses = small_of(value)?,
-            Setting::Writes => script.writes = value,
-            Setting::Names => script.names = value,
-            Setting::Takes => script.room = value as usize,
-            Setting::OriginTakes => script.origin_room = value as usize,
-        }
-        Ok(())
-    }
-
-    /// What is done at a millisecond.
-    fn put_cue(&mut self, rest: &str) -> Result<(), Unanswered> {
-        let (tick, rest) = word_of(rest);
-        let tick = number_of(tick)?;
-        let deed = deed_of(self.alloc, rest)?;
-        Ok(self.script.cues.put(tick, deed)?)
-    }
-
-    /// What the origin does for a forward.
-    fn put_forward(&mut self, rest: &str) -> Result<(), Unanswered> {
-        let line = line_of(self.alloc, rest)?;
-        Ok(self.lines.push(line)?)
+/// Takes a line in.
+fn put_line<'a>(
+    script: &mut Script,
+    settings: &mut Settings<'a>,
+    words: Words<'a>,
+) -> Result<(), Unanswered> {
+    let mut words = words;
+    match words.next() {
+        "at" => put_cue(script, &mut words),
+        "forward" => put_forward(script, &mut words),
+        name => settings.put(name, words.number()?),
     }
 }
 
-/// What is set before all.
-#[derive(Clone, Copy)]
-enum Setting {
-    Connections,
-    OriginConnections,
-    Held,
-    IdleTimeout,
-    RequestTimeout,
-    SendTimeout,
-    OriginTimeout,
-    OriginTotal,
-    QueueTimeout,
-    ConnectTimeout,
-    DrainTimeout,
-    Clients,
-    Wall,
-    Part,
-    Addresses,
-    Writes,
-    Names,
-    Takes,
-    OriginTakes,
+/// What is done at a millisecond.
+fn put_cue(script: &mut Script, words: &mut Words<'_>) -> Result<(), Unanswered> {
+    let tick = words.number()?;
+    let deed = deed_of(script.alloc, words)?;
+    Ok(script.cues.put(tick, deed)?)
 }
 
-fn setting_of(word: &str) -> Result<Setting, Unanswered> {
-    match word {
-        "connections" => Ok(Setting::Connections),
-        "origin-connections" => Ok(Setting::OriginConnections),
-        "held" => Ok(Setting::Held),
-        "idle-timeout" => Ok(Setting::IdleTimeout),
-        "request-timeout" => Ok(Setting::RequestTimeout),
-        "send-timeout" => Ok(Setting::SendTimeout),
-        "origin-timeout" => Ok(Setting::OriginTimeout),
-        "origin-total" => Ok(Setting::OriginTotal),
-        "queue-timeout" => Ok(Setting::QueueTimeout),
-        "connect-timeout" => Ok(Setting::ConnectTimeout),
-        "drain-timeout" => Ok(Setting::DrainTimeout),
-        "clients" => Ok(Setting::Clients),
-        "wall" => Ok(Setting::Wall),
-        "part" => Ok(Setting::Part),
-        "addresses" => Ok(Setting::Addresses),
-        "writes" => Ok(Setting::Writes),
-        "names" => Ok(Setting::Names),
-        "takes" => Ok(Setting::Takes),
-        "origin-takes" => Ok(Setting::OriginTakes),
+/// What the origin does for a forward.
+fn put_forward(script: &mut Script, words: &mut Words<'_>) -> Result<(), Unanswered> {
+    let forward = words.number()?;
+    let attempt = attempt_of(words)?;
+    let delay = words.number()?;
+    let line = Line {
+        forward,
+        attempt,
+        delay,
+        act: act_of(script.alloc, words)?,
+    };
+    Ok(script.lines.push(line)?)
+}
+
+/// The how-manieth link of a forward it is.
+fn attempt_of(words: &mut Words<'_>) -> Result<u32, Unanswered> {
+    match words.next() {
+        "again" => {
+            words.next();
+            Ok(1)
+        }
+        "after" => Ok(0),
         _ => Err(Unanswered::Unknown),
-    }
-}
-
-/// The first word, and what stands behind it and a blank.
-fn word_of(text: &str) -> (&str, &str) {
-    match text.split_once(' ') {
-        Some((word, rest)) => (word, rest),
-        None => (text, ""),
-    }
-}
-
-/// The number that a word is.
-fn number_of(word: &str) -> Result<u64, Unanswered> {
-    match word.parse::<u64>() {
-        Ok(number) => Ok(number),
-        Err(_) => Err(Unanswered::Unknown),
-    }
-}
-
-fn small_of(number: u64) -> Result<u32, Unanswered> {
-    match u32::try_from(number) {
-        Ok(number) => Ok(number),
-        Err(_) => Err(Unanswered::Unknown),
     }
 }
 
 /// What is done in the world.
-fn deed_of(alloc: Global, text: &str) -> Result<Deed, Unanswered> {
-    let (word, rest) = word_of(text);
-    if word == "client" {
-        return client_deed(alloc, rest);
-    }
-    match word {
+fn deed_of(alloc: Global, words: &mut Words<'_>) -> Result<Deed, Unanswered> {
+    match words.next() {
+        "client" => client_deed(alloc, words),
         "connect" => Ok(Deed::Connects(1)),
+        "connects" => Ok(Deed::Connects(words.number()?)),
+        "places" => Ok(Deed::Places(words.number()? as usize)),
+        "wall" => Ok(Deed::Wall(Some(words.number()?))),
         "unreadable" => Ok(Deed::Wall(None)),
+        "sleep" => Ok(Deed::Sleeps(words.number()?)),
         "stop" => Ok(Deed::Stops),
-        _ => deed_with(word, number_of(rest)?),
+        _ => Err(Unanswered::Unknown),
     }
 }
 
 /// What a client does.
-fn client_deed(alloc: Global, text: &str) -> Result<Deed, Unanswered> {
-    let (number, rest) = word_of(text);
-    let link = Receiver::Client(number_of(number)?);
-    Ok(Deed::Does(link, act_of(alloc, rest)?))
-}
-
-/// What is done that is said with a number.
-fn deed_with(word: &str, number: u64) -> Result<Deed, Unanswered> {
-    match word {
-        "connects" => Ok(Deed::Connects(number)),
-        "places" => Ok(Deed::Places(number as usize)),
-        "wall" => Ok(Deed::Wall(Some(number))),
-        "sleep" => Ok(Deed::Sleeps(number)),
-        _ => Err(Unanswered::Unknown),
-    }
-}
-
-/// What the origin does for a forward.
-fn line_of(alloc: Global, text: &str) -> Result<Line, Unanswered> {
-    let (forward, rest) = word_of(text);
-    let forward = number_of(forward)?;
-    let (attempt, rest) = attempt_of(rest)?;
-    let (delay, rest) = word_of(rest);
-    let delay = number_of(delay)?;
-    Ok(Line {
-        forward,
-        attempt,
-        delay,
-        act: act_of(alloc, rest)?,
-    })
-}
-
-/// The how-manieth link of a forward it is, and what stands behind that.
-fn attempt_of(text: &str) -> Result<(u32, &str), Unanswered> {
-    let (word, rest) = word_of(text);
-    match word {
-        "again" => Ok((1, word_of(rest).1)),
-        "after" => Ok((0, rest)),
-        _ => Err(Unanswered::Unknown),
-    }
+fn client_deed(alloc: Global, words: &mut Words<'_>) -> Result<Deed, Unanswered> {
+    let link = Receiver::Client(words.number()?);
+    Ok(Deed::Does(link, act_of(alloc, words)?))
 }
 
 /// What the other side of a link does.
-fn act_of(alloc: Global, text: &str) -> Result<Act, Unanswered> {
-    let (word, rest) = word_of(text);
-    match word {
-        "says" => Ok(Act::Says(unescaped(alloc, rest.as_bytes())?)),
-        "repeats" => repeated(alloc, rest),
-        "takes" => Ok(Act::Takes(number_of(rest)? as usize)),
-        _ => bare_act(word),
-    }
-}
-
-/// What the other side of a link does that is said with nothing else.
-fn bare_act(word: &str) -> Result<Act, Unanswered> {
-    match word {
+fn act_of(alloc: Global, words: &mut Words<'_>) -> Result<Act, Unanswered> {
+    match words.next() {
+        "says" => said(alloc, 1, words.rest()),
+        "repeats" => said(alloc, words.number()?, words.rest()),
+        "takes" => Ok(Act::Takes(words.number()? as usize)),
         "ends" => Ok(Act::Ends),
         "resets" => Ok(Act::Resets),
         "breaks" => Ok(Act::Breaks),
@@ -250,17 +125,85 @@ fn bare_act(word: &str) -> Result<Act, Unanswered> {
 }
 
 /// A text is said so many times.
-fn repeated(alloc: Global, rest: &str) -> Result<Act, Unanswered> {
-    let (count, text) = word_of(rest);
-    let count = number_of(count)?;
+fn said(alloc: Global, times: u64, text: &str) -> Result<Act, Unanswered> {
     let text = unescaped(alloc, text.as_bytes())?;
-    Ok(Act::Says(times(alloc, text.as_slice(), count)?))
+    Ok(Act::Says(text.as_slice().repeat(alloc, times as usize)?))
 }
 
-fn times(alloc: Global, text: &[u8], count: u64) -> Result<Vec<u8>, AllocError> {
-    let mut octets = Vec::new(alloc);
-    'times: for _ in 0..count {
-        octets.extend_from_slice(text)?;
+/// What is set, by name.
+struct Settings<'a> {
+    list: Vec<Setting<'a>>,
+}
+
+impl<'a> Drop for Settings<'a> {
+    fn drop(self) {
+        let Settings { list } = self;
+        drop(list);
     }
-    Ok(octets)
+}
+
+#[derive(Clone, Copy)]
+struct Setting<'a> {
+    name: &'a str,
+    value: u64,
+}
+
+impl<'a> Settings<'a> {
+    fn put(&mut self, name: &'a str, value: u64) -> Result<(), Unanswered> {
+        Ok(self.list.push(Setting { name, value })?)
+    }
+
+    /// What is set by that name, which is taken out, if anything is.
+    fn take(&mut self, name: &str) -> Option<u64> {
+        let place = self.list.iter().position(|set| set.name == name)?;
+        Some(self.list.remove(place).value)
+    }
+
+    /// The same, or what is usual.
+    fn number(&mut self, name: &str, usual: u64) -> u64 {
+        self.take(name).unwrap_or(usual)
+    }
+
+    fn limits(&mut self, usual: Limits) -> Limits {
+        Limits {
+            connections: self.number("connections", usual.connections as u64) as usize,
+            origin_connections: self.number(
+                "origin-connections",
+                usual.origin_connections as u64,
+            ) as usize,
+            held: self.number("held", usual.held),
+            patience: self.patience(usual.patience),
+            queue_timeout: self.number("queue-timeout", usual.queue_timeout),
+            connect_timeout: self.number("connect-timeout", usual.connect_timeout),
+            drain_timeout: self.number("drain-timeout", usual.drain_timeout),
+            clients: self.take("clients"),
+        }
+    }
+
+    fn patience(&mut self, usual: Patience) -> Patience {
+        Patience {
+            idle_timeout: self.number("idle-timeout", usual.idle_timeout),
+            request_timeout: self.number("request-timeout", usual.request_timeout),
+            send_timeout: self.number("send-timeout", usual.send_timeout),
+            origin_timeout: self.number("origin-timeout", usual.origin_timeout),
+            origin_total: self.number("origin-total", usual.origin_total),
+        }
+    }
+}
+
+/// Sets all that is set. It fails where a name is none that can be.
+fn set(script: &mut Script, settings: &mut Settings<'_>) -> Result<(), Unanswered> {
+    script.limits = settings.limits(script.limits);
+    script.wall = settings.take("wall").or(script.wall);
+    script.part = settings.number("part", script.part);
+    script.addresses = settings.number("addresses", script.addresses);
+    script.writes = settings.number("writes", script.writes);
+    script.names = settings.number("names", script.names);
+    script.room = settings.number("takes", script.room as u64) as usize;
+    script.origin_room = settings.number("origin-takes", script.origin_room as u64) as usize;
+    if settings.list.is_empty() {
+        Ok(())
+    } else {
+        Err(Unanswered::Unknown)
+    }
 }

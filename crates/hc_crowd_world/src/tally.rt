@@ -43,33 +43,24 @@ impl Tally {
         }
     }
 
-    /// There is a link more to one who stands so.
-    pub(crate) fn gains(&mut self, standing: Standing) {
+    /// How many links there are now to such as stand so, if those are counted.
+    fn count(&mut self, standing: Standing) -> Option<&mut usize> {
         match standing {
-            Standing::Waits => {}
-            Standing::Guest(_) => self.clients = self.clients.saturating_add(1),
-            Standing::TurnedAway(_) => self.turned_away = self.turned_away.saturating_add(1),
-            Standing::Linked(Receiver::Client(_)) => {
-                self.clients = self.clients.saturating_add(1);
-            }
-            Standing::Linked(Receiver::Origin(_)) => {
-                self.origins = self.origins.saturating_add(1);
-            }
+            Standing::Waits => None,
+            Standing::Guest(_) => Some(&mut self.clients),
+            Standing::TurnedAway(_) => Some(&mut self.turned_away),
+            Standing::Linked(Receiver::Client(_)) => Some(&mut self.clients),
+            Standing::Linked(Receiver::Origin(_)) => Some(&mut self.origins),
         }
     }
 
-    /// There is a link less to one who stands so.
-    pub(crate) fn loses(&mut self, standing: Standing) {
-        match standing {
-            Standing::Waits => {}
-            Standing::Guest(_) => self.clients = self.clients.saturating_sub(1),
-            Standing::TurnedAway(_) => self.turned_away = self.turned_away.saturating_sub(1),
-            Standing::Linked(Receiver::Client(_)) => {
-                self.clients = self.clients.saturating_sub(1);
-            }
-            Standing::Linked(Receiver::Origin(_)) => {
-                self.origins = self.origins.saturating_sub(1);
-            }
+    /// One who stood so stands otherwise now. Who has no link any more stands as who waits.
+    pub(crate) fn changes(&mut self, before: Standing, now: Standing) {
+        if let Some(count) = self.count(before) {
+            *count = count.saturating_sub(1);
+        }
+        if let Some(count) = self.count(now) {
+            *count = count.saturating_add(1);
         }
     }
 

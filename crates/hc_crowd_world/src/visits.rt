@@ -5,18 +5,9 @@ use crate::play::{Play, key_of};
 use crate::standing::Standing;
 use hc_flow::Presence;
 use hc_order::Receiver;
-use std::alloc::AllocError;
 use std::fmt::Write;
 
 impl Play {
-    /// So many clients connect, as long as one can.
-    pub(crate) fn all_connect(&mut self, count: u64) -> Result<(), AllocError> {
-        'clients: for _ in 0..count {
-            self.connects()?;
-        }
-        Ok(())
-    }
-
     /// Who has connected first of those that wait is accepted, as the guest of that number. Answers the link, if anybody
     /// waits.
     pub(crate) fn accept(&mut self, guest: u64) -> Option<Receiver> {
@@ -45,23 +36,18 @@ impl Play {
 
     /// A guest to whom something is written, or ended, is turned away.
     pub(crate) fn turn_away(&mut self, link: Receiver) {
-        let Some(Standing::Guest(guest)) = self.standing(link) else {
-            return;
-        };
-        self.stand(link, Standing::TurnedAway(guest));
-    }
-
-    /// How the other side of a link stands, if it is there.
-    fn standing(&self, link: Receiver) -> Option<Standing> {
-        Some(self.peer(link)?.standing())
+        if let Some(peer) = self.peer(link) {
+            if let Standing::Guest(guest) = peer.standing {
+                self.stand(link, Standing::TurnedAway(guest));
+            }
+        }
     }
 
     /// The other side of a link stands so from now on.
     pub(crate) fn stand(&mut self, link: Receiver, standing: Standing) {
         if let Some(peer) = self.peers.get_mut(&key_of(link)) {
-            self.tally.loses(peer.standing());
-            self.tally.gains(standing);
-            peer.stand(standing);
+            self.tally.changes(peer.standing, standing);
+            peer.standing = standing;
         }
         self.note_visit(link, standing.name());
     }
@@ -69,8 +55,8 @@ impl Play {
     /// A link is let go.
     pub(crate) fn let_go(&mut self, link: Receiver) {
         if let Some(peer) = self.peers.get_mut(&key_of(link)) {
-            self.tally.loses(peer.standing());
-            peer.let_go();
+            self.tally.changes(peer.standing, Standing::Waits);
+            peer.gone = true;
         }
         self.note_visit(link, "gone");
     }

@@ -2,22 +2,20 @@
 //! 2.4).
 
 use crate::freshness::push_slack;
-use crate::layout::{push_number, push_record};
+use crate::page::Page;
+use crate::sources::sent_of;
 use hc_facts::{AgeGap, AgeParts, AgeTold, RecordName, TtlGap};
 use hc_fresh::Times;
 use hc_past::Source;
-use hc_shown::push_value;
-use hc_why::{Explanation, Nearest};
-use std::alloc::AllocError;
-use std::fmt::Write;
+use hc_why::{Explanation, Nearest, Validator};
 
 /// Writes the Age that a reply tells.
-fn push_told(told: &AgeTold, out: &mut String) -> Result<(), AllocError> {
+fn push_told(told: &AgeTold, page: &mut Page) {
     match told {
-        AgeTold::Missing => out.push_str("none"),
-        AgeTold::Several => out.push_str("several lines"),
-        AgeTold::Seconds(told) => push_number("", u64::from(*told), "", out),
-        AgeTold::Unreadable(value) => push_value(b"age", value.as_slice(), out),
+        AgeTold::Missing => page.text("none"),
+        AgeTold::Several => page.text("several lines"),
+        AgeTold::Seconds(told) => page.number("", u64::from(*told), ""),
+        AgeTold::Unreadable(value) => page.value(b"age", value.as_slice()),
     }
 }
 
@@ -41,12 +39,12 @@ struct Aged {
     is_aged_anew: bool,
 }
 
-/// That response, of which that is the record, where it came with an Age.
-fn aged_response(source: Option<&Source>, nearest: &Nearest) -> Option<Aged> {
+/// The response at that position, of which that is the record, where it came with an Age, and that 304 freshened it.
+fn aged_response(source: Option<&Source>, position: u64, validator: Validator) -> Option<Aged> {
     source?.age.as_ref()?;
     Some(Aged {
-        position: nearest.position,
-        is_aged_anew: nearest.validator?.is_aged,
+        position,
+        is_aged_anew: validator.is_aged,
     })
 }
 
@@ -54,133 +52,120 @@ impl AgeOrigin {
     /// What the age of the response that is named is counted from.
     pub(crate) fn of(explanation: &Explanation, nearest: &Nearest) -> Self {
         let source = explanation.source(nearest.position);
-        match nearest.validated_at {
-            Some(_) => AgeOrigin {
-                validator: nearest.validator.map(|validator| validator.record),
-                sent: nearest.validator.and_then(|validator| validator.sent),
-                aged: aged_response(source, nearest),
+        match (nearest.validated_at, nearest.validator) {
+            (Some(_), Some(validator)) => AgeOrigin {
+                validator: Some(validator.record),
+                sent: validator.sent,
+                aged: aged_response(source, nearest.position, validator),
             },
-            None => AgeOrigin {
-                validator: None,
-                sent: source.and_then(|source| source.sent),
-                aged: None,
-            },
+            (Some(_), None) => AgeOrigin::unknown(None),
+            (None, _) => AgeOrigin::unknown(sent_of(source)),
+        }
+    }
+
+    // Nothing but the forward that it is counted from.
+    fn unknown(sent: Option<RecordName>) -> Self {
+        AgeOrigin {
+            validator: None,
+            sent,
+            aged: None,
         }
     }
 }
 
 /// Writes for how many seconds a response was on its way, since that forward, if it is known.
-fn push_delay(delay: u64, sent: Option<RecordName>, out: &mut String) -> Result<(), AllocError> {
-    push_number("", delay, " (on its way", out)?;
+fn push_delay(delay: u64, sent: Option<RecordName>, page: &mut Page) {
+    page.number("", delay, " (on its way");
     if let Some(sent) = sent {
-        out.push_str(" since ")?;
-        push_record(sent, out)?;
+        page.text(" since ");
+        page.record(sent);
     }
-    out.push_str(")")
+    page.text(")");
 }
 
 /// Writes the age that a response had when it came: by its Date, or by its Age and the time that it took.
-fn push_first_age(
-    times: Times,
-    sent: Option<RecordName>,
-    out: &mut String,
-) -> Result<(), AllocError> {
+fn push_first_age(times: Times, sent: Option<RecordName>, page: &mut Page) {
     let apparent = times.response_time.saturating_sub(times.date);
     let delay = times.response_time.saturating_sub(times.request_time);
     let told = times.age_value;
     if u64::from(told).saturating_add(delay) < apparent {
-        return push_number("", apparent, " (Date)", out);
+        return page.number("", apparent, " (Date)");
     }
     if told != 0 {
-        push_number("", u64::from(told), " (Age) + ", out)?;
+        page.number("", u64::from(told), " (Age) + ");
     }
-    push_delay(delay, sent, out)
+    push_delay(delay, sent, page);
 }
 
 /// Writes for how many seconds a response was stored, since that 304, if one freshened it.
-fn push_stored(
-    resident: u64,
-    validator: Option<RecordName>,
-    out: &mut String,
-) -> Result<(), AllocError> {
-    push_number(" + ", resident, " (stored", out)?;
+fn push_stored(resident: u64, validator: Option<RecordName>, page: &mut Page) {
+    page.number(" + ", resident, " (stored");
     if let Some(validator) = validator {
-        out.push_str(" since the 304 ")?;
-        push_record(validator, out)?;
+        page.text(" since the 304 ");
+        page.record(validator);
     }
-    out.push_str(")")
+    page.text(")");
 }
 
 /// Writes of what an age is the sum, behind what stands for the age.
-pub(crate) fn push_sum(
-    parts: AgeParts,
-    origin: AgeOrigin,
-    out: &mut String,
-) -> Result<(), AllocError> {
-    out.push_str(" = ")?;
-    push_first_age(parts.times, origin.sent, out)?;
-    push_stored(parts.resident, origin.validator, out)
+pub(crate) fn push_sum(parts: AgeParts, origin: AgeOrigin, page: &mut Page) {
+    page.text(" = ");
+    push_first_age(parts.times, origin.sent, page);
+    push_stored(parts.resident, origin.validator, page);
 }
 
 /// Writes the age that is due where it is counted from the arrival of the response alone, if that is another one.
-fn push_by_arrival(due: u64, parts: AgeParts, out: &mut String) -> Result<(), AllocError> {
+fn push_by_arrival(due: u64, parts: AgeParts, page: &mut Page) {
     if due == parts.resident {
-        return Ok(());
+        return;
     }
-    push_number(
-        " (counted from its arrival alone ",
-        parts.resident,
-        ")",
-        out,
-    )
+    page.number(" (counted from its arrival alone ", parts.resident, ")");
 }
 
 /// Writes that the Age with which a response came counts no more since a 304, whose own counts as so much.
-fn push_former_age(aged: Aged, counted: u32, out: &mut String) -> Result<(), AllocError> {
-    out.push_str("; since that 304, which has ")?;
+fn push_former_age(aged: Aged, counted: u32, page: &mut Page) {
+    page.text("; since that 304, which has ");
     if aged.is_aged_anew {
-        push_number("an Age that counts as ", u64::from(counted), "", out)?;
+        page.number("an Age that counts as ", u64::from(counted), "");
     } else {
-        out.push_str("no Age")?;
+        page.text("no Age");
     }
-    push_number(
+    page.number(
         ", the Age with which ",
         aged.position,
         " came counts no more (RFC 9111 section 4.2)",
-        out,
-    )
+    );
 }
 
 /// Writes the Age that is due, with its sum, and the one that the reply tells.
-pub(crate) fn say_age(gap: &AgeGap, origin: AgeOrigin, out: &mut String) -> Result<(), AllocError> {
+pub(crate) fn say_age(gap: &AgeGap, origin: AgeOrigin, page: &mut Page) {
     let due = u64::from(gap.due);
-    push_number("age: due ", due, "", out)?;
-    push_sum(gap.parts, origin, out)?;
+    page.number("age: due ", due, "");
+    push_sum(gap.parts, origin, page);
     let is_number = matches!(&gap.told, AgeTold::Seconds(_));
     if is_number {
-        push_slack(gap.slack, out)?;
+        push_slack(gap.slack, page);
     }
-    out.push_str(", the reply has ")?;
-    push_told(&gap.told, out)?;
+    page.text(", the reply has ");
+    push_told(&gap.told, page);
     if is_number {
-        push_by_arrival(due, gap.parts, out)?;
+        push_by_arrival(due, gap.parts, page);
     }
     match origin.aged {
-        Some(aged) => push_former_age(aged, gap.parts.times.age_value, out),
-        None => Ok(()),
+        Some(aged) => push_former_age(aged, gap.parts.times.age_value, page),
+        None => {}
     }
 }
 
 /// Writes the seconds for which a reply is due to say that it is fresh still, and those that it says.
-pub(crate) fn say_ttl(gap: TtlGap, out: &mut String) -> Result<(), AllocError> {
-    let due = gap.due();
-    let lifetime = gap.lifetime;
-    let age = gap.age;
-    write!(out, "ttl: due {due} = {lifetime} (lifetime) - {age} (age)")?;
-    push_slack(gap.slack, out)?;
-    out.push_str(", the reply has ")?;
+pub(crate) fn say_ttl(gap: TtlGap, page: &mut Page) {
+    page.signed("ttl: due ", gap.due());
+    page.number(" = ", u64::from(gap.lifetime), " (lifetime)");
+    page.number(" - ", u64::from(gap.age), " (age)");
+    push_slack(gap.slack, page);
+    page.text(", the reply has ");
     match gap.told {
-        Some(told) => write!(out, "{told}"),
-        None => out.push_str("none"),
+        Some(told) => page.signed("", told),
+        None => page.text("none"),
     }
 }

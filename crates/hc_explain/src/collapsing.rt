@@ -1,39 +1,38 @@
 //! Why a reply can't have waited for another request's forward (RFC 9211 section 2.6).
 
-use crate::layout::{begin_rule, end_line, push_more, push_number, push_separator};
+use crate::page::Page;
 use crate::shortfalls::say_failing;
 use crate::sources::push_reach;
 use crate::unstored::push_unstorables;
 use hc_history::Reason;
 use hc_past::Unstored;
 use hc_why::{Explanation, Nearest, Reaches};
-use std::alloc::AllocError;
 
 /// Writes what came behind the request.
 fn push_behind(
     explanation: &Explanation,
     unstored: &Unstored,
     nearest: Option<&Nearest>,
-    out: &mut String,
-) -> Result<(), AllocError> {
+    page: &mut Page,
+) {
     if let Some(nearest) = nearest {
-        return say_failing(explanation, nearest, out);
+        return say_failing(explanation, nearest, page);
     }
     let before = "no storable response came after the request at ";
-    push_number(before, explanation.since, "", out)?;
-    push_unstorables(": ", unstored, explanation.unstored.named.as_slice(), out)
+    page.number(before, explanation.since, "");
+    push_unstorables(": ", unstored, explanation.unstored.named.as_slice(), page);
 }
 
 /// Writes how far the responses get that came before the request, if any did.
-fn push_before(earlier: &Reaches, out: &mut String) -> Result<(), AllocError> {
+fn push_before(earlier: &Reaches, page: &mut Page) {
     let mut is_first = true;
     for reach in earlier.named.iter() {
-        push_separator(is_first, "; before it: ", ", ", out)?;
-        push_number("", reach.position, " ", out)?;
-        push_reach(reach.breaks, out)?;
+        page.separator(is_first, "; before it: ", ", ");
+        page.number("", reach.position, " ");
+        push_reach(reach.breaks, page);
         is_first = false;
     }
-    push_more(earlier.more, out)
+    page.more(earlier.more);
 }
 
 /// Writes the line that says why the reply is no collapsed one.
@@ -41,10 +40,10 @@ pub(crate) fn say_collapsing(
     explanation: &Explanation,
     unstored: &Unstored,
     nearest: Option<&Nearest>,
-    out: &mut String,
-) -> Result<(), AllocError> {
-    begin_rule(Reason::NotCollapsible.number(), out)?;
-    push_behind(explanation, unstored, nearest, out)?;
-    push_before(&explanation.before, out)?;
-    end_line(out)
+    page: &mut Page,
+) {
+    page.begin_rule(Reason::NotCollapsible.number());
+    push_behind(explanation, unstored, nearest, page);
+    push_before(&explanation.before, page);
+    page.end_line();
 }

@@ -1,10 +1,8 @@
 //! The fields in which a reply differs from a response.
 
-use crate::layout::{push_more, push_number, push_record, push_separator};
+use crate::page::Page;
 use crate::values::push_values;
 use hc_facts::{Change, Differences, FieldGap, NAMED, RecordName};
-use hc_shown::push_octets;
-use std::alloc::AllocError;
 
 /// What the fields of a stored response come from.
 #[derive(Clone, Copy)]
@@ -19,37 +17,36 @@ pub(crate) struct FieldsOrigin {
 
 /// Writes of which record a value is that is due: of a 304, if it is of one; or that it is the moment at which the response
 /// came, which has no Date.
-fn say_origin(gap: &FieldGap, origin: FieldsOrigin, out: &mut String) -> Result<(), AllocError> {
+fn say_origin(gap: &FieldGap, origin: FieldsOrigin, page: &mut Page) {
     let position = origin.position;
     match origin.validator {
         Some(validator) if gap.is_renewed => {
-            out.push_str(" (of the 304 ")?;
-            push_record(validator, out)?;
-            out.push_str(")")
+            page.text(" (of the 304 ");
+            page.record(validator);
+            page.text(")");
         }
-        _ if origin.is_undated && gap.name.as_slice() == b"date".as_slice() => push_number(
+        _ if origin.is_undated && gap.name.as_slice() == b"date".as_slice() => page.number(
             " (when ",
             position,
             " came, which has no Date)",
-            out,
         ),
-        _ => push_number(" (of ", position, ")", out),
+        _ => page.number(" (of ", position, ")"),
     }
 }
 
 /// Writes what is due of a field, and of which record that is.
-fn say_due(gap: &FieldGap, origin: FieldsOrigin, out: &mut String) -> Result<(), AllocError> {
-    out.push_str(": due ")?;
-    push_values(gap.name.as_slice(), gap.due.as_slice(), out)?;
-    say_origin(gap, origin, out)
+fn say_due(gap: &FieldGap, origin: FieldsOrigin, page: &mut Page) {
+    page.text(": due ");
+    push_values(gap.name.as_slice(), gap.due.as_slice(), page);
+    say_origin(gap, origin, page);
 }
 
 /// Writes a field, what is due of it and what the reply has.
-fn say_gap(gap: &FieldGap, origin: FieldsOrigin, out: &mut String) -> Result<(), AllocError> {
-    push_octets(gap.name.as_slice(), out)?;
-    say_due(gap, origin, out)?;
-    out.push_str(", the reply has ")?;
-    push_values(gap.name.as_slice(), gap.told.as_slice(), out)
+fn say_gap(gap: &FieldGap, origin: FieldsOrigin, page: &mut Page) {
+    page.octets(gap.name.as_slice());
+    say_due(gap, origin, page);
+    page.text(", the reply has ");
+    push_values(gap.name.as_slice(), gap.told.as_slice(), page);
 }
 
 /// Writes those fields with that change behind so many others, as far as they are named, and answers how many are
@@ -59,28 +56,24 @@ fn say_changed(
     change: Change,
     origin: FieldsOrigin,
     before: usize,
-    out: &mut String,
-) -> Result<usize, AllocError> {
+    page: &mut Page,
+) -> usize {
     let mut said = before;
     for gap in found.listed.iter() {
         if gap.change == change && said < NAMED {
-            push_separator(said == 0, "", "; ", out)?;
-            say_gap(gap, origin, out)?;
+            page.separator(said == 0, "", "; ");
+            say_gap(gap, origin, page);
             said += 1;
         }
     }
-    Ok(said)
+    said
 }
 
 /// Writes each, with what is due and what the reply has.
-pub(crate) fn say_differences(
-    found: &Differences,
-    origin: FieldsOrigin,
-    out: &mut String,
-) -> Result<(), AllocError> {
-    let said = say_changed(found, Change::Dropped, origin, 0, out)?;
-    let said = say_changed(found, Change::Changed, origin, said, out)?;
-    let said = say_changed(found, Change::Added, origin, said, out)?;
+pub(crate) fn say_differences(found: &Differences, origin: FieldsOrigin, page: &mut Page) {
+    let said = say_changed(found, Change::Dropped, origin, 0, page);
+    let said = say_changed(found, Change::Changed, origin, said, page);
+    let said = say_changed(found, Change::Added, origin, said, page);
     let unsaid = found.listed.len().saturating_sub(said) as u64;
-    push_more(found.more.saturating_add(unsaid), out)
+    page.more(found.more.saturating_add(unsaid));
 }

@@ -1,103 +1,89 @@
 //! What was due in place of a stored response that may not be given, and what came (RFC 9111 section 4).
 
-use crate::layout::{begin_line, end_line, push_number, push_record, push_sent};
+use crate::page::Page;
 use hc_facts::{Newest, RecordName};
 use hc_past::Source;
 use hc_why::{Explanation, Invalidator, Nearest, OriginError, Shortfall};
-use std::alloc::AllocError;
 
 /// What a reply has that isn't from the store.
 const ANSWER: &str = "an answer of the origin to this request";
 
 /// Writes what came in place of an answer to a forward of the request: the answer to another forward, if it is known that the
 /// reply gives this.
-fn push_other_answer(given: Option<&Source>, out: &mut String) -> Result<(), AllocError> {
+fn push_other_answer(given: Option<&Source>, page: &mut Page) {
     let Some(source) = given else {
-        return Ok(());
+        return;
     };
-    out.push_str("; came ")?;
-    push_record(source.record, out)?;
-    push_sent(source.sent, out)
+    page.text("; came ");
+    page.record(source.record);
+    page.sent(source.sent);
 }
 
 /// Writes the line of the answer that was due where nothing is stored.
-pub(crate) fn say_answer(given: Option<&Source>, out: &mut String) -> Result<(), AllocError> {
-    begin_line("due", "", out)?;
-    out.push_str(ANSWER)?;
-    push_other_answer(given, out)?;
-    end_line(out)
+pub(crate) fn say_answer(given: Option<&Source>, page: &mut Page) {
+    page.begin("due");
+    page.text(ANSWER);
+    push_other_answer(given, page);
+    page.end_line();
 }
 
 /// Writes the same where a stored response isn't selected, and that a 304 which isn't about it is no such answer.
-fn say_due_unselected(
-    nearest: &Nearest,
-    given: Option<&Source>,
-    out: &mut String,
-) -> Result<(), AllocError> {
-    begin_line("due", "", out)?;
-    out.push_str(ANSWER)?;
+fn say_due_unselected(nearest: &Nearest, given: Option<&Source>, page: &mut Page) {
+    page.begin("due");
+    page.text(ANSWER);
     if !nearest.not_about.is_empty() {
-        out.push_str(" that is no 304")?;
+        page.text(" that is no 304");
     }
-    push_other_answer(given, out)?;
-    end_line(out)
+    push_other_answer(given, page);
+    page.end_line();
 }
 
 /// Writes the response that a reply gives, if it is known that it does.
-fn push_came(given: Option<&Source>, out: &mut String) -> Result<(), AllocError> {
+fn push_came(given: Option<&Source>, page: &mut Page) {
     let Some(source) = given else {
-        return Ok(());
+        return;
     };
-    out.push_str("; came ")?;
-    push_record(source.record, out)?;
-    out.push_str(" as it was stored")
+    page.text("; came ");
+    page.record(source.record);
+    page.text(" as it was stored");
 }
 
 /// Writes that the response would do, too, once a 304 has validated it.
-fn push_or_validation(nearest: &Nearest, out: &mut String) -> Result<(), AllocError> {
-    push_number(
-        ", or ",
-        nearest.position,
-        " once a 304 has validated it",
-        out,
-    )
+fn push_or_validation(nearest: &Nearest, page: &mut Page) {
+    page.number(", or ", nearest.position, " once a 304 has validated it");
 }
 
 /// Writes what was due behind what invalidated the response.
-fn push_due_behind(
-    nearest: &Nearest,
-    by: &Newest<Invalidator>,
-    out: &mut String,
-) -> Result<(), AllocError> {
-    out.push_str(ANSWER)?;
-    push_or_validation(nearest, out)?;
+fn push_due_behind(nearest: &Nearest, by: &Newest<Invalidator>, page: &mut Page) {
+    page.text(ANSWER);
+    push_or_validation(nearest, page);
     match by.last() {
-        Some(invalidator) => push_number(" after ", invalidator.record.position, "", out),
-        None => Ok(()),
+        Some(invalidator) => page.number(" after ", invalidator.record.position, ""),
+        None => {}
     }
 }
 
 /// Writes the error of the origin that was due.
-fn push_due_error(error: OriginError, out: &mut String) -> Result<(), AllocError> {
-    out.push_str("the error ")?;
-    push_record(error.record, out)?;
-    push_number(", a ", u64::from(error.status.as_u16()), "", out)
+fn push_due_error(error: OriginError, page: &mut Page) {
+    page.text("the error ");
+    page.record(error.record);
+    page.number(", a ", u64::from(error.status.as_u16()), "");
 }
 
 /// Writes the error of the cache's own that was due behind a failure (RFC 9111 section 5.2.2.2).
-fn push_due_behind_failure(failure: RecordName, out: &mut String) -> Result<(), AllocError> {
-    out.push_str("an error of the cache's own, as 504, since the forward failed: ")?;
-    push_record(failure, out)
+fn push_due_behind_failure(failure: RecordName, page: &mut Page) {
+    page.text("an error of the cache's own, as 504, since the forward failed: ");
+    page.record(failure);
 }
 
 /// Writes what was due in place of a response that may not be used.
-fn push_due_unused(nearest: &Nearest, out: &mut String) -> Result<(), AllocError> {
+fn push_due_unused(nearest: &Nearest, page: &mut Page) {
     match (nearest.error, nearest.failure) {
-        (Some(error), _) => push_due_error(error, out),
-        (None, Some(failure)) => push_due_behind_failure(failure, out),
+        (Some(error), _) => push_due_error(error, page),
+        (None, Some(failure)) => push_due_behind_failure(failure, page),
         (None, None) => {
-            out.push_str(ANSWER)?;
-            push_or_validation(nearest, out)
+            page.text(ANSWER);
+            push_or_validation(nearest, page);
         }
     }
 }
@@ -107,20 +93,23 @@ pub(crate) fn say_due(
     explanation: &Explanation,
     nearest: &Nearest,
     shortfall: &Shortfall,
-    out: &mut String,
-) -> Result<(), AllocError> {
+    page: &mut Page,
+) {
     let source = explanation.source(nearest.position);
-    let given = source.filter(|source| source.is_given);
+    let given = match source {
+        Some(source) if source.is_given => Some(source),
+        _ => None,
+    };
     match shortfall {
-        Shortfall::Selected(_) => return say_due_unselected(nearest, given, out),
+        Shortfall::Selected(_) => return say_due_unselected(nearest, given, page),
         Shortfall::Valid(_) | Shortfall::Lifetime(_) | Shortfall::Use(_) => {}
-        _ => return Ok(()),
+        _ => return,
     }
-    begin_line("due", "", out)?;
+    page.begin("due");
     match shortfall {
-        Shortfall::Valid(by) => push_due_behind(nearest, by, out)?,
-        _ => push_due_unused(nearest, out)?,
+        Shortfall::Valid(by) => push_due_behind(nearest, by, page),
+        _ => push_due_unused(nearest, page),
     }
-    push_came(given, out)?;
-    end_line(out)
+    push_came(given, page);
+    page.end_line();
 }

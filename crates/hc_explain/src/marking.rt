@@ -1,20 +1,18 @@
 //! What the mark of a reply says.
 
-use crate::layout::{begin_rule, end_line};
+use crate::page::Page;
 use hc_facts::AskedReply;
 use hc_history::Reason;
-use hc_shown::push_value;
 use hc_why::{Explanation, NoMark, Way};
-use std::alloc::AllocError;
 
 /// Writes the Cache-Status of the reply.
-pub(crate) fn push_cache_status(reply: &AskedReply, out: &mut String) -> Result<(), AllocError> {
+pub(crate) fn push_cache_status(reply: &AskedReply, page: &mut Page) {
     match &reply.cache_status {
         Some(value) => {
-            out.push_str("Cache-Status ")?;
-            push_value(b"cache-status", value.as_slice(), out)
+            page.text("Cache-Status ");
+            page.value(b"cache-status", value.as_slice());
         }
-        None => out.push_str("no Cache-Status"),
+        None => page.text("no Cache-Status"),
     }
 }
 
@@ -28,16 +26,16 @@ fn by_mark(reply: &AskedReply) -> &'static str {
 }
 
 /// Writes as what a reply is judged, and by which mark.
-pub(crate) fn push_mark(explanation: &Explanation, out: &mut String) -> Result<(), AllocError> {
+pub(crate) fn push_mark(explanation: &Explanation, page: &mut Page) {
     let judged = match explanation.way {
         Way::Hit => "a hit",
         Way::Forwarded => "forwarded",
         Way::Collapsed => "collapsed",
-        Way::Unmarked => return push_cache_status(&explanation.reply, out),
+        Way::Unmarked => return push_cache_status(&explanation.reply, page),
     };
-    out.push_str(judged)?;
-    out.push_str(by_mark(&explanation.reply))?;
-    push_cache_status(&explanation.reply, out)
+    page.text(judged);
+    page.text(by_mark(&explanation.reply));
+    push_cache_status(&explanation.reply, page);
 }
 
 /// What a mark comes to that says nothing of the reply.
@@ -50,23 +48,19 @@ fn of_unmarked(mark: NoMark) -> &'static str {
 }
 
 /// Writes the line on a reply that counts as one without a mark.
-pub(crate) fn say_unmarked(
-    reply: &AskedReply,
-    mark: NoMark,
-    out: &mut String,
-) -> Result<(), AllocError> {
-    begin_rule(Reason::Unmarked.number(), out)?;
-    push_cache_status(reply, out)?;
-    out.push_str(of_unmarked(mark))?;
-    end_line(out)
+pub(crate) fn say_unmarked(reply: &AskedReply, mark: NoMark, page: &mut Page) {
+    page.begin_rule(Reason::Unmarked.number());
+    push_cache_status(reply, page);
+    page.text(of_unmarked(mark));
+    page.end_line();
 }
 
 /// Writes the line on a mark that says two things.
-pub(crate) fn say_both(reply: &AskedReply, out: &mut String) -> Result<(), AllocError> {
-    begin_rule(Reason::BothMarks.number(), out)?;
-    push_cache_status(reply, out)?;
-    out.push_str(" says both hit and fwd")?;
-    end_line(out)
+pub(crate) fn say_both(reply: &AskedReply, page: &mut Page) {
+    page.begin_rule(Reason::BothMarks.number());
+    push_cache_status(reply, page);
+    page.text(" says both hit and fwd");
+    page.end_line();
 }
 
 /// The word for the way of a right reply.

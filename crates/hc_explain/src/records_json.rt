@@ -1,170 +1,103 @@
 //! Records as JSON.
 
 use crate::facts_json::put_bodies;
-use crate::layout::letter;
-use crate::objects::{Told, octets_json, put_object, value_json};
-use hc_facts::{Against, RecordName, Rule, ValidatorGap};
-use hc_head::{Method, StatusCode};
-use hc_json::{put_made, put_number, put_numbers, put_some, put_text};
+use crate::objects::{Members, Told};
+use crate::page::letter;
+use hc_facts::{Against, RecordName, ValidatorGap};
 use hc_past::{Apart, NearAnswer, Source, StatedLifetime, Unstorable, WindowEnd};
 use hc_transcript::ToldCause;
 use hc_why::{Invalidator, NotAbout, Reach, Validator};
-use serde_json::{Map, Value, put};
-use std::alloc::{AllocError, Global};
-
-/// Adds a status.
-pub(crate) fn put_status(
-    alloc: Global,
-    name: &str,
-    status: StatusCode,
-    members: &mut Map<String, Value>,
-) -> Result<(), AllocError> {
-    put_number(alloc, name, u64::from(status.as_u16()), members)
-}
-
-/// Adds the name of the rule that is broken, or null.
-pub(crate) fn put_broken(
-    alloc: Global,
-    rule: Option<Rule>,
-    members: &mut Map<String, Value>,
-) -> Result<(), AllocError> {
-    match rule {
-        Some(rule) => put_text(alloc, "breaks", rule.reason().name(), members),
-        None => put(members, alloc, "breaks", Value::Null),
-    }
-}
-
-/// Adds a method.
-fn put_method(
-    alloc: Global,
-    method: &Method,
-    members: &mut Map<String, Value>,
-) -> Result<(), AllocError> {
-    let method = octets_json(alloc, method.as_slice());
-    put_made(alloc, "method", method, members)
-}
 
 impl Told for RecordName {
-    fn put(&self, alloc: Global, members: &mut Map<String, Value>) -> Result<(), AllocError> {
+    fn put(&self, members: &mut Members) {
         let numbers = [
             ("position", self.position),
             ("number", self.number),
             ("moment", self.moment),
         ];
-        put_numbers(alloc, &numbers, members)?;
-        put_text(alloc, "kind", letter(self.kind), members)
-    }
-}
-
-/// Adds a record, if it is known.
-fn put_some_record(
-    alloc: Global,
-    name: &str,
-    record: Option<RecordName>,
-    members: &mut Map<String, Value>,
-) -> Result<(), AllocError> {
-    match record {
-        Some(record) => put_object(alloc, name, &record, members),
-        None => Ok(()),
+        members.numbers(&numbers);
+        members.text("kind", letter(self.kind));
     }
 }
 
 impl Told for Reach {
-    fn put(&self, alloc: Global, members: &mut Map<String, Value>) -> Result<(), AllocError> {
-        put_number(alloc, "position", self.position, members)?;
-        put_broken(alloc, self.breaks, members)
+    fn put(&self, members: &mut Members) {
+        members.number("position", self.position);
+        members.broken(self.breaks);
     }
 }
 
 impl Told for Source {
-    fn put(&self, alloc: Global, members: &mut Map<String, Value>) -> Result<(), AllocError> {
-        self.record.put(alloc, members)?;
-        put_some_record(alloc, "forward", self.sent, members)?;
-        put_method(alloc, &self.method, members)?;
-        put_status(alloc, "status", self.status, members)?;
-        put(members, alloc, "given", Value::from(self.is_given))?;
-        put(members, alloc, "dated", Value::from(self.is_dated))?;
-        let age = value_json(alloc, b"age", self.age.as_ref());
-        put_made(alloc, "age", age, members)?;
+    fn put(&self, members: &mut Members) {
+        self.record.put(members);
+        members.some_object("forward", self.sent.as_ref());
+        members.octets("method", self.method.as_slice());
+        members.status("status", self.status);
+        members.flag("given", self.is_given);
+        members.flag("dated", self.is_dated);
+        members.value("age", b"age", self.age.as_ref());
         let (name, value) = match &self.lifetime {
             StatedLifetime::CacheControl(value) => ("cache-control", value),
             StatedLifetime::Expires(value) => ("expires", value),
-            StatedLifetime::Nothing => return Ok(()),
+            StatedLifetime::Nothing => return,
         };
-        let value = value_json(alloc, name.as_bytes(), Some(value));
-        put_made(alloc, name, value, members)
+        members.value(name, name.as_bytes(), Some(value));
     }
 }
 
 impl Told for Validator {
-    fn put(&self, alloc: Global, members: &mut Map<String, Value>) -> Result<(), AllocError> {
-        self.record.put(alloc, members)?;
-        put_some_record(alloc, "forward", self.sent, members)
-    }
-}
-
-/// Adds the 304 that freshened a response, if it is known.
-pub(crate) fn put_validator(
-    alloc: Global,
-    validator: Option<&Validator>,
-    members: &mut Map<String, Value>,
-) -> Result<(), AllocError> {
-    match validator {
-        Some(validator) => put_object(alloc, "validator", validator, members),
-        None => Ok(()),
+    fn put(&self, members: &mut Members) {
+        self.record.put(members);
+        members.some_object("forward", self.sent.as_ref());
     }
 }
 
 impl Told for Invalidator {
-    fn put(&self, alloc: Global, members: &mut Map<String, Value>) -> Result<(), AllocError> {
-        self.record.put(alloc, members)?;
-        put_some_record(alloc, "forward", self.sent, members)?;
-        put_status(alloc, "status", self.status, members)?;
-        put_method(alloc, &self.method, members)
+    fn put(&self, members: &mut Members) {
+        self.record.put(members);
+        members.some_object("forward", self.sent.as_ref());
+        members.status("status", self.status);
+        members.octets("method", self.method.as_slice());
     }
 }
 
 impl Told for Unstorable {
-    fn put(&self, alloc: Global, members: &mut Map<String, Value>) -> Result<(), AllocError> {
-        self.record.put(alloc, members)?;
-        put_status(alloc, "status", self.status, members)?;
-        let mut words = String::new(alloc);
-        self.forbids.say(&mut words)?;
-        put_text(alloc, "forbidden", words.as_str(), members)
+    fn put(&self, members: &mut Members) {
+        self.record.put(members);
+        members.status("status", self.status);
+        let mut words = members.empty();
+        let said = self.forbids.say(&mut words);
+        members.said("forbidden", words.as_str(), said);
     }
 }
 
 impl Told for WindowEnd {
-    fn put(&self, alloc: Global, members: &mut Map<String, Value>) -> Result<(), AllocError> {
-        self.record.put(alloc, members)?;
-        put_some(alloc, "cause", cause_of(self.cause), members)?;
-        put_text(alloc, "apart", apart_name(&self.apart), members)?;
-        match self.apart {
-            Apart::Body(gap) => put_bodies(alloc, gap, members),
-            _ => Ok(()),
+    fn put(&self, members: &mut Members) {
+        self.record.put(members);
+        members.some("cause", cause_of(self.cause));
+        members.text("apart", apart_name(&self.apart));
+        if let Apart::Body(gap) = self.apart {
+            put_bodies(gap, members);
         }
     }
 }
 
 impl Told for NotAbout {
-    fn put(&self, alloc: Global, members: &mut Map<String, Value>) -> Result<(), AllocError> {
-        self.record.put(alloc, members)?;
-        put_some_record(alloc, "forward", self.sent, members)?;
-        put_text(alloc, "against", self.against.name(), members)?;
-        match &self.against {
-            Against::Validators(gap) => gap.put(alloc, members),
-            _ => Ok(()),
+    fn put(&self, members: &mut Members) {
+        self.record.put(members);
+        members.some_object("forward", self.sent.as_ref());
+        members.text("against", self.against.name());
+        if let Against::Validators(gap) = &self.against {
+            gap.put(members);
         }
     }
 }
 
 impl Told for ValidatorGap {
-    fn put(&self, alloc: Global, members: &mut Map<String, Value>) -> Result<(), AllocError> {
+    fn put(&self, members: &mut Members) {
         let (name, _, validator) = self.telling.names();
-        let told = value_json(alloc, name.as_bytes(), self.told.as_ref());
-        put_made(alloc, "told", told, members)?;
-        let due = value_json(alloc, validator.as_bytes(), self.due.as_ref());
-        put_made(alloc, "due", due, members)
+        members.value("told", name.as_bytes(), self.told.as_ref());
+        members.value("due", validator.as_bytes(), self.due.as_ref());
     }
 }
 
@@ -191,9 +124,8 @@ fn apart_name(apart: &Apart) -> &'static str {
 }
 
 impl Told for NearAnswer {
-    fn put(&self, alloc: Global, members: &mut Map<String, Value>) -> Result<(), AllocError> {
-        self.record.put(alloc, members)?;
-        let host = octets_json(alloc, self.host.as_slice());
-        put_made(alloc, "host", host, members)
+    fn put(&self, members: &mut Members) {
+        self.record.put(members);
+        members.octets("host", self.host.as_slice());
     }
 }

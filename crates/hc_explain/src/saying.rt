@@ -4,8 +4,8 @@ use crate::collapsing::say_collapsing;
 use crate::dues::say_answer;
 use crate::freshness::say_stale;
 use crate::heading::say_reply;
-use crate::layout::{begin_line, begin_rule, end_line};
 use crate::marking::{say_both, say_unmarked};
+use crate::page::Page;
 use crate::shortfalls::{end_shortfall, say_failing, say_rule};
 use crate::sources::{say_carried, say_nearest, say_sources};
 use crate::unstored::say_unstored;
@@ -15,200 +15,179 @@ use hc_history::{Finding, Reason};
 use hc_past::{Source, Unstored, Window};
 use hc_why::{Explanation, Ground, Nearest, Way, Why};
 use std::alloc::{AllocError, Global};
-use std::fmt::Write;
 
 /// Writes the line of what a reply carries that went forward by itself.
-fn say_forwarded(
-    alloc: Global,
-    explanation: &Explanation,
-    out: &mut String,
-) -> Result<(), AllocError> {
+fn say_forwarded(explanation: &Explanation, page: &mut Page) {
     match &explanation.carried {
-        Some(source) => say_carried(alloc, source, out),
-        None => say_nearest(alloc, explanation, out),
+        Some(source) => say_carried(source, page),
+        None => say_nearest(explanation, page),
     }
 }
 
 /// Writes the line of what a right reply carries.
-fn say_right(alloc: Global, explanation: &Explanation, out: &mut String) -> Result<(), AllocError> {
+fn say_right(explanation: &Explanation, page: &mut Page) {
     match explanation.way {
-        Way::Hit | Way::Collapsed => say_nearest(alloc, explanation, out),
-        Way::Forwarded => say_forwarded(alloc, explanation, out),
-        Way::Unmarked => Ok(()),
+        Way::Hit | Way::Collapsed => say_nearest(explanation, page),
+        Way::Forwarded => say_forwarded(explanation, page),
+        Way::Unmarked => {}
     }
 }
 
 /// Writes the lines on a reply for which nothing is stored: of the response that it gives, if one is recorded, of why that
 /// may not be stored, and of what was due.
-fn say_no_response(
-    alloc: Global,
-    explanation: &Explanation,
-    unstored: &Unstored,
-    out: &mut String,
-) -> Result<(), AllocError> {
+fn say_no_response(explanation: &Explanation, unstored: &Unstored, page: &mut Page) {
     let sources = explanation.unstored.named.as_slice();
     let given = latest_given(sources);
     if let Some(source) = given {
-        say_carried(alloc, source, out)?;
+        say_carried(source, page);
     }
-    begin_rule(Reason::NoResponse.number(), out)?;
-    say_unstored(unstored, sources, out)?;
-    end_line(out)?;
+    page.begin_rule(Reason::NoResponse.number());
+    say_unstored(unstored, sources, page);
+    page.end_line();
     if unstored.is_unrecorded() {
-        return Ok(());
+        return;
     }
-    say_answer(given, out)
+    say_answer(given, page);
 }
 
 /// The latest of those responses of which the reply has the status and the body, if there is one.
 fn latest_given(sources: &[Source]) -> Option<&Source> {
-    sources.iter().rev().find(|source| source.is_given)
+    for source in sources.iter().rev() {
+        if source.is_given {
+            return Some(source);
+        }
+    }
+    None
 }
 
 /// Writes the lines of what came between request and reply, of the stored response that is named, if one is, and of
 /// the rule that it breaks.
 fn say_not_forwarded(
-    alloc: Global,
     explanation: &Explanation,
     window: &Window,
     nearest: Option<&Nearest>,
-    out: &mut String,
-) -> Result<(), AllocError> {
-    say_window(alloc, explanation, window, nearest, out)?;
+    page: &mut Page,
+) {
+    say_window(explanation, window, nearest, page);
     let Some(nearest) = nearest else {
-        return Ok(());
+        return;
     };
-    say_nearest(alloc, explanation, out)?;
+    say_nearest(explanation, page);
     if explanation.stands_for(nearest) {
-        say_forwarding(explanation, nearest, out)
+        say_forwarding(explanation, nearest, page)
     } else {
-        say_stored(explanation, nearest, out)
+        say_stored(explanation, nearest, page);
     }
 }
 
 /// Writes the line on a reply that went forward and is to be a stored response, or gives it: which rule a hit would break
 /// so, and in what it falls short of that response; and the line of what was due.
-fn say_forwarding(
-    explanation: &Explanation,
-    nearest: &Nearest,
-    out: &mut String,
-) -> Result<(), AllocError> {
-    begin_rule(Reason::NotForwarded.number(), out)?;
+fn say_forwarding(explanation: &Explanation, nearest: &Nearest, page: &mut Page) {
+    page.begin_rule(Reason::NotForwarded.number());
     let Some(shortfall) = &nearest.shortfall else {
-        push_standing(explanation, nearest, out)?;
-        return end_line(out);
+        push_standing(explanation, nearest, page);
+        return page.end_line();
     };
-    let reason = shortfall.rule().reason();
-    let number = reason.number();
-    let name = reason.name();
-    write!(out, "NotForwarded stands here for {number} {name}: ")?;
-    push_standing(explanation, nearest, out)?;
-    out.push_str(": ")?;
-    end_shortfall(explanation, nearest, shortfall, out)
+    page.text("NotForwarded stands here for ");
+    page.reason(shortfall.rule().reason());
+    page.text(": ");
+    push_standing(explanation, nearest, page);
+    page.text(": ");
+    end_shortfall(explanation, nearest, shortfall, page);
 }
 
 /// Writes which stored response such a reply is to be, or gives.
-fn push_standing(
-    explanation: &Explanation,
-    nearest: &Nearest,
-    out: &mut String,
-) -> Result<(), AllocError> {
-    let position = nearest.position;
+fn push_standing(explanation: &Explanation, nearest: &Nearest, page: &mut Page) {
     match nearest.validated_at {
-        Some(validated) if explanation.was_validated(nearest) => write!(
-            out,
-            "it went forward, as it says, and the origin answered by the 304 {validated}, so due is {position} with the fields of {validated}"
-        ),
-        _ => write!(
-            out,
-            "it says that it went forward, and gives {position}, which is stored, and nothing that came between request and reply"
+        Some(validated) if explanation.was_validated(nearest) => {
+            page.text("it went forward, as it says, and the origin answered ");
+            page.number("by the 304 ", validated, ", so due is ");
+            page.number("", nearest.position, " with the fields of ");
+            page.number("", validated, "");
+        }
+        _ => page.number(
+            "it says that it went forward, and gives ",
+            nearest.position,
+            ", which is stored, and nothing that came between request and reply",
         ),
     }
 }
 
 /// Writes the line of what is stored, which a reply that went forward need not be, and of the rule that it breaks.
-fn say_stored(
-    explanation: &Explanation,
-    nearest: &Nearest,
-    out: &mut String,
-) -> Result<(), AllocError> {
-    begin_line("stored", "", out)?;
-    say_failing(explanation, nearest, out)?;
-    end_line(out)
+fn say_stored(explanation: &Explanation, nearest: &Nearest, page: &mut Page) {
+    page.begin("stored");
+    say_failing(explanation, nearest, page);
+    page.end_line();
 }
 
 /// Writes the line of what a reply doesn't keep that is wrong for that reason, behind the sections that ask it.
-fn say_broken(
-    explanation: &Explanation,
-    reason: Reason,
-    out: &mut String,
-) -> Result<(), AllocError> {
-    begin_line("broken", "", out)?;
+fn say_broken(explanation: &Explanation, reason: Reason, page: &mut Page) {
+    page.begin("broken");
     let Demand { words, sections } = explanation.demand(reason);
-    write!(out, "{sections}: {words}\n")
+    page.text(sections);
+    page.text(": ");
+    page.text(words);
+    page.end_line();
 }
 
 /// Writes the line of an answer of its own window that a wrong hit carries, if there is one.
-fn say_marked(explanation: &Explanation, out: &mut String) -> Result<(), AllocError> {
+fn say_marked(explanation: &Explanation, page: &mut Page) {
     match &explanation.carried {
-        Some(source) if explanation.way == Way::Hit => say_own(source.record, out),
-        _ => Ok(()),
+        Some(source) if explanation.way == Way::Hit => say_own(source.record, page),
+        _ => {}
     }
 }
 
 /// Writes the lines of the responses, and that of the rule that the one that is named breaks.
-fn say_response(
-    alloc: Global,
-    explanation: &Explanation,
-    nearest: &Nearest,
-    out: &mut String,
-) -> Result<(), AllocError> {
-    say_validated(alloc, explanation, nearest, out)?;
-    say_sources(alloc, explanation, out)?;
-    say_rule(explanation, nearest, out)
+fn say_response(explanation: &Explanation, nearest: &Nearest, page: &mut Page) {
+    say_validated(explanation, nearest, page);
+    say_sources(explanation, page);
+    say_rule(explanation, nearest, page);
 }
 
 /// Writes the lines that say why a reply is wrong.
-fn say_wrong(
-    alloc: Global,
-    explanation: &Explanation,
-    why: &Why,
-    out: &mut String,
-) -> Result<(), AllocError> {
+fn say_wrong(explanation: &Explanation, why: &Why, page: &mut Page) {
     match why {
-        Why::NoResponse(unstored) => say_no_response(alloc, explanation, unstored, out)?,
-        Why::Response(nearest) => say_response(alloc, explanation, nearest, out)?,
+        Why::NoResponse(unstored) => say_no_response(explanation, unstored, page),
+        Why::Response(nearest) => say_response(explanation, nearest, page),
         Why::NotForwarded(window, nearest) => {
-            say_not_forwarded(alloc, explanation, window, nearest.as_ref(), out)?
+            say_not_forwarded(explanation, window, nearest.as_ref(), page);
         }
-        Why::Unmarked(mark) => say_unmarked(&explanation.reply, *mark, out)?,
-        Why::BothMarks => say_both(&explanation.reply, out)?,
+        Why::Unmarked(mark) => say_unmarked(&explanation.reply, *mark, page),
+        Why::BothMarks => say_both(&explanation.reply, page),
         Why::NotCollapsible(unstored, nearest) => {
-            say_sources(alloc, explanation, out)?;
-            say_collapsing(explanation, unstored, nearest.as_ref(), out)?
+            say_sources(explanation, page);
+            say_collapsing(explanation, unstored, nearest.as_ref(), page);
         }
         Why::Unasked => {}
     }
-    say_marked(explanation, out)
+    say_marked(explanation, page);
 }
 
 /// Writes the line of what permits to give the response that is named, where it is stale.
-fn say_permitted(explanation: &Explanation, out: &mut String) -> Result<(), AllocError> {
+fn say_permitted(explanation: &Explanation, page: &mut Page) {
     match (&explanation.stale, explanation.nearest()) {
-        (Some(stale), Some(nearest)) => say_stale(stale, explanation, nearest, out),
-        _ => Ok(()),
+        (Some(stale), Some(nearest)) => say_stale(stale, explanation, nearest, page),
+        _ => {}
     }
 }
 
 /// Writes the lines of the explanation behind its head line, each with its end.
 pub fn say(alloc: Global, explanation: &Explanation, out: &mut String) -> Result<(), AllocError> {
+    let mut page = Page::new(alloc);
+    say_all(explanation, &mut page);
+    page.onto(out)
+}
+
+/// The same on a page.
+fn say_all(explanation: &Explanation, page: &mut Page) {
     if let Finding::Wrong(reason) = explanation.finding {
-        say_broken(explanation, reason, out)?;
+        say_broken(explanation, reason, page);
     }
-    say_reply(alloc, explanation, out)?;
+    say_reply(explanation, page);
     match &explanation.ground {
-        Ground::Right(_) => say_right(alloc, explanation, out)?,
-        Ground::Wrong(why) => say_wrong(alloc, explanation, why, out)?,
+        Ground::Right(_) => say_right(explanation, page),
+        Ground::Wrong(why) => say_wrong(explanation, why, page),
     }
-    say_permitted(explanation, out)
+    say_permitted(explanation, page);
 }

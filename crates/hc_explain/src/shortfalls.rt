@@ -5,71 +5,67 @@ use crate::contents::say_contents;
 use crate::differing::{FieldsOrigin, say_differences};
 use crate::dues::say_due;
 use crate::freshness::{say_setting, say_use};
-use crate::layout::{
-    begin_rule, end_line, push_method, push_more, push_number, push_record, push_separator,
-};
+use crate::page::Page;
 use crate::selection::say_selection;
-use crate::sources::push_reach;
+use crate::sources::{push_reach, sent_of};
 use crate::unstored::NO_GET;
 use crate::validations::say_validations;
-use hc_facts::Newest;
+use hc_facts::{Newest, RecordName};
 use hc_why::{Explanation, Invalidator, Nearest, Shortfall};
-use std::alloc::AllocError;
 
 /// Writes a response that invalidated another one.
-fn push_invalidator(invalidator: &Invalidator, out: &mut String) -> Result<(), AllocError> {
-    push_record(invalidator.record, out)?;
-    push_number(", a ", u64::from(invalidator.status.as_u16()), "", out)?;
-    push_method(" to the ", &invalidator.method, " ", out)?;
+fn push_invalidator(invalidator: &Invalidator, page: &mut Page) {
+    page.record(invalidator.record);
+    page.number(", a ", u64::from(invalidator.status.as_u16()), "");
+    page.method(" to the ", &invalidator.method, " ");
     if let Some(sent) = invalidator.sent {
-        push_record(sent, out)?;
-        out.push_str(" ")?;
+        page.record(sent);
+        page.text(" ");
     }
-    out.push_str("of the same target, invalidated it")
+    page.text("of the same target, invalidated it");
 }
 
 /// Writes what invalidated the response.
-fn say_invalidators(by: &Newest<Invalidator>, out: &mut String) -> Result<(), AllocError> {
+fn say_invalidators(by: &Newest<Invalidator>, page: &mut Page) {
     let mut is_first = true;
     for invalidator in by.named.iter() {
-        push_separator(is_first, "", "; ", out)?;
-        push_invalidator(invalidator, out)?;
+        page.separator(is_first, "", "; ");
+        push_invalidator(invalidator, page);
         is_first = false;
     }
-    push_more(by.older, out)
+    page.more(by.older);
+}
+
+/// The record of the 304 that freshened the response last, as far as it was looked for.
+fn validator_of(nearest: &Nearest) -> Option<RecordName> {
+    Some(nearest.validator?.record)
 }
 
 /// What the fields of the response that is named come from.
 fn origin_of(explanation: &Explanation, nearest: &Nearest) -> FieldsOrigin {
     FieldsOrigin {
-        validator: nearest.validator.map(|validator| validator.record),
+        validator: validator_of(nearest),
         position: nearest.position,
         is_undated: explanation.is_undated(nearest),
     }
 }
 
 /// Writes what is due, and what came.
-fn push_gap(
-    explanation: &Explanation,
-    nearest: &Nearest,
-    shortfall: &Shortfall,
-    out: &mut String,
-) -> Result<(), AllocError> {
+fn push_gap(explanation: &Explanation, nearest: &Nearest, shortfall: &Shortfall, page: &mut Page) {
     match shortfall {
-        Shortfall::Asked(method) => push_method("", method, NO_GET, out),
+        Shortfall::Asked(method) => page.method("", method, NO_GET),
         Shortfall::Selected(selection) => {
-            let source = explanation.source(nearest.position);
-            let sent = source.and_then(|source| source.sent);
-            say_selection(selection, nearest, sent, out)
+            let sent = sent_of(explanation.source(nearest.position));
+            say_selection(selection, nearest, sent, page);
         }
-        Shortfall::Valid(by) => say_invalidators(by, out),
+        Shortfall::Valid(by) => say_invalidators(by, page),
         Shortfall::Lifetime(usage) | Shortfall::Use(usage) => {
-            say_use(usage, explanation, nearest, out)
+            say_use(usage, explanation, nearest, page);
         }
-        Shortfall::Body(gap) => say_contents(gap, out),
-        Shortfall::Fields(found) => say_differences(found, origin_of(explanation, nearest), out),
-        Shortfall::Age(gap) => say_age(gap, AgeOrigin::of(explanation, nearest), out),
-        Shortfall::Ttl(gap) => say_ttl(*gap, out),
+        Shortfall::Body(gap) => say_contents(gap, page),
+        Shortfall::Fields(found) => say_differences(found, origin_of(explanation, nearest), page),
+        Shortfall::Age(gap) => say_age(gap, AgeOrigin::of(explanation, nearest), page),
+        Shortfall::Ttl(gap) => say_ttl(*gap, page),
     }
 }
 
@@ -78,15 +74,15 @@ fn push_shortfall(
     explanation: &Explanation,
     nearest: &Nearest,
     shortfall: &Shortfall,
-    out: &mut String,
-) -> Result<(), AllocError> {
-    push_gap(explanation, nearest, shortfall, out)?;
-    say_validations(explanation, nearest, shortfall, out)?;
+    page: &mut Page,
+) {
+    push_gap(explanation, nearest, shortfall, page);
+    say_validations(explanation, nearest, shortfall, page);
     match shortfall {
         Shortfall::Lifetime(usage) | Shortfall::Use(usage) => {
-            say_setting(usage, explanation.with_setting, out)
+            say_setting(usage, explanation.with_setting, page);
         }
-        _ => Ok(()),
+        _ => {}
     }
 }
 
@@ -95,37 +91,29 @@ pub(crate) fn end_shortfall(
     explanation: &Explanation,
     nearest: &Nearest,
     shortfall: &Shortfall,
-    out: &mut String,
-) -> Result<(), AllocError> {
-    push_shortfall(explanation, nearest, shortfall, out)?;
-    end_line(out)?;
-    say_due(explanation, nearest, shortfall, out)
+    page: &mut Page,
+) {
+    push_shortfall(explanation, nearest, shortfall, page);
+    page.end_line();
+    say_due(explanation, nearest, shortfall, page);
 }
 
 /// Writes which rule the response that is named breaks, and how.
-pub(crate) fn say_failing(
-    explanation: &Explanation,
-    nearest: &Nearest,
-    out: &mut String,
-) -> Result<(), AllocError> {
-    push_number("", nearest.position, " ", out)?;
-    push_reach(nearest.breaks(), out)?;
+pub(crate) fn say_failing(explanation: &Explanation, nearest: &Nearest, page: &mut Page) {
+    page.number("", nearest.position, " ");
+    push_reach(nearest.breaks(), page);
     let Some(shortfall) = &nearest.shortfall else {
-        return Ok(());
+        return;
     };
-    out.push_str(": ")?;
-    push_shortfall(explanation, nearest, shortfall, out)
+    page.text(": ");
+    push_shortfall(explanation, nearest, shortfall, page);
 }
 
 /// Writes the line of the rule that the response that is named breaks, if it breaks one.
-pub(crate) fn say_rule(
-    explanation: &Explanation,
-    nearest: &Nearest,
-    out: &mut String,
-) -> Result<(), AllocError> {
+pub(crate) fn say_rule(explanation: &Explanation, nearest: &Nearest, page: &mut Page) {
     let Some(shortfall) = &nearest.shortfall else {
-        return Ok(());
+        return;
     };
-    begin_rule(shortfall.rule().reason().number(), out)?;
-    end_shortfall(explanation, nearest, shortfall, out)
+    page.begin_rule(shortfall.rule().reason().number());
+    end_shortfall(explanation, nearest, shortfall, page);
 }

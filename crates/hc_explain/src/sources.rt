@@ -1,122 +1,98 @@
 //! The lines of the responses that a reply may carry.
 
-use crate::layout::{begin_line, end_line, push_number, push_record, push_sent};
-use hc_facts::Rule;
+use crate::page::Page;
+use hc_facts::{RecordName, Rule};
 use hc_fields::Octets;
 use hc_past::{Source, StatedLifetime};
-use hc_shown::{push_moment, push_value};
 use hc_why::{Explanation, Nearest, Reach};
-use std::alloc::{AllocError, Global};
-use std::fmt::Write;
 
 /// Writes a field of that name behind a text.
-fn push_field(
-    before: &str,
-    name: &[u8],
-    value: &Octets,
-    out: &mut String,
-) -> Result<(), AllocError> {
-    out.push_str(before)?;
-    push_value(name, value.as_slice(), out)
+fn push_field(before: &str, name: &[u8], value: &Octets, page: &mut Page) {
+    page.text(before);
+    page.value(name, value.as_slice());
 }
 
 /// Writes what a response says of its lifetime.
-pub(crate) fn push_lifetime(lifetime: &StatedLifetime, out: &mut String) -> Result<(), AllocError> {
+pub(crate) fn push_lifetime(lifetime: &StatedLifetime, page: &mut Page) {
     match lifetime {
         StatedLifetime::CacheControl(value) => push_field(
             ", Cache-Control ",
             b"cache-control",
             value,
-            out,
+            page,
         ),
-        StatedLifetime::Expires(value) => push_field(", Expires ", b"expires", value, out),
-        StatedLifetime::Nothing => out.push_str(", neither Cache-Control nor Expires"),
+        StatedLifetime::Expires(value) => push_field(", Expires ", b"expires", value, page),
+        StatedLifetime::Nothing => page.text(", neither Cache-Control nor Expires"),
     }
 }
 
 /// Writes when a response came, its status, and what it says of its lifetime and of its age.
-fn push_source(source: &Source, out: &mut String) -> Result<(), AllocError> {
-    push_moment(source.record.moment, out)?;
-    push_number("  ", u64::from(source.status.as_u16()), "", out)?;
-    push_lifetime(&source.lifetime, out)?;
+fn push_source(source: &Source, page: &mut Page) {
+    page.moment(source.record.moment);
+    page.number("  ", u64::from(source.status.as_u16()), "");
+    push_lifetime(&source.lifetime, page);
     match &source.age {
-        Some(age) => push_field(", Age ", b"age", age, out),
-        None => Ok(()),
+        Some(age) => push_field(", Age ", b"age", age, page),
+        None => {}
     }
 }
 
 /// Writes which rule a response breaks first.
-pub(crate) fn push_reach(breaks: Option<Rule>, out: &mut String) -> Result<(), AllocError> {
+pub(crate) fn push_reach(breaks: Option<Rule>, page: &mut Page) {
     let Some(rule) = breaks else {
-        return out.push_str("passes all");
+        return page.text("passes all");
     };
-    let reason = rule.reason();
-    let number = reason.number();
-    let name = reason.name();
-    write!(out, "fails {number} {name}")
+    page.text("fails ");
+    page.reason(rule.reason());
 }
 
 /// Writes what the records behind it made of the response that is named.
-fn push_changes(nearest: &Nearest, out: &mut String) -> Result<(), AllocError> {
+fn push_changes(nearest: &Nearest, page: &mut Page) {
     if let Some(validator) = nearest.validator {
-        out.push_str(", which the 304 ")?;
-        push_record(validator.record, out)?;
-        push_sent(validator.sent, out)?;
-        out.push_str(if validator.sent.is_some() {
+        page.text(", which the 304 ");
+        page.record(validator.record);
+        page.sent(validator.sent);
+        page.text(if validator.sent.is_some() {
             ", freshens"
         } else {
             " freshens"
-        })?;
+        });
     }
     if let Some(date) = nearest.date {
-        out.push_str(", Date ")?;
-        push_moment(date, out)?;
+        page.text(", Date ");
+        page.moment(date);
     }
-    Ok(())
 }
 
 /// Writes behind which error, and behind which failure of the window the response was given.
-pub(crate) fn push_trouble(nearest: &Nearest, out: &mut String) -> Result<(), AllocError> {
+pub(crate) fn push_trouble(nearest: &Nearest, page: &mut Page) {
     if let Some(error) = nearest.error {
-        out.push_str(", given after the error ")?;
-        push_record(error.record, out)?;
+        page.text(", given after the error ");
+        page.record(error.record);
         let status = u64::from(error.status.as_u16());
-        push_number(", a ", status, ", which validates nothing", out)?;
+        page.number(", a ", status, ", which validates nothing");
     }
     match nearest.failure {
         Some(failure) => {
-            out.push_str(", given after the failure ")?;
-            push_record(failure, out)?;
-            out.push_str(", to which no response came")
+            page.text(", given after the failure ");
+            page.record(failure);
+            page.text(", to which no response came");
         }
-        None => Ok(()),
+        None => {}
     }
-}
-
-/// Begins the line of the stored response at that position, of which this is the record.
-fn begin_from(
-    alloc: Global,
-    position: u64,
-    source: Option<&Source>,
-    out: &mut String,
-) -> Result<(), AllocError> {
-    begin_place(alloc, "from", position, source, out)
 }
 
 /// Begins a line of that word about the response at that position, of which this is the record.
-fn begin_place(
-    alloc: Global,
-    word: &str,
-    position: u64,
-    source: Option<&Source>,
-    out: &mut String,
-) -> Result<(), AllocError> {
-    let mut place = String::new(alloc);
+fn begin_place(word: &str, position: u64, source: Option<&Source>, page: &mut Page) {
     match source {
-        Some(source) => push_record(source.record, &mut place)?,
-        None => push_number("", position, "", &mut place)?,
+        Some(source) => page.begin_record(word, source.record),
+        None => page.begin_position(word, position),
     }
-    begin_line(word, place.as_str(), out)
+}
+
+/// The record of the forward that the response answers of which this is the record, as far as it is known.
+pub(crate) fn sent_of(source: Option<&Source>) -> Option<RecordName> {
+    source?.sent
 }
 
 /// What the response that is named states of its lifetime, where it is as it came.
@@ -132,24 +108,20 @@ pub(crate) fn stated_by<'a>(
 }
 
 /// Writes the line of the response that is named, if one is.
-pub(crate) fn say_nearest(
-    alloc: Global,
-    explanation: &Explanation,
-    out: &mut String,
-) -> Result<(), AllocError> {
+pub(crate) fn say_nearest(explanation: &Explanation, page: &mut Page) {
     let Some(nearest) = explanation.nearest() else {
-        return Ok(());
+        return;
     };
     let source = explanation.source(nearest.position);
-    begin_from(alloc, nearest.position, source, out)?;
+    begin_place("from", nearest.position, source, page);
     if let Some(source) = source {
-        push_source(source, out)?;
+        push_source(source, page);
     }
-    push_changes(nearest, out)?;
+    push_changes(nearest, page);
     if explanation.stale.is_none() {
-        push_trouble(nearest, out)?;
+        push_trouble(nearest, page);
     }
-    end_line(out)
+    page.end_line();
 }
 
 /// What is said of another response, by whether it fails the same rule as the one that is named, or one that is asked before.
@@ -162,50 +134,39 @@ fn judged_beside(breaks: Option<Rule>, nearest: Option<Rule>) -> &'static str {
 }
 
 /// Writes the line of one of the others, where the one that is named breaks that rule.
-fn say_other(
-    alloc: Global,
-    reach: &Reach,
-    nearest: Option<Rule>,
-    source: Option<&Source>,
-    out: &mut String,
-) -> Result<(), AllocError> {
-    begin_place(alloc, "other", reach.position, source, out)?;
-    out.push_str(judged_beside(reach.breaks, nearest))?;
-    push_reach(reach.breaks, out)?;
-    end_line(out)
+fn say_other(reach: &Reach, nearest: Option<Rule>, source: Option<&Source>, page: &mut Page) {
+    begin_place("other", reach.position, source, page);
+    page.text(judged_beside(reach.breaks, nearest));
+    push_reach(reach.breaks, page);
+    page.end_line();
 }
 
 /// Writes how many more there are, if there are any.
-fn say_more(more: u64, out: &mut String) -> Result<(), AllocError> {
+fn say_more(more: u64, page: &mut Page) {
     if more == 0 {
-        return Ok(());
+        return;
     }
-    begin_line("other", "", out)?;
-    push_number("and ", more, " more\n", out)
+    page.begin("other");
+    page.number("and ", more, " more\n");
 }
 
 /// Writes a line for each response that the reply may carry, the one that is named first.
-pub(crate) fn say_sources(
-    alloc: Global,
-    explanation: &Explanation,
-    out: &mut String,
-) -> Result<(), AllocError> {
-    say_nearest(alloc, explanation, out)?;
-    let nearest = explanation.nearest().and_then(|nearest| nearest.breaks());
+pub(crate) fn say_sources(explanation: &Explanation, page: &mut Page) {
+    say_nearest(explanation, page);
+    let nearest = match explanation.nearest() {
+        Some(nearest) => nearest.breaks(),
+        None => None,
+    };
     for reach in explanation.reaches.named.iter().skip(1) {
         let source = explanation.source(reach.position);
-        say_other(alloc, reach, nearest, source, out)?;
+        say_other(reach, nearest, source, page);
     }
-    say_more(explanation.reaches.more, out)
+    say_more(explanation.reaches.more, page);
 }
 
 /// Writes the line of a response of which the reply has the status and the body.
-pub(crate) fn say_carried(
-    alloc: Global,
-    source: &Source,
-    out: &mut String,
-) -> Result<(), AllocError> {
-    begin_from(alloc, source.record.position, Some(source), out)?;
-    push_source(source, out)?;
-    end_line(out)
+pub(crate) fn say_carried(source: &Source, page: &mut Page) {
+    page.begin_record("from", source.record);
+    push_source(source, page);
+    page.end_line();
 }

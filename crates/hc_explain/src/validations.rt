@@ -1,26 +1,23 @@
 //! The 304s that aren't about a response (after RFC 9111 section 4.3.4).
 
-use crate::layout::{push_more, push_record, push_sent};
+use crate::page::Page;
 use hc_facts::Against;
 use hc_why::{Explanation, Nearest, NotAbout, Shortfall};
-use std::alloc::AllocError;
-use std::fmt::Write;
 
 /// Writes a 304 that came then, and why it doesn't validate the response at that position (RFC 9111 section 4.3.4).
-fn push_not_about(
-    not_about: &NotAbout,
-    (when, position): (&str, u64),
-    out: &mut String,
-) -> Result<(), AllocError> {
-    out.push_str("; the 304 ")?;
-    push_record(not_about.record, out)?;
-    push_sent(not_about.sent, out)?;
-    write!(out, ", came {when}, but doesn't validate {position}")?;
+fn push_not_about(not_about: &NotAbout, (when, position): (&str, u64), page: &mut Page) {
+    page.text("; the 304 ");
+    page.record(not_about.record);
+    page.sent(not_about.sent);
+    page.text(", came ");
+    page.text(when);
+    page.number(", but doesn't validate ", position, "");
     match not_about.against {
-        Against::Unselected => out.push_str(": Vary doesn't select its forward either"),
+        Against::Unselected => page.text(": Vary doesn't select its forward either"),
         _ => {
-            out.push_str(" (RFC 9111 section 4.3.4): ")?;
-            not_about.against.say(out)
+            page.text(" (RFC 9111 section 4.3.4): ");
+            let said = not_about.against.say(page.end());
+            page.note(said);
         }
     }
 }
@@ -39,21 +36,22 @@ fn since_when(nearest: &Nearest, since: u64) -> &'static str {
 }
 
 /// Writes each 304 that isn't about the response, and came then.
-fn push_each(when: &str, nearest: &Nearest, out: &mut String) -> Result<(), AllocError> {
+fn push_each(when: &str, nearest: &Nearest, page: &mut Page) {
     for not_about in nearest.not_about.named.iter() {
-        push_not_about(not_about, (when, nearest.position), out)?;
+        push_not_about(not_about, (when, nearest.position), page);
     }
-    push_more(nearest.not_about.older, out)
+    page.more(nearest.not_about.older);
 }
 
 /// Writes that there is no 304 in the window between those positions.
-fn push_none(since: u64, position: u64, out: &mut String) -> Result<(), AllocError> {
+fn push_none(since: u64, position: u64, page: &mut Page) {
     let first = since.saturating_add(1);
     let last = position.saturating_sub(1);
     if first < last {
-        write!(out, "; no 304 in {first}..{last}")
+        page.number("; no 304 in ", first, "..");
+        page.number("", last, "")
     } else {
-        out.push_str("; no 304 after the request")
+        page.text("; no 304 after the request");
     }
 }
 
@@ -62,17 +60,17 @@ pub(crate) fn say_validations(
     explanation: &Explanation,
     nearest: &Nearest,
     shortfall: &Shortfall,
-    out: &mut String,
-) -> Result<(), AllocError> {
+    page: &mut Page,
+) {
     let since = explanation.since;
     if !nearest.not_about.is_empty() {
-        return push_each(since_when(nearest, since), nearest, out);
+        return push_each(since_when(nearest, since), nearest, page);
     }
     match shortfall {
-        Shortfall::Valid(_) => out.push_str("; no 304 since"),
+        Shortfall::Valid(_) => page.text("; no 304 since"),
         Shortfall::Lifetime(_) | Shortfall::Use(_) => {
-            push_none(since, explanation.position, out)
+            push_none(since, explanation.position, page);
         }
-        _ => Ok(()),
+        _ => {}
     }
 }

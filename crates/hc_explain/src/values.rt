@@ -1,47 +1,37 @@
 //! The values of fields.
 
-use crate::layout::{push_number, push_separator};
+use crate::page::Page;
 use hc_fields::Octets;
-use hc_shown::{is_credential, push_value};
-use std::alloc::AllocError;
+use hc_shown::is_credential;
 
 /// Writes the value of a name, or that there is none.
-pub(crate) fn push_some(
-    name: &[u8],
-    value: Option<&Octets>,
-    out: &mut String,
-) -> Result<(), AllocError> {
+pub(crate) fn push_some(name: &[u8], value: Option<&Octets>, page: &mut Page) {
     match value {
-        Some(value) => push_value(name, value.as_slice(), out),
-        None => out.push_str("none"),
+        Some(value) => page.value(name, value.as_slice()),
+        None => page.text("none"),
     }
 }
 
 /// Writes how many values are hidden, before these.
-fn push_hidden(count: usize, out: &mut String) -> Result<(), AllocError> {
+fn push_hidden(count: usize, page: &mut Page) {
     if count == 1 {
-        return out.push_str("1 value, hidden: ");
+        return page.text("1 value, hidden: ");
     }
-    push_number("", count as u64, " values, hidden: ", out)
+    page.number("", count as u64, " values, hidden: ");
 }
 
 /// Writes the values of a name, each by itself, and that they are hidden, if they are, or that there is none.
-pub(crate) fn push_values(
-    name: &[u8],
-    values: &[Octets],
-    out: &mut String,
-) -> Result<(), AllocError> {
+pub(crate) fn push_values(name: &[u8], values: &[Octets], page: &mut Page) {
     if values.is_empty() {
-        return out.push_str("none");
+        return page.text("none");
     }
     if is_credential(name) {
-        push_hidden(values.len(), out)?;
+        push_hidden(values.len(), page);
     }
     let mut is_first = true;
     for value in values {
-        push_separator(is_first, "", ", ", out)?;
-        push_value(name, value.as_slice(), out)?;
+        page.separator(is_first, "", ", ");
+        page.value(name, value.as_slice());
         is_first = false;
     }
-    Ok(())
 }

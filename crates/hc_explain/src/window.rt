@@ -1,187 +1,153 @@
 //! What came between a request and its reply.
 
-use crate::layout::{
-    begin_line, end_line, place_of, push_method, push_more, push_number, push_record,
-    push_separator,
-};
+use crate::page::Page;
 use hc_facts::{BodyGap, RecordName};
 use hc_fields::Octets;
 use hc_head::StatusCode;
 use hc_past::{Apart, NearAnswer, Window, WindowEnd};
-use hc_shown::push_octets;
 use hc_transcript::ToldCause;
 use hc_why::{Explanation, Nearest, Way};
-use std::alloc::{AllocError, Global};
 
 /// Writes for which exchange a forward was made, where that is told.
-fn push_cause(cause: ToldCause, out: &mut String) -> Result<(), AllocError> {
+fn push_cause(cause: ToldCause, page: &mut Page) {
     match cause {
-        ToldCause::Untold => Ok(()),
-        ToldCause::NoExchange => out.push_str(" for no exchange"),
-        ToldCause::Exchange(number) => push_number(" for exchange ", number, "", out),
+        ToldCause::Untold => {}
+        ToldCause::NoExchange => page.text(" for no exchange"),
+        ToldCause::Exchange(number) => page.number(" for exchange ", number, ""),
     }
 }
 
 /// Writes a status.
-fn push_status(status: StatusCode, out: &mut String) -> Result<(), AllocError> {
-    push_number(" is ", u64::from(status.as_u16()), "", out)
+fn push_status(status: StatusCode, page: &mut Page) {
+    page.number(" is ", u64::from(status.as_u16()), "");
 }
 
 /// Writes that a body is another one, and where both first differ.
-fn push_body(gap: Option<BodyGap>, out: &mut String) -> Result<(), AllocError> {
-    out.push_str(" has another body")?;
+fn push_body(gap: Option<BodyGap>, page: &mut Page) {
+    page.text(" has another body");
     let Some(gap) = gap else {
-        return Ok(());
+        return;
     };
-    push_number(" (", gap.due, " octets, the reply's ", out)?;
-    push_number("", gap.told, "", out)?;
+    page.number(" (", gap.due, " octets, the reply's ");
+    page.number("", gap.told, "");
     if gap.agreed != 0 {
-        push_number("; the first ", gap.agreed, " agree", out)?;
+        page.number("; the first ", gap.agreed, " agree");
     }
-    out.push_str(")")
+    page.text(")");
 }
 
 /// Writes in what the end of a forward differs from what the reply carries.
-fn push_apart(apart: &Apart, out: &mut String) -> Result<(), AllocError> {
+fn push_apart(apart: &Apart, page: &mut Page) {
     match apart {
-        Apart::Failure => Ok(()),
+        Apart::Failure => {}
         Apart::Cause(status) | Apart::Status(status) | Apart::Part(status) => {
-            push_status(*status, out)
+            push_status(*status, page);
         }
-        Apart::NotModified => push_status(StatusCode::NOT_MODIFIED, out),
-        Apart::Method(method) => push_method(" answers ", method, "", out),
-        Apart::Body(gap) => push_body(*gap, out),
-        Apart::Nothing => out.push_str(" is carried"),
+        Apart::NotModified => push_status(StatusCode::NOT_MODIFIED, page),
+        Apart::Method(method) => page.method(" answers ", method, ""),
+        Apart::Body(gap) => push_body(*gap, page),
+        Apart::Nothing => page.text(" is carried"),
     }
 }
 
 /// Writes the end of a forward in the window.
-fn push_end(end: &WindowEnd, out: &mut String) -> Result<(), AllocError> {
-    push_record(end.record, out)?;
-    push_cause(end.cause, out)?;
-    push_apart(&end.apart, out)
+fn push_end(end: &WindowEnd, page: &mut Page) {
+    page.record(end.record);
+    push_cause(end.cause, page);
+    push_apart(&end.apart, page);
 }
 
 /// Writes each end of a forward in the window.
-fn push_ends(window: &Window, out: &mut String) -> Result<(), AllocError> {
+fn push_ends(window: &Window, page: &mut Page) {
     let mut is_first = true;
     for end in window.ends.named.iter() {
-        push_separator(is_first, "", ", ", out)?;
-        push_end(end, out)?;
+        page.separator(is_first, "", ", ");
+        push_end(end, page);
         is_first = false;
     }
-    push_more(window.ends.older, out)
+    page.more(window.ends.older);
 }
 
 /// Writes what ended in the window.
-fn push_window(window: &Window, out: &mut String) -> Result<(), AllocError> {
+fn push_window(window: &Window, page: &mut Page) {
     if window.ends.is_empty() {
-        return out.push_str("no forward of the target ended between request and reply");
+        return page.text("no forward of the target ended between request and reply");
     }
-    push_ends(window, out)?;
+    push_ends(window, page);
     if window.has_response {
-        return Ok(());
+        return;
     }
     if window.ends.is_one() {
-        out.push_str(": a failure, no response")
+        page.text(": a failure, no response")
     } else {
-        out.push_str(": failures, no response")
+        page.text(": failures, no response");
     }
-}
-
-/// Begins a line about a record.
-fn begin_record(
-    alloc: Global,
-    word: &str,
-    record: RecordName,
-    out: &mut String,
-) -> Result<(), AllocError> {
-    let mut place = String::new(alloc);
-    push_record(record, &mut place)?;
-    begin_line(word, place.as_str(), out)
 }
 
 /// Writes a host behind a text.
-fn push_host(before: &str, host: &Octets, out: &mut String) -> Result<(), AllocError> {
-    out.push_str(before)?;
-    push_octets(host.as_slice(), out)
+fn push_host(before: &str, host: &Octets, page: &mut Page) {
+    page.text(before);
+    page.octets(host.as_slice());
 }
 
 /// Writes the line of a response of the same path under another host.
-fn say_near(
-    alloc: Global,
-    near: &NearAnswer,
-    host: &Octets,
-    out: &mut String,
-) -> Result<(), AllocError> {
-    begin_record(alloc, "near", near.record, out)?;
+fn say_near(near: &NearAnswer, host: &Octets, page: &mut Page) {
+    page.begin_record("near", near.record);
     let before = "agrees in path, status and body: its host is ";
-    push_host(before, &near.host, out)?;
-    push_host(", asked is ", host, out)?;
-    end_line(out)
+    push_host(before, &near.host, page);
+    push_host(", asked is ", host, page);
+    page.end_line();
 }
 
 /// Begins the line of the window, which lies between request and reply.
-fn begin_window(
-    alloc: Global,
-    explanation: &Explanation,
-    out: &mut String,
-) -> Result<(), AllocError> {
-    let place = place_of(alloc, explanation.since, explanation.position)?;
-    begin_line("window", place.as_str(), out)
+fn begin_window(explanation: &Explanation, page: &mut Page) {
+    page.begin_between("window", explanation.since, explanation.position);
 }
 
 /// Writes the line of the window, and those of what comes near.
 pub(crate) fn say_window(
-    alloc: Global,
     explanation: &Explanation,
     window: &Window,
     nearest: Option<&Nearest>,
-    out: &mut String,
-) -> Result<(), AllocError> {
-    begin_window(alloc, explanation, out)?;
-    push_window(window, out)?;
+    page: &mut Page,
+) {
+    begin_window(explanation, page);
+    push_window(window, page);
     if nearest.is_none() {
-        out.push_str("; stored: nothing")?;
+        page.text("; stored: nothing");
     }
-    end_line(out)?;
+    page.end_line();
     for near in window.near.named.iter() {
-        say_near(alloc, near, &explanation.reply.target.host, out)?;
+        say_near(near, &explanation.reply.target.host, page);
     }
-    Ok(())
 }
 
 /// Writes the line of the 304 behind the request that validated the response which is named, where the reply is judged as
 /// a hit all the same.
-pub(crate) fn say_validated(
-    alloc: Global,
-    explanation: &Explanation,
-    nearest: &Nearest,
-    out: &mut String,
-) -> Result<(), AllocError> {
+pub(crate) fn say_validated(explanation: &Explanation, nearest: &Nearest, page: &mut Page) {
     let Some(validator) = nearest.validator else {
-        return Ok(());
+        return;
     };
     if explanation.way != Way::Hit || !explanation.was_validated(nearest) {
-        return Ok(());
+        return;
     }
-    begin_window(alloc, explanation, out)?;
-    push_record(validator.record, out)?;
+    begin_window(explanation, page);
+    page.record(validator.record);
     let behind = if explanation.reply.is_inferred {
         "; the reply is inferred to be a hit all the same"
     } else {
         "; the reply's mark says a hit all the same, and as that it is judged"
     };
-    push_number(" is 304 and validates ", nearest.position, behind, out)?;
-    end_line(out)
+    page.number(" is 304 and validates ", nearest.position, behind);
+    page.end_line();
 }
 
 /// Writes the line of the answer of its own window that a reply carries which is marked as a hit.
-pub(crate) fn say_own(record: RecordName, out: &mut String) -> Result<(), AllocError> {
-    begin_line("window", "", out)?;
-    push_record(record, out)?;
-    out.push_str(
+pub(crate) fn say_own(record: RecordName, page: &mut Page) {
+    page.begin("window");
+    page.record(record);
+    page.text(
         " is carried: the reply is an answer of its own window, though it is marked as a hit",
-    )?;
-    end_line(out)
+    );
+    page.end_line();
 }

@@ -13,7 +13,7 @@ use hc_update::{Stored, identifies};
 use std::alloc::{AllocError, Global};
 
 /// The field by which a 304 tells which response it is about.
-#[derive(Clone, Copy, PartialEq, Eq)]
+#[derive(Clone, Copy)]
 pub enum Telling {
     /// Its ETag.
     Tag,
@@ -48,7 +48,6 @@ impl Drop for ValidatorGap {
 }
 
 /// The first thing that stands against that a 304 is about a stored response.
-#[derive(Drop)]
 pub enum Against {
     /// It came before the response.
     Earlier,
@@ -64,6 +63,16 @@ pub enum Against {
     Unselected,
     /// The validators don't agree.
     Validators(ValidatorGap),
+}
+
+impl Drop for Against {
+    fn drop(self) {
+        match self {
+            Against::Earlier | Against::Method | Against::ForwardNoStore => {}
+            Against::Private | Against::NoStore | Against::Unselected => {}
+            Against::Validators(gap) => drop(gap),
+        }
+    }
 }
 
 impl Telling {

@@ -11,7 +11,6 @@ use hc_update::Stored;
 use std::alloc::{AllocError, Global};
 
 /// What the Age lines of a reply tell.
-#[derive(Drop)]
 pub enum AgeTold {
     /// There is none.
     Missing,
@@ -23,8 +22,17 @@ pub enum AgeTold {
     Seconds(u32),
 }
 
+impl Drop for AgeTold {
+    fn drop(self) {
+        match self {
+            AgeTold::Missing | AgeTold::Several | AgeTold::Seconds(_) => {}
+            AgeTold::Unreadable(value) => drop(value),
+        }
+    }
+}
+
 /// What the age of a response at a reply is reckoned from (RFC 9111 section 4.2.3).
-#[derive(Clone, Copy, PartialEq, Eq)]
+#[derive(Clone, Copy)]
 pub struct AgeParts {
     /// When it was asked for, when it came, and what its Date and its Age tell.
     pub times: Times,
@@ -57,7 +65,7 @@ impl Drop for AgeGap {
 }
 
 /// The seconds for which a reply says to be fresh still, and those that are due.
-#[derive(Clone, Copy, PartialEq, Eq)]
+#[derive(Clone, Copy)]
 pub struct TtlGap {
     /// What the mark tells.
     pub told: Option<i64>,

@@ -88,27 +88,34 @@ fn push_asked(
     Ok(())
 }
 
-// What those fields of a request ask.
-fn asked_by(alloc: Global, fields: &Fields) -> Result<Vec<ShownField>, AllocError> {
-    let mut asked = Vec::new(alloc);
-    for name in ASKING {
-        push_asked(alloc, name, fields, &mut asked)?;
-    }
-    Ok(asked)
-}
-
 impl AskedReply {
     /// The reply that claims that.
     pub fn read(alloc: Global, claim: &ReplyClaim<'_>) -> Result<Self, AllocError> {
+        let mut reply = AskedReply::begin(alloc, claim)?;
+        reply.take_fields(alloc, claim)?;
+        Ok(reply)
+    }
+
+    // The same without any field.
+    fn begin(alloc: Global, claim: &ReplyClaim<'_>) -> Result<Self, AllocError> {
         Ok(AskedReply {
             moment: claim.moment,
             method: claim.request.method.clone()?,
             target: claim.target.copy(alloc)?,
-            fields: asked_by(alloc, &claim.request.fields)?,
+            fields: Vec::new(alloc),
             status: claim.reply.head.status,
             body: claim.reply.body.share()?,
-            cache_status: claim.reply.head.fields.joined(alloc, b"cache-status")?,
+            cache_status: None,
             is_inferred: claim.is_inferred,
         })
+    }
+
+    // Takes in what the fields of the request ask, and the Cache-Status of the reply.
+    fn take_fields(&mut self, alloc: Global, claim: &ReplyClaim<'_>) -> Result<(), AllocError> {
+        for name in ASKING {
+            push_asked(alloc, name, &claim.request.fields, &mut self.fields)?;
+        }
+        self.cache_status = claim.reply.head.fields.joined(alloc, b"cache-status")?;
+        Ok(())
     }
 }

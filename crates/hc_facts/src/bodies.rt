@@ -7,7 +7,7 @@ use hc_update::Stored;
 use std::alloc::{AllocError, Global};
 
 /// How the body of a reply differs from the one that is due.
-#[derive(Clone, Copy, PartialEq, Eq)]
+#[derive(Clone, Copy)]
 pub struct BodyGap {
     /// Whether the request is HEAD, so that no body is due.
     pub is_head: bool,
@@ -20,7 +20,6 @@ pub struct BodyGap {
 }
 
 /// Why no condition of the request earns a 304 (RFC 9111 section 4.3.2).
-#[derive(Drop)]
 pub enum Unearned {
     /// The response has another status than 200.
     Status(StatusCode),
@@ -38,9 +37,20 @@ pub enum Unearned {
     },
 }
 
+impl Drop for Unearned {
+    fn drop(self) {
+        match self {
+            Unearned::Status(_) | Unearned::NoCondition => {}
+            Unearned::Tags { asked, due } | Unearned::Moments { asked, due } => {
+                drop(asked);
+                drop(due);
+            }
+        }
+    }
+}
+
 /// The condition of a request that a reply of status 412 says to have failed, and what the response has for it (RFC
 /// 9110 section 13.2.2).
-#[derive(Drop)]
 pub enum Failed {
     /// The If-Match of the request, and the ETag of the response.
     Match {
@@ -59,8 +69,20 @@ pub enum Failed {
     },
 }
 
+impl Drop for Failed {
+    fn drop(self) {
+        match self {
+            Failed::Match { asked, due }
+            | Failed::UnmodifiedSince { asked, due }
+            | Failed::NoneMatch { asked, due } => {
+                drop(asked);
+                drop(due);
+            }
+        }
+    }
+}
+
 /// What a reply tells of a part of a response, where an audit allows ranges (RFC 9110 section 14.4).
-#[derive(Drop)]
 pub struct RangeGap {
     /// Its Content-Range.
     pub told: Option<Octets>,
@@ -68,8 +90,14 @@ pub struct RangeGap {
     pub whole: u64,
 }
 
+impl Drop for RangeGap {
+    fn drop(self) {
+        let RangeGap { told, whole: _ } = self;
+        drop(told);
+    }
+}
+
 /// In what the status or the body of a reply differs from a stored response's.
-#[derive(Drop)]
 pub enum ContentGap {
     /// It is a 304 that nothing earns.
     Unearned(Unearned),
@@ -81,6 +109,24 @@ pub enum ContentGap {
         failed: Option<Failed>,
         range: Option<RangeGap>,
     },
+}
+
+impl Drop for ContentGap {
+    fn drop(self) {
+        match self {
+            ContentGap::Unearned(unearned) => drop(unearned),
+            ContentGap::Other {
+                due: _,
+                told: _,
+                bodies: _,
+                failed,
+                range,
+            } => {
+                drop(failed);
+                drop(range);
+            }
+        }
+    }
 }
 
 /// How many octets both begin with.
@@ -117,19 +163,30 @@ pub fn body_gap(method: &Method, told: &[u8], due: &[u8]) -> Option<BodyGap> {
     })
 }
 
+/// What the one fields have of a name, and what the other ones have of another.
+fn both(
+    alloc: Global,
+    (asked, condition): (&Fields, &[u8]),
+    (stored, validator): (&Fields, &[u8]),
+) -> Result<(Option<Octets>, Option<Octets>), AllocError> {
+    let told = asked.joined(alloc, condition)?;
+    let due = stored.joined(alloc, validator)?;
+    Ok((told, due))
+}
+
 /// Why the condition of a request of those fields earns no 304 from a response of those fields.
 fn why_unearned(alloc: Global, asked: &Fields, stored: &Fields) -> Result<Unearned, AllocError> {
     if asked.contains(b"if-none-match") {
-        return Ok(Unearned::Tags {
-            asked: asked.joined(alloc, b"if-none-match")?,
-            due: stored.joined(alloc, b"etag")?,
-        });
+        let (asked, due) = both(alloc, (asked, b"if-none-match"), (stored, b"etag"))?;
+        return Ok(Unearned::Tags { asked, due });
     }
     if asked.contains(b"if-modified-since") {
-        return Ok(Unearned::Moments {
-            asked: asked.joined(alloc, b"if-modified-since")?,
-            due: stored.joined(alloc, b"last-modified")?,
-        });
+        let (asked, due) = both(
+            alloc,
+            (asked, b"if-modified-since"),
+            (stored, b"last-modified"),
+        )?;
+        return Ok(Unearned::Moments { asked, due });
     }
     Ok(Unearned::NoCondition)
 }
@@ -141,22 +198,20 @@ fn condition_failed(
     stored: &Fields,
 ) -> Result<Option<Failed>, AllocError> {
     if asked.contains(b"if-match") {
-        return Ok(Some(Failed::Match {
-            asked: asked.joined(alloc, b"if-match")?,
-            due: stored.joined(alloc, b"etag")?,
-        }));
+        let (asked, due) = both(alloc, (asked, b"if-match"), (stored, b"etag"))?;
+        return Ok(Some(Failed::Match { asked, due }));
     }
     if asked.contains(b"if-unmodified-since") {
-        return Ok(Some(Failed::UnmodifiedSince {
-            asked: asked.joined(alloc, b"if-unmodified-since")?,
-            due: stored.joined(alloc, b"last-modified")?,
-        }));
+        let (asked, due) = both(
+            alloc,
+            (asked, b"if-unmodified-since"),
+            (stored, b"last-modified"),
+        )?;
+        return Ok(Some(Failed::UnmodifiedSince { asked, due }));
     }
     if asked.contains(b"if-none-match") {
-        return Ok(Some(Failed::NoneMatch {
-            asked: asked.joined(alloc, b"if-none-match")?,
-            due: stored.joined(alloc, b"etag")?,
-        }));
+        let (asked, due) = both(alloc, (asked, b"if-none-match"), (stored, b"etag"))?;
+        return Ok(Some(Failed::NoneMatch { asked, due }));
     }
     Ok(None)
 }

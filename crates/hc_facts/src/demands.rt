@@ -6,7 +6,7 @@ use crate::differing::{Change, Differences};
 use crate::forbidding::{Forbids, Unusable};
 use crate::usage::Usage;
 use hc_head::StatusCode;
-use hc_history::{Reason, is_of_content};
+use hc_history::Reason;
 
 /// What is asked of a reply, and where.
 #[derive(Clone, Copy)]
@@ -82,13 +82,12 @@ pub fn usage_demand(usage: &Usage) -> Demand {
 
 /// What is asked of the fields of a reply that differ so from those of the stored response.
 pub fn fields_demand(found: &Differences) -> Demand {
-    let listed = &found.listed;
-    if listed.iter().any(|gap| gap.is_renewed) {
+    if found.has_renewed() {
         Demand {
             words: "the fields of a 304 MUST replace those of the stored response that it is about",
             sections: "RFC 9111 section 4.3.4",
         }
-    } else if listed.iter().any(|gap| gap.change == Change::Dropped) {
+    } else if found.has(Change::Dropped) {
         Demand {
             words: "a cache MUST store all fields of a response but those of the connection, and what a hit lacks of them counts as not stored",
             sections: "RFC 9111 section 3.1",
@@ -100,13 +99,12 @@ pub fn fields_demand(found: &Differences) -> Demand {
 
 // What is asked of the fields of a reply that has all that the stored response has.
 fn modified_demand(found: &Differences) -> Demand {
-    let listed = &found.listed;
-    if listed.iter().any(|gap| gap.change == Change::Changed) {
+    if found.has(Change::Changed) {
         Demand {
             words: "a proxy SHOULD NOT modify the fields that tell of the resource or of its representation",
             sections: "RFC 9110 section 7.7",
         }
-    } else if listed.iter().any(|gap| is_of_content(gap.name.as_slice())) {
+    } else if found.has_content() {
         Demand {
             words: "a proxy SHOULD NOT modify what tells of a representation, and to add such a field, as a Content-Type, is that, too",
             sections: "RFC 9110 section 7.7",

@@ -7,7 +7,7 @@ ghost use Rattle.hc_facts.specs.Differing.{AreDifferences, AreListed, IsGap, cha
 
 use hc_fields::{Field, Fields, Octets, is_among};
 use hc_head::StatusCode;
-use hc_history::{ReplyClaim, differs};
+use hc_history::{ReplyClaim, differs, is_of_content};
 use hc_rules::REPEATED_NAMES;
 use hc_update::Stored;
 use std::alloc::{AllocError, Global};
@@ -208,6 +208,36 @@ impl Differences {
         }
         self.note(alloc, claim, state, name)?;
         Ok(())
+    }
+
+    /// Whether one of those that are listed became so.
+    pub(crate) fn has(&self, change: Change) -> bool {
+        for gap in self.listed.iter() {
+            if gap.change == change {
+                return true;
+            }
+        }
+        false
+    }
+
+    /// Whether the 304 that freshened the response last has one of them.
+    pub(crate) fn has_renewed(&self) -> bool {
+        for gap in self.listed.iter() {
+            if gap.is_renewed {
+                return true;
+            }
+        }
+        false
+    }
+
+    /// Whether one of them tells of the representation.
+    pub(crate) fn has_content(&self) -> bool {
+        for gap in self.listed.iter() {
+            if is_of_content(gap.name.as_slice()) {
+                return true;
+            }
+        }
+        false
     }
 
     /// Whether both have the same fields, each with the same change, in the same order.

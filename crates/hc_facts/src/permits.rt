@@ -12,7 +12,7 @@ use hc_history::{
 use hc_update::Stored;
 
 /// What permits to give a stale response.
-#[derive(Clone, Copy, PartialEq, Eq)]
+#[derive(Clone, Copy)]
 pub enum Permit {
     /// The slack of the audit.
     Slack,
@@ -33,7 +33,7 @@ pub enum Permit {
 }
 
 /// A response that is stale at a reply, and may be given all the same.
-#[derive(Clone, Copy, PartialEq, Eq)]
+#[derive(Clone, Copy)]
 pub struct StaleUse {
     /// How old it is.
     pub usage: Usage,

@@ -10,7 +10,7 @@ use std::alloc::{AllocError, Global};
 pub const NAMED: usize = 8;
 
 /// A record of a recording.
-#[derive(Clone, Copy, PartialEq, Eq)]
+#[derive(Clone, Copy)]
 pub struct RecordName {
     /// Its position, of which that of the first record is 1.
     pub position: u64,

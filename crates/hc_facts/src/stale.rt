@@ -11,7 +11,7 @@ use hc_rules::is_heuristically_cacheable;
 use hc_update::Stored;
 
 /// What a response, and the request of a reply, say of how stale it may be served.
-#[derive(Clone, Copy, PartialEq, Eq)]
+#[derive(Clone, Copy)]
 pub struct StaleSaid {
     /// The `max-stale` of the request.
     pub max_stale: Seconds,
@@ -24,7 +24,7 @@ pub struct StaleSaid {
 }
 
 /// A setting by which a response may be used, with the least seconds by which it may.
-#[derive(Clone, Copy, PartialEq, Eq)]
+#[derive(Clone, Copy)]
 pub enum Setting {
     /// A lifetime for what states none (RFC 9111 section 4.2.2).
     DefaultLifetime(u64),

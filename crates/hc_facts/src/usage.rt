@@ -13,7 +13,7 @@ use hc_history::{ReplyClaim, age_of, lifetime_of};
 use hc_update::Stored;
 
 /// How old a stored response is, and what forbids to use it.
-#[derive(Clone, Copy, PartialEq, Eq)]
+#[derive(Clone, Copy)]
 pub struct Usage {
     /// The lifetime that it states, if it states one.
     pub lifetime: Option<u32>,

@@ -51,7 +51,7 @@ impl Method {
     /// HEAD
     pub const HEAD: Method = Method(Name::Head);
 
-    /// The method of those octets.
+    /// The method of those octets, whatever they are: that they are a token is for its caller to see to.
     pub fn from_slice(alloc: Global, octets: &[u8]) -> Result<Method, AllocError>
         ensures { IfOk result (λ method. method ≡ octets.now) }
     {

@@ -199,7 +199,7 @@ impl<S: BuildHasher> Desk<S> {
         self.reply_at_once(number, &exchange, client, closes, reply, actions)?;
         match behind {
             None => Ok(()),
-            Some(validation) => self.send_behind(exchange.target, validation, actions),
+            Some(validation) => self.send_behind(exchange.into_target(), validation, actions),
         }
     }
 

@@ -103,8 +103,10 @@ fn store_response<S: BuildHasher>(
         },
         body: response.body.share()?,
     };
-    let stored = initial(alloc, forward.request, forward.moment, same, moment)?;
-    Ok(is_put(store.put(forward.target, stored)))
+    let sent = forward.moment;
+    let (request, target) = forward.into_parts();
+    let stored = initial(alloc, request, sent, same, moment)?;
+    Ok(is_put(store.put(target, stored)))
 }
 
 /// Whether a response says neither that what is stored still holds nor that the origin can't answer

@@ -6,12 +6,10 @@
 
 mod blocks;
 mod messages_describing;
-mod messages_faults;
 mod messages_heads;
 mod messages_links;
 mod messages_parts;
 mod messages_pieces;
-mod messages_questions;
 mod messages_shared;
 mod messages_targets;
 mod messages_whole;
@@ -22,16 +20,12 @@ mod rules_fresh;
 mod rules_lists;
 mod rules_marks;
 mod rules_parts;
-mod rules_questions;
 mod rules_states;
 mod rules_storing;
 mod rules_updates;
-mod rules_writing;
 mod starts;
 
-use crate::messages_questions::OfMessage;
 use crate::messages_whole::Asked;
-use crate::rules_questions::OfRule;
 use hc_cases::{Ask, Case, Unanswered};
 use hc_head::{RequestHead, ResponseHead};
 use std::process::ExitCode;
@@ -41,53 +35,37 @@ struct RuleCases;
 
 impl Ask for RuleCases {
     fn answer(&self, case: &Case<'_>, out: &mut String) -> Result<(), Unanswered> {
-        match OfMessage::named(case.question) {
-            Ok(question) => answer_of_message(question, case, out),
-            Err(_) => answer_of_rule(OfRule::named(case.question)?, case, out),
+        match case.question {
+            "request-head" => messages_heads::read::<RequestHead>(case, out),
+            "response-head" => messages_heads::read::<ResponseHead>(case, out),
+            "target" => messages_targets::target(case, out),
+            "unsafe" => messages_targets::is_unsafe(case, out),
+            "message" => messages_whole::answer(Asked::Cuts, case, out),
+            "write-message" => messages_whole::answer(Asked::Text, case, out),
+            "octet-by-octet" => messages_pieces::octet_by_octet(case, out),
+            "writable-request" => messages_writing::writable_request(case, out),
+            "writable-response" => messages_writing::writable_response(case, out),
+            _ => answer_of_links(case, out),
         }
     }
 }
 
-// Answers a question of heads, of messages or of links.
-fn answer_of_message(
-    question: OfMessage,
-    case: &Case<'_>,
-    out: &mut String,
-) -> Result<(), Unanswered> {
-    match question {
-        OfMessage::Faults => messages_faults::all(case, out),
-        OfMessage::Text => messages_faults::text(case, out),
-        OfMessage::RequestHead => messages_heads::read::<RequestHead>(case, out),
-        OfMessage::ResponseHead => messages_heads::read::<ResponseHead>(case, out),
-        OfMessage::EmptyLine => messages_heads::empty_line(case, out),
-        OfMessage::Target => messages_targets::target(case, out),
-        OfMessage::Targets => messages_targets::in_order(case, out),
-        OfMessage::Unsafe => messages_targets::is_unsafe(case, out),
-        OfMessage::Message => messages_whole::answer(Asked::Cuts, case, out),
-        OfMessage::Fronts => messages_whole::answer(Asked::Fronts, case, out),
-        OfMessage::Octets => messages_pieces::octet_by_octet(case, out),
-        OfMessage::AfterFault => messages_pieces::after_a_fault(case, out),
-        OfMessage::Arrivals => messages_links::arrivals(case, out),
-        OfMessage::Waiting => messages_links::waiting(case, out),
-        OfMessage::Heard => messages_links::heard(case, out),
-        OfMessage::WriteRequest => messages_writing::request(case, out),
-        OfMessage::WriteResponse => messages_writing::response(case, out),
-        OfMessage::WriteMessage => messages_whole::answer(Asked::Text, case, out),
-        OfMessage::WritableRequest => messages_writing::writable_request(case, out),
-        OfMessage::WritableResponse => messages_writing::writable_response(case, out),
-    }
-}
-
-// Answers a question of fields, or of rules.
-fn answer_of_rule(question: OfRule, case: &Case<'_>, out: &mut String) -> Result<(), Unanswered> {
-    match question {
-        OfRule::Fields(question) => rules_fields::answer(question, case, out),
-        OfRule::Lists(question) => rules_lists::answer(question, case, out),
-        OfRule::Marks(question) => rules_marks::answer(question, case, out),
-        OfRule::Fresh(question) => rules_fresh::answer(question, case, out),
-        OfRule::Rules(question) => rules_storing::answer(question, case, out),
-        OfRule::Updates(question) => rules_updates::answer(question, case, out),
-        OfRule::Messages(question) => rules_writing::answer(question, case, out),
+// Answers a question of what comes on connections, of fields, or of rules.
+fn answer_of_links(case: &Case<'_>, out: &mut String) -> Result<(), Unanswered> {
+    match case.question {
+        "arrivals" => messages_links::arrivals(case, out),
+        "waiting" => messages_links::waiting(case, out),
+        "heard" => messages_links::heard(case, out),
+        "list" | "number" | "token" | "directive" => rules_lists::answer(case, out),
+        "structured" | "mark" => rules_marks::answer(case, out),
+        "date" | "dated" | "lifetime" | "age-value" | "age" | "fresh" => {
+            rules_fresh::answer(case, out)
+        }
+        "storable" | "selects" | "validator" | "condition" => rules_storing::answer(case, out),
+        "values" | "joined" | "only" | "without" | "left-out" | "updated" => {
+            rules_fields::answer(case, out)
+        }
+        _ => rules_updates::answer(case, out),
     }
 }
 

@@ -3,7 +3,7 @@
 use hc_cases::Unanswered;
 use hc_fields::decimal;
 use hc_framing::Kind;
-use hc_head::{Room, Version};
+use hc_head::Room;
 use std::alloc::{AllocError, Global};
 
 /// A number that a text writes in decimal digits.
@@ -39,25 +39,6 @@ pub fn kind(text: &[u8]) -> Result<Kind, Unanswered> {
     }
     if text == b"HEAD".as_slice() {
         return Ok(Kind::Response { to_head: true });
-    }
-    Err(Unanswered::Unknown)
-}
-
-/// A length, or `none`.
-pub fn length(text: &[u8]) -> Result<Option<u64>, Unanswered> {
-    if text == b"none".as_slice() {
-        return Ok(None);
-    }
-    Ok(Some(decimal(text).ok_or(Unanswered::Unknown)?))
-}
-
-/// `HTTP/1.0` or `HTTP/1.1`.
-pub fn version(text: &[u8]) -> Result<Version, Unanswered> {
-    if text == b"HTTP/1.0".as_slice() {
-        return Ok(Version::Http10);
-    }
-    if text == b"HTTP/1.1".as_slice() {
-        return Ok(Version::Http11);
     }
     Err(Unanswered::Unknown)
 }

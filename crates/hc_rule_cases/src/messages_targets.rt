@@ -1,7 +1,4 @@
 //! What requests are about.
-ghost use Rattle.std.specs.Prelude.{◌≡◌, Some, OnOk};
-ghost use Rattle.std.specs.BTreeMap.{get};
-ghost use Rattle.hc_head.specs.declared.head.Target.{Target};
 
 use crate::blocks::fields_of_lines;
 use crate::messages_describing::head_fault;
@@ -9,9 +6,7 @@ use crate::starts::method_of;
 use hc_cases::{Case, Unanswered, show, yes_or_no};
 use hc_fields::Octets;
 use hc_head::{HeadFault, RequestHead, Target, Version};
-use std::alloc::{AllocError, AllocFailed, Global};
-use std::collections::BTreeMap;
-use std::fmt::Write;
+use std::alloc::{AllocError, Global};
 
 /// A request with that method, that target and those lines.
 pub fn head(
@@ -56,52 +51,6 @@ fn described(target: &Target, out: &mut String) -> Result<(), AllocError> {
     show(target.host.as_slice(), out)?;
     out.push_str("; path ")?;
     show(target.path.as_slice(), out)
-}
-
-// Puts a number under a target, where a look-up then finds it.
-fn put(
-    numbers: &mut BTreeMap<Target, u64>,
-    target: Target,
-    number: u64,
-) -> Result<(), AllocFailed<(Target, u64)>>
-    ensures { OnOk result (get ⟦<Target as Ord>⟧.cmp numbers.new target ≡ Some number) }
-{
-    numbers.insert(target, number)?;
-    Ok(())
-}
-
-// The target of a host and a path with a space between them.
-fn target_of(alloc: Global, text: &[u8]) -> Result<Target, Unanswered> {
-    let Some(at) = text.iter().position(|octet| *octet == b' ') else {
-        return Err(Unanswered::Unknown);
-    };
-    Ok(Target {
-        host: Octets::from_slice(alloc, &text[..at])?,
-        path: Octets::from_slice(alloc, &text[at + 1..])?,
-    })
-}
-
-/// Writes targets in their order, each with its place in the list.
-pub fn in_order(case: &Case<'_>, out: &mut String) -> Result<(), Unanswered> {
-    let mut numbers = BTreeMap::new(case.alloc);
-    put_all(case, &mut numbers)?;
-    Ok(numbered(&numbers, out)?)
-}
-
-fn put_all(case: &Case<'_>, numbers: &mut BTreeMap<Target, u64>) -> Result<(), Unanswered> {
-    for (index, text) in case.about.iter().enumerate() {
-        put(numbers, target_of(case.alloc, text)?, index as u64)?;
-    }
-    Ok(())
-}
-
-fn numbered(numbers: &BTreeMap<Target, u64>, out: &mut String) -> Result<(), AllocError> {
-    for (target, number) in numbers {
-        write!(out, "{number}: ")?;
-        described(target, out)?;
-        out.push_str("; ")?;
-    }
-    Ok(())
 }
 
 /// Writes whether a method is unsafe.

@@ -1,5 +1,5 @@
 //! Messages that are read in pieces, however they are cut.
-ghost use Rattle.std.specs.Prelude.{◌<◌, OnOk};
+ghost use Rattle.std.specs.Prelude.{OnOk};
 ghost use Rattle.hc_framing.specs.Reader.{CanFeed, HasMessage};
 
 use crate::messages_describing::{self, ShownHead, frame_fault};
@@ -11,7 +11,7 @@ use hc_head::{RequestHead, ResponseHead, Room};
 use std::alloc::{AllocError, Global};
 use std::fmt::Write;
 
-/// The longest octets that are cut at each place. Longer ones are fed in pieces of so many.
+/// The longest octets that are cut at each place.
 const LONGEST: usize = 4_096;
 
 /// What is asked of octets that are read as a message.
@@ -20,8 +20,6 @@ pub enum Asked {
     /// The message that they begin with, however they are cut. Where they are more than the message,
     /// also what they are as a whole.
     Cuts,
-    /// What their fronts are, which are not the whole of them.
-    Fronts,
     /// The text of the message that they are, and how much of it is the body's own.
     Text,
 }
@@ -50,7 +48,6 @@ fn told<H: ShownHead>(
 ) -> Result<(), AllocError> {
     match asked {
         Asked::Cuts => every_way::<H>(alloc, octets, kind, out),
-        Asked::Fronts => each_front::<H>(alloc, octets, kind, out),
         Asked::Text => read_and_written::<H>(alloc, octets, kind, out),
     }
 }
@@ -77,9 +74,7 @@ fn other_ways<H: ShownHead>(
     out.push_str(text)?;
     if octets.len() <= LONGEST {
         every_cut::<H>(alloc, octets, kind, text, out)?;
-        other_in_pieces::<H>(alloc, octets, kind, 1, text, out)?;
     }
-    other_in_pieces::<H>(alloc, octets, kind, LONGEST, text, out)?;
     let whole = text_whole::<H>(alloc, octets, kind)?;
     other(whole.as_str(), "whole", text, out)
 }
@@ -106,25 +101,6 @@ fn other_cut(found: &str, cut: usize, text: &str, out: &mut String) -> Result<()
     other(found, "", text, out)
 }
 
-fn other_in_pieces<H: ShownHead>(
-    alloc: Global,
-    octets: &[u8],
-    kind: Kind,
-    size: usize,
-    text: &str,
-    out: &mut String,
-) -> Result<(), AllocError>
-    requires { 0 < size }
-{
-    let way = if size == 1 {
-        "octet by octet"
-    } else {
-        "in pieces"
-    };
-    let found = text_in_pieces::<H>(alloc, octets, size, kind)?;
-    other(found.as_str(), way, text, out)
-}
-
 /// Writes a text that is another one.
 pub fn other(found: &str, way: &str, text: &str, out: &mut String) -> Result<(), AllocError> {
     if found == text {
@@ -142,20 +118,6 @@ fn text_in_two<H: ShownHead>(
 ) -> Result<String, AllocError> {
     let mut reader = MessageReader::<H>::new(alloc, kind, Room::RECEIVED);
     let fed = feed_two(&mut reader, octets, cut);
-    text_read(alloc, reader, fed)
-}
-
-// The same of pieces of that size.
-fn text_in_pieces<H: ShownHead>(
-    alloc: Global,
-    octets: &[u8],
-    size: usize,
-    kind: Kind,
-) -> Result<String, AllocError>
-    requires { 0 < size }
-{
-    let mut reader = MessageReader::<H>::new(alloc, kind, Room::RECEIVED);
-    let fed = feed_pieces(&mut reader, octets, size);
     text_read(alloc, reader, fed)
 }
 
@@ -221,56 +183,4 @@ fn feed_two<H: ShownHead>(
     }
     reader.end()?;
     Ok(octets.len())
-}
-
-// The same, in pieces of that size.
-fn feed_pieces<H: ShownHead>(
-    reader: &mut MessageReader<H>,
-    octets: &[u8],
-    size: usize,
-) -> Result<usize, FrameFault>
-    requires some { 0 < size }
-    requires can { CanFeed H.form reader.old }
-    ensures { OnOk result (HasMessage reader.new) }
-{
-    let mut before: usize = 0;
-    'pieces: for piece in octets.chunks(size) {
-        if let Progress::Whole(used) = reader.feed(piece)? {
-            return Ok(before.saturating_add(used));
-        }
-        before = before.saturating_add(piece.len());
-    }
-    reader.end()?;
-    Ok(octets.len())
-}
-
-// Writes what the empty front is, and each front that is something else.
-fn each_front<H: ShownHead>(
-    alloc: Global,
-    octets: &[u8],
-    kind: Kind,
-    out: &mut String,
-) -> Result<(), AllocError> {
-    let text = text_whole::<H>(alloc, b"", kind)?;
-    out.push_str(text.as_str())?;
-    for end in 0..octets.len() {
-        let (front, _) = octets.split_at(end);
-        other_front::<H>(alloc, front, kind, text.as_str(), out)?;
-    }
-    Ok(())
-}
-
-// Writes what a front is, whole and octet by octet, where that is something else.
-fn other_front<H: ShownHead>(
-    alloc: Global,
-    front: &[u8],
-    kind: Kind,
-    text: &str,
-    out: &mut String,
-) -> Result<(), AllocError> {
-    let whole = text_whole::<H>(alloc, front, kind)?;
-    other(whole.as_str(), "a front", text, out)?;
-    drop(whole);
-    let cut = text_in_pieces::<H>(alloc, front, 1, kind)?;
-    other(cut.as_str(), "a front", text, out)
 }

@@ -2,36 +2,33 @@
 
 use crate::blocks::fields_of_block;
 use crate::rules_describing::{bracketed, lines, optional};
-use crate::rules_questions::OfFields;
 use hc_cases::{Case, Unanswered, yes_or_no};
-use hc_fields::{Field, Fields};
+use hc_fields::Fields;
 use std::alloc::{AllocError, Global};
 use std::mem;
 
-/// Answers a question of fields.
-pub fn answer(question: OfFields, case: &Case<'_>, out: &mut String) -> Result<(), Unanswered> {
+/// Answers a question of fields: a NAME and a BLOCK.
+pub fn answer(case: &Case<'_>, out: &mut String) -> Result<(), Unanswered> {
     let [name, block] = case.about else {
         return Err(Unanswered::Unknown);
     };
     let mut fields = fields_of_block(case.alloc, block)?;
-    asked(question, case.alloc, name, &mut fields, out)
+    Ok(asked(case, name, &mut fields, out)?)
 }
 
 fn asked(
-    question: OfFields,
-    alloc: Global,
+    case: &Case<'_>,
     name: &[u8],
     fields: &mut Fields,
     out: &mut String,
-) -> Result<(), Unanswered> {
-    match question {
-        OfFields::Values => Ok(values(name, fields, out)?),
-        OfFields::Joined => Ok(joined(alloc, name, fields, out)?),
-        OfFields::Only => Ok(optional(fields.only(name), out)?),
-        OfFields::Without => Ok(without(name, fields, out)?),
-        OfFields::LeftOut => Ok(left_out(name, fields, out)?),
-        OfFields::Updated => Ok(updated(alloc, name, fields, out)?),
-        OfFields::Copied => copied(alloc, name, fields, out),
+) -> Result<(), AllocError> {
+    match case.question {
+        "values" => values(name, fields, out),
+        "joined" => joined(case.alloc, name, fields, out),
+        "only" => optional(fields.only(name), out),
+        "without" => without(name, fields, out),
+        "left-out" => left_out(name, fields, out),
+        _ => updated(case.alloc, name, fields, out),
     }
 }
 
@@ -77,24 +74,4 @@ fn updated(
     let mut fields = fields_of_block(alloc, older)?;
     fields.update(mem::replace(newer, Fields::new(alloc)))?;
     lines(&fields, out)
-}
-
-// Copies the first line, takes the lines of the name out, and writes the copy.
-fn copied(
-    alloc: Global,
-    name: &[u8],
-    fields: &mut Fields,
-    out: &mut String,
-) -> Result<(), Unanswered> {
-    let copy = match fields.lines().first() {
-        Some(line) => line.copy(alloc)?,
-        None => return Err(Unanswered::Unknown),
-    };
-    fields.remove(name);
-    Ok(in_brackets(&copy, out)?)
-}
-
-fn in_brackets(line: &Field, out: &mut String) -> Result<(), AllocError> {
-    bracketed(line.name.as_slice(), out)?;
-    bracketed(line.value.as_slice(), out)
 }

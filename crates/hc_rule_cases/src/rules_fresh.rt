@@ -3,7 +3,6 @@
 use crate::blocks::fields_of_block;
 use crate::rules_describing::lines;
 use crate::rules_parts::{moment, number, seconds};
-use crate::rules_questions::OfFreshness;
 use hc_cases::{Case, Unanswered, show, yes_or_no};
 use hc_fields::Fields;
 use hc_fresh::{
@@ -14,17 +13,28 @@ use std::alloc::{AllocError, Global};
 use std::fmt::Write;
 
 /// Answers a question of dates, ages or lifetimes.
-pub fn answer(question: OfFreshness, case: &Case<'_>, out: &mut String) -> Result<(), Unanswered> {
-    match (question, case.about) {
-        (OfFreshness::Date, [text]) => date(text, out),
-        (OfFreshness::Lifetime, [date, block]) => lasting(case.alloc, date, block, out),
-        (OfFreshness::AgeValue, [block]) => aged(case.alloc, block, out),
-        (OfFreshness::Age, [date, age, request, response, now]) => {
+pub fn answer(case: &Case<'_>, out: &mut String) -> Result<(), Unanswered> {
+    match case.about {
+        [one] if case.question == "date" => date(one, out),
+        [one] => aged(case.alloc, one, out),
+        [first, second] => answer_of_two(case, first, second, out),
+        [date, age, request, response, now] => {
             age_at(times(date, age, request, response), now, out)
         }
-        (OfFreshness::Fresh, [lifetime, age]) => compared(lifetime, age, out),
-        (OfFreshness::Dated, [now, block]) => with_date(case.alloc, now, block, out),
         _ => Err(Unanswered::Unknown),
+    }
+}
+
+fn answer_of_two(
+    case: &Case<'_>,
+    first: &[u8],
+    second: &[u8],
+    out: &mut String,
+) -> Result<(), Unanswered> {
+    match case.question {
+        "lifetime" => lasting(case.alloc, first, second, out),
+        "fresh" => compared(first, second, out),
+        _ => with_date(case.alloc, first, second, out),
     }
 }
 

@@ -2,7 +2,6 @@
 
 use crate::blocks::fields_of_block;
 use crate::rules_describing::optional;
-use crate::rules_questions::OfRules;
 use crate::starts::{method_of, status_of};
 use hc_cases::{Case, Unanswered, yes_or_no};
 use hc_fields::{Fields, Octets};
@@ -14,18 +13,16 @@ use hc_rules::{
 use std::alloc::{AllocError, Global};
 
 /// Answers a question of storing, selecting or validating.
-pub fn answer(question: OfRules, case: &Case<'_>, out: &mut String) -> Result<(), Unanswered> {
-    match (question, case.about) {
-        (OfRules::Storable, [method, asked, status, answered]) => {
-            let forward = request(case.alloc, method, asked);
-            storable(case.alloc, forward, status, answered, out)
-        }
-        (OfRules::Selects, [vary, forwarded, presented]) => {
+pub fn answer(case: &Case<'_>, out: &mut String) -> Result<(), Unanswered> {
+    match case.about {
+        [block] => validated(case.alloc, block, out),
+        [vary, forwarded, presented] if case.question == "selects" => {
             selected(case.alloc, vary, forwarded, presented, out)
         }
-        (OfRules::Validator, [block]) => validated(case.alloc, block, out),
-        (OfRules::Condition, [presented, status, answered]) => {
-            condition(case.alloc, presented, status, answered, out)
+        [presented, status, answered] => condition(case.alloc, presented, status, answered, out),
+        [method, asked, status, answered] => {
+            let forward = request(case.alloc, method, asked);
+            storable(case.alloc, forward, status, answered, out)
         }
         _ => Err(Unanswered::Unknown),
     }

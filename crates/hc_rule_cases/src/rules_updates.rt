@@ -2,27 +2,26 @@
 ghost use Rattle.std.specs.Prelude.{◌<◌};
 
 use crate::rules_parts::{moment, number};
-use crate::rules_questions::OfUpdates;
 use crate::rules_states::{described, hello, request, response, stored_of};
 use crate::starts::{method_of, status_of};
 use hc_cases::{Case, Unanswered, yes_or_no};
-use hc_fresh::{current_age, fresh, lifetime, stale_forbidden, staleness};
+use hc_fresh::current_age;
 use hc_head::{RequestHead, ResponseHead};
 use hc_update::{Stored, identifies, invalidates};
 use std::alloc::{AllocError, Global};
 use std::fmt::Write;
 
 /// Answers a question of stored responses.
-pub fn answer(question: OfUpdates, case: &Case<'_>, out: &mut String) -> Result<(), Unanswered> {
-    match question {
-        OfUpdates::Stored => stored(case, out),
-        OfUpdates::Freshened => freshened(case, out),
-        OfUpdates::Invalidated => invalidated(case, out),
-        OfUpdates::Forgotten => forgotten(case, out),
-        OfUpdates::Identifies => identified(case, out),
-        OfUpdates::IdentifiesAfter => identified_after(case, out),
-        OfUpdates::At => at(case, out),
-        OfUpdates::Invalidates => invalidating(case, out),
+pub fn answer(case: &Case<'_>, out: &mut String) -> Result<(), Unanswered> {
+    match case.question {
+        "stored" => stored(case, out),
+        "freshened" => freshened(case, out),
+        "invalidated" => invalidated(case, out),
+        "forgotten" => forgotten(case, out),
+        "identifies" => identified(case, out),
+        "identifies-after" => identified_after(case, out),
+        "invalidates" => invalidating(case, out),
+        _ => Err(Unanswered::Unknown),
     }
 }
 
@@ -164,26 +163,6 @@ fn told_twice(
     state.freshen(answer, 1020, 1020, 6)?;
     out.push_str("; then ")?;
     told(alloc, state, forward, answer, out)
-}
-
-fn at(case: &Case<'_>, out: &mut String) -> Result<(), Unanswered> {
-    let [asked, lines, now] = case.about else {
-        return Err(Unanswered::Unknown);
-    };
-    let now = number(now)?;
-    let state = hello(case.alloc, asked, lines)?;
-    Ok(aged(&state, now, out)?)
-}
-
-// Writes the age of a stored response, whether it is fresh, and by how much it is stale.
-fn aged(state: &Stored, now: u64, out: &mut String) -> Result<(), AllocError> {
-    let lifetime = lifetime(&state.fields, state.times.date);
-    let age = current_age(state.times, now);
-    let stale = staleness(lifetime, age);
-    write!(out, "age {age} of {lifetime}; fresh: ")?;
-    yes_or_no(fresh(lifetime, age), out)?;
-    write!(out, "; stale by {stale}; never stale: ")?;
-    yes_or_no(stale_forbidden(&state.fields), out)
 }
 
 fn invalidating(case: &Case<'_>, out: &mut String) -> Result<(), Unanswered> {

@@ -6,7 +6,7 @@ use crate::rooms::say_room;
 use crate::scene::{Scene, number_of};
 use crate::service::say_service;
 use crate::staged::Manner;
-use crate::telling::{say_failures, say_octets, say_order, say_read, say_reads};
+use crate::telling::{Told, say_failures, say_octets, say_run};
 use hc_cases::{Ask, Case, Unanswered};
 use hc_sockets::Claim;
 use std::alloc::Global;
@@ -69,16 +69,21 @@ fn answer_in_memory(
     scene: &Scene<'_>,
     out: &mut String,
 ) -> Result<(), Unanswered> {
+    let in_time = Scene { step: 1, ..*scene };
+    let trickling = Scene {
+        trickles: true,
+        ..*scene
+    };
     match question {
-        "order" => say_order(alloc, scene, None, out),
-        "order as time passes" => say_order(alloc, &Scene { step: 1, ..*scene }, None, out),
-        "third call of the client fails" => say_order(alloc, scene, THIRD, out),
+        "order" => say_run(alloc, Told::Calls, scene, None, out),
+        "order as time passes" => say_run(alloc, Told::Calls, &in_time, None, out),
+        "third call of the client fails" => say_run(alloc, Told::Calls, scene, THIRD, out),
+        "read after read" => say_run(alloc, Told::Reads, &trickling, None, out),
+        "replies" => say_run(alloc, Told::Octets, scene, None, out),
         "each call of the client fails" => say_failures(alloc, scene, Device::Client, out),
         "each call of an origin fails" => say_failures(alloc, scene, Device::Origin, out),
         "each call of the recorder fails" => say_failures(alloc, scene, Device::Recorder, out),
         "one octet a call" => say_octets(alloc, scene, out),
-        "read after read" => say_reads(alloc, scene, out),
-        "replies" => say_read(alloc, scene, out),
         "hits" => say_hits(alloc, scene, out),
         _ => Err(Unanswered::Unknown),
     }

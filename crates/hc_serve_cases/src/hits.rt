@@ -2,12 +2,14 @@
 
 use crate::links::Tally;
 use crate::notebook::Notebook;
+use crate::runs::served;
 use crate::scene::{Scene, Site, Ticking, new_core};
+use crate::telling::word_of;
 use hc_cases::Unanswered;
 use hc_connection::Connection;
 use hc_machine::Core;
-use hc_serve::serve_connection;
-use std::alloc::Global;
+use hc_serve::DriveFault;
+use std::alloc::{AllocError, Global};
 use std::fmt::Write;
 
 /// How many octets the request has that is stored.
@@ -20,67 +22,60 @@ pub(crate) fn say_hits(
     scene: &Scene<'_>,
     out: &mut String,
 ) -> Result<(), Unanswered> {
-    let notebook = Notebook::new(alloc, None);
-    let site = Site {
-        alloc,
-        scene,
-        notebook: &notebook,
-    };
     let mut core = new_core(alloc)?;
-    say_both(alloc, &mut core, &site, out)
+    say_both(alloc, &mut core, scene, out)
 }
 
 /// Serves both clients by that cache.
 fn say_both(
     alloc: Global,
     core: &mut Core,
-    site: &Site<'_>,
+    scene: &Scene<'_>,
     out: &mut String,
 ) -> Result<(), Unanswered> {
+    let notebook = Notebook::new(alloc, None);
+    let site = Site {
+        alloc,
+        scene,
+        notebook: &notebook,
+    };
+    say_clients(core, &site, out)
+}
+
+fn say_clients(core: &mut Core, site: &Site<'_>, out: &mut String) -> Result<(), Unanswered> {
     let client = site.scene.client;
     let (first, _) = client.split_at(ONE_REQUEST.min(client.len()));
-    say_served(serve_one(alloc, core, 1, first, site), out)?;
+    say_one(core, 1, first, site, out)?;
     out.push_str("; ")?;
-    say_served(serve_one(alloc, core, 2, client, site), out)
+    say_one(core, 2, client, site, out)?;
+    Ok(())
 }
 
-/// What came of a connection.
-#[derive(Clone, Copy)]
-struct Served {
-    /// Whether it was served.
-    well: bool,
-    /// How many octets the client got.
-    got: u64,
-    /// How many octets were recorded.
-    recorded: u64,
-}
-
-/// Serves one connection of a client who sends those octets.
-fn serve_one(
-    alloc: Global,
+/// Serves one connection of a client who sends those octets, and writes how many it got, and how many were recorded.
+fn say_one(
     core: &mut Core,
     number: u64,
     client: &[u8],
     site: &Site<'_>,
-) -> Served {
-    let mut recorder = Tally::new(b"", usize::MAX, site.notebook);
-    let link = Tally::new(client, usize::MAX, site.notebook);
+    out: &mut String,
+) -> Result<(), AllocError> {
+    let mut recorder = Tally::new(b"");
     let clock = Ticking::new(site.scene.step);
-    let mut connection = Connection::new(alloc, number, link, site, &clock);
-    let well = serve_connection(alloc, core, &mut connection, &mut recorder).is_ok();
-    Served {
-        well,
-        got: connection.client().got(),
-        recorded: recorder.got(),
-    }
+    let link = Tally::new(client);
+    let mut connection = Connection::new(site.alloc, number, link, site, &clock);
+    let answer = served(site.alloc, core, &mut connection, &mut recorder);
+    say_counts(answer, connection.client().got(), recorder.got(), out)
 }
 
-/// Writes how many octets the client got, and how many were recorded.
-fn say_served(served: Served, out: &mut String) -> Result<(), Unanswered> {
-    if !served.well {
-        out.push_str("not served: ")?;
+fn say_counts(
+    answer: Result<(), DriveFault>,
+    got: u64,
+    recorded: u64,
+    out: &mut String,
+) -> Result<(), AllocError> {
+    if answer.is_err() {
+        out.push_str(word_of(answer))?;
+        out.push_str(": ")?;
     }
-    let Served { got, recorded, .. } = served;
-    write!(out, "client {got} octets, recorder {recorded} octets")?;
-    Ok(())
+    write!(out, "client {got} octets, recorder {recorded} octets")
 }

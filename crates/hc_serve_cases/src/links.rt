@@ -121,7 +121,7 @@ impl<'a> Link for Memory<'a> {
         }
         let count = self.source.give(buffer, self.most);
         let (given, _) = buffer.split_at(count);
-        self.notebook.gives(self.device, given);
+        self.notebook.note(self.device, "gives", Some(given));
         Ok(count)
     }
 
@@ -141,7 +141,7 @@ impl<'a> Link for Memory<'a> {
     }
 
     fn end(&mut self) {
-        self.notebook.note(self.device, "ends");
+        self.notebook.note(self.device, "ends", None);
     }
 
     fn failures(&self) -> u64 {
@@ -149,21 +149,17 @@ impl<'a> Link for Memory<'a> {
     }
 }
 
-/// A link that gives octets and then ends, and counts those that it gets. Its notebook counts its reads, and notes
-/// nothing of it.
-#[derive(Drop)]
+/// A link that gives octets and then ends, and counts those that it gets.
+#[derive(Clone, Copy)]
 pub(crate) struct Tally<'a> {
     source: Source<'a>,
     got: u64,
     reads: u64,
     failures: u64,
-    /// The most octets that a read gives.
-    most: usize,
-    notebook: &'a Notebook,
 }
 
 impl<'a> Tally<'a> {
-    pub(crate) fn new(octets: &'a [u8], most: usize, notebook: &'a Notebook) -> Self
+    pub(crate) fn new(octets: &'a [u8]) -> Self
         ensures given { result.source.at ≡ 0 }
         ensures got { result.got ≡ 0 }
     {
@@ -172,8 +168,6 @@ impl<'a> Tally<'a> {
             got: 0,
             reads: 0,
             failures: 0,
-            most,
-            notebook,
         }
     }
 
@@ -197,8 +191,7 @@ impl<'a> Link for Tally<'a> {
 
     fn read(&mut self, buffer: &mut [u8]) -> Result<usize, LinkFailure> {
         self.reads = self.reads.saturating_add(1);
-        self.notebook.count_read();
-        Ok(self.source.give(buffer, self.most))
+        Ok(self.source.give(buffer, usize::MAX))
     }
 
     fn write(&mut self, octets: &[u8]) -> Result<usize, LinkFailure> {

@@ -13,6 +13,7 @@ mod scene;
 mod service;
 mod staged;
 mod telling;
+mod verdicts;
 
 use crate::answers::Connections;
 use std::process::ExitCode;

@@ -14,22 +14,18 @@ pub(crate) enum Device {
     Origin,
     /// The recorder's.
     Recorder,
+    /// That of a forward of which nothing is noted.
+    Quiet,
 }
 
 impl Device {
-    fn name(self) -> &'static str {
+    /// Its name, and how many words are noted of octets that it moves: of a record its kind, its number and its moment.
+    fn name(self) -> (&'static str, u32) {
         match self {
-            Device::Client => "client",
-            Device::Origin => "origin",
-            Device::Recorder => "recorder",
-        }
-    }
-
-    /// How many words are noted of octets that it moves: of a record its kind, its number and its moment.
-    fn words(self) -> u32 {
-        match self {
-            Device::Client | Device::Origin => 2,
-            Device::Recorder => 3,
+            Device::Client => ("client", 2),
+            Device::Origin => ("origin", 2),
+            Device::Recorder => ("recorder", 3),
+            Device::Quiet => ("", 0),
         }
     }
 }
@@ -97,7 +93,7 @@ impl Notebook {
         if self.calls.get() != call {
             return false;
         }
-        self.note(device, "fails");
+        self.note(device, "fails", None);
         self.silent.set(true);
         true
     }
@@ -125,29 +121,20 @@ impl Notebook {
         self.reads.get()
     }
 
-    /// Notes what came of a call.
-    pub(crate) fn note(&self, device: Device, deed: &str) {
+    /// Notes what came of a call: behind all else how many octets were moved, if any can be, and their first words.
+    pub(crate) fn note(&self, device: Device, deed: &str, octets: Option<&[u8]>) {
         self.silent.set(false);
-        if let Ok(mut notes) = self.notes.try_borrow_mut() {
-            let _ = say_deed(device, deed, &mut notes);
+        if device == Device::Quiet {
+            return;
         }
-    }
-
-    /// Notes that octets were moved: how many, and their first words.
-    fn note_octets(&self, device: Device, deed: &str, octets: &[u8]) {
         if let Ok(mut notes) = self.notes.try_borrow_mut() {
-            let _ = say_moved(device, deed, octets, &mut notes);
+            let _ = say_call(device, deed, octets, &mut notes);
         }
-    }
-
-    /// Notes that octets were read from a link.
-    pub(crate) fn gives(&self, device: Device, octets: &[u8]) {
-        self.note_octets(device, "gives", octets);
     }
 
     /// Notes that octets were written to a link.
     pub(crate) fn gets(&self, device: Device, octets: &[u8]) {
-        self.note_octets(device, "gets", octets);
+        self.note(device, "gets", Some(octets));
         if device != Device::Origin {
             return;
         }
@@ -171,26 +158,29 @@ impl Notebook {
 }
 
 /// Writes what came of a call behind what came before.
-fn say_deed(device: Device, deed: &str, notes: &mut String) -> Result<(), AllocError> {
+fn say_call(
+    device: Device,
+    deed: &str,
+    octets: Option<&[u8]>,
+    notes: &mut String,
+) -> Result<(), AllocError> {
     if !notes.is_empty() {
         notes.push_str(", ")?;
     }
-    let name = device.name();
-    write!(notes, "{name} {deed}")
+    let (name, words) = device.name();
+    write!(notes, "{name} {deed}")?;
+    match octets {
+        Some(octets) => say_octets(octets, words, notes),
+        None => Ok(()),
+    }
 }
 
-fn say_moved(
-    device: Device,
-    deed: &str,
-    octets: &[u8],
-    notes: &mut String,
-) -> Result<(), AllocError> {
-    say_deed(device, deed, notes)?;
+fn say_octets(octets: &[u8], words: u32, notes: &mut String) -> Result<(), AllocError> {
     let count = octets.len();
     write!(notes, " {count}")?;
     if count > 0 {
         notes.push_str(" ")?;
-        show_short(first_words(octets, device.words()), notes)?;
+        show_short(first_words(octets, words), notes)?;
     }
     Ok(())
 }

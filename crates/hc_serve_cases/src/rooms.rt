@@ -1,26 +1,22 @@
 //! A cache with room for some connections.
 
-use crate::scene::{number_of, text_of};
+ghost use Rattle.std.specs.Prelude.{ℕ};
+
+use crate::scene::{core_for, number_of, text_of};
+use crate::telling::word_of;
 use hc_cases::Unanswered;
+use hc_connection::{Awaiting, Links, Off};
 use hc_events::{Event, Happening};
 use hc_fields::Octets;
+use hc_framing::MessageText;
 use hc_machine::{Core, CoreFault};
-use hc_service::CoreSettings;
-use std::alloc::Global;
-use std::hash::BuildHasherDefault;
+use hc_order::{Occurrence, Reason, Receiver};
+use hc_serve::{DriveFault, drive};
+use std::alloc::{AllocError, Global};
+use std::hash::BuildHasher;
 
 /// What a client asks.
 const REQUEST: &[u8] = b"GET /a HTTP/1.1\r\nhost: h\r\n\r\n";
-
-/// A new cache with room for so many connections, or why there is none.
-fn new_core(alloc: Global, connections: usize) -> Result<Core, CoreFault> {
-    let settings = CoreSettings {
-        name: Octets::from_slice(alloc, b"hcache")?,
-        keys: 4,
-        bytes: 65_536,
-    };
-    Core::with_room(alloc, settings, BuildHasherDefault::new(), connections)
-}
 
 /// Hands a new cache with room for so many connections what happens, one step after another, and writes what each comes
 /// to.
@@ -32,7 +28,7 @@ pub(crate) fn say_room(
     let [connections, steps @ ..] = about else {
         return Err(Unanswered::Unknown);
     };
-    match new_core(alloc, number_of(connections.as_slice())?) {
+    match core_for(alloc, number_of(connections.as_slice())?) {
         Ok(mut core) => say_steps(alloc, &mut core, steps, out),
         Err(CoreFault::Memory) => Err(Unanswered::Memory),
         Err(fault) => {
@@ -70,14 +66,26 @@ fn say_step(
     };
     let connection = number_of(number.as_bytes())? as u64;
     let of = happening(alloc, word, connection)?;
-    match core.step(Event { moment: 1_000, of }) {
-        Ok(_) => out.push_str("served")?,
-        Err(fault) => out.push_str(fault.name())?,
-    }
+    out.push_str(handed(alloc, core, of))?;
     if core.awaits(connection) {
         out.push_str(", awaits")?;
     }
     Ok(())
+}
+
+/// Hands the cache what happens, and answers a word for what that comes to.
+fn handed(alloc: Global, core: &mut Core, of: Happening) -> &'static str {
+    let mut links = Handing { of: Some(of) };
+    word_of(driven(alloc, core, &mut links))
+}
+
+// What `drive` promises is of any links, and costs a check least where it isn't asked of these.
+fn driven<S: BuildHasher, L: Links>(
+    alloc: Global,
+    core: &mut Core<S>,
+    links: &mut L,
+) -> Result<(), DriveFault> {
+    drive(alloc, core, links, &mut Off)
 }
 
 /// What happens by that word at the connection.
@@ -91,4 +99,53 @@ fn happening(alloc: Global, word: &str, connection: u64) -> Result<Happening, Un
         "end" => Ok(Happening::ClientEnd(connection)),
         _ => Err(Unanswered::Unknown),
     }
+}
+
+/// Links at which one thing happens, whatever the cache awaits. What is sent to them is lost.
+struct Handing {
+    of: Option<Happening>,
+}
+
+impl Drop for Handing {
+    fn drop(self) {
+        let Handing { of } = self;
+        drop(of);
+    }
+}
+
+impl Links for Handing {
+    // It may happen out of turn, so there is no log by which it may.
+    ghost tells = { λ _ _. ⊥ };
+
+    ghost shows = { λ _ _. Unit {0} };
+
+    ghost rests = { λ _. Unit {0} };
+
+    ghost most = { λ _. 0 };
+
+    ghost Bounds = { ℕ };
+
+    ghost bounds = { λ _. 0 };
+
+    ghost within = { λ _ _. Unit {0} };
+
+    ghost may_tell = { λ _ _. Unit {0} };
+
+    ghost heeds = { λ _ _. Unit {0} };
+
+    fn next<A: Awaiting>(&mut self, _cache: &A) -> Result<Option<Occurrence>, AllocError> {
+        let Some(of) = self.of.take() else {
+            return Ok(None);
+        };
+        Ok(Some(Occurrence {
+            event: Event { moment: 1_000, of },
+            reason: Reason::Peer,
+        }))
+    }
+
+    fn send(&mut self, _to: Receiver, _octets: &MessageText) -> Result<(), AllocError> {
+        Ok(())
+    }
+
+    fn close(&mut self, _link: Receiver) {}
 }

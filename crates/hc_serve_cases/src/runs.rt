@@ -2,20 +2,16 @@
 
 use crate::links::Memory;
 use crate::notebook::{Device, Fault, Notebook};
-use crate::scene::{Scene, Site, Ticking, Trickle, new_core};
-use hc_audit::{
-    Allowed, AuditFault, Auditor, FieldNames, Index, Settings, UnmarkedReplies, Verdict,
-};
+use crate::scene::{Scene, Site, Ticking, new_core};
 use hc_cases::Unanswered;
-use hc_connection::{Connection, Origins};
-use hc_index::MapIndex;
+use hc_connection::{Clock, Connection, Link, Origins};
 use hc_machine::Core;
 use hc_serve::{DriveFault, serve_connection};
-use hc_transcript::Format;
 use std::alloc::Global;
+use std::hash::BuildHasher;
 
 /// What came of a connection.
-pub(crate) struct Served {
+pub(crate) struct Outcome {
     pub(crate) result: Result<(), DriveFault>,
     /// Whether the cache is idle then.
     pub(crate) idle: bool,
@@ -25,25 +21,6 @@ pub(crate) struct Served {
     pub(crate) reply: Vec<u8>,
     /// What was written to the recorder.
     pub(crate) recording: Vec<u8>,
-}
-
-impl Drop for Served {
-    fn drop(self) {
-        let Served {
-            result: _,
-            idle: _,
-            read: _,
-            reply,
-            recording,
-        } = self;
-        drop(reply);
-        drop(recording);
-    }
-}
-
-/// The same, and what its notebook has.
-pub(crate) struct Outcome {
-    pub(crate) served: Served,
     /// Whether the call that was to fail was made.
     pub(crate) failed: bool,
     /// Whether no call was made behind that one.
@@ -59,16 +36,57 @@ pub(crate) struct Outcome {
 impl Drop for Outcome {
     fn drop(self) {
         let Outcome {
-            served,
+            result: _,
+            idle: _,
+            read: _,
+            reply,
+            recording,
             failed: _,
             silent: _,
             reads: _,
             notes,
             forwards,
         } = self;
-        drop(served);
+        drop(reply);
+        drop(recording);
         drop(notes);
         drop(forwards);
+    }
+}
+
+impl Outcome {
+    /// Nothing has come yet.
+    fn new(alloc: Global) -> Self {
+        Outcome {
+            result: Ok(()),
+            idle: false,
+            read: 0,
+            reply: Vec::new(alloc),
+            recording: Vec::new(alloc),
+            failed: false,
+            silent: false,
+            reads: 0,
+            notes: String::new(alloc),
+            forwards: Vec::new(alloc),
+        }
+    }
+
+    /// Takes what the links of the client and the recorder were given.
+    fn see(&mut self, client: &Memory<'_>, recorder: &Memory<'_>) -> Result<(), Unanswered> {
+        self.read = client.given();
+        self.reply.extend_from_slice(client.got())?;
+        self.recording.extend_from_slice(recorder.got())?;
+        Ok(())
+    }
+
+    /// Takes what the notebook has.
+    fn take(&mut self, notebook: Notebook) {
+        self.failed = notebook.has_failed();
+        self.silent = notebook.is_silent();
+        self.reads = notebook.reads();
+        let (notes, forwards) = notebook.contents();
+        self.notes = notes;
+        self.forwards = forwards;
     }
 }
 
@@ -78,113 +96,61 @@ pub(crate) fn run(
     scene: &Scene<'_>,
     fault: Option<Fault>,
 ) -> Result<Outcome, Unanswered> {
+    let mut run = Outcome::new(alloc);
+    fill(alloc, scene, fault, &mut run)?;
+    Ok(run)
+}
+
+fn fill(
+    alloc: Global,
+    scene: &Scene<'_>,
+    fault: Option<Fault>,
+    run: &mut Outcome,
+) -> Result<(), Unanswered> {
     let notebook = Notebook::new(alloc, fault);
-    let site = Site {
-        alloc,
-        scene,
-        notebook: &notebook,
-    };
-    match serve(alloc, scene, &notebook, &site) {
-        Ok(served) => Ok(outcome_of(served, notebook)),
-        Err(why) => Err(why),
-    }
+    let answer = serve(alloc, scene, &notebook, run);
+    run.take(notebook);
+    answer
 }
 
-/// The same, where no call fails, origins give one octet a read, and nothing of their links is noted.
-pub(crate) fn run_by_octets(alloc: Global, scene: &Scene<'_>) -> Result<Outcome, Unanswered> {
-    let notebook = Notebook::new(alloc, None);
-    let site = Site {
-        alloc,
-        scene,
-        notebook: &notebook,
-    };
-    match serve(alloc, scene, &notebook, &Trickle { site }) {
-        Ok(served) => Ok(outcome_of(served, notebook)),
-        Err(why) => Err(why),
-    }
-}
-
-fn outcome_of(served: Served, notebook: Notebook) -> Outcome {
-    let failed = notebook.has_failed();
-    let silent = notebook.is_silent();
-    let reads = notebook.reads();
-    let (notes, forwards) = notebook.contents();
-    Outcome {
-        served,
-        failed,
-        silent,
-        reads,
-        notes,
-        forwards,
-    }
-}
-
-fn serve<O: Origins>(
+fn serve(
     alloc: Global,
     scene: &Scene<'_>,
     notebook: &Notebook,
-    origins: &O,
-) -> Result<Served, Unanswered> {
+    run: &mut Outcome,
+) -> Result<(), Unanswered> {
     let mut core = new_core(alloc)?;
-    serve_by(alloc, &mut core, scene, notebook, origins)
+    let site = Site {
+        alloc,
+        scene,
+        notebook,
+    };
+    serve_by(&mut core, &site, run)
 }
 
 // The same, by that cache.
-fn serve_by<O: Origins>(
-    alloc: Global,
-    core: &mut Core,
-    scene: &Scene<'_>,
-    notebook: &Notebook,
-    origins: &O,
-) -> Result<Served, Unanswered> {
-    let client = scene.link(alloc, Device::Client, scene.client, notebook);
-    let mut recorder = scene.link(alloc, Device::Recorder, b"", notebook);
+fn serve_by(core: &mut Core, site: &Site<'_>, run: &mut Outcome) -> Result<(), Unanswered> {
+    let Site {
+        alloc,
+        scene,
+        notebook,
+    } = *site;
+    let client = Memory::new(alloc, Device::Client, scene.client, scene.most, notebook);
+    let mut recorder = Memory::new(alloc, Device::Recorder, b"", scene.most, notebook);
     let clock = Ticking::new(scene.step);
-    let mut connection = Connection::new(alloc, 1, client, origins, &clock);
-    let answer = serve_connection(alloc, core, &mut connection, &mut recorder);
-    seen_at_links(alloc, answer, core.idle(), connection.client(), &recorder)
+    let mut connection = Connection::new(alloc, 1, client, site, &clock);
+    run.result = served(alloc, core, &mut connection, &mut recorder);
+    run.idle = core.idle();
+    run.see(connection.client(), &recorder)
 }
 
-// What came of it, by what the links were given.
-fn seen_at_links(
+/// Serves a connection.
+// What `serve_connection` promises is of any links, and costs a check least where it isn't asked of these.
+pub(crate) fn served<S: BuildHasher, C: Link, O: Origins, K: Clock, R: Link>(
     alloc: Global,
-    answer: Result<(), DriveFault>,
-    idle: bool,
-    client: &Memory<'_>,
-    recorder: &Memory<'_>,
-) -> Result<Served, Unanswered> {
-    let mut served = Served {
-        result: answer,
-        idle,
-        read: client.given(),
-        reply: Vec::new(alloc),
-        recording: Vec::new(alloc),
-    };
-    served.reply.extend_from_slice(client.got())?;
-    served.recording.extend_from_slice(recorder.got())?;
-    Ok(served)
-}
-
-/// The verdict of an audit that lets nothing pass on what was recorded.
-pub(crate) fn verdict_on(alloc: Global, recording: &[u8]) -> Result<Verdict, Unanswered> {
-    let settings = Settings {
-        slack: 0,
-        ignored: FieldNames::new(alloc),
-        unmarked: UnmarkedReplies::ErrorsOnly,
-        allowed: Allowed::nothing(alloc),
-    };
-    let auditor = Auditor::new(alloc, MapIndex::new(alloc), settings);
-    match audited(auditor, recording) {
-        Ok(verdict) => Ok(verdict),
-        Err(_) => Err(Unanswered::Memory),
-    }
-}
-
-fn audited<I: Index + Drop>(
-    mut auditor: Auditor<I>,
-    recording: &[u8],
-) -> Result<Verdict, AuditFault> {
-    auditor.feed(Format::Second.opening())?;
-    auditor.feed(recording)?;
-    auditor.finish()
+    core: &mut Core<S>,
+    connection: &mut Connection<'_, C, O, K>,
+    recorder: &mut R,
+) -> Result<(), DriveFault> {
+    serve_connection(alloc, core, connection, recorder)
 }

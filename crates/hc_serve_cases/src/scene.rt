@@ -1,28 +1,32 @@
 //! What a case is about: a client and origins in memory, a new cache, and a clock.
 
-ghost use Rattle.std.specs.Prelude.{◌≡◌, []};
-
-use crate::links::{Memory, Tally};
+use crate::links::Memory;
 use crate::notebook::{Device, Notebook};
 use hc_cases::Unanswered;
 use hc_connection::{Clock, LinkFailure, Origins};
 use hc_fields::Octets;
 use hc_machine::{Core, CoreFault};
-use hc_service::CoreSettings;
+use hc_service::{CoreSettings, USUAL_ROOM};
 use std::alloc::Global;
 use std::cell::Cell;
+use std::hash::BuildHasherDefault;
 
 /// The answer of an origin that can't be connected to.
 const NONE: &[u8] = b"-";
 
-/// A new cache, which keeps the largest body too.
-pub(crate) fn new_core(alloc: Global) -> Result<Core, Unanswered> {
+/// A new cache with room for so many connections, which keeps the largest body too; or why there is none.
+pub(crate) fn core_for(alloc: Global, connections: usize) -> Result<Core, CoreFault> {
     let settings = CoreSettings {
         name: Octets::from_slice(alloc, b"hcache")?,
         keys: 4,
         bytes: 67_108_864,
     };
-    match Core::new(alloc, settings) {
+    Core::with_room(alloc, settings, BuildHasherDefault::new(), connections)
+}
+
+/// A new cache.
+pub(crate) fn new_core(alloc: Global) -> Result<Core, Unanswered> {
+    match core_for(alloc, USUAL_ROOM) {
         Ok(core) => Ok(core),
         Err(CoreFault::Memory) => Err(Unanswered::Memory),
         Err(_) => Err(Unanswered::Unknown),
@@ -89,6 +93,8 @@ pub(crate) struct Scene<'a> {
     pub(crate) most: usize,
     /// How many seconds pass from one thing that happens to the next.
     pub(crate) step: u64,
+    /// Whether origins give and take one octet a call, and nothing of their links is noted.
+    pub(crate) trickles: bool,
     pub(crate) client: &'a [u8],
     /// The answers of origins, forward by forward.
     pub(crate) answers: &'a [Vec<u8>],
@@ -103,23 +109,10 @@ impl<'a> Scene<'a> {
         Ok(Scene {
             most: number_of(most.as_slice())?,
             step: 0,
+            trickles: false,
             client: client.as_slice(),
             answers,
         })
-    }
-
-    /// A link of that device, which gives those octets.
-    pub(crate) fn link(
-        &self,
-        alloc: Global,
-        device: Device,
-        octets: &'a [u8],
-        notebook: &'a Notebook,
-    ) -> Memory<'a>
-        ensures given { result.source.at ≡ 0 }
-        ensures got { result.got.items ≡ [] }
-    {
-        Memory::new(alloc, device, octets, self.most, notebook)
     }
 }
 
@@ -144,29 +137,14 @@ impl<'a> Origins for Site<'a> {
 
     fn connect(&self, forward: u64) -> Result<Memory<'a>, LinkFailure> {
         let Some(answer) = self.answer(forward) else {
-            self.notebook.note(Device::Origin, "refuses");
+            self.notebook.note(Device::Origin, "refuses", None);
             return Err(LinkFailure);
         };
-        Ok(
-            self.scene
-                .link(self.alloc, Device::Origin, answer, self.notebook),
-        )
-    }
-}
-
-/// The same origins, which give one octet a read. Nothing of their links is noted.
-#[derive(Clone, Copy)]
-pub(crate) struct Trickle<'a> {
-    pub(crate) site: Site<'a>,
-}
-
-impl<'a> Origins for Trickle<'a> {
-    type Link = Tally<'a>;
-
-    fn connect(&self, forward: u64) -> Result<Tally<'a>, LinkFailure> {
-        match self.site.answer(forward) {
-            Some(answer) => Ok(Tally::new(answer, 1, self.site.notebook)),
-            None => Err(LinkFailure),
-        }
+        let (device, most) = if self.scene.trickles {
+            (Device::Quiet, 1)
+        } else {
+            (Device::Origin, self.scene.most)
+        };
+        Ok(Memory::new(self.alloc, device, answer, most, self.notebook))
     }
 }

@@ -6,15 +6,15 @@ ghost use Rattle.hc_service.specs.Settings.{AreGood};
 use crate::hearing::say_streams;
 use crate::scene::{number_of, text_of};
 use crate::staged::{Manner, Staged};
-use crate::telling::say_verdict;
+use crate::verdicts::say_verdict;
 use hc_cases::Unanswered;
 use hc_fields::Octets;
 use hc_service::CoreSettings;
 use hc_sockets::{Claim, ServeFault, Service, serve};
 use hc_transcript::Format;
 use std::alloc::{AllocError, Global};
-use std::io::Write;
-use std::net::{Net, TcpListener};
+use std::io::{Read, Write};
+use std::net::{Net, OpenStream, TcpListener};
 use std::random::RandomSource;
 use std::rt::Files;
 use std::{fs, io};
@@ -82,8 +82,35 @@ where
     let play = Play::of(about)?;
     let origin = TcpListener::bind(system, "127.0.0.1:0")?;
     let staged = Staged::new(system, alloc, manner, origin, play.clients, play.answers);
-    out.push_str(served_beside(system, &staged, &play, manner)?)?;
-    say_left(alloc, &staged, play.file, out)
+    say_staged(system, &staged, &play, manner, out)
+}
+
+/// The same, of what is set up.
+fn say_staged<R: Net + Files + RandomSource>(
+    system: &R,
+    staged: &Staged<'_, R>,
+    play: &Play<'_>,
+    manner: Manner,
+    out: &mut String,
+) -> Result<(), Unanswered>
+where
+    R::File: Claim,
+{
+    out.push_str(served_beside(system, staged, play, manner)?)?;
+    staged.say_early(out)?;
+    say_kept(staged.alloc, "reply", staged.connected()?, out)?;
+    say_kept(staged.alloc, "forward", staged.forwards()?, out)?;
+    say_recorded(staged, play.file, out)
+}
+
+/// Writes what comes on streams, and lets them go.
+fn say_kept<S: Read + OpenStream + Drop>(
+    alloc: Global,
+    what: &str,
+    mut streams: Vec<S>,
+    out: &mut String,
+) -> Result<(), Unanswered> {
+    say_streams(alloc, what, streams.as_mut_slice(), out)
 }
 
 /// A word for what `serve` answers over what is set up, with the file as it stands there before.
@@ -114,7 +141,7 @@ where
     let settings = settings_by(staged.alloc, manner)?;
     let origin = address.as_str();
     let service = service(play.listen, origin, play.file, play.clients.len());
-    Ok(word_of(serve(staged, service, settings)))
+    Ok(word_of(&serve(staged, service, settings)))
 }
 
 /// Makes the file that stands there before, if one does, and answers it where another program holds it.
@@ -137,20 +164,16 @@ where
     }
 }
 
-/// Writes what clients are replied, what the origin is sent, and the verdict on the file, which is removed.
-fn say_left<R: Net + Files>(
-    alloc: Global,
+/// Writes the verdict on the file, which is removed.
+fn say_recorded<R: Net + Files>(
     staged: &Staged<'_, R>,
     file: &str,
     out: &mut String,
 ) -> Result<(), Unanswered> {
-    staged.say_early(out)?;
-    say_streams(alloc, "reply", staged.connected()?, out)?;
-    say_streams(alloc, "forward", staged.forwards()?, out)?;
     let recorded = fs::read(staged, file);
     let _ = fs::remove_file(staged, file);
     match recorded {
-        Ok(octets) => say_file(alloc, octets.as_slice(), out),
+        Ok(octets) => say_file(staged.alloc, octets.as_slice(), out),
         Err(_) => Ok(out.push_str("; no file")?),
     }
 }
@@ -159,7 +182,7 @@ fn say_left<R: Net + Files>(
 fn settings_by(alloc: Global, manner: Manner) -> Result<CoreSettings, AllocError>
     ensures { IfOk result AreGood }
 {
-    if manner == Manner::Small {
+    if matches!(manner, Manner::Small) {
         return Ok(CoreSettings {
             name: Octets::from_slice(alloc, b"small")?,
             keys: 1,
@@ -179,13 +202,17 @@ where
     R::File: Claim,
 {
     let mut file = fs::create(system, name)?;
-    file.write_all(Format::Second.opening())?;
-    file.claim()?;
+    open_and_claim(&mut file)?;
     Ok(file)
 }
 
+fn open_and_claim<F: Write + Claim>(file: &mut F) -> io::Result<()> {
+    file.write_all(Format::Second.opening())?;
+    file.claim()
+}
+
 /// A word for what `serve` answered.
-fn word_of(answer: Result<(), ServeFault>) -> &'static str {
+fn word_of(answer: &Result<(), ServeFault>) -> &'static str {
     match answer {
         Ok(()) => "served",
         Err(ServeFault::Memory) => "no memory",

@@ -6,9 +6,10 @@ use crate::hearing::say_streams;
 use crate::scene::answer_at;
 use std::alloc::{Alloc, Allocator, Global};
 use std::cell::{Cell, RefCell};
-use std::fs::{Metadata, OpenOptions};
-use std::io::{ErrorKind, Write};
+use std::fs::{Metadata, OpenOptions, Permissions};
+use std::io::{ErrorKind, PipeReader, PipeWriter, Write};
 use std::net::{Net, OpenListener, OpenStream, Shutdown, SocketAddr, TcpStream};
+use std::path::PathBuf;
 use std::random::RandomSource;
 use std::rt::Files;
 use std::time::{Clock, Duration};
@@ -18,7 +19,7 @@ use std::{io, mem};
 const MOMENT: u64 = 1_000;
 
 /// What is particular about a case.
-#[derive(Clone, Copy, PartialEq, Eq)]
+#[derive(Clone, Copy)]
 pub(crate) enum Manner {
     /// Nothing: clients end behind what they send.
     Ends,
@@ -145,29 +146,52 @@ impl<'a, R: Net> Staged<'a, R> {
 
     /// Whether the client at that place is gone before it is served.
     fn leaves(&self, place: usize) -> bool {
-        self.manner == Manner::Leaves && place == 0
+        matches!(self.manner, Manner::Leaves) && place == 0
+    }
+
+    /// The clients connect, one behind another.
+    fn connect_clients(&self, address: SocketAddr) -> io::Result<()> {
+        for (place, octets) in self.clients.iter().enumerate() {
+            let client = self.client(address, octets.as_slice())?;
+            if !self.leaves(place) {
+                keep(&self.connected, client)?;
+            }
+        }
+        Ok(())
     }
 
     /// A client who has connected and sent those octets.
     fn client(&self, address: SocketAddr, octets: &[u8]) -> io::Result<R::Stream> {
         let mut stream = TcpStream::connect(self.system, address)?;
-        stream.write_all(octets)?;
-        if self.manner != Manner::Stays {
-            stream.shutdown(Shutdown::Write)?;
-        }
+        let ends = !matches!(self.manner, Manner::Stays);
+        send(&mut stream, octets, ends)?;
         Ok(stream)
+    }
+
+    /// The origin accepts the forward, and gives that answer.
+    fn give(&self, answer: &[u8]) -> io::Result<()> {
+        let (mut accepted, _) = self.origin.accept()?;
+        self.give_on(&mut accepted, answer)?;
+        keep(&self.forwards, accepted)
+    }
+
+    fn give_on(&self, accepted: &mut R::Stream, answer: &[u8]) -> io::Result<()> {
+        if self.waits() {
+            self.hear()?;
+        }
+        send(accepted, answer, true)
     }
 
     /// Lets clients read what they are replied, and then go.
     fn hear(&self) -> io::Result<()> {
-        let streams = self.connected()?;
+        let mut streams = self.connected()?;
+        self.hear_all(streams.as_mut_slice())
+    }
+
+    fn hear_all(&self, streams: &mut [R::Stream]) -> io::Result<()> {
         let mut early = self.early.try_borrow_mut()?;
-        match say_streams(
-            self.alloc,
-            "reply before the last answer",
-            streams,
-            &mut early,
-        ) {
+        let what = "reply before the last answer";
+        match say_streams(self.alloc, what, streams, &mut early) {
             Ok(()) => Ok(()),
             Err(_) => Err(io::Error::from(ErrorKind::Other)),
         }
@@ -175,7 +199,7 @@ impl<'a, R: Net> Staged<'a, R> {
 
     /// Whether clients read what they are replied before the forward that was tried last is answered.
     fn waits(&self) -> bool {
-        self.manner == Manner::Waits && self.tried.get() == self.answers.len()
+        matches!(self.manner, Manner::Waits) && self.tried.get() == self.answers.len()
     }
 
     /// The answer to the next forward, if the origin can be connected to for it.
@@ -184,6 +208,15 @@ impl<'a, R: Net> Staged<'a, R> {
         self.tried.set(place.saturating_add(1));
         answer_at(self.answers, place)
     }
+}
+
+/// Sends octets on a stream, and maybe ends it.
+fn send<S: Write + OpenStream>(stream: &mut S, octets: &[u8], ends: bool) -> io::Result<()> {
+    stream.write_all(octets)?;
+    if ends {
+        stream.shutdown(Shutdown::Write)?;
+    }
+    Ok(())
 }
 
 /// The streams that are kept, of which none is left.
@@ -206,12 +239,7 @@ impl<'a, R: Net> Net for Staged<'a, R> {
     fn bind(&self, addr: SocketAddr) -> io::Result<R::Listener> {
         let listener = self.system.bind(addr)?;
         let address = listener.local_addr()?;
-        for (place, octets) in self.clients.iter().enumerate() {
-            let client = self.client(address, octets.as_slice())?;
-            if !self.leaves(place) {
-                keep(&self.connected, client)?;
-            }
-        }
+        self.connect_clients(address)?;
         Ok(listener)
     }
 
@@ -220,13 +248,7 @@ impl<'a, R: Net> Net for Staged<'a, R> {
             return Err(io::Error::from(ErrorKind::ConnectionRefused));
         };
         let stream = self.system.connect(addr)?;
-        let (mut accepted, _) = self.origin.accept()?;
-        if self.waits() {
-            self.hear()?;
-        }
-        accepted.write_all(answer)?;
-        accepted.shutdown(Shutdown::Write)?;
-        keep(&self.forwards, accepted)?;
+        self.give(answer)?;
         Ok(stream)
     }
 }
@@ -302,5 +324,41 @@ impl<'a, R: Net + Files> Files for Staged<'a, R> {
 
     fn remove_dir_all<B: Allocator>(&self, alloc: B, path: &str) -> io::Result<()> {
         self.system.remove_dir_all(alloc, path)
+    }
+
+    fn canonicalize<B: Allocator>(&self, alloc: B, path: &str) -> io::Result<PathBuf<B>> {
+        self.system.canonicalize(alloc, path)
+    }
+
+    fn read_link<B: Allocator>(&self, alloc: B, path: &str) -> io::Result<PathBuf<B>> {
+        self.system.read_link(alloc, path)
+    }
+
+    fn hard_link(&self, original: &str, link: &str) -> io::Result<()> {
+        self.system.hard_link(original, link)
+    }
+
+    fn set_permissions(&self, path: &str, permissions: Permissions) -> io::Result<()> {
+        self.system.set_permissions(path, permissions)
+    }
+
+    fn symlink(&self, original: &str, link: &str) -> io::Result<()> {
+        self.system.symlink(original, link)
+    }
+
+    fn pipe(&self) -> io::Result<(PipeReader, PipeWriter)> {
+        self.system.pipe()
+    }
+
+    fn chown(&self, path: &str, user: Option<u32>, group: Option<u32>) -> io::Result<()> {
+        self.system.chown(path, user, group)
+    }
+
+    fn lchown(&self, path: &str, user: Option<u32>, group: Option<u32>) -> io::Result<()> {
+        self.system.lchown(path, user, group)
+    }
+
+    fn create_dir_with_mode(&self, path: &str, mode: u32) -> io::Result<()> {
+        self.system.create_dir_with_mode(path, mode)
     }
 }

@@ -1,9 +1,9 @@
 //! What is told of connections.
 
 use crate::notebook::{Device, Fault};
-use crate::runs::{Outcome, run, run_by_octets, verdict_on};
+use crate::runs::{Outcome, run};
 use crate::scene::Scene;
-use hc_audit::Verdict;
+use crate::verdicts::say_verdict;
 use hc_cases::Unanswered;
 use hc_serve::DriveFault;
 use std::alloc::{AllocError, Global};
@@ -12,53 +12,51 @@ use std::fmt::Write;
 /// The most calls that fail in turn.
 const MOST_CALLS: u64 = 10_000;
 
-/// Writes the calls at all links, and how it ended. That call fails, if one is named.
-pub(crate) fn say_order(
+/// What is told of a run, before how it ended.
+#[derive(Clone, Copy)]
+pub(crate) enum Told {
+    /// The calls at all links.
+    Calls,
+    /// The same, and how many reads there were.
+    Reads,
+    /// How many octets of the client are read.
+    Octets,
+}
+
+/// Writes that of a run of the scene, and how it ended. That call fails, if one is named.
+pub(crate) fn say_run(
     alloc: Global,
+    told: Told,
     scene: &Scene<'_>,
     fault: Option<Fault>,
     out: &mut String,
 ) -> Result<(), Unanswered> {
-    say_notes(alloc, &run(alloc, scene, fault)?, out)
+    say_outcome(alloc, told, &run(alloc, scene, fault)?, out)
 }
 
-/// Writes the notes of a run, and how it ended.
-fn say_notes(alloc: Global, run: &Outcome, out: &mut String) -> Result<(), Unanswered> {
-    out.push_str(run.notes.as_str())?;
-    out.push_str("; ")?;
-    say_end(alloc, run, out)
-}
-
-/// Writes how many octets of the client are read, and how it ended.
-pub(crate) fn say_read(
+fn say_outcome(
     alloc: Global,
-    scene: &Scene<'_>,
+    told: Told,
+    run: &Outcome,
     out: &mut String,
 ) -> Result<(), Unanswered> {
-    say_octets_read(alloc, &run(alloc, scene, None)?, out)
-}
-
-fn say_octets_read(alloc: Global, run: &Outcome, out: &mut String) -> Result<(), Unanswered> {
-    let read = run.served.read;
-    write!(out, "{read} octets read; ")?;
+    say_told(told, run, out)?;
     say_end(alloc, run, out)
 }
 
-/// Writes the calls at the links of the client and the recorder, how many reads there were at all links, and how it
-/// ended, where origins give one octet a read.
-pub(crate) fn say_reads(
-    alloc: Global,
-    scene: &Scene<'_>,
-    out: &mut String,
-) -> Result<(), Unanswered> {
-    say_all_reads(alloc, &run_by_octets(alloc, scene)?, out)
-}
-
-fn say_all_reads(alloc: Global, run: &Outcome, out: &mut String) -> Result<(), Unanswered> {
-    out.push_str(run.notes.as_str())?;
-    let reads = run.reads;
-    write!(out, "; {reads} reads; ")?;
-    say_end(alloc, run, out)
+fn say_told(told: Told, run: &Outcome, out: &mut String) -> Result<(), AllocError> {
+    let Outcome { read, reads, .. } = run;
+    match told {
+        Told::Calls => {
+            out.push_str(run.notes.as_str())?;
+            out.push_str("; ")
+        }
+        Told::Reads => {
+            out.push_str(run.notes.as_str())?;
+            write!(out, "; {reads} reads; ")
+        }
+        Told::Octets => write!(out, "{read} octets read; "),
+    }
 }
 
 /// Lets the first call of the device's links fail, then the second, and so on until none does, and writes how each of
@@ -70,9 +68,18 @@ pub(crate) fn say_failures(
     out: &mut String,
 ) -> Result<(), Unanswered> {
     let whole = run(alloc, scene, None)?;
+    say_each_failure(alloc, scene, device, whole.recording.as_slice(), out)
+}
+
+fn say_each_failure(
+    alloc: Global,
+    scene: &Scene<'_>,
+    device: Device,
+    whole: &[u8],
+    out: &mut String,
+) -> Result<(), Unanswered> {
     for call in 1..=MOST_CALLS {
-        let fault = Fault { device, call };
-        if !fails(alloc, scene, fault, whole.served.recording.as_slice(), out)? {
+        if !fails(alloc, scene, Fault { device, call }, whole, out)? {
             break;
         }
     }
@@ -89,10 +96,7 @@ fn fails(
     out: &mut String,
 ) -> Result<bool, Unanswered> {
     let run = run(alloc, scene, Some(fault))?;
-    if run.failed {
-        say_failure(alloc, &run, fault.call, whole, out)?;
-    }
-    Ok(run.failed)
+    say_failure(alloc, &run, fault.call, whole, out)
 }
 
 fn say_failure(
@@ -101,67 +105,49 @@ fn say_failure(
     call: u64,
     whole: &[u8],
     out: &mut String,
-) -> Result<(), Unanswered> {
-    if call > 1 {
-        out.push_str("; ")?;
+) -> Result<bool, Unanswered> {
+    if run.failed {
+        say_failed(run, call, whole, out)?;
+        say_end(alloc, run, out)?;
     }
-    write!(out, "{call}: ")?;
-    say_failed(run, whole, out)?;
-    say_end(alloc, run, out)
+    Ok(run.failed)
 }
 
 /// Writes what stands behind a call that failed, and how much was recorded, beside what is where none fails.
-fn say_failed(run: &Outcome, whole: &[u8], out: &mut String) -> Result<(), AllocError> {
-    if run.silent {
-        out.push_str("silence, ")?;
-    }
-    if run.served.reply.as_slice().starts_with(b"HTTP/1.1 502 ") {
-        out.push_str("502, ")?;
-    }
-    let recording = run.served.recording.as_slice();
-    let count = recording.len();
-    let word = if whole.starts_with(recording) {
-        "of the same"
+fn say_failed(run: &Outcome, call: u64, whole: &[u8], out: &mut String) -> Result<(), AllocError> {
+    let before = if call > 1 { "; " } else { "" };
+    let silence = if run.silent { "silence, " } else { "" };
+    let reply = if run.reply.as_slice().starts_with(b"HTTP/1.1 502 ") {
+        "502, "
     } else {
-        "of another recording"
+        ""
     };
-    write!(out, "{count} octets {word}, ")
+    let recording = run.recording.as_slice();
+    let word = if whole.starts_with(recording) {
+        "the same"
+    } else {
+        "another recording"
+    };
+    write!(out, "{before}{call}: {silence}{reply}")?;
+    let count = recording.len();
+    write!(out, "{count} octets of {word}, ")
 }
 
 /// Writes what was answered, whether the cache is idle, and the verdict on the recording.
 fn say_end(alloc: Global, run: &Outcome, out: &mut String) -> Result<(), Unanswered> {
-    match run.served.result {
-        Ok(()) => out.push_str("served")?,
-        Err(DriveFault::Client) => out.push_str("client failed")?,
-        Err(DriveFault::Recorder) => out.push_str("recorder failed")?,
-        Err(DriveFault::Core(fault)) => out.push_str(fault.name())?,
-    }
-    if run.served.idle {
-        out.push_str(", idle")?;
-    }
-    out.push_str(", ")?;
-    say_verdict(alloc, run.served.recording.as_slice(), out)
+    out.push_str(word_of(run.result))?;
+    out.push_str(if run.idle { ", idle, " } else { ", " })?;
+    say_verdict(alloc, run.recording.as_slice(), out)
 }
 
-/// Writes the verdict on a recording.
-pub(crate) fn say_verdict(
-    alloc: Global,
-    recording: &[u8],
-    out: &mut String,
-) -> Result<(), Unanswered> {
-    match verdict_on(alloc, recording)? {
-        Verdict::Yes(counts) => {
-            let records = counts.records;
-            let replies = counts.replies;
-            let hits = counts.hits;
-            write!(out, "yes records={records} replies={replies} hits={hits}")?;
-        }
-        Verdict::No(position, reason) => write!(out, "no {position} {}", reason.name())?,
-        Verdict::Malformed(position, fault) => {
-            write!(out, "malformed {position} {}", fault.name())?
-        }
+/// A word for what was answered.
+pub(crate) fn word_of(answer: Result<(), DriveFault>) -> &'static str {
+    match answer {
+        Ok(()) => "served",
+        Err(DriveFault::Client) => "client failed",
+        Err(DriveFault::Recorder) => "recorder failed",
+        Err(DriveFault::Core(fault)) => fault.name(),
     }
-    Ok(())
 }
 
 /// Writes whether the same passes where a call moves one octet.
@@ -171,35 +157,23 @@ pub(crate) fn say_octets(
     out: &mut String,
 ) -> Result<(), Unanswered> {
     let whole = run(alloc, scene, None)?;
-    say_split(
-        &whole,
-        &run(alloc, &Scene { most: 1, ..*scene }, None)?,
-        out,
-    )
+    let split = run(alloc, &Scene { most: 1, ..*scene }, None)?;
+    say_split(&whole, &split, out)
 }
 
 fn say_split(whole: &Outcome, split: &Outcome, out: &mut String) -> Result<(), Unanswered> {
-    let (one, other) = (&whole.served, &split.served);
-    say_same("reply", one.reply.as_slice(), other.reply.as_slice(), out)?;
-    say_same(
-        "forwards",
-        whole.forwards.as_slice(),
-        split.forwards.as_slice(),
-        out,
-    )?;
-    say_same(
-        "recording",
-        one.recording.as_slice(),
-        other.recording.as_slice(),
-        out,
-    )?;
+    let (reply, other) = (whole.reply.as_slice(), split.reply.as_slice());
+    say_same("reply", reply, other, out)?;
+    out.push_str("; ")?;
+    let (forwards, other) = (whole.forwards.as_slice(), split.forwards.as_slice());
+    say_same("forwards", forwards, other, out)?;
+    out.push_str("; ")?;
+    let (recording, other) = (whole.recording.as_slice(), split.recording.as_slice());
+    say_same("recording", recording, other, out)?;
     Ok(())
 }
 
 fn say_same(what: &str, one: &[u8], other: &[u8], out: &mut String) -> Result<(), AllocError> {
-    if !out.is_empty() {
-        out.push_str("; ")?;
-    }
     let count = one.len();
     let word = if one == other { "the same" } else { "another" };
     write!(out, "{word} {what} of {count} octets")

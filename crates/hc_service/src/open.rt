@@ -8,7 +8,6 @@ use crate::cases::Cause;
 use hc_head::{RequestHead, Target};
 
 /// A request that awaits its reply.
-#[derive(Drop)]
 pub struct OpenExchange {
     /// The number of the connection on which it came.
     pub connection: u64,
@@ -22,7 +21,6 @@ pub struct OpenExchange {
 }
 
 /// A request that was sent to the origin and isn't answered yet.
-#[derive(Drop)]
 pub struct OpenForward {
     /// Its head, as it was sent.
     pub request: RequestHead,
@@ -32,6 +30,64 @@ pub struct OpenForward {
     pub moment: u64,
     /// Whom its answer is for.
     pub purpose: Purpose,
+}
+
+impl Drop for OpenExchange {
+    fn drop(self) {
+        let OpenExchange {
+            connection: _,
+            request,
+            target,
+            waits_for: _,
+        } = self;
+        drop(request);
+        drop(target);
+    }
+}
+
+impl Drop for OpenForward {
+    fn drop(self) {
+        let OpenForward {
+            request,
+            target,
+            moment: _,
+            purpose: _,
+        } = self;
+        drop(request);
+        drop(target);
+    }
+}
+
+impl OpenExchange {
+    /// What it asks for, alone.
+    pub fn into_target(self) -> Target
+        ensures { result ≡ self.target }
+    {
+        let OpenExchange {
+            connection: _,
+            request,
+            target,
+            waits_for: _,
+        } = self;
+        drop(request);
+        target
+    }
+}
+
+impl OpenForward {
+    /// Its head and what it asks for.
+    pub fn into_parts(self) -> (RequestHead, Target)
+        ensures request { result.0 ≡ self.request }
+        ensures target { result.1 ≡ self.target }
+    {
+        let OpenForward {
+            request,
+            target,
+            moment: _,
+            purpose: _,
+        } = self;
+        (request, target)
+    }
 }
 
 /// How a request goes to the origin.

@@ -1,8 +1,10 @@
 use Rattle.std.proofs.Common.{◌≤◌, ℕ, length, subst, sym}
+use Rattle.std.specs.Prelude.{OnOk}
 use Rattle.std.specs.BTreeMap.{BTreeMap}
+use Rattle.hc_head.specs.declared.head.Target.{Target}
 use Rattle.hc_links.specs.RequestReading.{unread}
 use Rattle.hc_open.specs.declared.links.Client.{Client}
-use Rattle.hc_machine.specs.Reading.{unread_at}
+use Rattle.hc_machine.specs.Reading.{SendsBehind, unread_at}
 use Rattle.hc_machine.specs.Standing.{at_desk}
 use Rattle.hc_machine.proofs.AskLemmas.{replies_alone, replies_then}
 use Rattle.hc_machine.proofs.SendLemmas.{always_ok, on_ok_by}
@@ -19,7 +21,9 @@ returns-in-Some-clause-replies g c =
     (replies_then g.row.S.Denot g.row.S-Hasher.Denot (record { number = c.args.number; exchange = c.args.exchange; client = c.args.client }) c.args.closes c.args.reply.now c.args.behind c.in-Some.validation
     (at_desk c.args.actions.now.items c.args.self.now) (at_desk c.reply_at_once.new.actions.items c.reply_at_once.new.self) (at_desk c.send_behind.new.actions.items c.send_behind.new.self) c.in-Some.is
     c.in_ok-reply_at_once.ensures.replies)
-    c.send_behind.ensures.sends
+    (subst (λ (t : Target). OnOk c.send_behind.result (SendsBehind {S = g.row.S.Denot} {H = g.row.S-Hasher.Denot} t c.in-Some.validation
+    (at_desk c.reply_at_once.new.actions.items c.reply_at_once.new.self) (at_desk c.send_behind.new.actions.items c.send_behind.new.self)))
+    c.into_target.ensures c.send_behind.ensures.sends)
 
 pub returns-in-Some-clause-unread : goal.returns-in-Some-clause-unread
 returns-in-Some-clause-unread g c = λ none.

@@ -1,31 +1,28 @@
-//! What the program makes of a transcript that it reads.
+//! What the program does by words, over devices in memory.
 
 use crate::commands_words::asks_for_audit;
-use crate::verdicts_pieces::Pieces;
+use crate::devices::Pieces;
 use crate::written::Written;
 use hc_arguments::{Order, parsed};
 use hc_auditing::{audit, shown};
 use hc_baseline::Baseline;
 use hc_cases::Unanswered;
-use hc_command::{BaselineTrouble, ReportForm, baseline_of, explain, report};
+use hc_command::{BaselineTrouble, ReportForm, baseline_of, convert, explain, replay, report};
 use hc_options::audit_asked;
 use std::alloc::Global;
+use std::io::Write;
 
-/// What the program writes by those words, which ask for an audit, a report or an explanation, of the transcript that the
-/// pieces make, and its exit status. It reads a piece at a time.
+/// What the program writes by those words of what the pieces make, and its exit status. It reads a piece at a time. An
+/// audit is asked of the program that only audits, too.
 pub(crate) fn written_of(
     alloc: Global,
     words: &[&str],
     pieces: &[&[u8]],
 ) -> Result<Written, Unanswered> {
     let mut written = Written::nothing(alloc);
-    written.status = status_of(
-        alloc,
-        words,
-        pieces,
-        &mut written.output,
-        &mut written.faults,
-    )?;
+    let mut input = Pieces::new(pieces);
+    let output = &mut written.output;
+    written.status = status_of(alloc, words, &mut input, output, &mut written.faults)?;
     if asks_for_audit(words) {
         written.compare(&written_alone(alloc, words, pieces));
     }
@@ -47,31 +44,31 @@ fn written_alone(alloc: Global, words: &[&str], pieces: &[&[u8]]) -> Written {
     written
 }
 
-// Writes that, and answers the exit status.
-fn status_of(
+/// Does what the words ask, which is to audit, to report, to explain, to replay or to convert, and answers the exit
+/// status.
+pub(crate) fn status_of<W: Write, E: Write>(
     alloc: Global,
     words: &[&str],
-    pieces: &[&[u8]],
-    output: &mut Vec<u8>,
-    faults: &mut Vec<u8>,
+    input: &mut Pieces<'_>,
+    output: &mut W,
+    faults: &mut E,
 ) -> Result<u8, Unanswered> {
     match parsed(alloc, words) {
-        Ok(order) => done(alloc, order, pieces, output, faults),
+        Ok(order) => done(alloc, order, input, output, faults),
         Err(error) => Ok(shown(&error, output, faults)),
     }
 }
 
 // Does what is asked, and answers the exit status.
-fn done(
+fn done<W: Write, E: Write>(
     alloc: Global,
     order: Order<'_>,
-    pieces: &[&[u8]],
-    output: &mut Vec<u8>,
-    faults: &mut Vec<u8>,
+    input: &mut Pieces<'_>,
+    output: &mut W,
+    faults: &mut E,
 ) -> Result<u8, Unanswered> {
-    let mut input = Pieces::new(pieces);
     match order {
-        Order::Audit { file, terms } => Ok(audit(alloc, terms, file, &mut input, output, faults)),
+        Order::Audit { file, terms } => Ok(audit(alloc, terms, file, input, output, faults)),
         Order::Report {
             file,
             terms,
@@ -80,14 +77,16 @@ fn done(
         } => match known(alloc, baseline) {
             Ok(baseline) => {
                 let form = ReportForm { json, baseline };
-                Ok(report(alloc, terms, form, file, &mut input, output, faults))
+                Ok(report(alloc, terms, form, file, input, output, faults))
             }
             Err(trouble) => Ok(trouble.told("baseline", faults)),
         },
         Order::Explain { file, terms } => {
-            let mut again = Pieces::new(pieces);
-            Ok(explain(alloc, terms, file, &mut input, &mut again, output, faults))
+            let mut again = input.again();
+            Ok(explain(alloc, terms, file, input, &mut again, output, faults))
         }
+        Order::Replay { file } => Ok(replay(alloc, file, input, output, faults)),
+        Order::Convert { file } => Ok(convert(alloc, file, input, output, faults)),
         _ => Err(Unanswered::Unknown),
     }
 }
