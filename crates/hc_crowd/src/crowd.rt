@@ -21,11 +21,21 @@ use std::alloc::{AllocError, Global};
 ///
 /// Each link has one turn in a batch, in which it is read once, so that no client holds up the others. A client is read
 /// only where none of its requests awaits its reply, and all that was owed to it was written.
-#[derive(Drop)]
 pub struct Crowd<W: World> {
     limits: Limits,
     clock: Moments,
     traffic: Traffic<W>,
+}
+
+impl<W: World + Drop> Drop for Crowd<W> {
+    fn drop(self) {
+        let Crowd {
+            limits: _,
+            clock: _,
+            traffic,
+        } = self;
+        drop(traffic);
+    }
 }
 
 impl<W: World + Drop> Crowd<W> {

@@ -15,7 +15,6 @@ use std::alloc::{AllocError, Global};
 const MOST_OCTETS: usize = 65_536;
 
 /// The links of a crowd, and what is to be done with them.
-#[derive(Drop)]
 pub(crate) struct Traffic<W: World> {
     pub(crate) alloc: Global,
     pub(crate) world: W,
@@ -29,6 +28,27 @@ pub(crate) struct Traffic<W: World> {
     pub(crate) failures: Failures,
     /// The millisecond of this batch. Its links are heard, sent to and written to then.
     pub(crate) tick: u64,
+}
+
+impl<W: World + Drop> Drop for Traffic<W> {
+    fn drop(self) {
+        let Traffic {
+            alloc: _,
+            world,
+            peers,
+            buffer,
+            agenda,
+            listening: _,
+            course: _,
+            holding: _,
+            failures: _,
+            tick: _,
+        } = self;
+        drop(world);
+        drop(peers);
+        drop(buffer);
+        drop(agenda);
+    }
 }
 
 impl<W: World + Drop> Traffic<W> {

@@ -21,12 +21,23 @@ struct Listener {
 }
 
 /// The sockets to which clients connect, each at an address.
-#[derive(Drop)]
 pub(crate) struct Listeners {
     listeners: Vec<Listener>,
     addresses: Vec<SocketAddr>,
     /// The place of the one whose turn it is.
     turn: usize,
+}
+
+impl Drop for Listeners {
+    fn drop(self) {
+        let Listeners {
+            listeners,
+            addresses,
+            turn: _,
+        } = self;
+        drop(listeners);
+        drop(addresses);
+    }
 }
 
 impl Listeners {

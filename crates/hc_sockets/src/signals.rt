@@ -49,7 +49,6 @@ impl Masks {
 }
 
 /// What is known of signals that ask the program to stop. They have to be blocked: one that isn't ends the program.
-#[derive(Drop)]
 pub(crate) struct Signals<F: Read + Seek> {
     /// None, where it can't be read.
     status: Option<F>,
@@ -60,6 +59,20 @@ pub(crate) struct Signals<F: Read + Seek> {
     came: bool,
     /// The millisecond from which on the system is asked again.
     due: u64,
+}
+
+impl<F: Read + Seek + Drop> Drop for Signals<F> {
+    fn drop(self) {
+        let Signals {
+            status,
+            text,
+            heard: _,
+            came: _,
+            due: _,
+        } = self;
+        drop(status);
+        drop(text);
+    }
 }
 
 impl<F: Read + Seek + Drop> Signals<F> {

@@ -46,7 +46,6 @@ impl From<AllocError> for SocketsFault {
 }
 
 /// The system's sockets, clocks and signals. What is ready is asked of all sockets at once.
-#[derive(Drop)]
 pub(crate) struct Sockets<'a, R: Net + Files + Clock> {
     rt: &'a R,
     poll: Poll,
@@ -59,6 +58,27 @@ pub(crate) struct Sockets<'a, R: Net + Files + Clock> {
     origin: Vec<SocketAddr>,
     attempts: Attempts,
     signals: Signals<R::File>,
+}
+
+impl<'a, R: Net + Files + Clock> Drop for Sockets<'a, R> {
+    fn drop(self) {
+        let Sockets {
+            rt: _,
+            poll,
+            events,
+            told: _,
+            listeners,
+            origin,
+            attempts,
+            signals,
+        } = self;
+        drop(poll);
+        drop(events);
+        drop(listeners);
+        drop(origin);
+        drop(attempts);
+        drop(signals);
+    }
 }
 
 impl<'a, R: Net + Files + Clock + AllocGlobal> Sockets<'a, R> {
