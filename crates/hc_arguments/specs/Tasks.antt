@@ -68,7 +68,7 @@ task_of (Explain file terms) = ToExplain file.now terms
 task_of (Show file span) = ToShow file.now span
 task_of (Replay file) = ToReplay file.now
 task_of (Convert file) = ToConvert file.now
-task_of (Serve listen origin connections file settings) = ToServe listen.now origin.now connections file.now settings
+task_of (Serve s) = ToServe s.listen.now s.origin.now s.connections s.file.now s.settings
 task_of (Proxy p) = ToProxy p.listen.now p.origin.now (option_map (λ file. file.now) p.file) p.terms p.limits p.settings
 
 -- the values, by their names, ask that of `report`

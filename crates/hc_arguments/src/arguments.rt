@@ -20,7 +20,9 @@ ghost use Rattle.hc_arguments.specs.Tasks.Task.{ToAudit, ToConvert, ToExplain, T
 
 use crate::cache::cache_in;
 use crate::command::{command, command_named};
-use crate::order::{ExplainTerms, Order, ProxyLimits, ProxyPatience, Proxying, RecordTerms};
+use crate::order::{
+    ExplainTerms, Order, ProxyLimits, ProxyPatience, Proxying, RecordTerms, Serving,
+};
 use crate::positions::span_of;
 use crate::rows::{
     CLIENTS, CONNECT_TIMEOUT, CONNECTIONS, DRAIN_TIMEOUT, EXPLAINED, HELD, IDLE_TIMEOUT,
@@ -233,13 +235,13 @@ fn serve_in<'a>(alloc: Global, found: &ArgMatches<'a>) -> Result<Order<'a>, Refu
     let file = required(found, "record")?;
     let connections = connections_in(found)?;
     let settings = cache_in(alloc, found)?;
-    Ok(Order::Serve {
+    Ok(Order::Serve(Serving {
         listen,
         origin,
         connections,
         file,
         settings,
-    })
+    }))
 }
 
 // How many connections are served, which has to be said.

@@ -10,4 +10,4 @@ mod rows;
 
 pub use arguments::{not_text, parsed};
 pub use hc_options::{AuditTerms, Minimums};
-pub use order::{ExplainTerms, Order, ProxyLimits, ProxyPatience, Proxying, RecordTerms};
+pub use order::{ExplainTerms, Order, ProxyLimits, ProxyPatience, Proxying, RecordTerms, Serving};

@@ -50,19 +50,8 @@ pub enum Order<'a> {
         /// Where it is: the name of a file.
         file: &'a str,
     },
-    /// To serve clients, and to record that.
-    Serve {
-        /// The host and the port to which clients connect.
-        listen: &'a str,
-        /// The host and the port of the origin.
-        origin: &'a str,
-        /// How many connections of clients are served, from 1 to 999,999,999,999.
-        connections: u64,
-        /// The name of the file that is recorded to.
-        file: &'a str,
-        /// What the cache is: one can be.
-        settings: CoreSettings,
-    },
+    /// To serve clients, one connection after another, and to record that.
+    Serve(Serving<'a>),
     /// To serve many clients at once.
     Proxy(Proxying<'a>),
 }
@@ -76,6 +65,21 @@ pub struct ExplainTerms {
     pub settings: Settings,
     /// Whether the explanation is one JSON object, in place of text.
     pub json: bool,
+}
+
+/// Between whom a cache serves, and how.
+#[derive(Drop)]
+pub struct Serving<'a> {
+    /// The host and the port to which clients connect.
+    pub listen: &'a str,
+    /// The host and the port of the origin.
+    pub origin: &'a str,
+    /// How many connections of clients are served, from 1 to 999,999,999,999.
+    pub connections: u64,
+    /// The name of the file that is recorded to.
+    pub file: &'a str,
+    /// What the cache is: one can be.
+    pub settings: CoreSettings,
 }
 
 /// Between whom a proxy stands, and how.

@@ -10,6 +10,7 @@ mod replaying;
 mod reporting;
 mod run;
 mod saying;
+mod serving;
 mod showing;
 mod surveying;
 
@@ -19,4 +20,5 @@ pub use explaining::explain;
 pub use replaying::replay;
 pub use reporting::{ReportForm, report};
 pub use run::{answered, status};
+pub use serving::Server;
 pub use showing::show;

@@ -1,6 +1,5 @@
 //! What the program does, over any system and any two writers.
-ghost use Rattle.std.specs.Prelude.{◌≡◌, ◌⊎◌, ◌<◌, ◌∷◌, [], ℕ, None, Some, codes, false, map, option_map};
-ghost use Rattle.std.specs.Io.KnownBytes.{Keeps};
+ghost use Rattle.std.specs.Prelude.{◌≡◌, ◌<◌, ◌∷◌, [], ℕ, None, Some, codes, false, map, option_map};
 ghost use Rattle.clap.specs.Words.{Text, fault_of};
 ghost use Rattle.hc_options.specs.Auditing.{no_minimums, plain_audit};
 ghost use Rattle.hc_options.specs.Commands.{IsFileName, IsWord};
@@ -14,62 +13,55 @@ ghost use Rattle.hc_command.specs.Replay.{Played};
 ghost use Rattle.hc_command.specs.Show.{ShownFor};
 ghost use Rattle.hc_command.specs.Report.{Explained};
 ghost use Rattle.hc_command.specs.Reporting.{ReportedBy, ReportedIn, ReportedOn};
-ghost use Rattle.hc_service.specs.Settings.{AreGood};
-ghost use Rattle.hc_notices.specs.Notices.{SaysSome};
 
 use crate::baseline::{BaselineTrouble, baseline_of};
 use crate::converting::convert;
 use crate::explaining::explain;
 use crate::replaying::replay;
 use crate::reporting::{ReportForm, report};
+use crate::serving::Server;
 use crate::showing::show;
-use hc_arguments::{
-    AuditTerms, ExplainTerms, Order, ProxyLimits, ProxyPatience, Proxying, RecordTerms, not_text,
-    parsed,
-};
+use hc_arguments::{AuditTerms, ExplainTerms, Order, not_text, parsed};
 use hc_auditing::{Trouble, audited, input_name, input_of, opened, shown, unread, words_of};
 use hc_baseline::Baseline;
-use hc_crowd::{Limits, Patience};
 use hc_history::Settings;
-use hc_service::CoreSettings;
 use hc_showing::Span;
-use hc_sockets::{Claim, Proxy, RecordTo, ServeFault, Service, serve, serve_proxy};
 use std::convert::AsStr;
-use std::io;
 use std::io::Write;
-use std::net::Net;
-use std::random::RandomSource;
 use std::rt::{Env, Files};
-use std::time::Clock;
 
-/// Does what the program's own arguments ask, and answers its exit status.
-pub fn status<R, W: Write, E: Write>(rt: &R, output: &mut W, faults: &mut E) -> u8
+/// Does what the program's own arguments ask, and answers its exit status. What is to be served, that server serves.
+pub fn status<R, V: Server, W: Write, E: Write>(
+    rt: &R,
+    server: &V,
+    output: &mut W,
+    faults: &mut E,
+) -> u8
 where
-    R: Env + Files + Input + Net + Clock + RandomSource + AllocGlobal,
-    R::File: Claim,
+    R: Env + Files + Input + AllocGlobal,
     ensures { Ends result (W.contents output.old) (W.contents output.new)
         (E.contents faults.old) (E.contents faults.new) }
 {
     match words_of(rt) {
-        Ok(words) => answered(rt, words.as_slice(), output, faults),
+        Ok(words) => answered(rt, server, words.as_slice(), output, faults),
         Err(error) => unread(&error, not_text(rt.alloc()), output, faults),
     }
 }
 
 /// Does what the words ask, of which the first is the program's name, and answers the exit status.
 ///
-/// A transcript or a script is read from the system, and clients are served by its sockets. A verdict, the
+/// A transcript or a script is read from the system, and clients are served by that server. A verdict, the
 /// transcript of a script, a converted transcript, help or the version goes to `output`, and what went wrong, or
 /// the verdict on the transcript of a script, to `faults`.
-pub fn answered<R, S: AsStr, W: Write, E: Write>(
+pub fn answered<R, V: Server, S: AsStr, W: Write, E: Write>(
     rt: &R,
+    server: &V,
     words: &[S],
     output: &mut W,
     faults: &mut E,
 ) -> u8
 where
-    R: Files + Input + Net + Clock + RandomSource + AllocGlobal,
-    R::File: Claim,
+    R: Files + Input + AllocGlobal,
     // `audit FILE` is answered by an audit, and by no usage error.
     ensures audit { (name file : Text) → IsWord file
         → map S.text words.now ≡ name ∷ codes "audit" ∷ file ∷ []
@@ -122,16 +114,21 @@ where
         (E.contents faults.old) (E.contents faults.new) }
 {
     match parsed(rt.alloc(), words) {
-        Ok(order) => done(rt, order, output, faults),
+        Ok(order) => done(rt, server, order, output, faults),
         Err(error) => shown(&error, output, faults),
     }
 }
 
 // Does what is asked.
-fn done<R, W: Write, E: Write>(rt: &R, order: Order<'_>, output: &mut W, faults: &mut E) -> u8
+fn done<R, V: Server, W: Write, E: Write>(
+    rt: &R,
+    server: &V,
+    order: Order<'_>,
+    output: &mut W,
+    faults: &mut E,
+) -> u8
 where
-    R: Files + Input + Net + Clock + RandomSource + AllocGlobal,
-    R::File: Claim,
+    R: Files + Input + AllocGlobal,
     requires { CanBeDone (task_of order) }
     ensures { Does (task_of order.entry) result (W.contents output.old) (W.contents output.new) (E.contents faults.old) (E.contents faults.new) }
 {
@@ -150,22 +147,8 @@ where
         Order::Show { file, span } => records_shown(rt, file, span, output, faults),
         Order::Replay { file } => replayed(rt, file, output, faults),
         Order::Convert { file } => converted(rt, file, output, faults),
-        Order::Serve {
-            listen,
-            origin,
-            connections,
-            file,
-            settings,
-        } => {
-            let service = Service {
-                listen,
-                origin,
-                connections,
-                file,
-            };
-            served(rt, service, settings, faults)
-        }
-        Order::Proxy(proxying) => proxied(rt, proxying, faults),
+        Order::Serve(serving) => server.serve(serving, faults),
+        Order::Proxy(proxying) => server.proxy(proxying, faults),
     }
 }
 
@@ -320,122 +303,5 @@ where
     match opened(rt, file) {
         Ok(mut input) => convert(rt.alloc(), file, &mut input, output, faults),
         Err(error) => Trouble::Device(error).told(file, faults),
-    }
-}
-
-// Serves clients.
-fn served<R, E: Write>(rt: &R, service: Service<'_>, settings: CoreSettings, faults: &mut E) -> u8
-where
-    R: Files + Net + Clock + RandomSource + AllocGlobal,
-    R::File: Claim,
-    requires { AreGood settings }
-    ensures { (result ≡ 3) ⊎ ((result ≡ 0) × Keeps (E.contents faults.old) (E.contents faults.new)) }
-{
-    let names = Proxy {
-        listen: service.listen,
-        origin: service.origin,
-        recording: Some(RecordTo {
-            file: service.file,
-            strict: true,
-            limit: None,
-        }),
-    };
-    match serve(rt, service, settings) {
-        Ok(()) => 0,
-        Err(fault) => unserved(fault, names, faults),
-    }
-}
-
-// Serves many clients at once.
-fn proxied<R, E: Write>(rt: &R, proxying: Proxying<'_>, faults: &mut E) -> u8
-where
-    R: Files + Net + Clock + RandomSource + AllocGlobal,
-    R::File: Claim,
-    requires { AreGood proxying.settings }
-    ensures { (result ≡ 3) ⊎ ((result ≡ 0) × SaysSome (E.contents faults.old) (E.contents faults.new)) }
-{
-    let Proxying {
-        listen,
-        origin,
-        file,
-        terms,
-        limits,
-        settings,
-    } = proxying;
-    let proxy = Proxy {
-        listen,
-        origin,
-        recording: recording_to(file, terms),
-    };
-    match serve_proxy(rt, proxy, in_milliseconds(limits), settings, faults) {
-        Ok(()) => 0,
-        Err(fault) => unserved(fault, proxy, faults),
-    }
-}
-
-// Where a proxy records on those terms, if it has a file.
-fn recording_to(file: Option<&str>, terms: RecordTerms) -> Option<RecordTo<'_>> {
-    let RecordTerms { strict, limit } = terms;
-    Some(RecordTo {
-        file: file?,
-        strict,
-        limit,
-    })
-}
-
-// The same limits, with times in milliseconds in place of seconds.
-fn in_milliseconds(limits: ProxyLimits) -> Limits {
-    Limits {
-        connections: limits.connections as usize,
-        origin_connections: limits.origin_connections as usize,
-        held: limits.held,
-        patience: patience_of(limits.patience),
-        queue_timeout: milliseconds(limits.patience.queue_timeout),
-        connect_timeout: milliseconds(limits.connect_timeout),
-        drain_timeout: milliseconds(limits.drain_timeout),
-        clients: limits.clients,
-    }
-}
-
-// The same patience, in milliseconds. For how long a place at the origin is awaited isn't part of it.
-fn patience_of(patience: ProxyPatience) -> Patience {
-    Patience {
-        idle_timeout: milliseconds(patience.idle_timeout),
-        request_timeout: milliseconds(patience.request_timeout),
-        send_timeout: milliseconds(patience.send_timeout),
-        origin_timeout: milliseconds(patience.origin_timeout),
-        origin_total: milliseconds(patience.origin_total),
-    }
-}
-
-fn milliseconds(seconds: u64) -> u64 {
-    seconds.saturating_mul(1_000)
-}
-
-// Says why nobody is served any more, with the name of what failed, and answers the exit status.
-fn unserved<E: Write>(fault: ServeFault, names: Proxy<'_>, faults: &mut E) -> u8
-    ensures { result ≡ 3 }
-{
-    match fault {
-        ServeFault::Memory => Trouble::Memory.told("", faults),
-        ServeFault::Listener(reason) => Trouble::Device(reason).told(names.listen, faults),
-        ServeFault::Origin(reason) => Trouble::Device(reason).told(names.origin, faults),
-        ServeFault::Record(reason) => {
-            let file = match names.recording {
-                Some(to) => to.file,
-                None => "",
-            };
-            Trouble::Device(reason).told(file, faults)
-        }
-        ServeFault::Random(reason) => Trouble::Device(reason).told("random numbers", faults),
-        ServeFault::OpenFiles => {
-            let reason =
-                "so many may be open that --max-connections and --origin-connections don't fit";
-            Trouble::Device(io::Error::other(reason)).told("open files", faults)
-        }
-        ServeFault::Clock => {
-            let reason = io::Error::other("it is past the year 9999");
-            Trouble::Device(reason).told("clock", faults)
-        }
     }
 }

@@ -7,23 +7,16 @@ use crate::commands_tasks::{say_full, say_task};
 use crate::commands_words::{say_answer, say_status, say_text_of};
 use crate::verdicts_answers::answer_of_octets;
 use hc_cases::{Ask, Case, Unanswered};
-use hc_sockets::Claim;
 use std::alloc::Global;
-use std::net::Net;
-use std::random::RandomSource;
 use std::rt::Files;
-use std::time::Clock;
 
 /// What is asked of the program.
 #[derive(Drop)]
-pub(crate) struct Commands<'a, R: Files + Input + Net + Clock + RandomSource + AllocGlobal> {
+pub(crate) struct Commands<'a, R: Files + Input + AllocGlobal> {
     pub(crate) system: &'a R,
 }
 
-impl<'a, R: Files + Input + Net + Clock + RandomSource + AllocGlobal> Ask for Commands<'a, R>
-where
-    R::File: Claim,
-{
+impl<'a, R: Files + Input + AllocGlobal> Ask for Commands<'a, R> {
     fn answer(&self, case: &Case<'_>, out: &mut String) -> Result<(), Unanswered> {
         let Case {
             alloc,

@@ -1,14 +1,11 @@
 //! Words, and what the program answers to them.
 
+use crate::nobody::Nobody;
 use crate::written::Written;
 use hc_cases::Unanswered;
 use hc_command::answered;
-use hc_sockets::Claim;
 use std::alloc::Global;
-use std::net::Net;
-use std::random::RandomSource;
 use std::rt::Files;
-use std::time::Clock;
 
 /// The words that the parts of a case are, behind the program's name.
 pub(crate) fn words_of(alloc: Global, parts: &[Vec<u8>]) -> Result<Vec<&str>, Unanswered> {
@@ -39,11 +36,11 @@ fn word_of(part: &[u8]) -> Result<&str, Unanswered> {
 // What the program writes by those words, of which the first is its name, and its exit status.
 fn written_by<R>(system: &R, words: &[&str]) -> Written
 where
-    R: Files + Input + Net + Clock + RandomSource + AllocGlobal,
-    R::File: Claim,
+    R: Files + Input + AllocGlobal,
 {
     let mut written = Written::nothing(system.alloc());
-    written.status = answered(system, words, &mut written.output, &mut written.faults);
+    let output = &mut written.output;
+    written.status = answered(system, &Nobody, words, output, &mut written.faults);
     written
 }
 
@@ -51,8 +48,7 @@ where
 // of the program that only audits, too.
 fn written_for<R>(system: &R, parts: &[Vec<u8>]) -> Result<Written, Unanswered>
 where
-    R: Files + Input + Net + Clock + RandomSource + AllocGlobal,
-    R::File: Claim,
+    R: Files + Input + AllocGlobal,
 {
     let words = words_of(system.alloc(), parts)?;
     let mut written = written_by(system, words.as_slice());
@@ -84,8 +80,7 @@ pub(crate) fn say_answer<R>(
     out: &mut String,
 ) -> Result<(), Unanswered>
 where
-    R: Files + Input + Net + Clock + RandomSource + AllocGlobal,
-    R::File: Claim,
+    R: Files + Input + AllocGlobal,
 {
     Ok(written_for(system, parts)?.say(out)?)
 }
@@ -98,8 +93,7 @@ pub(crate) fn say_text_of<R>(
     out: &mut String,
 ) -> Result<(), Unanswered>
 where
-    R: Files + Input + Net + Clock + RandomSource + AllocGlobal,
-    R::File: Claim,
+    R: Files + Input + AllocGlobal,
 {
     let (wanted, parts) = parts.split_first().ok_or(Unanswered::Unknown)?;
     Ok(written_for(system, parts)?.say_beside(wanted.as_slice(), out)?)
@@ -112,8 +106,7 @@ pub(crate) fn say_status<R>(
     out: &mut String,
 ) -> Result<(), Unanswered>
 where
-    R: Files + Input + Net + Clock + RandomSource + AllocGlobal,
-    R::File: Claim,
+    R: Files + Input + AllocGlobal,
 {
     Ok(written_for(system, parts)?.say_whether(out)?)
 }

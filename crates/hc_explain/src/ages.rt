@@ -2,11 +2,12 @@
 //! 2.4).
 
 use crate::freshness::push_slack;
-use crate::page::Page;
+use crate::page::push_record;
 use crate::sources::sent_of;
 use hc_facts::{AgeGap, AgeParts, AgeTold, RecordName, TtlGap};
 use hc_fresh::Times;
 use hc_past::Source;
+use hc_shown::Page;
 use hc_why::{Explanation, Nearest, Validator};
 
 /// Writes the Age that a reply tells.
@@ -78,7 +79,7 @@ fn push_delay(delay: u64, sent: Option<RecordName>, page: &mut Page) {
     page.number("", delay, " (on its way");
     if let Some(sent) = sent {
         page.text(" since ");
-        page.record(sent);
+        push_record(sent, page);
     }
     page.text(")");
 }
@@ -102,7 +103,7 @@ fn push_stored(resident: u64, validator: Option<RecordName>, page: &mut Page) {
     page.number(" + ", resident, " (stored");
     if let Some(validator) = validator {
         page.text(" since the 304 ");
-        page.record(validator);
+        push_record(validator, page);
     }
     page.text(")");
 }

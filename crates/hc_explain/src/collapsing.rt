@@ -1,11 +1,12 @@
 //! Why a reply can't have waited for another request's forward (RFC 9211 section 2.6).
 
-use crate::page::Page;
+use crate::page::begin_rule;
 use crate::shortfalls::say_failing;
 use crate::sources::push_reach;
 use crate::unstored::push_unstorables;
 use hc_history::Reason;
 use hc_past::Unstored;
+use hc_shown::Page;
 use hc_why::{Explanation, Nearest, Reaches};
 
 /// Writes what came behind the request.
@@ -42,7 +43,7 @@ pub(crate) fn say_collapsing(
     nearest: Option<&Nearest>,
     page: &mut Page,
 ) {
-    page.begin_rule(Reason::NotCollapsible.number());
+    begin_rule(Reason::NotCollapsible.number(), page);
     push_behind(explanation, unstored, nearest, page);
     push_before(&explanation.before, page);
     page.end_line();

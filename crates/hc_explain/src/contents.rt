@@ -1,10 +1,10 @@
 //! In what the status or the body of a reply differs from a response's.
 
-use crate::page::Page;
 use crate::values::push_some;
 use hc_facts::{BodyGap, ContentGap, Failed, RangeGap, Unearned};
 use hc_fields::Octets;
 use hc_head::StatusCode;
+use hc_shown::Page;
 
 /// Writes the condition of that name that a request presents, and behind a text what the response has for it.
 fn push_condition(

@@ -1,8 +1,9 @@
 //! The fields in which a reply differs from a response.
 
-use crate::page::Page;
+use crate::page::push_record;
 use crate::values::push_values;
 use hc_facts::{Change, Differences, FieldGap, NAMED, RecordName};
+use hc_shown::Page;
 
 /// What the fields of a stored response come from.
 #[derive(Clone, Copy)]
@@ -22,7 +23,7 @@ fn say_origin(gap: &FieldGap, origin: FieldsOrigin, page: &mut Page) {
     match origin.validator {
         Some(validator) if gap.is_renewed => {
             page.text(" (of the 304 ");
-            page.record(validator);
+            push_record(validator, page);
             page.text(")");
         }
         _ if origin.is_undated && gap.name.as_slice() == b"date".as_slice() => page.number(

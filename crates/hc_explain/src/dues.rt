@@ -1,8 +1,9 @@
 //! What was due in place of a stored response that may not be given, and what came (RFC 9111 section 4).
 
-use crate::page::Page;
+use crate::page::{begin, push_record, push_sent};
 use hc_facts::{Newest, RecordName};
 use hc_past::Source;
+use hc_shown::Page;
 use hc_why::{Explanation, Invalidator, Nearest, OriginError, Shortfall};
 
 /// What a reply has that isn't from the store.
@@ -15,13 +16,13 @@ fn push_other_answer(given: Option<&Source>, page: &mut Page) {
         return;
     };
     page.text("; came ");
-    page.record(source.record);
-    page.sent(source.sent);
+    push_record(source.record, page);
+    push_sent(source.sent, page);
 }
 
 /// Writes the line of the answer that was due where nothing is stored.
 pub(crate) fn say_answer(given: Option<&Source>, page: &mut Page) {
-    page.begin("due");
+    begin("due", page);
     page.text(ANSWER);
     push_other_answer(given, page);
     page.end_line();
@@ -29,7 +30,7 @@ pub(crate) fn say_answer(given: Option<&Source>, page: &mut Page) {
 
 /// Writes the same where a stored response isn't selected, and that a 304 which isn't about it is no such answer.
 fn say_due_unselected(nearest: &Nearest, given: Option<&Source>, page: &mut Page) {
-    page.begin("due");
+    begin("due", page);
     page.text(ANSWER);
     if !nearest.not_about.is_empty() {
         page.text(" that is no 304");
@@ -44,7 +45,7 @@ fn push_came(given: Option<&Source>, page: &mut Page) {
         return;
     };
     page.text("; came ");
-    page.record(source.record);
+    push_record(source.record, page);
     page.text(" as it was stored");
 }
 
@@ -66,14 +67,14 @@ fn push_due_behind(nearest: &Nearest, by: &Newest<Invalidator>, page: &mut Page)
 /// Writes the error of the origin that was due.
 fn push_due_error(error: OriginError, page: &mut Page) {
     page.text("the error ");
-    page.record(error.record);
+    push_record(error.record, page);
     page.number(", a ", u64::from(error.status.as_u16()), "");
 }
 
 /// Writes the error of the cache's own that was due behind a failure (RFC 9111 section 5.2.2.2).
 fn push_due_behind_failure(failure: RecordName, page: &mut Page) {
     page.text("an error of the cache's own, as 504, since the forward failed: ");
-    page.record(failure);
+    push_record(failure, page);
 }
 
 /// Writes what was due in place of a response that may not be used.
@@ -105,7 +106,7 @@ pub(crate) fn say_due(
         Shortfall::Valid(_) | Shortfall::Lifetime(_) | Shortfall::Use(_) => {}
         _ => return,
     }
-    page.begin("due");
+    begin("due", page);
     match shortfall {
         Shortfall::Valid(by) => push_due_behind(nearest, by, page),
         _ => push_due_unused(nearest, page),

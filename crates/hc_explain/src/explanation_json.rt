@@ -104,9 +104,9 @@ impl Told for Ground {
 impl Told for Why {
     fn put(&self, members: &mut Members) {
         members.text("kind", self.kind());
-        let mut what = members.empty();
-        let said = self.say(&mut what);
-        members.said("what", what.as_str(), said);
+        let mut what = members.page();
+        self.say(&mut what);
+        members.said("what", what);
         members.some_object("response", self.nearest());
         put_facts(self, members);
     }

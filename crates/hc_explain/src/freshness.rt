@@ -1,11 +1,12 @@
 //! Why a response may not be used for a reply (RFC 9111 section 4).
 
 use crate::ages::{AgeOrigin, push_sum};
-use crate::page::Page;
+use crate::page::{begin, push_reason};
 use crate::sources::{push_trouble, stated_by};
 use hc_facts::{StaleUse, Usage};
 use hc_history::Finding;
 use hc_past::StatedLifetime;
+use hc_shown::Page;
 use hc_why::{Explanation, Nearest};
 
 /// What is said of a lifetime that is none, by an Expires (RFC 9111 sections 4.2.1 and 5.3).
@@ -50,7 +51,7 @@ fn push_found(found: Option<Finding>, page: &mut Page) {
         return page.text(" would let that pass");
     };
     page.text(" would let that pass, and fail it by ");
-    page.reason(reason);
+    push_reason(reason, page);
 }
 
 /// Writes the setting by which the response may be used, if there is one, and what would be found with it.
@@ -81,8 +82,7 @@ pub(crate) fn say_use(
     page.text("; ");
     page.text(usage.forbidden.words());
     let had_error = nearest.error.is_some() || nearest.failure.is_some();
-    let said = usage.say_over(had_error, page.end());
-    page.note(said);
+    usage.say_over(had_error, page);
 }
 
 /// Writes the line of what permits to give the response that is named, where it is stale.
@@ -92,13 +92,12 @@ pub(crate) fn say_stale(
     nearest: &Nearest,
     page: &mut Page,
 ) {
-    page.begin("stale");
+    begin("stale", page);
     page.text("no fault: ");
     push_lifetime(stale.usage.lifetime, stated_by(explanation, nearest), page);
     push_usage(&stale.usage, AgeOrigin::of(explanation, nearest), page);
     page.text(", ");
-    let said = stale.say_permit(page.end());
-    page.note(said);
+    stale.say_permit(page);
     push_trouble(nearest, page);
     page.end_line();
 }

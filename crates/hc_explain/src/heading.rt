@@ -5,9 +5,10 @@ ghost use Rattle.hc_explain.specs.Heads.{IsHead};
 ghost use Rattle.hc_why.specs.Explaining.{finding_of, position_of};
 
 use crate::marking::{push_mark, way};
-use crate::page::Page;
+use crate::page::{begin, begin_between};
 use hc_facts::{AskedReply, ShownField};
 use hc_history::Finding;
+use hc_shown::Page;
 use hc_why::Explanation;
 use std::alloc::AllocError;
 use std::fmt::Write;
@@ -49,7 +50,7 @@ fn say_fields(fields: &[ShownField], page: &mut Page) {
     if fields.is_empty() {
         return;
     }
-    page.begin("asked");
+    begin("asked", page);
     let mut is_first = true;
     for field in fields {
         page.separator(is_first, "", ", ");
@@ -69,7 +70,7 @@ fn push_field(name: &[u8], value: &[u8], page: &mut Page) {
 /// Writes the line of the reply, and that of what the request asks besides its target.
 pub(crate) fn say_reply(explanation: &Explanation, page: &mut Page) {
     let reply = &explanation.reply;
-    page.begin_between("reply", explanation.since, explanation.position);
+    begin_between("reply", explanation.since, explanation.position, page);
     push_asked(reply, page);
     push_answer(reply, page);
     push_mark(explanation, page);

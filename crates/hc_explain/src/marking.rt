@@ -1,8 +1,9 @@
 //! What the mark of a reply says.
 
-use crate::page::Page;
+use crate::page::begin_rule;
 use hc_facts::AskedReply;
 use hc_history::Reason;
+use hc_shown::Page;
 use hc_why::{Explanation, NoMark, Way};
 
 /// Writes the Cache-Status of the reply.
@@ -49,7 +50,7 @@ fn of_unmarked(mark: NoMark) -> &'static str {
 
 /// Writes the line on a reply that counts as one without a mark.
 pub(crate) fn say_unmarked(reply: &AskedReply, mark: NoMark, page: &mut Page) {
-    page.begin_rule(Reason::Unmarked.number());
+    begin_rule(Reason::Unmarked.number(), page);
     push_cache_status(reply, page);
     page.text(of_unmarked(mark));
     page.end_line();
@@ -57,7 +58,7 @@ pub(crate) fn say_unmarked(reply: &AskedReply, mark: NoMark, page: &mut Page) {
 
 /// Writes the line on a mark that says two things.
 pub(crate) fn say_both(reply: &AskedReply, page: &mut Page) {
-    page.begin_rule(Reason::BothMarks.number());
+    begin_rule(Reason::BothMarks.number(), page);
     push_cache_status(reply, page);
     page.text(" says both hit and fwd");
     page.end_line();

@@ -6,7 +6,7 @@ use hc_head::{StatusCode, Target};
 use hc_json::{
     array, object, push_made, put_flag, put_made, put_number, put_numbers, put_some, put_text,
 };
-use hc_shown::{push_octets, push_target, push_value};
+use hc_shown::{Page, push_octets, push_target, push_value};
 use serde_json::{Map, Value, put};
 use std::alloc::{AllocError, Global};
 
@@ -110,15 +110,14 @@ impl Members {
 }
 
 impl Members {
-    /// A text that is empty.
-    pub(crate) fn empty(&self) -> String {
-        String::new(self.alloc)
+    /// A page on which nothing is written.
+    pub(crate) fn page(&self) -> Page {
+        Page::new(self.alloc)
     }
 
-    /// Adds a text, if all of it could be said.
-    pub(crate) fn said(&mut self, name: &str, text: &str, said: Result<(), AllocError>) {
-        self.note(said);
-        self.text(name, text);
+    /// Adds what is written on a page.
+    pub(crate) fn said(&mut self, name: &str, page: Page) {
+        self.made(name, page_json(page));
     }
 
     /// Adds octets as they are shown.
@@ -194,6 +193,10 @@ fn objects_json<T: Told>(alloc: Global, all: &[T]) -> Result<Value, AllocError> 
     let mut values = Vec::new(alloc);
     let filled = push_objects(alloc, all, &mut values);
     array(values, filled)
+}
+
+fn page_json(page: Page) -> Result<Value, AllocError> {
+    Ok(Value::String(page.into_text()?))
 }
 
 fn octets_json(alloc: Global, octets: &[u8]) -> Result<Value, AllocError> {

@@ -65,9 +65,9 @@ impl Told for Unstorable {
     fn put(&self, members: &mut Members) {
         self.record.put(members);
         members.status("status", self.status);
-        let mut words = members.empty();
-        let said = self.forbids.say(&mut words);
-        members.said("forbidden", words.as_str(), said);
+        let mut words = members.page();
+        self.forbids.say(&mut words);
+        members.said("forbidden", words);
     }
 }
 

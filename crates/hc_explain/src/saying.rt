@@ -5,7 +5,7 @@ use crate::dues::say_answer;
 use crate::freshness::say_stale;
 use crate::heading::say_reply;
 use crate::marking::{say_both, say_unmarked};
-use crate::page::Page;
+use crate::page::{begin, begin_rule, push_reason};
 use crate::shortfalls::{end_shortfall, say_failing, say_rule};
 use crate::sources::{say_carried, say_nearest, say_sources};
 use crate::unstored::say_unstored;
@@ -13,6 +13,7 @@ use crate::window::{say_own, say_validated, say_window};
 use hc_facts::Demand;
 use hc_history::{Finding, Reason};
 use hc_past::{Source, Unstored, Window};
+use hc_shown::Page;
 use hc_why::{Explanation, Ground, Nearest, Way, Why};
 use std::alloc::{AllocError, Global};
 
@@ -41,7 +42,7 @@ fn say_no_response(explanation: &Explanation, unstored: &Unstored, page: &mut Pa
     if let Some(source) = given {
         say_carried(source, page);
     }
-    page.begin_rule(Reason::NoResponse.number());
+    begin_rule(Reason::NoResponse.number(), page);
     say_unstored(unstored, sources, page);
     page.end_line();
     if unstored.is_unrecorded() {
@@ -83,13 +84,13 @@ fn say_not_forwarded(
 /// Writes the line on a reply that went forward and is to be a stored response, or gives it: which rule a hit would break
 /// so, and in what it falls short of that response; and the line of what was due.
 fn say_forwarding(explanation: &Explanation, nearest: &Nearest, page: &mut Page) {
-    page.begin_rule(Reason::NotForwarded.number());
+    begin_rule(Reason::NotForwarded.number(), page);
     let Some(shortfall) = &nearest.shortfall else {
         push_standing(explanation, nearest, page);
         return page.end_line();
     };
     page.text("NotForwarded stands here for ");
-    page.reason(shortfall.rule().reason());
+    push_reason(shortfall.rule().reason(), page);
     page.text(": ");
     push_standing(explanation, nearest, page);
     page.text(": ");
@@ -115,14 +116,14 @@ fn push_standing(explanation: &Explanation, nearest: &Nearest, page: &mut Page) 
 
 /// Writes the line of what is stored, which a reply that went forward need not be, and of the rule that it breaks.
 fn say_stored(explanation: &Explanation, nearest: &Nearest, page: &mut Page) {
-    page.begin("stored");
+    begin("stored", page);
     say_failing(explanation, nearest, page);
     page.end_line();
 }
 
 /// Writes the line of what a reply doesn't keep that is wrong for that reason, behind the sections that ask it.
 fn say_broken(explanation: &Explanation, reason: Reason, page: &mut Page) {
-    page.begin("broken");
+    begin("broken", page);
     let Demand { words, sections } = explanation.demand(reason);
     page.text(sections);
     page.text(": ");

@@ -1,9 +1,10 @@
 //! In what a request differs from the one that a response answers (RFC 9111 section 4.1).
 
-use crate::page::Page;
+use crate::page::push_record;
 use crate::values::push_some;
 use hc_facts::{RecordName, Selection, UnmetMember};
 use hc_fields::Octets;
+use hc_shown::Page;
 use hc_why::Nearest;
 
 /// Writes what the forward that the response answers, of which this is the record, has of what that member names.
@@ -15,7 +16,7 @@ fn push_answered(
 ) {
     page.text(": its forward ");
     if let Some(sent) = sent {
-        page.record(sent);
+        push_record(sent, page);
         page.text(" ");
     }
     page.text("has ");
@@ -52,7 +53,7 @@ pub(crate) fn say_selection(
     match (selection.validated_at, nearest.validator) {
         (Some(_), Some(validator)) => {
             page.text(", though the 304 ");
-            page.record(validator.record);
+            push_record(validator.record, page);
             page.text(" validated it");
         }
         _ => {}

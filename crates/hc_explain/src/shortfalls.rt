@@ -5,21 +5,22 @@ use crate::contents::say_contents;
 use crate::differing::{FieldsOrigin, say_differences};
 use crate::dues::say_due;
 use crate::freshness::{say_setting, say_use};
-use crate::page::Page;
+use crate::page::{begin_rule, push_record};
 use crate::selection::say_selection;
 use crate::sources::{push_reach, sent_of};
 use crate::unstored::NO_GET;
 use crate::validations::say_validations;
 use hc_facts::{Newest, RecordName};
+use hc_shown::Page;
 use hc_why::{Explanation, Invalidator, Nearest, Shortfall};
 
 /// Writes a response that invalidated another one.
 fn push_invalidator(invalidator: &Invalidator, page: &mut Page) {
-    page.record(invalidator.record);
+    push_record(invalidator.record, page);
     page.number(", a ", u64::from(invalidator.status.as_u16()), "");
     page.method(" to the ", &invalidator.method, " ");
     if let Some(sent) = invalidator.sent {
-        page.record(sent);
+        push_record(sent, page);
         page.text(" ");
     }
     page.text("of the same target, invalidated it");
@@ -114,6 +115,6 @@ pub(crate) fn say_rule(explanation: &Explanation, nearest: &Nearest, page: &mut 
     let Some(shortfall) = &nearest.shortfall else {
         return;
     };
-    page.begin_rule(shortfall.rule().reason().number());
+    begin_rule(shortfall.rule().reason().number(), page);
     end_shortfall(explanation, nearest, shortfall, page);
 }

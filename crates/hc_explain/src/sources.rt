@@ -1,9 +1,10 @@
 //! The lines of the responses that a reply may carry.
 
-use crate::page::Page;
+use crate::page::{begin, begin_position, begin_record, push_reason, push_record, push_sent};
 use hc_facts::{RecordName, Rule};
 use hc_fields::Octets;
 use hc_past::{Source, StatedLifetime};
+use hc_shown::Page;
 use hc_why::{Explanation, Nearest, Reach};
 
 /// Writes a field of that name behind a text.
@@ -43,15 +44,15 @@ pub(crate) fn push_reach(breaks: Option<Rule>, page: &mut Page) {
         return page.text("passes all");
     };
     page.text("fails ");
-    page.reason(rule.reason());
+    push_reason(rule.reason(), page);
 }
 
 /// Writes what the records behind it made of the response that is named.
 fn push_changes(nearest: &Nearest, page: &mut Page) {
     if let Some(validator) = nearest.validator {
         page.text(", which the 304 ");
-        page.record(validator.record);
-        page.sent(validator.sent);
+        push_record(validator.record, page);
+        push_sent(validator.sent, page);
         page.text(if validator.sent.is_some() {
             ", freshens"
         } else {
@@ -68,14 +69,14 @@ fn push_changes(nearest: &Nearest, page: &mut Page) {
 pub(crate) fn push_trouble(nearest: &Nearest, page: &mut Page) {
     if let Some(error) = nearest.error {
         page.text(", given after the error ");
-        page.record(error.record);
+        push_record(error.record, page);
         let status = u64::from(error.status.as_u16());
         page.number(", a ", status, ", which validates nothing");
     }
     match nearest.failure {
         Some(failure) => {
             page.text(", given after the failure ");
-            page.record(failure);
+            push_record(failure, page);
             page.text(", to which no response came");
         }
         None => {}
@@ -85,8 +86,8 @@ pub(crate) fn push_trouble(nearest: &Nearest, page: &mut Page) {
 /// Begins a line of that word about the response at that position, of which this is the record.
 fn begin_place(word: &str, position: u64, source: Option<&Source>, page: &mut Page) {
     match source {
-        Some(source) => page.begin_record(word, source.record),
-        None => page.begin_position(word, position),
+        Some(source) => begin_record(word, source.record, page),
+        None => begin_position(word, position, page),
     }
 }
 
@@ -146,7 +147,7 @@ fn say_more(more: u64, page: &mut Page) {
     if more == 0 {
         return;
     }
-    page.begin("other");
+    begin("other", page);
     page.number("and ", more, " more\n");
 }
 
@@ -166,7 +167,7 @@ pub(crate) fn say_sources(explanation: &Explanation, page: &mut Page) {
 
 /// Writes the line of a response of which the reply has the status and the body.
 pub(crate) fn say_carried(source: &Source, page: &mut Page) {
-    page.begin_record("from", source.record);
+    begin_record("from", source.record, page);
     push_source(source, page);
     page.end_line();
 }

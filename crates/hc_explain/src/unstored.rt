@@ -1,9 +1,10 @@
 //! Why nothing of a target is stored (RFC 9111 section 3).
 
-use crate::page::Page;
+use crate::page::{push_record, push_sent};
 use crate::sources::push_lifetime;
 use hc_head::is_get;
 use hc_past::{Source, Unstorable, Unstored};
+use hc_shown::Page;
 
 /// What is said of a method whose replies come from no store.
 pub(crate) const NO_GET: &str = " is neither GET nor HEAD";
@@ -25,20 +26,19 @@ fn push_asked(source: &Source, page: &mut Page) {
         return;
     };
     if is_get(&source.method) {
-        return page.sent(Some(sent));
+        return push_sent(Some(sent), page);
     }
     page.method(", the answer to the ", &source.method, " ");
-    page.record(sent);
+    push_record(sent, page);
 }
 
 /// Writes a response that may not be stored, what it is, and what forbids it.
 fn push_unstorable(unstorable: &Unstorable, source: Option<&Source>, page: &mut Page) {
-    page.record(unstorable.record);
+    push_record(unstorable.record, page);
     page.text(" (");
     push_kind(unstorable, source, page);
     page.text("), since ");
-    let said = unstorable.forbids.say_with_sections(page.end());
-    page.note(said);
+    unstorable.forbids.say_with_sections(page);
 }
 
 /// The record of that response, if it is among those.

@@ -1,14 +1,15 @@
 //! The 304s that aren't about a response (after RFC 9111 section 4.3.4).
 
-use crate::page::Page;
+use crate::page::{push_record, push_sent};
 use hc_facts::Against;
+use hc_shown::Page;
 use hc_why::{Explanation, Nearest, NotAbout, Shortfall};
 
 /// Writes a 304 that came then, and why it doesn't validate the response at that position (RFC 9111 section 4.3.4).
 fn push_not_about(not_about: &NotAbout, (when, position): (&str, u64), page: &mut Page) {
     page.text("; the 304 ");
-    page.record(not_about.record);
-    page.sent(not_about.sent);
+    push_record(not_about.record, page);
+    push_sent(not_about.sent, page);
     page.text(", came ");
     page.text(when);
     page.number(", but doesn't validate ", position, "");
@@ -16,8 +17,7 @@ fn push_not_about(not_about: &NotAbout, (when, position): (&str, u64), page: &mu
         Against::Unselected => page.text(": Vary doesn't select its forward either"),
         _ => {
             page.text(" (RFC 9111 section 4.3.4): ");
-            let said = not_about.against.say(page.end());
-            page.note(said);
+            not_about.against.say(page);
         }
     }
 }

@@ -1,8 +1,7 @@
 //! The values of fields.
 
-use crate::page::Page;
 use hc_fields::Octets;
-use hc_shown::is_credential;
+use hc_shown::{Page, is_credential};
 
 /// Writes the value of a name, or that there is none.
 pub(crate) fn push_some(name: &[u8], value: Option<&Octets>, page: &mut Page) {

@@ -1,10 +1,11 @@
 //! What came between a request and its reply.
 
-use crate::page::Page;
+use crate::page::{begin, begin_between, begin_record, push_record};
 use hc_facts::{BodyGap, RecordName};
 use hc_fields::Octets;
 use hc_head::StatusCode;
 use hc_past::{Apart, NearAnswer, Window, WindowEnd};
+use hc_shown::Page;
 use hc_transcript::ToldCause;
 use hc_why::{Explanation, Nearest, Way};
 
@@ -52,7 +53,7 @@ fn push_apart(apart: &Apart, page: &mut Page) {
 
 /// Writes the end of a forward in the window.
 fn push_end(end: &WindowEnd, page: &mut Page) {
-    page.record(end.record);
+    push_record(end.record, page);
     push_cause(end.cause, page);
     push_apart(&end.apart, page);
 }
@@ -92,7 +93,7 @@ fn push_host(before: &str, host: &Octets, page: &mut Page) {
 
 /// Writes the line of a response of the same path under another host.
 fn say_near(near: &NearAnswer, host: &Octets, page: &mut Page) {
-    page.begin_record("near", near.record);
+    begin_record("near", near.record, page);
     let before = "agrees in path, status and body: its host is ";
     push_host(before, &near.host, page);
     push_host(", asked is ", host, page);
@@ -101,7 +102,7 @@ fn say_near(near: &NearAnswer, host: &Octets, page: &mut Page) {
 
 /// Begins the line of the window, which lies between request and reply.
 fn begin_window(explanation: &Explanation, page: &mut Page) {
-    page.begin_between("window", explanation.since, explanation.position);
+    begin_between("window", explanation.since, explanation.position, page);
 }
 
 /// Writes the line of the window, and those of what comes near.
@@ -132,7 +133,7 @@ pub(crate) fn say_validated(explanation: &Explanation, nearest: &Nearest, page: 
         return;
     }
     begin_window(explanation, page);
-    page.record(validator.record);
+    push_record(validator.record, page);
     let behind = if explanation.reply.is_inferred {
         "; the reply is inferred to be a hit all the same"
     } else {
@@ -144,8 +145,8 @@ pub(crate) fn say_validated(explanation: &Explanation, nearest: &Nearest, page: 
 
 /// Writes the line of the answer of its own window that a reply carries which is marked as a hit.
 pub(crate) fn say_own(record: RecordName, page: &mut Page) {
-    page.begin("window");
-    page.record(record);
+    begin("window", page);
+    push_record(record, page);
     page.text(
         " is carried: the reply is an answer of its own window, though it is marked as a hit",
     );

@@ -8,9 +8,7 @@ use crate::stale::{Setting, StaleSaid};
 use crate::usage::Usage;
 use hc_directives::Seconds;
 use hc_fields::Octets;
-use hc_shown::push_value;
-use std::alloc::AllocError;
-use std::fmt::Write;
+use hc_shown::Page;
 
 impl Telling {
     /// The name of the field, of which message it is, and the name of what the response has for it.
@@ -24,40 +22,40 @@ impl Telling {
     }
 }
 
-// Puts the name and the value of a field at the end, or that there is none.
-fn push_field(name: &str, value: Option<&Octets>, out: &mut String) -> Result<(), AllocError> {
-    out.push_str(name)?;
+// Writes the name and the value of a field, or that there is none.
+fn push_field(name: &str, value: Option<&Octets>, page: &mut Page) {
+    page.text(name);
     match value {
         Some(value) => {
-            out.push_str(" ")?;
-            push_value(name.as_bytes(), value.as_slice(), out)
+            page.text(" ");
+            page.value(name.as_bytes(), value.as_slice());
         }
-        None => out.push_str(" none"),
+        None => page.text(" none"),
     }
 }
 
 impl ValidatorGap {
-    // Puts what a 304 tells at the end, and what the response has.
-    fn say(&self, out: &mut String) -> Result<(), AllocError> {
+    // Writes what a 304 tells, and what the response has.
+    fn say(&self, page: &mut Page) {
         let (name, of, validator) = self.telling.names();
-        push_field(name, self.told.as_ref(), out)?;
-        out.push_str(of)?;
-        out.push_str(", the stored response's ")?;
-        push_field(validator, self.due.as_ref(), out)
+        push_field(name, self.told.as_ref(), page);
+        page.text(of);
+        page.text(", the stored response's ");
+        push_field(validator, self.due.as_ref(), page);
     }
 }
 
 impl Against {
-    /// Puts words for it at the end, as `its forward is no GET`.
-    pub fn say(&self, out: &mut String) -> Result<(), AllocError> {
+    /// Writes words for it, as `its forward is no GET`.
+    pub fn say(&self, page: &mut Page) {
         match self {
-            Against::Earlier => out.push_str("before it came"),
-            Against::Method => out.push_str("its forward is no GET"),
-            Against::ForwardNoStore => out.push_str("its forward says no-store"),
-            Against::Private => out.push_str("it says private"),
-            Against::NoStore => out.push_str("it says no-store"),
-            Against::Unselected => out.push_str("Vary doesn't select its forward"),
-            Against::Validators(gap) => gap.say(out),
+            Against::Earlier => page.text("before it came"),
+            Against::Method => page.text("its forward is no GET"),
+            Against::ForwardNoStore => page.text("its forward says no-store"),
+            Against::Private => page.text("it says private"),
+            Against::NoStore => page.text("it says no-store"),
+            Against::Unselected => page.text("Vary doesn't select its forward"),
+            Against::Validators(gap) => gap.say(page),
         }
     }
 
@@ -132,52 +130,46 @@ impl StaleSaid {
     }
 }
 
-// Puts at the end by how much a response is staler than a directive permits, if that says a number.
-fn say_over(
-    stale: u32,
-    (name, said): (&str, Seconds),
-    of: &str,
-    out: &mut String,
-) -> Result<(), AllocError> {
+// Writes by how much a response is staler than a directive permits, if that says a number.
+fn say_over(stale: u32, (name, said): (&str, Seconds), of: &str, page: &mut Page) {
     let Seconds::Value(seconds) = said else {
-        return Ok(());
+        return;
     };
-    let over = stale.saturating_sub(seconds);
-    write!(out, "; {over} over {name} {seconds} of the {of}")
+    page.number("; ", u64::from(stale.saturating_sub(seconds)), " over ");
+    page.text(name);
+    page.number(" ", u64::from(seconds), " of the ");
+    page.text(of);
 }
 
-// Puts the same of `stale-if-error` at the end, or that there was no error.
-fn say_if_error(
-    (stale, had_error): (u32, bool),
-    said: Seconds,
-    of: &str,
-    out: &mut String,
-) -> Result<(), AllocError> {
+// Writes the same of `stale-if-error`, or that there was no error.
+fn say_if_error(stale: u32, had_error: bool, said: Seconds, of: &str, page: &mut Page) {
     let Seconds::Value(seconds) = said else {
-        return Ok(());
+        return;
     };
     if had_error {
-        return say_over(stale, ("stale-if-error", said), of, out);
+        return say_over(stale, ("stale-if-error", said), of, page);
     }
-    write!(out, "; no error for stale-if-error {seconds} of the {of}")
+    let before = "; no error for stale-if-error ";
+    page.number(before, u64::from(seconds), " of the ");
+    page.text(of);
 }
 
 impl Usage {
-    /// Puts at the end by how much the response is staler than is permitted, where nothing forbids that, and whether an
-    /// error or a failure was there is told.
-    pub fn say_over(&self, had_error: bool, out: &mut String) -> Result<(), AllocError> {
+    /// Writes by how much the response is staler than is permitted, where nothing forbids that, and whether an error or a
+    /// failure was there is told.
+    pub fn say_over(&self, had_error: bool, page: &mut Page) {
         let Some(stale) = self.stale_by else {
-            return Ok(());
+            return;
         };
         if self.forbidden != Unusable::NothingPermits {
-            return Ok(());
+            return;
         }
         let said = self.said;
         let meanwhile = ("stale-while-revalidate", said.while_revalidating);
-        say_over(stale, meanwhile, "response", out)?;
-        say_over(stale, ("max-stale", said.max_stale), "request", out)?;
-        say_if_error((stale, had_error), said.if_error, "response", out)?;
-        say_if_error((stale, had_error), said.asked_if_error, "request", out)
+        say_over(stale, meanwhile, "response", page);
+        say_over(stale, ("max-stale", said.max_stale), "request", page);
+        say_if_error(stale, had_error, said.if_error, "response", page);
+        say_if_error(stale, had_error, said.asked_if_error, "request", page);
     }
 }
 
@@ -197,19 +189,17 @@ impl Permit {
     }
 }
 
-// Puts a directive at the end that permits staleness, with its seconds, if it says any, of which message it is, and where
-// it stands.
-fn say_directive(
-    (name, said): (&str, Seconds),
-    of: &str,
-    section: &str,
-    out: &mut String,
-) -> Result<(), AllocError> {
-    write!(out, "permitted by {name}")?;
+// Writes a directive that permits staleness, with its seconds, if it says any, of which message it is, and where it
+// stands.
+fn say_directive((name, said): (&str, Seconds), of: &str, section: &str, page: &mut Page) {
+    page.text("permitted by ");
+    page.text(name);
     if let Seconds::Value(seconds) = said {
-        write!(out, " {seconds}")?;
+        page.number(" ", u64::from(seconds), "");
     }
-    write!(out, " of the {of} ({section})")
+    page.text(" of the ");
+    page.text(of);
+    page.text(section);
 }
 
 impl StaleUse {
@@ -227,48 +217,46 @@ impl StaleUse {
         }
     }
 
-    /// Puts at the end what permits to give the response.
-    pub fn say_permit(&self, out: &mut String) -> Result<(), AllocError> {
+    /// Writes what permits to give the response.
+    pub fn say_permit(&self, page: &mut Page) {
         let said = self.usage.said;
         match self.permit {
             Permit::MaxStale => {
                 let asked = ("max-stale", said.max_stale);
-                say_directive(asked, "request", "RFC 9111 section 5.2.1.2", out)
+                say_directive(asked, "request", " (RFC 9111 section 5.2.1.2)", page);
             }
             Permit::WhileRevalidating => {
                 let meanwhile = ("stale-while-revalidate", said.while_revalidating);
-                say_directive(meanwhile, "response", "RFC 5861 section 3", out)
+                say_directive(meanwhile, "response", " (RFC 5861 section 3)", page);
             }
             Permit::IfError => {
                 let own = ("stale-if-error", said.if_error);
-                say_directive(own, "response", "RFC 5861 section 4", out)
+                say_directive(own, "response", " (RFC 5861 section 4)", page);
             }
             Permit::AskedIfError => {
                 let asked = ("stale-if-error", said.asked_if_error);
-                say_directive(asked, "request", "RFC 5861 section 4", out)
+                say_directive(asked, "request", " (RFC 5861 section 4)", page);
             }
-            _ => self.say_other_permit(out),
+            _ => self.say_other_permit(page),
         }
     }
 
-    // Puts at the end what permits to give it, where that is no directive.
-    fn say_other_permit(&self, out: &mut String) -> Result<(), AllocError> {
+    // Writes what permits to give it, where that is no directive.
+    fn say_other_permit(&self, page: &mut Page) {
         match self.permit {
-            Permit::DefaultLifetime(seconds) => write!(
-                out,
-                "fresh by this audit's --default-ttl {seconds} (RFC 9111 section 4.2.2)"
-            ),
-            Permit::Grace(seconds) => write!(
-                out,
-                "permitted by this audit's --grace {seconds} (RFC 9111 section 4.2.4)"
-            ),
-            Permit::Slack => {
-                let slack = self.usage.slack;
-                write!(out, "permitted by this audit's --slack {slack}")
+            Permit::DefaultLifetime(seconds) => {
+                let before = "fresh by this audit's --default-ttl ";
+                page.number(before, u64::from(seconds), " (RFC 9111 section 4.2.2)");
             }
-            _ => out.push_str(
-                "permitted since the origin can't be reached (RFC 9111 section 4.2.4)",
-            ),
+            Permit::Grace(seconds) => {
+                let before = "permitted by this audit's --grace ";
+                page.number(before, u64::from(seconds), " (RFC 9111 section 4.2.4)");
+            }
+            Permit::Slack => {
+                let before = "permitted by this audit's --slack ";
+                page.number(before, u64::from(self.usage.slack), "");
+            }
+            _ => page.text("permitted since the origin can't be reached (RFC 9111 section 4.2.4)"),
         }
     }
 }

@@ -3,17 +3,7 @@
 use crate::differing::{Change, Differences};
 use crate::forbidding::{Forbids, Unusable};
 use crate::selecting::Selection;
-use hc_shown::push_octets;
-use std::alloc::AllocError;
-use std::fmt::Write;
-
-// Puts words at the end, with what separates them from those before.
-fn push_further(is_first: bool, words: &str, out: &mut String) -> Result<(), AllocError> {
-    if !is_first {
-        out.push_str(" and ")?;
-    }
-    out.push_str(words)
-}
+use hc_shown::Page;
 
 impl Forbids {
     // The words for each that forbids, and what says so.
@@ -114,29 +104,31 @@ impl Forbids {
         None
     }
 
-    /// Puts words for each that forbids at the end.
-    pub fn say(&self, out: &mut String) -> Result<(), AllocError> {
+    /// Writes words for each that forbids.
+    pub fn say(&self, page: &mut Page) {
         let mut is_first = true;
         for (forbids, words, _section) in self.words() {
             if forbids {
-                push_further(is_first, words, out)?;
+                page.separator(is_first, "", " and ");
+                page.text(words);
                 is_first = false;
             }
         }
-        Ok(())
     }
 
-    /// Puts words for each that forbids at the end, with the section that says so.
-    pub fn say_with_sections(&self, out: &mut String) -> Result<(), AllocError> {
+    /// Writes words for each that forbids, with the section that says so.
+    pub fn say_with_sections(&self, page: &mut Page) {
         let mut is_first = true;
         for (forbids, words, section) in self.words() {
             if forbids {
-                push_further(is_first, words, out)?;
-                write!(out, " ({section})")?;
+                page.separator(is_first, "", " and ");
+                page.text(words);
+                page.text(" (");
+                page.text(section);
+                page.text(")");
                 is_first = false;
             }
         }
-        Ok(())
     }
 }
 
@@ -164,65 +156,40 @@ impl Change {
     }
 }
 
-// Says how many more there are, if any.
-fn say_more(more: u64, out: &mut String) -> Result<(), AllocError> {
-    if more == 0 {
-        return Ok(());
-    }
-    write!(out, ", and {more} more")
-}
-
 impl Selection {
-    /// Puts words for it at the end, as `Vary accept, cookie`.
-    pub fn say(&self, out: &mut String) -> Result<(), AllocError> {
+    /// Writes words for it, as `Vary accept, cookie`.
+    pub fn say(&self, page: &mut Page) {
         let mut is_first = true;
         for unmet in self.unmet.iter() {
-            out.push_str(if is_first { "Vary " } else { ", " })?;
-            push_octets(unmet.member.as_slice(), out)?;
+            page.separator(is_first, "Vary ", ", ");
+            page.octets(unmet.member.as_slice());
             is_first = false;
         }
-        say_more(self.more, out)
+        page.more(self.more);
     }
 }
 
 impl Differences {
-    // Says of each with that change what it is, with a comma behind whatever stands before it.
-    fn say_each(
-        &self,
-        change: Change,
-        is_first: bool,
-        out: &mut String,
-    ) -> Result<bool, AllocError> {
+    // Writes each with that change and what it is, with a comma behind whatever stands before it.
+    fn say_each(&self, change: Change, is_first: bool, page: &mut Page) -> bool {
         let mut is_first = is_first;
         for gap in self.listed.iter() {
             if gap.change == change {
-                say_changed(is_first, change, gap.name.as_slice(), out)?;
+                page.separator(is_first, "", ", ");
+                page.text(change.word());
+                page.text(" ");
+                page.octets(gap.name.as_slice());
                 is_first = false;
             }
         }
-        Ok(is_first)
+        is_first
     }
 
-    /// Puts words for them at the end, as `dropped x-validated, changed date`.
-    pub fn say(&self, out: &mut String) -> Result<(), AllocError> {
-        let is_first = self.say_each(Change::Added, true, out)?;
-        let is_first = self.say_each(Change::Dropped, is_first, out)?;
-        self.say_each(Change::Changed, is_first, out)?;
-        say_more(self.more, out)
+    /// Writes words for them, as `dropped x-validated, changed date`.
+    pub fn say(&self, page: &mut Page) {
+        let is_first = self.say_each(Change::Added, true, page);
+        let is_first = self.say_each(Change::Dropped, is_first, page);
+        self.say_each(Change::Changed, is_first, page);
+        page.more(self.more);
     }
-}
-
-// Says what became of a field.
-fn say_changed(
-    is_first: bool,
-    change: Change,
-    name: &[u8],
-    out: &mut String,
-) -> Result<(), AllocError> {
-    if !is_first {
-        out.push_str(", ")?;
-    }
-    out.push_str(change.word())?;
-    out.push_str(" ")?;
-    push_octets(name, out)
 }

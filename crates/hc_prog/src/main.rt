@@ -22,8 +22,13 @@
 //! where clients can connect, and what is amiss; with `--record FILE` it records both sides. It ends with 0, or with 3.
 #![tactic(auto)]
 
+mod serving;
+
+use crate::serving::Sockets;
+use hc_command::status;
 use std::process::ExitCode;
 
 fn main(rt: HostRuntime) -> ExitCode {
-    ExitCode::from(hc_command::status(&rt, &mut rt.stdout(), &mut rt.stderr()))
+    let sockets = Sockets { system: &rt };
+    ExitCode::from(status(&rt, &sockets, &mut rt.stdout(), &mut rt.stderr()))
 }

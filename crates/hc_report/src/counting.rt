@@ -19,13 +19,13 @@ use crate::new_json::new_json;
 use crate::report::Report;
 use crate::requests::shown_request;
 use hc_audit::{JudgedReply, PassedRecord, Witness};
-use hc_baseline::{Baseline, NewKind, Tally};
+use hc_baseline::{Baseline, NewKinds, Tally};
 use hc_history::{Counts, Ending, Finding, Reason, Settings, WrongReply};
 use hc_index::Index;
 use hc_json::{put_made, put_number};
+use hc_shown::Page;
 use serde_json::{Map, Value, put};
 use std::alloc::{AllocError, Global};
-use std::fmt::Write;
 
 /// A report that has all wrong replies, and counts them by their kind, so that they can be held against an earlier report.
 /// It takes memory for each wrong reply, and for each kind.
@@ -139,19 +139,14 @@ impl CountingReport {
 
     // Writes how many wrong replies a baseline has, and how many of which kind it hasn't.
     fn say_held(&self, baseline: &Baseline, out: &mut String) -> Result<(), AllocError> {
+        let kinds = baseline.new_kinds(self.alloc, &self.tally)?;
         let known = baseline.known(&self.tally);
         let new = (self.wrongs.len() as u64).saturating_sub(known);
-        write!(
-            out,
-            "known      {known} in the baseline\nnew        {new}\n"
-        )?;
-        let kinds = baseline.new_kinds(self.alloc, &self.tally)?;
-        say_kinds(kinds.named.as_slice(), out)?;
-        if kinds.more == 0 {
-            return Ok(());
-        }
-        let more = kinds.more;
-        write!(out, "{more:>8} more kinds have new ones\n")
+        let mut page = Page::new(self.alloc);
+        page.number("known      ", known, " in the baseline\n");
+        page.number("new        ", new, "\n");
+        say_kinds(&kinds, &mut page);
+        page.onto(out)
     }
 
     /// The whole report as a JSON object, on one line, with its wrong replies by their kind; and where there is a baseline,
@@ -238,12 +233,14 @@ impl CountingReport {
     }
 }
 
-// Writes how many new wrong replies there are of each of these kinds.
-fn say_kinds(kinds: &[NewKind], out: &mut String) -> Result<(), AllocError> {
-    for new in kinds {
-        let count = new.count;
-        let kind = new.kind.as_str();
-        write!(out, "{count:>8} {kind}\n")?;
+// Writes how many new wrong replies there are of each of these kinds, and how many kinds more there are.
+fn say_kinds(kinds: &NewKinds, page: &mut Page) {
+    for new in kinds.named.iter() {
+        page.column(new.count, " ");
+        page.text(new.kind.as_str());
+        page.end_line();
     }
-    Ok(())
+    if kinds.more != 0 {
+        page.column(kinds.more, " more kinds have new ones\n");
+    }
 }

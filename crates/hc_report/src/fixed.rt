@@ -4,8 +4,8 @@ use crate::asking::Asks;
 use hc_audit::JudgedReply;
 use hc_history::{Allowed, Finding, Settings, UnmarkedReplies};
 use hc_index::Index;
+use hc_shown::Page;
 use std::alloc::AllocError;
-use std::fmt::Write;
 
 /// What is let pass besides.
 #[derive(Clone, Copy, PartialEq, Eq)]
@@ -175,26 +175,30 @@ impl FixedTry {
     }
 
     /// Writes what has to be asked for.
-    pub(crate) fn say(&self, out: &mut String) -> Result<(), AllocError> {
+    pub(crate) fn say(&self, page: &mut Page) {
+        page.text(self.words());
         match self.allowance {
-            Allowance::Slack(seconds) => write!(out, "--slack {seconds}"),
-            Allowance::Grace(seconds) => write!(out, "--grace {seconds}"),
-            Allowance::AgeSlack(seconds) => write!(out, "--age-slack {seconds}"),
-            Allowance::DefaultLifetime(seconds) => write!(out, "--default-ttl {seconds}"),
-            _ => out.push_str(self.words()),
+            Allowance::Slack(seconds)
+            | Allowance::Grace(seconds)
+            | Allowance::AgeSlack(seconds)
+            | Allowance::DefaultLifetime(seconds) => page.number(" ", u64::from(seconds), ""),
+            _ => {}
         }
     }
 
-    // What has to be asked for, where that has no number.
+    // What has to be asked for, without its number.
     fn words(&self) -> &'static str {
         match self.allowance {
+            Allowance::Slack(_) => "--slack",
+            Allowance::Grace(_) => "--grace",
+            Allowance::AgeSlack(_) => "--age-slack",
+            Allowance::DefaultLifetime(_) => "--default-ttl",
             Allowance::Unmarked => "without --errors-only",
             Allowance::AddedFields => "--allow added-fields",
             Allowance::JoinedLines => "--allow joined-lines",
             Allowance::Ranges => "--allow ranges",
             Allowance::All => "--allow all",
             Allowance::InferredMarks => "--infer-marks",
-            _ => "",
         }
     }
 }

@@ -4,11 +4,11 @@ ghost use Rattle.std.specs.Prelude.{ℕ, IfOk, OnOk};
 ghost use Rattle.hc_json.specs.Nesting.{MembersNestTo, NestsTo, ValuesNestTo};
 
 use crate::group::{Group, Spread};
-use crate::rows::what_of;
+use crate::rows::push_what;
 use crate::targets::NamedTargets;
 use hc_facts::{Change, Differences, FieldGap};
 use hc_json::{array, object, push_made, put_made, put_number, put_numbers, put_text};
-use hc_shown::push_octets;
+use hc_shown::{Page, push_octets};
 use hc_why::Shortfall;
 use serde_json::{Map, Value};
 use std::alloc::{AllocError, Global};
@@ -47,8 +47,16 @@ fn put_kind(
     put_number(alloc, "reason", u64::from(group.reason.number()), members)?;
     put_text(alloc, "name", group.reason.name(), members)?;
     put_text(alloc, "detail", group.why.kind(), members)?;
-    let what = what_of(alloc, group)?;
-    put_text(alloc, "what", what.as_str(), members)
+    put_made(alloc, "what", what_json(alloc, group), members)
+}
+
+// What is wrong in the replies of a group.
+fn what_json(alloc: Global, group: &Group) -> Result<Value, AllocError>
+    ensures { (n : ℕ) → IfOk result (NestsTo n) }
+{
+    let mut page = Page::new(alloc);
+    push_what(group, &mut page);
+    Ok(Value::String(page.into_text()?))
 }
 
 fn put_differences(

@@ -7,7 +7,7 @@ use hc_audit::JudgedReply;
 use hc_facts::{Change, Differences};
 use hc_history::{Finding, Settings};
 use hc_index::Index;
-use hc_shown::push_octets;
+use hc_shown::Page;
 use hc_why::{Shortfall, Why};
 use std::alloc::{AllocError, Global};
 
@@ -143,14 +143,13 @@ impl IgnoringTry {
     }
 
     /// Writes what has to be asked for.
-    pub(crate) fn say(&self, out: &mut String) -> Result<(), AllocError> {
-        let mut before = "--ignore ";
+    pub(crate) fn say(&self, page: &mut Page) {
+        let mut is_first = true;
         for name in self.settings.ignored.names() {
-            out.push_str(before)?;
-            push_octets(name.as_slice(), out)?;
-            before = ",";
+            page.separator(is_first, "--ignore ", ",");
+            page.octets(name.as_slice());
+            is_first = false;
         }
-        Ok(())
     }
 }
 

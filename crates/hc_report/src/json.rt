@@ -16,6 +16,7 @@ use crate::tries::Tries;
 use hc_figures::put_figures;
 use hc_history::{Counts, Ending};
 use hc_json::{array, object, push_made, put_flag, put_made, put_number, put_text};
+use hc_shown::Page;
 use serde_json::{Map, Value};
 use std::alloc::{AllocError, Global};
 
@@ -162,9 +163,9 @@ fn push_ignoring(
     if wrong <= ignoring.wrong {
         return Ok(());
     }
-    let mut options = String::new(alloc);
-    ignoring.say(&mut options)?;
-    let made = try_json(alloc, options.as_str(), ignoring.wrong, false);
+    let mut options = Page::new(alloc);
+    ignoring.say(&mut options);
+    let made = try_json(alloc, options, ignoring.wrong, false);
     push_made(made, helpful)
 }
 
@@ -179,18 +180,19 @@ fn push_fixed(
     if wrong <= fixed.wrong {
         return Ok(());
     }
-    let mut options = String::new(alloc);
-    fixed.say(&mut options)?;
-    let made = try_json(alloc, options.as_str(), fixed.wrong, true);
+    let mut options = Page::new(alloc);
+    fixed.say(&mut options);
+    let made = try_json(alloc, options, fixed.wrong, true);
     push_made(made, helpful)
 }
 
 // A try by those options, with which so many replies are wrong, or at most so many.
-fn try_json(alloc: Global, options: &str, wrong: u64, is_exact: bool) -> Result<Value, AllocError>
+fn try_json(alloc: Global, options: Page, wrong: u64, is_exact: bool) -> Result<Value, AllocError>
     ensures { IfOk result (NestsTo 2) }
 {
+    let options = options.into_text()?;
     let mut members = Map::new(alloc);
-    let filled = put_try(alloc, options, wrong, is_exact, &mut members);
+    let filled = put_try(alloc, options.as_str(), wrong, is_exact, &mut members);
     object(members, filled)
 }
 

@@ -12,7 +12,6 @@ mod groups;
 mod ignoring;
 mod json;
 mod new_json;
-mod numbers;
 mod report;
 mod requests;
 mod rows;

@@ -20,6 +20,7 @@ use hc_figures::{ListedReplies, ReplyCounts};
 use hc_history::{Counts, Ending, Finding, Reason, Settings, WrongReply};
 use hc_index::Index;
 use hc_past::Past;
+use hc_shown::Page;
 use hc_why::{Why, WrongClaim, why};
 use serde_json::{Map, Value};
 use std::alloc::{AllocError, Global};
@@ -162,7 +163,9 @@ impl Report {
         counts: Option<Counts>,
         out: &mut String,
     ) -> Result<(), AllocError> {
-        say_report(self.alloc, self, ending, counts, out)
+        let mut page = Page::new(self.alloc);
+        say_report(self.alloc, self, ending, counts, &mut page);
+        page.onto(out)
     }
 
     /// The whole report as a JSON object, on one line.

@@ -2,37 +2,12 @@
 
 use crate::group::{Group, Spread};
 use crate::groups::Groups;
-use crate::numbers::push_number;
 use crate::targets::NamedTargets;
-use std::alloc::{AllocError, Global};
-use std::fmt::Write;
+use hc_shown::Page;
+use std::alloc::Global;
 
 /// The most columns that are left free behind a text.
 const WIDEST: usize = 48;
-
-/// What the table says of a group.
-struct Row {
-    count: u64,
-    first: u64,
-    reason: String,
-    what: String,
-    target: String,
-}
-
-impl Drop for Row {
-    fn drop(self) {
-        let Row {
-            count: _,
-            first: _,
-            reason,
-            what,
-            target,
-        } = self;
-        drop(reason);
-        drop(what);
-        drop(target);
-    }
-}
 
 /// How many columns texts take.
 #[derive(Clone, Copy)]
@@ -42,132 +17,101 @@ struct Widths {
 }
 
 /// Writes a table with a line for each group.
-pub(crate) fn say_groups(
-    alloc: Global,
-    groups: &Groups,
-    out: &mut String,
-) -> Result<(), AllocError> {
-    let rows = rows_of(alloc, groups.groups.as_slice())?;
-    let widths = widths_of(rows.as_slice());
-    say_titles(widths, out)?;
-    say_rows(rows.as_slice(), widths, out)?;
-    say_elsewhere(groups.elsewhere, rows.len(), out)
-}
-
-fn say_titles(widths: Widths, out: &mut String) -> Result<(), AllocError> {
-    out.push_str("\n   count    first  ")?;
-    push_padded("reason", widths.reason, out)?;
-    push_padded("what", widths.what, out)?;
-    out.push_str("first target\n")
-}
-
-fn say_rows(rows: &[Row], widths: Widths, out: &mut String) -> Result<(), AllocError> {
-    for row in rows {
-        say_row(row, widths, out)?;
+pub(crate) fn say_groups(alloc: Global, groups: &Groups, page: &mut Page) {
+    let mut measured = Page::new(alloc);
+    let widths = widths_of(groups.groups.as_slice(), &mut measured);
+    page.take_refusal(&measured);
+    say_titles(widths, page);
+    for group in groups.groups.iter() {
+        say_group(group, widths, page);
     }
-    Ok(())
+    say_elsewhere(groups, page);
 }
 
-// Says how many wrong replies are in none of so many groups, if any.
-fn say_elsewhere(elsewhere: u64, count: usize, out: &mut String) -> Result<(), AllocError> {
-    if elsewhere == 0 {
-        return Ok(());
+fn say_titles(widths: Widths, page: &mut Page) {
+    page.text("\n   count    first  ");
+    page.word("reason", widths.reason);
+    page.text("  ");
+    page.word("what", widths.what);
+    page.text("  first target\n");
+}
+
+// Says how many wrong replies are in no group, if any.
+fn say_elsewhere(groups: &Groups, page: &mut Page) {
+    if groups.elsewhere == 0 {
+        return;
     }
-    write!(
-        out,
-        "{elsewhere:>8} more wrong replies are in no group of these {count}\n"
-    )
+    page.column(
+        groups.elsewhere,
+        " more wrong replies are in no group of these ",
+    );
+    page.number("", groups.groups.len() as u64, "\n");
 }
 
-fn rows_of(alloc: Global, groups: &[Group]) -> Result<Vec<Row>, AllocError> {
-    let mut rows = Vec::new(alloc);
-    for group in groups {
-        rows.push(row_of(alloc, group)?)?;
-    }
-    Ok(rows)
-}
-
-fn row_of(alloc: Global, group: &Group) -> Result<Row, AllocError> {
-    Ok(Row {
-        count: group.count,
-        first: group.first,
-        reason: reason_of(alloc, group)?,
-        what: what_of(alloc, group)?,
-        target: target_of(alloc, &group.targets)?,
-    })
-}
-
-fn reason_of(alloc: Global, group: &Group) -> Result<String, AllocError> {
-    let number = group.reason.number();
-    let name = group.reason.name();
-    format!(in alloc; "{number} {name}")
-}
-
-/// What is wrong in the replies of a group, and by how much.
-pub(crate) fn what_of(alloc: Global, group: &Group) -> Result<String, AllocError> {
-    let mut text = String::new(alloc);
-    group.why.say(&mut text)?;
-    push_spread(group.spread, &mut text)?;
-    Ok(text)
-}
-
-// Writes by how many seconds replies are off, if that is what is wrong.
-fn push_spread(spread: Option<Spread>, out: &mut String) -> Result<(), AllocError> {
-    match spread {
-        Some(Spread { least, greatest }) if least == greatest => {
-            push_number(" by ", least, " s", out)
-        }
-        Some(Spread { least, greatest }) => write!(out, " by {least} to {greatest} s"),
-        None => Ok(()),
-    }
-}
-
-// The first target, and how many more there are.
-fn target_of(alloc: Global, targets: &NamedTargets) -> Result<String, AllocError> {
-    let mut text = String::new(alloc);
-    push_targets(targets, &mut text)?;
-    Ok(text)
-}
-
-fn push_targets(targets: &NamedTargets, out: &mut String) -> Result<(), AllocError> {
-    let Some((first, others)) = targets.names.as_slice().split_first() else {
-        return Ok(());
-    };
-    out.push_str(first.as_str())?;
-    let more = others.len() as u64;
-    if targets.others != 0 {
-        return push_number(" and over ", more, " more", out);
-    }
-    if more == 0 {
-        return Ok(());
-    }
-    push_number(" and ", more, " more", out)
-}
-
-fn widths_of(rows: &[Row]) -> Widths {
+// The columns that the groups take, each of which is written on a page by itself.
+fn widths_of(groups: &[Group], page: &mut Page) -> Widths {
     let mut widths = Widths { reason: 6, what: 4 };
-    for row in rows {
-        widths.reason = widths.reason.max(row.reason.len());
-        widths.what = widths.what.max(row.what.len().min(WIDEST));
+    for group in groups {
+        let begun = page.columns();
+        push_reason(group, page);
+        let behind = page.columns();
+        push_what(group, page);
+        let reason = behind.saturating_sub(begun);
+        let what = page.columns().saturating_sub(behind);
+        widths.reason = widths.reason.max(reason);
+        widths.what = widths.what.max(what.min(WIDEST));
     }
     widths
 }
 
-fn say_row(row: &Row, widths: Widths, out: &mut String) -> Result<(), AllocError> {
-    let count = row.count;
-    let first = row.first;
-    write!(out, "{count:>8} {first:>8}  ")?;
-    push_padded(row.reason.as_str(), widths.reason, out)?;
-    push_padded(row.what.as_str(), widths.what, out)?;
-    out.push_str(row.target.as_str())?;
-    out.push_str("\n")
+fn say_group(group: &Group, widths: Widths, page: &mut Page) {
+    page.column(group.count, " ");
+    page.column(group.first, "  ");
+    let begun = page.columns();
+    push_reason(group, page);
+    page.pad(begun, widths.reason);
+    page.text("  ");
+    let begun = page.columns();
+    push_what(group, page);
+    page.pad(begun, widths.what);
+    page.text("  ");
+    push_targets(&group.targets, page);
+    page.end_line();
 }
 
-// Writes a text, and spaces up to that width and two more.
-fn push_padded(text: &str, width: usize, out: &mut String) -> Result<(), AllocError> {
-    out.push_str(text)?;
-    for _ in text.len()..width {
-        out.push(' ')?;
+fn push_reason(group: &Group, page: &mut Page) {
+    page.number("", u64::from(group.reason.number()), " ");
+    page.text(group.reason.name());
+}
+
+/// Writes what is wrong in the replies of a group, and by how much.
+pub(crate) fn push_what(group: &Group, page: &mut Page) {
+    group.why.say(page);
+    if let Some(spread) = group.spread {
+        push_spread(spread, page);
     }
-    out.push_str("  ")
+}
+
+// Writes by how many seconds replies are off.
+fn push_spread(spread: Spread, page: &mut Page) {
+    if spread.least != spread.greatest {
+        page.number(" by ", spread.least, " to ");
+        return page.number("", spread.greatest, " s");
+    }
+    page.number(" by ", spread.least, " s");
+}
+
+// Writes the first target, and how many more there are.
+fn push_targets(targets: &NamedTargets, page: &mut Page) {
+    let Some((first, others)) = targets.names.as_slice().split_first() else {
+        return;
+    };
+    page.text(first.as_str());
+    let more = others.len() as u64;
+    if targets.others != 0 {
+        return page.number(" and over ", more, " more");
+    }
+    if more != 0 {
+        page.number(" and ", more, " more");
+    }
 }

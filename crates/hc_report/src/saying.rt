@@ -2,14 +2,13 @@
 
 use crate::fixed::FixedTry;
 use crate::ignoring::IgnoringTry;
-use crate::numbers::push_number;
 use crate::report::Report;
 use crate::rows::say_groups;
 use crate::tries::Tries;
 use hc_figures::{NO_MARK, ReplyCounts};
 use hc_history::{Counts, Ending};
-use std::alloc::{AllocError, Global};
-use std::fmt::Write;
+use hc_shown::Page;
+use std::alloc::Global;
 
 /// Writes what stands behind the verdict.
 pub(crate) fn say_report(
@@ -17,109 +16,79 @@ pub(crate) fn say_report(
     report: &Report,
     ending: Ending,
     counts: Option<Counts>,
-    out: &mut String,
-) -> Result<(), AllocError> {
-    say_records(counts, out)?;
-    say_ending(ending, out)?;
-    say_replies(&report.replies, out)?;
-    say_wrongs(alloc, report, out)
+    page: &mut Page,
+) {
+    if let Some(counts) = counts {
+        page.number("records    ", counts.records, "\n");
+    }
+    say_ending(ending, page);
+    say_replies(&report.replies, page);
+    say_wrongs(alloc, report, page);
 }
 
 // Writes how many replies are wrong, and what is wrong in them.
-fn say_wrongs(alloc: Global, report: &Report, out: &mut String) -> Result<(), AllocError> {
+fn say_wrongs(alloc: Global, report: &Report, page: &mut Page) {
     let wrong = report.wrongs.count;
-    let judged = report.replies.judged();
-    write!(out, "wrong      {wrong} of {judged}\n")?;
+    page.number("wrong      ", wrong, " of ");
+    page.number("", report.replies.judged(), "\n");
     if wrong == 0 {
-        return Ok(());
+        return;
     }
-    say_groups(alloc, &report.groups, out)?;
-    report.suspects.say(out)?;
-    say_warm(report.groups.unrecorded(), out)?;
-    say_tries(&report.tries, wrong, out)
-}
-
-// Writes how many records there are, where that was counted.
-fn say_records(counts: Option<Counts>, out: &mut String) -> Result<(), AllocError> {
-    match counts {
-        Some(counts) => push_number("records    ", counts.records, "\n", out),
-        None => Ok(()),
-    }
+    say_groups(alloc, &report.groups, page);
+    report.suspects.say(page);
+    say_warm(report.groups.unrecorded(), page);
+    say_tries(&report.tries, wrong, page);
 }
 
 // Writes where the records break, if they do.
-fn say_ending(ending: Ending, out: &mut String) -> Result<(), AllocError> {
+fn say_ending(ending: Ending, page: &mut Page) {
     let Ending::Broken(position, fault) = ending else {
-        return Ok(());
+        return;
     };
-    let number = fault.number();
-    let name = fault.name();
-    write!(
-        out,
-        "ends       at {position}, which is malformed: {number} {name}\n"
-    )
+    page.number("ends       at ", position, ", which is malformed: ");
+    page.number("", u64::from(fault.number()), " ");
+    page.text(fault.name());
+    page.end_line();
 }
 
 // Writes what the replies say of themselves.
-fn say_replies(replies: &ReplyCounts, out: &mut String) -> Result<(), AllocError> {
-    say_marks(replies, out)?;
-    say_octets(replies, out)?;
-    say_unjudged(replies.unjudged, out)?;
+fn say_replies(replies: &ReplyCounts, page: &mut Page) {
+    say_marks(replies, page);
+    page.number("octets     ", replies.hit_octets, " in bodies of hits, ");
+    let behind = " in those of forwarded replies\n";
+    page.number("", replies.forwarded_octets, behind);
+    if replies.unjudged != 0 {
+        let behind = ": nothing is said of replies without a mark\n";
+        page.number("unjudged   ", replies.unjudged, behind);
+    }
     if replies.has_no_mark() {
-        return write!(out, "warning: {NO_MARK}\n");
+        page.text("warning: ");
+        page.text(NO_MARK);
+        page.end_line();
     }
-    Ok(())
 }
 
-fn say_unjudged(unjudged: u64, out: &mut String) -> Result<(), AllocError> {
-    if unjudged == 0 {
-        return Ok(());
-    }
-    let behind = ": nothing is said of replies without a mark\n";
-    push_number("unjudged   ", unjudged, behind, out)
-}
-
-fn say_marks(replies: &ReplyCounts, out: &mut String) -> Result<(), AllocError> {
+fn say_marks(replies: &ReplyCounts, page: &mut Page) {
     let all = replies.all();
-    push_number("replies    ", all, ": ", out)?;
-    say_part(replies.hits, all, "hits", out)?;
-    say_part(replies.forwarded, all, "forwarded", out)?;
-    say_part(replies.unmarked, all, "unmarked", out)?;
-    say_both(replies.both, replies.collapsed, out)
-}
-
-fn say_both(both: u64, collapsed: u64, out: &mut String) -> Result<(), AllocError> {
-    push_number("", both, " with both marks\n", out)?;
-    if collapsed == 0 {
-        return Ok(());
+    page.number("replies    ", all, ": ");
+    say_part(replies.hits, all, " hits", page);
+    say_part(replies.forwarded, all, " forwarded", page);
+    say_part(replies.unmarked, all, " unmarked", page);
+    page.number("", replies.both, " with both marks\n");
+    if replies.collapsed != 0 {
+        let behind = " of the forwarded replies\n";
+        page.number("collapsed  ", replies.collapsed, behind);
     }
-    push_number("collapsed  ", collapsed, " of the forwarded replies\n", out)
 }
 
-fn say_octets(replies: &ReplyCounts, out: &mut String) -> Result<(), AllocError> {
-    let hits = replies.hit_octets;
-    let forwarded = replies.forwarded_octets;
-    write!(
-        out,
-        "octets     {hits} in bodies of hits, {forwarded} in those of forwarded replies\n"
-    )
-}
-
-// Writes a count, what it counts, and its share of all, with a comma behind them.
-fn say_part(part: u64, all: u64, what: &str, out: &mut String) -> Result<(), AllocError> {
-    write!(out, "{part} {what}")?;
-    say_share(part, all, out)?;
-    out.push_str(", ")
-}
-
-// Writes the share that a part is of all, if there are any.
-fn say_share(part: u64, all: u64, out: &mut String) -> Result<(), AllocError> {
-    let Some(thousandths) = share_of(part, all) else {
-        return Ok(());
-    };
-    let percent = thousandths / 10;
-    let tenth = thousandths % 10;
-    write!(out, " ({percent}.{tenth}%)")
+// Writes a count, what it counts, and its share of all, if there are any, with a comma behind them.
+fn say_part(part: u64, all: u64, what: &str, page: &mut Page) {
+    page.number("", part, what);
+    if let Some(thousandths) = share_of(part, all) {
+        page.number(" (", thousandths / 10, ".");
+        page.number("", thousandths % 10, "%)");
+    }
+    page.text(", ");
 }
 
 // How many thousandths of all a part is, rounded down. None where all is nothing.
@@ -128,44 +97,43 @@ fn share_of(part: u64, all: u64) -> Option<u64> {
 }
 
 // Says how many replies are of targets of which nothing is recorded, if any are.
-fn say_warm(unrecorded: u64, out: &mut String) -> Result<(), AllocError> {
+fn say_warm(unrecorded: u64, page: &mut Page) {
     if unrecorded == 0 {
-        return Ok(());
+        return;
     }
     let behind =
         " of targets of which nothing is recorded: was the cache empty when the recording began?\n";
-    push_number("warm       ", unrecorded, behind, out)
+    page.number("warm       ", unrecorded, behind);
 }
 
 // Writes what could be let pass so that fewer replies are wrong.
-fn say_tries(tries: &Tries, wrong: u64, out: &mut String) -> Result<(), AllocError> {
+fn say_tries(tries: &Tries, wrong: u64, page: &mut Page) {
     if !tries.help(wrong) {
-        return Ok(());
+        return;
     }
-    out.push_str("to try, judged again\n")?;
-    say_ignoring(&tries.ignoring, wrong, out)?;
+    page.text("to try, judged again\n");
+    say_ignoring(&tries.ignoring, wrong, page);
     for fixed in &tries.fixed {
-        say_fixed(fixed, wrong, out)?;
+        say_fixed(fixed, wrong, page);
     }
-    Ok(())
 }
 
-fn say_ignoring(ignoring: &IgnoringTry, wrong: u64, out: &mut String) -> Result<(), AllocError> {
-    let fewer = ignoring.wrong;
-    if wrong <= fewer {
-        return Ok(());
+fn say_ignoring(ignoring: &IgnoringTry, wrong: u64, page: &mut Page) {
+    if wrong <= ignoring.wrong {
+        return;
     }
-    out.push_str("  ")?;
-    ignoring.say(out)?;
-    write!(out, ": {wrong} to at most {fewer}\n")
+    page.text("  ");
+    ignoring.say(page);
+    page.number(": ", wrong, " to at most ");
+    page.number("", ignoring.wrong, "\n");
 }
 
-fn say_fixed(fixed: &FixedTry, wrong: u64, out: &mut String) -> Result<(), AllocError> {
-    let fewer = fixed.wrong;
-    if wrong <= fewer {
-        return Ok(());
+fn say_fixed(fixed: &FixedTry, wrong: u64, page: &mut Page) {
+    if wrong <= fixed.wrong {
+        return;
     }
-    out.push_str("  ")?;
-    fixed.say(out)?;
-    write!(out, ": {wrong} to {fewer}\n")
+    page.text("  ");
+    fixed.say(page);
+    page.number(": ", wrong, " to ");
+    page.number("", fixed.wrong, "\n");
 }

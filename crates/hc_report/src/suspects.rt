@@ -5,10 +5,9 @@ ghost use Rattle.hc_report.specs.declared.suspects.TheConstants.{MOST_SUSPECTS};
 
 use hc_facts::{Change, FieldGap};
 use hc_fields::Octets;
-use hc_shown::push_octets;
+use hc_shown::Page;
 use hc_why::{Shortfall, Why};
 use std::alloc::{AllocError, Global};
-use std::fmt::Write;
 
 /// How many fields are named at most.
 const MOST_SUSPECTS: usize = 20;
@@ -107,30 +106,27 @@ impl Suspects {
     }
 
     /// Writes a line for each.
-    pub(crate) fn say(&self, out: &mut String) -> Result<(), AllocError> {
+    pub(crate) fn say(&self, page: &mut Page) {
         if self.named.is_empty() {
-            return Ok(());
+            return;
         }
-        out.push_str("suspected faults, in how many of these replies\n")?;
+        page.text("suspected faults, in how many of these replies\n");
         for suspect in self.named.iter() {
-            suspect.say(out)?;
+            suspect.say(page);
         }
-        if self.others == 0 {
-            return Ok(());
+        if self.others != 0 {
+            page.number("  others: ", self.others, "\n");
         }
-        let others = self.others;
-        write!(out, "  others: {others}\n")
     }
 }
 
 impl Suspect {
     // Writes its line.
-    fn say(&self, out: &mut String) -> Result<(), AllocError> {
-        out.push_str("  ")?;
-        out.push_str(self.change.word())?;
-        out.push_str(" ")?;
-        push_octets(self.name.as_slice(), out)?;
-        let count = self.count;
-        write!(out, ": {count}\n")
+    fn say(&self, page: &mut Page) {
+        page.text("  ");
+        page.text(self.change.word());
+        page.text(" ");
+        page.octets(self.name.as_slice());
+        page.number(": ", self.count, "\n");
     }
 }

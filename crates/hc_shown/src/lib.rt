@@ -4,6 +4,7 @@
 
 mod moment;
 mod octets;
+mod page;
 mod piece;
 mod place;
 mod secrets;
@@ -12,6 +13,7 @@ mod value;
 
 pub use moment::push_moment;
 pub use octets::{SHOWN, push_first, push_octets};
+pub use page::Page;
 pub use secrets::is_credential;
 pub use target::push_target;
 pub use value::push_value;

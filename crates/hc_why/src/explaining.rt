@@ -33,12 +33,20 @@ pub enum Way {
 }
 
 /// What is found of a reply.
-#[derive(Drop)]
 pub enum Ground {
     /// It is right; and the stored response that it carries, if it carries one.
     Right(Option<Nearest>),
     /// What is wrong with it.
     Wrong(Why),
+}
+
+impl Drop for Ground {
+    fn drop(self) {
+        match self {
+            Ground::Right(nearest) => drop(nearest),
+            Ground::Wrong(why) => drop(why),
+        }
+    }
 }
 
 /// What is known of one reply, and of the records that are named with it.

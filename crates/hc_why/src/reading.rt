@@ -60,7 +60,6 @@ pub(crate) fn why_by(
 }
 
 /// A wrong reply, and what the index knows of it.
-#[derive(Drop)]
 pub struct WrongClaim<'a, I> {
     /// Why it is wrong.
     pub reason: Reason,
@@ -70,6 +69,18 @@ pub struct WrongClaim<'a, I> {
     pub candidates: Vec<Candidate>,
     /// What is known of the records before it.
     pub index: &'a I,
+}
+
+impl<I> Drop for WrongClaim<'_, I> {
+    fn drop(self) {
+        let WrongClaim {
+            reason: _,
+            claim: _,
+            candidates,
+            index: _,
+        } = self;
+        drop(candidates);
+    }
 }
 
 // How far the responses get that a reply may carry which is wrong for that reason, if it asks for one.

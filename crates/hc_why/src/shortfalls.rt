@@ -75,7 +75,6 @@ impl Drop for NotAbout {
 }
 
 /// In what a stored response falls short of what a reply carries.
-#[derive(Drop)]
 pub enum Shortfall {
     /// The request is neither GET nor HEAD, but this.
     Asked(Method),
@@ -95,6 +94,20 @@ pub enum Shortfall {
     Age(AgeGap),
     /// The reply's mark tells other seconds.
     Ttl(TtlGap),
+}
+
+impl Drop for Shortfall {
+    fn drop(self) {
+        match self {
+            Shortfall::Asked(method) => drop(method),
+            Shortfall::Selected(selection) => drop(selection),
+            Shortfall::Valid(by) => drop(by),
+            Shortfall::Body(gap) => drop(gap),
+            Shortfall::Fields(differences) => drop(differences),
+            Shortfall::Age(gap) => drop(gap),
+            Shortfall::Lifetime(_) | Shortfall::Use(_) | Shortfall::Ttl(_) => {}
+        }
+    }
 }
 
 impl Shortfall {

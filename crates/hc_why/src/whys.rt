@@ -17,7 +17,6 @@ pub enum NoMark {
 }
 
 /// What is wrong with a reply.
-#[derive(Drop)]
 pub enum Why {
     /// No response that may be stored is of its target.
     NoResponse(Unstored),
@@ -35,6 +34,24 @@ pub enum Why {
     NotCollapsible(Unstored, Option<Nearest>),
     /// It answers no open exchange.
     Unasked,
+}
+
+impl Drop for Why {
+    fn drop(self) {
+        match self {
+            Why::NoResponse(unstored) => drop(unstored),
+            Why::Response(nearest) => drop(nearest),
+            Why::NotForwarded(window, nearest) => {
+                drop(window);
+                drop(nearest);
+            }
+            Why::NotCollapsible(unstored, nearest) => {
+                drop(unstored);
+                drop(nearest);
+            }
+            Why::Unmarked(_) | Why::BothMarks | Why::Unasked => {}
+        }
+    }
 }
 
 // Whether both break a rule in the same way.
