@@ -12,12 +12,12 @@ use crate::recorded::Recorded;
 use crate::serving::opened;
 use crate::sockets::{Sockets, SocketsFault};
 use crate::system_link::{Recording, SystemLink};
-use hc_connection::{Buffered, Lapsing, Off, Recorder};
-use hc_crowd::{Crowd, Limits};
+use hc_connection::{Batches, Buffered, Lapsing, Off, Recorder};
+use hc_crowd::{Crowd, Limits, World};
 use hc_guests::MOST_TURNED_AWAY;
 use hc_machine::{Core, CoreFault};
 use hc_notices::{Greeting, Notice, Voice};
-use hc_serve::{DriveFault, serve_crowd};
+use hc_serve::{DriveFault, Watcher, serve_crowd};
 use hc_service::{CoreSettings, StepFault};
 use hc_transcript::Format;
 use std::alloc::{AllocError, Global};
@@ -25,7 +25,7 @@ use std::collections::hash_map::RandomState;
 use std::fmt::Write as _;
 use std::fs::OpenFile;
 use std::io;
-use std::io::{ErrorKind, Write};
+use std::io::{ErrorKind, Read, Write};
 use std::net::{Net, SocketAddr};
 use std::random::RandomSource;
 use std::rt::Files;
@@ -60,12 +60,20 @@ pub struct RecordTo<'a> {
 /// What a proxy records by.
 type FileRecorder<F> = Lapsing<Buffered<SystemLink<Recording<F>>>>;
 
-/// Where clients connect to, what bounds them, and what is said once they can.
-#[derive(Drop)]
-struct Serving<'a, R: Net + Clock + Files> {
-    sockets: Sockets<'a, R>,
-    limits: Limits,
+/// What is said once clients can connect.
+#[derive(Clone, Copy)]
+struct Opening<'a> {
     greeting: Greeting<'a>,
+    /// Whether signals that ask the program to stop can be seen.
+    hears_stops: bool,
+}
+
+/// How is served: within which limits, where that is recorded, if it is, and what is said first.
+#[derive(Clone, Copy)]
+struct Terms<'a> {
+    limits: Limits,
+    recording: Option<RecordTo<'a>>,
+    opening: Opening<'a>,
 }
 
 /// Serves clients from a new cache of those settings, many at once in one thread, until the program is asked to stop, or as
@@ -102,26 +110,29 @@ where
     check_open_files(rt, limits)?;
     let sockets = new_sockets(rt, proxy)?;
     let addresses = listed(rt.alloc(), sockets.addresses())?;
-    let greeting = Greeting {
-        addresses: addresses.as_str(),
-        origin: proxy.origin,
-        keys: settings.keys,
-        bytes: settings.bytes,
+    let opening = Opening {
+        greeting: Greeting {
+            addresses: addresses.as_str(),
+            origin: proxy.origin,
+            keys: settings.keys,
+            bytes: settings.bytes,
+        },
+        hears_stops: sockets.hears_stops(),
+    };
+    let terms = Terms {
+        limits,
+        recording: proxy.recording,
+        opening,
     };
     let mut core = new_core(rt, settings, limits.connections)?;
-    let serving = Serving {
-        sockets,
-        limits,
-        greeting,
-    };
-    serve_recorded(rt, serving, proxy.recording, &mut core, faults)
+    serve_clients_of(rt, sockets, terms, &mut core, faults)
 }
 
-/// Serves, and records there, if anywhere.
-fn serve_recorded<R, E: Write>(
+/// Serves those who come to these sockets.
+fn serve_clients_of<R, E: Write>(
     rt: &R,
-    serving: Serving<'_, R>,
-    recording: Option<RecordTo<'_>>,
+    sockets: Sockets<'_, R>,
+    terms: Terms<'_>,
     core: &mut Core<RandomState>,
     faults: &mut E,
 ) -> Result<(), ServeFault>
@@ -130,55 +141,95 @@ where
     R::File: Claim,
     ensures { SaysSome (E.contents faults.old) (E.contents faults.new) }
 {
+    let mut crowd = Crowd::new(rt.alloc(), sockets, terms.limits)?;
+    serve_recorded(rt, &mut crowd, terms.opening, terms.recording, core, faults)
+}
+
+/// Serves, and records there, if anywhere.
+fn serve_recorded<R, W: World, E: Write>(
+    rt: &R,
+    crowd: &mut Crowd<W>,
+    opening: Opening<'_>,
+    recording: Option<RecordTo<'_>>,
+    core: &mut Core<RandomState>,
+    faults: &mut E,
+) -> Result<(), ServeFault>
+where
+    R: Files + AllocGlobal,
+    R::File: Claim,
+    ensures { SaysSome (E.contents faults.old) (E.contents faults.new) }
+{
     let Some(to) = recording else {
-        return serve_unrecorded(rt.alloc(), serving, core, faults);
+        return serve_unrecorded(rt.alloc(), crowd, opening, core, faults);
     };
     let mut recorder = new_recorder(rt, to)?;
-    match serve_with(rt.alloc(), serving, core, &mut recorder, faults) {
+    serve_to(rt.alloc(), crowd, opening, core, &mut recorder, faults)
+}
+
+/// Serves, and records to that file.
+fn serve_to<F: Read + Write, W: World, E: Write>(
+    alloc: Global,
+    crowd: &mut Crowd<W>,
+    opening: Opening<'_>,
+    core: &mut Core<RandomState>,
+    recorder: &mut FileRecorder<F>,
+    faults: &mut E,
+) -> Result<(), ServeFault>
+    ensures { SaysSome (E.contents faults.old) (E.contents faults.new) }
+{
+    match serve_with(alloc, crowd, opening, core, recorder, faults) {
         Ok(()) => Ok(()),
         Err(fault) => Err(fault_of(fault, recorder.recorder().link().reason())),
     }
 }
 
 /// Serves, and records nothing.
-fn serve_unrecorded<R: Net + Files + Clock, E: Write>(
+fn serve_unrecorded<W: World, E: Write>(
     alloc: Global,
-    serving: Serving<'_, R>,
+    crowd: &mut Crowd<W>,
+    opening: Opening<'_>,
     core: &mut Core<RandomState>,
     faults: &mut E,
 ) -> Result<(), ServeFault>
     ensures { SaysSome (E.contents faults.old) (E.contents faults.new) }
 {
-    match serve_with(alloc, serving, core, &mut Off, faults) {
+    match serve_with(alloc, crowd, opening, core, &mut Off, faults) {
         Ok(()) => Ok(()),
         Err(fault) => Err(fault_of(fault, None)),
     }
 }
 
 /// Serves, and records to that.
-fn serve_with<R: Net + Files + Clock, T: Recorder + Recorded, E: Write>(
+fn serve_with<W: World, T: Recorder + Recorded, E: Write>(
     alloc: Global,
-    serving: Serving<'_, R>,
+    crowd: &mut Crowd<W>,
+    opening: Opening<'_>,
     core: &mut Core<RandomState>,
     recorder: &mut T,
     faults: &mut E,
 ) -> Result<(), DriveFault>
     ensures { SaysSome (E.contents faults.old) (E.contents faults.new) }
 {
-    let Serving {
-        sockets,
-        limits,
-        greeting,
-    } = serving;
-    let hears_stops = sockets.hears_stops();
-    let mut crowd = Crowd::new(alloc, sockets, limits)?;
     let mut herald = Herald::new(Voice::new(alloc, faults), crowd.failures());
-    herald.say(Notice::Listening(greeting));
-    herald.say_if(!hears_stops, Notice::Deaf);
-    let served = serve_crowd(alloc, core, &mut crowd, recorder, &mut herald);
+    herald.say(Notice::Listening(opening.greeting));
+    herald.say_if(!opening.hears_stops, Notice::Deaf);
+    let served = served_by(alloc, core, crowd, recorder, &mut herald);
     // Behind the last batch nobody has looked.
     herald.look_at_recording(&*recorder);
     served
+}
+
+/// Serves by those links, and says of it what is seen of who looks.
+fn served_by<L: Batches, T: Recorder, V: Watcher<L, T>>(
+    alloc: Global,
+    core: &mut Core<RandomState>,
+    links: &mut L,
+    recorder: &mut T,
+    watcher: &mut V,
+) -> Result<(), DriveFault>
+    ensures { V.may_become watcher.old watcher.new }
+{
+    serve_crowd(alloc, core, links, recorder, watcher)
 }
 
 /// Fails where the system doesn't let so many files be open as the limits may want.
