@@ -1,11 +1,12 @@
 -- What the live responses of an index tell of the candidates of a reply.
-use Rattle.std.proofs.Common.{◌≡◌, ℕ, Bool, true, false, ◌&&◌, ◌||◌, cond, eqb, ltb, List, [], ◌∷◌, Option, Some, refl, sym, ap, subst, ◌∙◌, arith}
+use Rattle.std.proofs.Common.{◌≡◌, ℕ, Bool, true, false, ◌&&◌, ◌||◌, cond, eqb, ltb, List, [], ◌∷◌, Option, Some, refl, sym, ap, subst, ◌∙◌, ◌++◌, ◌+◌, ◌<◌, arith, drop, get_or, length}
 use Rattle.std.specs.Prelude.{filter, find, map, IsPermutation}
 use Rattle.std.specs.Option.{option_map}
 use Rattle.std.specs.Cmp.{IsStrictWeakOrder}
 use Rattle.std.specs.List.Sorted.{IsSortedBy}
 use Rattle.std.specs.Ordering.{is_lt, nat_cmp, ordering_then}
 use Rattle.std.proofs.lemmas.Bool.Decides.{nat_tests}
+use Rattle.std.proofs.lemmas.List.{append_assoc, at_drop_more}
 use Rattle.hc_head.specs.declared.head.Target.{Target}
 use Rattle.hc_head.specs.Targets.{same_target}
 use Rattle.hc_head.proofs.SameTargetLemmas.{same_target_one}
@@ -63,6 +64,45 @@ pub candidates_told : (claim : Claim) (h : List Item) (lives : List LiveResponse
 candidates_told claim h lives made sorted are made-is moved in_order =
     candidates_are claim h (live_in claim.target lives) sorted are
     (subst (λ (cs : List Candidate). IsPermutation cs sorted) (made-is ∙ sym (all_alike claim lives)) moved) in_order
+
+-- ---- those of what is left
+
+head_in : {A B : Type 0} (f : A → B) (same : Bool) (x : A) (xs : List A) → same ≡ true → map f (cond same (x ∷ xs) xs) ≡ f x ∷ map f xs
+head_in f same x xs is = rw is refl
+
+head_out : {A B : Type 0} (f : A → B) (same : Bool) (x : A) (xs : List A) → same ≡ false → map f (cond same (x ∷ xs) xs) ≡ map f xs
+head_out f same x xs is = rw is refl
+
+abbrev among : Claim → List LiveResponse → List LiveResponse
+among claim lives = filter (λ live. same_target live.target claim.target) lives
+
+other_is_none : (claim : Claim) (live : LiveResponse) (lives : List LiveResponse) → same_target live.target claim.target ≡ false
+    → candidates_in claim (live ∷ lives) ≡ candidates_in claim lives
+other_is_none claim live lives other = head_out (candidate_of claim) (same_target live.target claim.target) live (among claim lives) other
+
+one_is_first : (claim : Claim) (live : LiveResponse) (lives : List LiveResponse) → same_target live.target claim.target ≡ true
+    → candidates_in claim (live ∷ lives) ≡ candidate_of claim live ∷ candidates_in claim lives
+one_is_first claim live lives same = head_in (candidate_of claim) (same_target live.target claim.target) live (among claim lives) same
+
+-- those from a place on, where that live response stands there
+from_place : (claim : Claim) (lives : List LiveResponse) (i : ℕ) (live : LiveResponse) → i < length lives → live ≡ get_or lives i live
+    → candidates_in claim (drop i lives) ≡ candidates_in claim (live ∷ drop (i + 1) lives)
+from_place claim lives i live within is =
+    at_drop_more (candidates_in claim) lives i live within ∙ ap (λ l. candidates_in claim (l ∷ drop (i + 1) lives)) (sym is)
+
+-- it is none of the claim's target, or one
+pub passed_over : (claim : Claim) (lives : List LiveResponse) (i : ℕ) (live : LiveResponse) (made all : List Candidate) → i < length lives
+    → live ≡ get_or lives i live → same_target live.target claim.target ≡ false → made ++ candidates_in claim (drop i lives) ≡ all
+    → made ++ candidates_in claim (drop (i + 1) lives) ≡ all
+passed_over claim lives i live made all within is other so =
+    ap (λ cs. made ++ cs) (sym (from_place claim lives i live within is ∙ other_is_none claim live (drop (i + 1) lives) other)) ∙ so
+
+pub taken_in : (claim : Claim) (lives : List LiveResponse) (i : ℕ) (live : LiveResponse) (made all : List Candidate) → i < length lives
+    → live ≡ get_or lives i live → same_target live.target claim.target ≡ true → made ++ candidates_in claim (drop i lives) ≡ all
+    → (made ++ (candidate_of claim live ∷ [])) ++ candidates_in claim (drop (i + 1) lives) ≡ all
+taken_in claim lives i live made all within is same so =
+    append_assoc made (candidate_of claim live ∷ []) (candidates_in claim (drop (i + 1) lives))
+    ∙ (ap (λ cs. made ++ cs) (sym (from_place claim lives i live within is ∙ one_is_first claim live (drop (i + 1) lives) same)) ∙ so)
 
 -- ---- what is left of one of them
 

@@ -40,9 +40,10 @@ fn candidates_in(
 {
     let mut candidates = Vec::new(alloc);
     for live in lives {
-        if same_target(&live.target, claim.target) {
-            candidates.push(candidate_of(alloc, claim, live)?)?;
+        if !same_target(&live.target, claim.target) {
+            continue;
         }
+        candidates.push(candidate_of(alloc, claim, live)?)?;
     }
     Ok(candidates)
 }
