@@ -181,7 +181,7 @@ fn explain_in<'a>(alloc: Global, found: &ArgMatches<'a>) -> Result<Order<'a>, Re
 {
     let file = required(found, "FILE")?;
     if file == "-" {
-        return Err(Refusal::Value(EXPLAINED));
+        return Err(Refusal::Value(&EXPLAINED));
     }
     let position = number_if_given(found, &POSITION)?;
     let json = flag_in(found, "json");
@@ -203,7 +203,7 @@ fn show_in<'a>(found: &ArgMatches<'a>) -> Result<Order<'a>, Refusal>
     let written = required(found, "POSITION[-POSITION]")?;
     match span_of(written.as_bytes()) {
         Some(span) => Ok(Order::Show { file, span }),
-        None => Err(Refusal::Value(SPAN)),
+        None => Err(Refusal::Value(&SPAN)),
     }
 }
 
@@ -312,7 +312,7 @@ fn patience_in(found: &ArgMatches<'_>) -> Result<ProxyPatience, Refusal>
 }
 
 // The number of a limit, or the usual one without it.
-fn limit_in(found: &ArgMatches<'_>, limit: &Row, usual: u64) -> Result<u64, Refusal>
+fn limit_in(found: &ArgMatches<'_>, limit: &'static Row, usual: u64) -> Result<u64, Refusal>
     requires among { IsAmong (entry_of limit.now) proxying }
     requires numbers { TakesNumbers limit.now.takes }
     ensures ok { IfOk result (λ number. limit_in (first_value (found_of found.now)) (entry_of limit.now) usual ≡ Some number) }

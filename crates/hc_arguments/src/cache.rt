@@ -30,7 +30,7 @@ pub(crate) fn cache_in(alloc: Global, found: &ArgMatches<'_>) -> Result<CoreSett
     let keys = number_or(found, &KEYS, USUAL_KEYS)?;
     let bytes = number_or(found, &BYTES, USUAL_BYTES)?;
     let Some(name) = name_by(alloc, found.get_str("name"))? else {
-        return Err(Refusal::Value(NAME));
+        return Err(Refusal::Value(&NAME));
     };
     Ok(CoreSettings {
         name,

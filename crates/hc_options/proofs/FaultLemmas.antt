@@ -57,8 +57,8 @@ none_refused taken value entries Missing kind fine refuses is =
     missing_is_not_fine (λ text. taken refuses.entry.takes text) (value refuses.entry.name) refuses.entry.required refuses.is_required refuses.is_left_out
     (fine_among taken value entries refuses.entry fine refuses.is_among)
 none_refused taken value entries (Value row) kind fine refuses is =
-    refused_is_not_fine (λ text. taken row.takes text) (value row.name.now) (cond row.required false true) refuses.is_refused
-    (fine_among taken value entries (entry_of row) fine refuses.is_among)
+    refused_is_not_fine (λ text. taken row.now.takes text) (value row.now.name.now) (cond row.now.required false true) refuses.is_refused
+    (fine_among taken value entries (entry_of row.now) fine refuses.is_among)
 
 -- ---- a value that isn't there
 

@@ -23,9 +23,7 @@ with_next app rows i other less =
     ∙ with_one_more app (map row_rule (take i rows)) (row_rule (get_or rows i other))
 
 -- a command has one more of them
-pub next_made : (app : App) (rows : List Row) (i : ℕ) (other : Row) (rule : Rule) (made : Result Builder AllocError) → i < length rows
-    → rule ≡ row_rule (get_or rows i other) → IsMade (with_rule (with_rules app (map row_rule (take i rows))) rule) made
+pub next_made : (app : App) (rows : List Row) (i : ℕ) (other : Row) (made : Result Builder AllocError) → i < length rows
+    → IsMade (with_rule (with_rules app (map row_rule (take i rows))) (row_rule (get_or rows i other))) made
     → IsMade (with_rules app (map row_rule (take (i + 1) rows))) made
-next_made app rows i other rule made less is =
-    subst (λ (a : App). IsMade a made)
-    (ap (λ (r : Rule). with_rule (with_rules app (map row_rule (take i rows))) r) is ∙ sym (with_next app rows i other less))
+next_made app rows i other made less = subst (λ (a : App). IsMade a made) (sym (with_next app rows i other less))

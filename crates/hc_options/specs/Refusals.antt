@@ -24,7 +24,7 @@ pub record IsOutside (taken : Takes → Text → Bool) (entries : List Entry) (v
 abbrev pub Refuses : (Takes → Text → Bool) → List Entry → (Text → Option Text) → Refusal → Type 0
 Refuses taken entries value Memory = ⊤
 Refuses taken entries value Missing = IsMissing entries value
-Refuses taken entries value (Value row) = IsOutside taken entries value (entry_of row)
+Refuses taken entries value (Value row) = IsOutside taken entries value (entry_of row.now)
 
 -- the kind of the error that says it; none says the want of memory
 abbrev pub refused_kind : Refusal → Option ErrorKind

@@ -78,20 +78,20 @@ pub fn with_rows<'a>(
     ensures { (app : App) → IsMade app command.entry → IsMade (with_rules app (map row_rule rows.now)) result }
 {
     for row in rows {
-        command = with_argument(command, argument(alloc, row));
+        command = with_row(alloc, command, row);
     }
     command
 }
 
-// The command with one more argument, which isn't global.
-fn with_argument<'a>(
+// The command with the argument or option of one more row.
+fn with_row<'a>(
+    alloc: Global,
     command: Result<Command<'a>, AllocError>,
-    argument: Arg<'a>,
+    row: &Row,
 ) -> Result<Command<'a>, AllocError>
-    ensures { (app : App) → argument.entry.global ≡ false → IsMade app command.entry
-        → IsMade (with_rule app (rule_of argument.entry)) result }
+    ensures { (app : App) → IsMade app command.entry → IsMade (with_rule app (row_rule row.now)) result }
 {
-    command?.arg(argument)
+    command?.arg(argument(alloc, row))
 }
 
 /// The command with one more subcommand.

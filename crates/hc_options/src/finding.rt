@@ -30,9 +30,9 @@ pub fn flag_in(found: &ArgMatches<'_>, name: &str) -> bool
 }
 
 /// The number of a row that takes numbers or sizes, if it is given.
-pub fn number_if_given(found: &ArgMatches<'_>, row: &Row) -> Result<Option<u64>, Refusal>
+pub fn number_if_given(found: &ArgMatches<'_>, row: &'static Row) -> Result<Option<u64>, Refusal>
     ensures ok { IfOk result (λ number. number_by row.now.takes (first_value (found_of found.now) row.now.name.now) ≡ Some number) }
-    ensures err { IfErr result (λ refusal. (refusal ≡ Value row.now)
+    ensures err { IfErr result (λ refusal. (refusal ≡ Value row.entry)
         × (number_by row.now.takes (first_value (found_of found.now) row.now.name.now) ≡ None)) }
 {
     let Some(text) = found.get_str(row.name) else {
@@ -40,14 +40,14 @@ pub fn number_if_given(found: &ArgMatches<'_>, row: &Row) -> Result<Option<u64>,
     };
     match number_of(row.takes, text.as_bytes()) {
         Some(number) => Ok(Some(number)),
-        None => Err(Refusal::Value(*row)),
+        None => Err(Refusal::Value(row)),
     }
 }
 
 /// The same, or the usual number without it.
-pub fn number_or(found: &ArgMatches<'_>, row: &Row, usual: u64) -> Result<u64, Refusal>
+pub fn number_or(found: &ArgMatches<'_>, row: &'static Row, usual: u64) -> Result<u64, Refusal>
     ensures ok { IfOk result (λ number. number_or row.now.takes usual (first_value (found_of found.now) row.now.name.now) ≡ Some number) }
-    ensures err { IfErr result (λ refusal. (refusal ≡ Value row.now)
+    ensures err { IfErr result (λ refusal. (refusal ≡ Value row.entry)
         × (number_or row.now.takes usual (first_value (found_of found.now) row.now.name.now) ≡ None)) }
 {
     let Some(text) = found.get_str(row.name) else {
@@ -55,30 +55,33 @@ pub fn number_or(found: &ArgMatches<'_>, row: &Row, usual: u64) -> Result<u64, R
     };
     match number_of(row.takes, text.as_bytes()) {
         Some(number) => Ok(number),
-        None => Err(Refusal::Value(*row)),
+        None => Err(Refusal::Value(row)),
     }
 }
 
 /// The seconds of a row, or whatever else is counted, and 0 without it.
-pub(crate) fn count_or_zero(found: &ArgMatches<'_>, row: &Row) -> Result<u32, Refusal>
+pub(crate) fn count_or_zero(found: &ArgMatches<'_>, row: &'static Row) -> Result<u32, Refusal>
     ensures ok { IfOk result (λ count. count_or_zero (first_value (found_of found.now) row.now.name.now) ≡ Some count) }
-    ensures err { IfErr result (λ refusal. (refusal ≡ Value row.now)
+    ensures err { IfErr result (λ refusal. (refusal ≡ Value row.entry)
         × (count_or_zero (first_value (found_of found.now) row.now.name.now) ≡ None)) }
 {
     match values::count_or_zero(found.get_str(row.name)) {
         Some(count) => Ok(count),
-        None => Err(Refusal::Value(*row)),
+        None => Err(Refusal::Value(row)),
     }
 }
 
 /// The same, if it is given.
-pub(crate) fn count_if_given(found: &ArgMatches<'_>, row: &Row) -> Result<Option<u32>, Refusal>
+pub(crate) fn count_if_given(
+    found: &ArgMatches<'_>,
+    row: &'static Row,
+) -> Result<Option<u32>, Refusal>
     ensures ok { IfOk result (λ count. count_by (first_value (found_of found.now) row.now.name.now) ≡ Some count) }
-    ensures err { IfErr result (λ refusal. (refusal ≡ Value row.now)
+    ensures err { IfErr result (λ refusal. (refusal ≡ Value row.entry)
         × (count_by (first_value (found_of found.now) row.now.name.now) ≡ None)) }
 {
     match values::count_by(found.get_str(row.name)) {
         Some(count) => Ok(count),
-        None => Err(Refusal::Value(*row)),
+        None => Err(Refusal::Value(row)),
     }
 }

@@ -17,7 +17,7 @@ pub enum Refusal {
     /// A value that has to be there isn't.
     Missing,
     /// The value of this row is none that it takes.
-    Value(Row),
+    Value(&'static Row),
 }
 
 impl Refusal {
@@ -31,29 +31,22 @@ impl Refusal {
     ) -> Result<Error, AllocError>
         ensures { IfOk result (λ error. refused_kind self ≡ Some (kind_of error)) }
     {
-        let Some(kind) = self.kind() else {
-            return Err(AllocError);
-        };
-        usage_error(command, kind, self.message(alloc)?.as_str())
+        let mut command = command?;
+        self.error_of(alloc, &mut command)
     }
 
-    // Of which kind the error is, if it isn't that memory was refused.
-    fn kind(self) -> Option<ErrorKind>
-        ensures { result ≡ refused_kind self }
+    // The same of a command that was made.
+    fn error_of(self, alloc: Global, command: &mut Command<'_>) -> Result<Error, AllocError>
+        ensures { IfOk result (λ error. refused_kind self ≡ Some (kind_of error)) }
     {
         match self {
-            Refusal::Memory => None,
-            Refusal::Missing => Some(ErrorKind::MissingRequiredArgument),
-            Refusal::Value(_) => Some(ErrorKind::ValueValidation),
-        }
-    }
-
-    // What is wrong.
-    fn message(self, alloc: Global) -> Result<String, AllocError> {
-        match self {
-            Refusal::Memory => String::from_str(alloc, "memory was refused"),
-            Refusal::Missing => String::from_str(alloc, "a value is missing"),
-            Refusal::Value(row) => row.complaint(alloc),
+            Refusal::Memory => Err(AllocError),
+            Refusal::Missing => {
+                command.error(ErrorKind::MissingRequiredArgument, "a value is missing")
+            }
+            Refusal::Value(row) => {
+                command.error(ErrorKind::ValueValidation, row.complaint(alloc)?.as_str())
+            }
         }
     }
 }

@@ -23,7 +23,7 @@ pub fn settings_in(alloc: Global, found: &ArgMatches<'_>) -> Result<Settings, Re
 {
     let slack = count_or_zero(found, &SLACK)?;
     let Some(ignored) = ignored_by(alloc, found.get_str("ignore"))? else {
-        return Err(Refusal::Value(IGNORE));
+        return Err(Refusal::Value(&IGNORE));
     };
     let unmarked = unmarked_by(found.get_str("errors-only"));
     let allowed = allowed_in(alloc, found)?;
@@ -41,12 +41,12 @@ fn allowed_in(alloc: Global, found: &ArgMatches<'_>) -> Result<Allowed, Refusal>
     ensures err { IfErr result (Refuses is_taken judging (first_value (found_of found.now))) }
 {
     let Some(words) = allow_by(found.get_str("allow")) else {
-        return Err(Refusal::Value(ALLOW));
+        return Err(Refusal::Value(&ALLOW));
     };
     let default_lifetime = count_if_given(found, &DEFAULT_TTL)?;
     let grace = count_if_given(found, &GRACE)?;
     let Some(normalized) = normalized_by(alloc, found.get_str("normalized"))? else {
-        return Err(Refusal::Value(NORMALIZED));
+        return Err(Refusal::Value(&NORMALIZED));
     };
     let age_slack = count_or_zero(found, &AGE_SLACK)?;
     let inferred_marks = flag_in(found, "infer-marks");

@@ -3,3 +3,15 @@ use Rattle.hc_arguments.proofs.arguments.limits_in.Goals as goal
 
 pub limit_in-requires-clause-among : goal.limit_in-requires-clause-among
 limit_in-requires-clause-among c = inr (inr (inr (inr (inr (inl refl)))))
+
+pub limit_in-requires-2-clause-among : goal.limit_in-requires-2-clause-among
+limit_in-requires-2-clause-among c = inr (inr (inr (inr (inr (inr (inl refl))))))
+
+pub limit_in-requires-3-clause-among : goal.limit_in-requires-3-clause-among
+limit_in-requires-3-clause-among c = inr (inr (inr (inr (inr (inr (inr (inl refl)))))))
+
+pub limit_in-requires-4-clause-among : goal.limit_in-requires-4-clause-among
+limit_in-requires-4-clause-among c = inr (inr (inr (inr (inr (inr (inr (inr (inr (inr (inr (inr (inl refl))))))))))))
+
+pub limit_in-requires-5-clause-among : goal.limit_in-requires-5-clause-among
+limit_in-requires-5-clause-among c = inr (inr (inr (inr (inr (inr (inr (inr (inr (inr (inr (inr (inr (inr (inr (inl refl)))))))))))))))

@@ -11,8 +11,7 @@ loop-row-preserved c = λ app made.
     let rows = c.args.rows.now in
     let i = c.loop-row.row-index in
     let so_far = with_rules app (map row_rule (take i rows)) in
-    next_made app rows i _ _ c.with_argument-command.result c.loop-row-test.true c.argument.ensures.rule
-    (c.with_argument-command.ensures so_far c.argument.ensures.local (c.loop-row.invariant app made))
+    next_made app rows i _ c.with_row-command.result c.loop-row-test.true (c.with_row-command.ensures so_far (c.loop-row.invariant app made))
 
 pub returns : goal.returns
 returns c = λ app made.
