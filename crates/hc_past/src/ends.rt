@@ -83,13 +83,17 @@ impl<'a> EndedForward<'a> {
 
     /// All that is known of it.
     pub fn end(&self) -> End<'a> {
+        let (status, body) = match self.response {
+            Some(response) => (Some(response.head.status), Some(response.body.as_slice())),
+            None => (None, None),
+        };
         End {
             record: self.record,
             target: &self.forward.target,
             method: &self.forward.request.method,
             cause: self.cause,
-            status: self.response.map(|response| response.head.status),
-            body: self.response.map(|response| response.body.as_slice()),
+            status,
+            body,
         }
     }
 }

@@ -56,7 +56,10 @@ impl KeptAnswer {
     }
 
     fn body(&self) -> Option<&[u8]> {
-        self.body.as_ref().map(|body| body.as_slice())
+        match &self.body {
+            Some(body) => Some(body.as_slice()),
+            None => None,
+        }
     }
 }
 
@@ -111,13 +114,21 @@ impl KeptEnd {
         }
     }
 
+    // The status of the answer, if there was one.
+    fn status(&self) -> Option<StatusCode> {
+        match &self.answer {
+            Some(answer) => Some(answer.status),
+            None => None,
+        }
+    }
+
     fn end(&self) -> End<'_> {
         End {
             record: self.record,
             target: &self.target,
             method: &self.method,
             cause: self.cause,
-            status: self.answer.as_ref().map(|answer| answer.status),
+            status: self.status(),
             body: self.body(),
         }
     }

@@ -301,13 +301,19 @@ impl Window {
         if same_target(end.target, wanted.target) {
             return self.take_end(wanted, end);
         }
-        if wanted.is_near(end)? {
-            self.near.push(NearAnswer {
-                record: end.record,
-                host: end.target.host.copy(alloc)?,
-            })?;
+        if !wanted.is_near(end)? {
+            return Ok(());
         }
-        Ok(())
+        self.take_near(alloc, end)
+    }
+
+    // Takes in an answer under another host.
+    fn take_near(&mut self, alloc: Global, end: &End<'_>) -> Result<(), AllocError> {
+        let host = end.target.host.copy(alloc)?;
+        self.near.push(NearAnswer {
+            record: end.record,
+            host,
+        })
     }
 
     // Takes in the end of a forward of the target.
