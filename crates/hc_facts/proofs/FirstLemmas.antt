@@ -1,7 +1,7 @@
 -- Things that are named one after another.
 use Rattle.std.proofs.Common.{◌≡◌, ◌≤◌, ◌<◌, ◌++◌, ◌+◌, ◌-◌, ◌^◌, ℕ, Bool, min, List, [], ◌∷◌, length, ap, sym, subst, ◌∙◌, arith}
 use Rattle.std.specs.Prelude.{filter}
-use Rattle.std.proofs.lemmas.List.{append_assoc, take_all, length-append, length-take}
+use Rattle.std.proofs.lemmas.List.{append_assoc, take_all, take-append-le, length-append, length-take}
 use Rattle.std.proofs.lemmas.List.Elements.{filter-append}
 use Rattle.hc_facts.specs.Firsts.{AreFirst}
 
@@ -29,6 +29,23 @@ one_named most all named more x room are =
       first = ap (λ (before : List (List ℕ)). before ++ x ∷ []) (are.first ∙ take_all most all (below most (length all) rest))
           ∙ sym (take_all most (all ++ x ∷ []) (subst (λ (k : ℕ). k ≤ most) (sym (length-append all (x ∷ []))) rest));
       others = none_over most more (2 ^ 64 - 1) (length all) rest are.others
+          ∙ ap (λ k. min (k - most) (2 ^ 64 - 1)) (sym (length-append all (x ∷ [])));
+    }
+
+-- one is counted, where there is no room
+none_left : (most n k : ℕ) → n ≡ min most k → most ≤ n → most ≤ k
+none_left most n k is full = grind (arith)
+
+one_over : (most more top k : ℕ) → most ≤ k → more ≡ min (k - most) top → min (more + 1) top ≡ min (k + 1 - most) top
+one_over most more top k full was = grind (arith)
+
+pub one_counted : (most : ℕ) (all named : List (List ℕ)) (more : ℕ) (x : List ℕ) → most ≤ length named
+    → AreFirst most all named more → AreFirst most (all ++ x ∷ []) named (min (more + 1) (2 ^ 64 - 1))
+one_counted most all named more x full are =
+    let many = none_left most (length named) (length all) (how_many most all named more are) full in
+    record {
+      first = are.first ∙ sym (take-append-le most all (x ∷ []) many);
+      others = one_over most more (2 ^ 64 - 1) (length all) many are.others
           ∙ ap (λ k. min (k - most) (2 ^ 64 - 1)) (sym (length-append all (x ∷ [])));
     }
 

@@ -1,9 +1,10 @@
 -- Names among those that are compared, and among those that are listed.
-use Rattle.std.proofs.Common.{◌≡◌, ◌==◌, ◌||◌, ◌<◌, ◌++◌, ◌+◌, Bool, Bor, true, false, ℕ, List, [], ◌∷◌, if◌then◌else◌, length, drop, get_or, map, refl, ap, sym, subst, ◌∙◌}
+use Rattle.std.proofs.Common.{◌≡◌, ◌==◌, ◌||◌, ◌<◌, ◌≤◌, ◌++◌, ◌+◌, ◌-◌, ◌^◌, min, Bool, Bor, true, false, ℕ, List, [], ◌∷◌, if◌then◌else◌, length, drop, get_or, map, refl, ap, sym, subst, ◌∙◌}
 use Rattle.std.specs.List.{list_any}
-use Rattle.std.specs.Prelude.{filter}
+use Rattle.std.specs.Prelude.{All, filter}
 use Rattle.std.specs.Str.{bytes_eq}
 use Rattle.std.proofs.lemmas.List.{drop_more, map-append, length-map}
+use Rattle.hc_fields.specs.declared.fields.Field.{Field}
 use Rattle.hc_head.specs.Statuses.{not_modified}
 use Rattle.hc_rules.specs.Conditions.{repeated_names}
 use Rattle.hc_update.specs.declared.stored.Stored.{Stored}
@@ -12,7 +13,7 @@ use Rattle.hc_history.specs.Filters.{compared_names, names_of}
 use Rattle.hc_facts.specs.declared.differing.Differences.{Differences}
 use Rattle.hc_facts.specs.declared.differing.FieldGap.{FieldGap}
 use Rattle.hc_facts.specs.Differing.{AreListed, IsGap, most_listed, with_name, with_names}
-use Rattle.hc_facts.proofs.FirstLemmas.{goes_on, one_named}
+use Rattle.hc_facts.proofs.FirstLemmas.{goes_on, one_counted, one_named}
 use Rattle.hc_facts.proofs.ListedLemmas.{all_more}
 
 -- ---- those that are compared
@@ -42,17 +43,34 @@ in_two names [] other = refl
 in_two names (n ∷ one) other = in_two (with_name names n) one other
 
 -- of a 304, and of another reply
-pub of_304 : (claim : Claim) (state : Stored) → (claim.reply.head.status == not_modified) ≡ true
-    → with_names (with_names [] (names_of claim.reply.head.fields)) repeated_names ≡ with_names [] (compared_names claim state)
-of_304 claim state is =
-    in_two [] (names_of claim.reply.head.fields) repeated_names
-    ∙ ap (λ (b : Bool). with_names [] (names_of claim.reply.head.fields ++ (if b then repeated_names else names_of state.fields))) (sym is)
+pub of_304 : (names : List (List ℕ)) (claim : Claim) (state : Stored) → (claim.reply.head.status == not_modified) ≡ true
+    → with_names (with_names names (names_of claim.reply.head.fields)) repeated_names ≡ with_names names (compared_names claim state)
+of_304 names claim state is =
+    in_two names (names_of claim.reply.head.fields) repeated_names
+    ∙ ap (λ (b : Bool). with_names names (names_of claim.reply.head.fields ++ (if b then repeated_names else names_of state.fields))) (sym is)
 
-pub of_other : (claim : Claim) (state : Stored) → (claim.reply.head.status == not_modified) ≡ false
-    → with_names (with_names [] (names_of claim.reply.head.fields)) (names_of state.fields) ≡ with_names [] (compared_names claim state)
-of_other claim state is =
-    in_two [] (names_of claim.reply.head.fields) (names_of state.fields)
-    ∙ ap (λ (b : Bool). with_names [] (names_of claim.reply.head.fields ++ (if b then repeated_names else names_of state.fields))) (sym is)
+pub of_other : (names : List (List ℕ)) (claim : Claim) (state : Stored) → (claim.reply.head.status == not_modified) ≡ false
+    → with_names (with_names names (names_of claim.reply.head.fields)) (names_of state.fields) ≡ with_names names (compared_names claim state)
+of_other names claim state is =
+    in_two names (names_of claim.reply.head.fields) (names_of state.fields)
+    ∙ ap (λ (b : Bool). with_names names (names_of claim.reply.head.fields ++ (if b then repeated_names else names_of state.fields))) (sym is)
+
+-- behind a line or a name more
+pub line_taken : (names new all : List (List ℕ)) (lines : List Field) (i : ℕ) (d : Field) → i < length lines
+    → new ≡ with_name names (get_or lines i d).name
+    → with_names names (names_of (drop i lines)) ≡ all → with_names new (names_of (drop (i + 1) lines)) ≡ all
+line_taken names new all lines i d within is was =
+    ap (λ (known : List (List ℕ)). with_names known (names_of (drop (i + 1) lines))) is
+    ∙ sym (ap (λ (left : List Field). with_names names (names_of left)) (drop_more lines i d within))
+    ∙ was
+
+pub name_taken : (names new all : List (List ℕ)) (more : List (Bor (List ℕ))) (i : ℕ) (d : Bor (List ℕ)) → i < length more
+    → new ≡ with_name names (get_or more i d).now
+    → with_names names (plain (drop i more)) ≡ all → with_names new (plain (drop (i + 1) more)) ≡ all
+name_taken names new all more i d within is was =
+    ap (λ (known : List (List ℕ)). with_names known (plain (drop (i + 1) more))) is
+    ∙ sym (ap (λ (left : List (Bor (List ℕ))). with_names names (plain left)) (drop_more more i d within))
+    ∙ was
 
 -- ---- those that are listed
 
@@ -72,6 +90,18 @@ one_listed claim state names name found new gap room items more is name-is are =
     record {
       each = all_more (IsGap claim state) found.listed.items new.listed.items gap items is are.each;
       first = record { first = same ∙ first.first; others = more ∙ first.others };
+    }
+
+-- one more is counted, where there is none
+pub one_over : (claim : Claim) (state : Stored) (names : List (List ℕ)) (name : List ℕ) (found new : Differences)
+    → most_listed ≤ length found.listed.items → new.listed.items ≡ found.listed.items → new.more ≡ min (found.more + 1) (2 ^ 64 - 1)
+    → AreListed claim state names found → AreListed claim state (names ++ name ∷ []) new
+one_over claim state names name found new full items more are =
+    let first = one_counted most_listed names (listed found.listed.items) found.more name
+    (subst (λ (n : ℕ). most_listed ≤ n) (sym (length-map found.listed.items (λ (g : FieldGap). g.name))) full) are.first in
+    record {
+      each = subst (λ (gaps : List FieldGap). All (IsGap claim state) gaps) (sym items) are.each;
+      first = record { first = ap listed items ∙ first.first; others = more ∙ first.others };
     }
 
 -- those so far, and those that are left behind a name more

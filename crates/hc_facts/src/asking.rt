@@ -88,6 +88,18 @@ fn push_asked(
     Ok(())
 }
 
+// Adds what those fields ask.
+fn push_asking(
+    alloc: Global,
+    fields: &Fields,
+    asked: &mut Vec<ShownField>,
+) -> Result<(), AllocError> {
+    for name in &ASKING {
+        push_asked(alloc, name, fields, asked)?;
+    }
+    Ok(())
+}
+
 impl AskedReply {
     /// The reply that claims that.
     pub fn read(alloc: Global, claim: &ReplyClaim<'_>) -> Result<Self, AllocError> {
@@ -112,9 +124,7 @@ impl AskedReply {
 
     // Takes in what the fields of the request ask, and the Cache-Status of the reply.
     fn take_fields(&mut self, alloc: Global, claim: &ReplyClaim<'_>) -> Result<(), AllocError> {
-        for name in ASKING {
-            push_asked(alloc, name, &claim.request.fields, &mut self.fields)?;
-        }
+        push_asking(alloc, &claim.request.fields, &mut self.fields)?;
         self.cache_status = claim.reply.head.fields.joined(alloc, b"cache-status")?;
         Ok(())
     }

@@ -131,14 +131,13 @@ impl Drop for ContentGap {
 
 /// How many octets both begin with.
 fn octets_in_common(one: &[u8], other: &[u8]) -> u64 {
-    let mut common: u64 = 0;
-    for (one, other) in one.iter().zip(other.iter()) {
-        if one != other {
-            return common;
+    let most = one.len().min(other.len());
+    for place in 0..most {
+        if one[place] != other[place] {
+            return place as u64;
         }
-        common = common.saturating_add(1);
     }
-    common
+    most as u64
 }
 
 /// Whether the reply to a request of that method has the body that is due, or none where the request is HEAD.
@@ -175,7 +174,11 @@ fn both(
 }
 
 /// Why the condition of a request of those fields earns no 304 from a response of those fields.
-fn why_unearned(alloc: Global, asked: &Fields, stored: &Fields) -> Result<Unearned, AllocError> {
+fn conditions_unmet(
+    alloc: Global,
+    asked: &Fields,
+    stored: &Fields,
+) -> Result<Unearned, AllocError> {
     if asked.contains(b"if-none-match") {
         let (asked, due) = both(alloc, (asked, b"if-none-match"), (stored, b"etag"))?;
         return Ok(Unearned::Tags { asked, due });
@@ -189,6 +192,18 @@ fn why_unearned(alloc: Global, asked: &Fields, stored: &Fields) -> Result<Unearn
         return Ok(Unearned::Moments { asked, due });
     }
     Ok(Unearned::NoCondition)
+}
+
+/// Why no condition of the request earns a 304 from the response.
+fn why_unearned(
+    alloc: Global,
+    claim: &ReplyClaim<'_>,
+    state: &Stored,
+) -> Result<Unearned, AllocError> {
+    if state.status != StatusCode::OK {
+        return Ok(Unearned::Status(state.status));
+    }
+    conditions_unmet(alloc, &claim.request.fields, &state.fields)
 }
 
 /// The condition of a request of those fields that may have failed of a response of those fields, if it has one.
@@ -247,28 +262,32 @@ fn range_gap(
     }))
 }
 
+/// In what the reply differs where it isn't a 304 without a body.
+fn other_content(
+    alloc: Global,
+    claim: &ReplyClaim<'_>,
+    state: &Stored,
+) -> Result<ContentGap, AllocError> {
+    let (method, body) = (&claim.request.method, claim.reply.body.as_slice());
+    Ok(ContentGap::Other {
+        due: state.status,
+        told: claim.reply.head.status,
+        bodies: body_gap(method, body, state.body.as_slice()),
+        failed: failed_condition(alloc, claim, state)?,
+        range: range_gap(alloc, claim, state)?,
+    })
+}
+
 /// In what the status or the body of the reply differs from the response's.
 pub fn content_gap(
     alloc: Global,
     claim: &ReplyClaim<'_>,
     state: &Stored,
 ) -> Result<ContentGap, AllocError> {
-    let told = claim.reply.head.status;
-    if told != StatusCode::NOT_MODIFIED || !claim.reply.body.is_empty() {
-        let (method, body) = (&claim.request.method, claim.reply.body.as_slice());
-        return Ok(ContentGap::Other {
-            due: state.status,
-            told,
-            bodies: body_gap(method, body, state.body.as_slice()),
-            failed: failed_condition(alloc, claim, state)?,
-            range: range_gap(alloc, claim, state)?,
-        });
+    if claim.reply.head.status != StatusCode::NOT_MODIFIED || !claim.reply.body.is_empty() {
+        return other_content(alloc, claim, state);
     }
-    if state.status != StatusCode::OK {
-        return Ok(ContentGap::Unearned(Unearned::Status(state.status)));
-    }
-    let why = why_unearned(alloc, &claim.request.fields, &state.fields)?;
-    Ok(ContentGap::Unearned(why))
+    Ok(ContentGap::Unearned(why_unearned(alloc, claim, state)?))
 }
 
 impl ContentGap {

@@ -104,24 +104,21 @@ fn push_each<'a>(names: &mut Vec<&'a [u8]>, more: &[&'a [u8]]) -> Result<(), All
     Ok(())
 }
 
-// The names of the reply, and those of the stored response behind them, each once; of a 304 those behind them
-// that it has to repeat.
-#[tactic(auto, using(crate::proofs::NameLemmas::of_other))]
-fn compared_names<'a>(
-    alloc: Global,
+// Puts the names of the reply at the end, and those of the stored response behind them, each once; of a 304 those
+// behind them that it has to repeat.
+fn push_compared<'a>(
+    names: &mut Vec<&'a [u8]>,
     claim: &ReplyClaim<'a>,
     state: &'a Stored,
-) -> Result<Vec<&'a [u8]>, AllocError>
-    ensures { IfOk result (λ names. map (λ known. known.now) names.items ≡ with_names [] (compared_names claim.now state.now)) }
+) -> Result<(), AllocError>
+    ensures { OnOk result (map (λ known. known.now) names.new.items
+        ≡ with_names (map (λ known. known.now) names.old.items) (compared_names claim.now state.now)) }
 {
-    let mut names = Vec::new(alloc);
-    push_names(&mut names, claim.reply.head.fields.lines())?;
+    push_names(names, claim.reply.head.fields.lines())?;
     if claim.reply.head.status == StatusCode::NOT_MODIFIED {
-        push_each(&mut names, &REPEATED_NAMES)?;
-        return Ok(names);
+        return push_each(names, &REPEATED_NAMES);
     }
-    push_names(&mut names, state.fields.lines())?;
-    Ok(names)
+    push_names(names, state.fields.lines())
 }
 
 // The values that those fields have of a name.
@@ -206,8 +203,7 @@ impl Differences {
         if !differs(alloc, claim, state, name)? {
             return Ok(());
         }
-        self.note(alloc, claim, state, name)?;
-        Ok(())
+        self.note(alloc, claim, state, name)
     }
 
     /// Whether one of those that are listed became so.
@@ -267,11 +263,13 @@ pub fn compare(
     // The first of them are listed, each as what it is, and all others are counted.
     ensures { IfOk result (AreDifferences claim.now state.now) }
 {
+    let mut names = Vec::new(alloc);
+    push_compared(&mut names, claim, state)?;
     let mut found = Differences {
         listed: Vec::new(alloc),
         more: 0,
     };
-    for name in compared_names(alloc, claim, state)?.as_slice() {
+    for name in names.as_slice() {
         found.take(alloc, claim, state, name)?;
     }
     Ok(found)

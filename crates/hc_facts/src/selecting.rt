@@ -149,8 +149,7 @@ impl Selection {
         if is_met_or_normalized(alloc, claim, state, member)? {
             return Ok(());
         }
-        self.note(alloc, claim, state, member)?;
-        Ok(())
+        self.note(alloc, claim, state, member)
     }
 
     /// Whether the same members are named of both, in the same order.
