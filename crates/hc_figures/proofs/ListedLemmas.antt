@@ -1,6 +1,12 @@
 -- A list of the first so many.
-use Rattle.std.proofs.Common.{◌≡◌, ℕ, ◌<◌, ◌≤◌, List, [], ◌∷◌, ◌++◌, length, min, take, sym, ◌∙◌, ap, subst, arith, length-append}
-use Rattle.std.proofs.lemmas.List.{take_all, take-append-le, length-take}
+use Rattle.std.proofs.Common.{◌≡◌, ℕ, ◌<◌, ◌≤◌, ◌+◌, ◌-◌, ◌^◌, List, [], ◌∷◌, ◌++◌, Some, length, get_or, map, min, take, refl, sym, ◌∙◌, ap, subst, arith, length-append}
+use Rattle.std.specs.Option.{option_or}
+use Rattle.std.specs.List.{slice_get}
+use Rattle.std.proofs.lemmas.List.{append_assoc, map-append, take_all, take_more, take-append-le, length-take}
+use Rattle.hc_history.specs.declared.wrong.WrongReply.{WrongReply}
+use Rattle.hc_figures.specs.Listed.{AreListed, most_listed}
+use Rattle.hc_figures.specs.Wrongs.{wrongs_of}
+use Rattle.hc_figures.specs.declared.listed.ListedReplies.{ListedReplies}
 
 -- where it has room, all that there was is in it
 pub all_are_listed : {A : Type 0} (n : ℕ) (kept xs : List A) → kept ≡ take n xs → length kept < n → kept ≡ xs
@@ -20,3 +26,32 @@ pub no_more : {A : Type 0} (n : ℕ) (kept xs : List A) (x : A) → kept ≡ tak
 no_more n kept xs x same full =
     let enough : n ≤ min n (length xs) = subst (λ m. n ≤ m) (ap length same ∙ length-take n xs) full in
     same ∙ sym (take-append-le n xs (x ∷ []) (omega (arith, enough)))
+
+-- what is made of the first so many is pushed, one after another
+pub pushed : {X Y : Type 0} (f : X → Y) (xs : List X) (i : ℕ) (d : X) (before old new : List Y) → i < length xs
+    → new ≡ old ++ f (get_or xs i d) ∷ [] → old ≡ before ++ map f (take i xs) → new ≡ before ++ map f (take (i + 1) xs)
+pushed {X} {Y} f xs i d before old new within is was =
+    let x = get_or xs i d in
+    is ∙ ap (λ (made : List Y). made ++ f x ∷ []) was
+    ∙ append_assoc before (map f (take i xs)) (f x ∷ [])
+    ∙ ap (λ (made : List Y). before ++ made) (sym (map-append f (take i xs) (x ∷ [])))
+    ∙ ap (λ (ys : List X). before ++ map f ys) (sym (take_more xs i d within))
+
+-- ---- one more wrong reply
+
+one_counted : (n count top : ℕ) → count ≡ min n top → min (count + 1) top ≡ min (n + 1) top
+one_counted n count top is = grind (arith)
+
+first_of : {A : Type 0} (xs : List A) (x : A) → option_or (slice_get xs 0) (Some x) ≡ slice_get (xs ++ x ∷ []) 0
+first_of [] x = refl
+first_of (y ∷ ys) x = refl
+
+pub noted : (wrongs : List WrongReply) (wrong : WrongReply) (old new : ListedReplies) → new.count ≡ min (old.count + 1) (2 ^ 64 - 1)
+    → new.first ≡ option_or old.first (Some wrong) → wrongs_of new.listed.items ≡ take most_listed (wrongs ++ wrong ∷ [])
+    → AreListed old wrongs → AreListed new (wrongs ++ wrong ∷ [])
+noted wrongs wrong old new count first front are = record {
+  count = count ∙ one_counted (length wrongs) old.count (2 ^ 64 - 1) are.count
+      ∙ ap (λ (n : ℕ). min n (2 ^ 64 - 1)) (sym (length-append wrongs (wrong ∷ [])));
+  first = first ∙ ap (λ one. option_or one (Some wrong)) are.first ∙ first_of wrongs wrong;
+  front = front;
+}
