@@ -105,23 +105,23 @@ impl Baseline {
         for (kind, _count) in counts.iter() {
             let count = count_under(counts, kind.as_str());
             let new = count.saturating_sub(self.count(kind.as_str()));
-            if new != 0 {
-                kinds.name(alloc, kind.as_str(), new)?;
-            }
+            kinds.name(alloc, kind.as_str(), new)?;
         }
         Ok(())
     }
 }
 
 impl NewKinds {
-    // Takes in a kind that has so many.
+    // Takes in a kind that has so many, if it has any.
     fn name(&mut self, alloc: Global, kind: &str, count: u64) -> Result<(), AllocError> {
-        if self.named.len() < MOST_KINDS {
-            let kind = String::from_str(alloc, kind)?;
-            self.named.push(NewKind { kind, count })?;
-        } else {
-            self.more = self.more.saturating_add(1);
+        if count == 0 {
+            return Ok(());
         }
-        Ok(())
+        if MOST_KINDS <= self.named.len() {
+            self.more = self.more.saturating_add(1);
+            return Ok(());
+        }
+        let kind = String::from_str(alloc, kind)?;
+        Ok(self.named.push(NewKind { kind, count })?)
     }
 }
