@@ -1,4 +1,5 @@
-use Rattle.std.proofs.Common.{◌++◌, ◌∷◌, [], ap, map, ◌∙◌}
+use Rattle.std.proofs.Common.{◌++◌, ◌∷◌, [], List, ap, map, sym, ◌∙◌}
+use Rattle.std.proofs.lemmas.List.{append-nil, take_all}
 use Rattle.serde_json.specs.View.{view}
 use Rattle.hc_figures.specs.Json.{listed_data}
 use Rattle.hc_figures.specs.declared.listed.ListedReply.{ListedReply}
@@ -12,3 +13,11 @@ loop-wrong-preserved c =
     (c.in_ok-push_made.ensures.ok (listed_data c.wrong-item.result) c.reply_json.ensures
     ∙ ap (λ (wrong : ListedReply). before ++ listed_data wrong ∷ []) c.wrong-item.is)
     c.loop-wrong.invariant
+
+pub loop-wrong-init : goal.loop-wrong-init
+loop-wrong-init c = sym (append-nil (map view c.args.listed.now.items))
+
+pub returns : goal.returns
+returns c =
+    c.loop-wrong.invariant
+    ∙ ap (λ (wrongs : List ListedReply). map view c.args.listed.now.items ++ map listed_data wrongs) (take_all c.loop-wrong.wrong-index c.args.wrongs.now c.loop-wrong-test.false)
