@@ -8,7 +8,7 @@ use hc_facts::{AgeGap, AgeParts, AgeTold, RecordName, TtlGap};
 use hc_fresh::Times;
 use hc_past::Source;
 use hc_shown::Page;
-use hc_why::{Explanation, Nearest, Validator};
+use hc_why::{Nearest, Validator};
 
 /// Writes the Age that a reply tells.
 fn push_told(told: &AgeTold, page: &mut Page) {
@@ -50,17 +50,18 @@ fn aged_response(source: Option<&Source>, position: u64, validator: Validator) -
 }
 
 impl AgeOrigin {
-    /// What the age of the response that is named is counted from.
-    pub(crate) fn of(explanation: &Explanation, nearest: &Nearest) -> Self {
-        let source = explanation.source(nearest.position);
-        match (nearest.validated_at, nearest.validator) {
-            (Some(_), Some(validator)) => AgeOrigin {
+    /// What the age of the response that is named, of which that is the record, is counted from.
+    pub(crate) fn of(source: Option<&Source>, nearest: &Nearest) -> Self {
+        if nearest.validated_at.is_none() {
+            return AgeOrigin::unknown(sent_of(source));
+        }
+        match nearest.validator {
+            Some(validator) => AgeOrigin {
                 validator: Some(validator.record),
                 sent: validator.sent,
                 aged: aged_response(source, nearest.position, validator),
             },
-            (Some(_), None) => AgeOrigin::unknown(None),
-            (None, _) => AgeOrigin::unknown(sent_of(source)),
+            None => AgeOrigin::unknown(None),
         }
     }
 
@@ -78,8 +79,7 @@ impl AgeOrigin {
 fn push_delay(delay: u64, sent: Option<RecordName>, page: &mut Page) {
     page.number("", delay, " (on its way");
     if let Some(sent) = sent {
-        page.text(" since ");
-        push_record(sent, page);
+        push_record(" since ", sent, page);
     }
     page.text(")");
 }
@@ -102,8 +102,7 @@ fn push_first_age(times: Times, sent: Option<RecordName>, page: &mut Page) {
 fn push_stored(resident: u64, validator: Option<RecordName>, page: &mut Page) {
     page.number(" + ", resident, " (stored");
     if let Some(validator) = validator {
-        page.text(" since the 304 ");
-        push_record(validator, page);
+        push_record(" since the 304 ", validator, page);
     }
     page.text(")");
 }

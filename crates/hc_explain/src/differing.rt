@@ -22,8 +22,7 @@ fn say_origin(gap: &FieldGap, origin: FieldsOrigin, page: &mut Page) {
     let position = origin.position;
     match origin.validator {
         Some(validator) if gap.is_renewed => {
-            page.text(" (of the 304 ");
-            push_record(validator, page);
+            push_record(" (of the 304 ", validator, page);
             page.text(")");
         }
         _ if origin.is_undated && gap.name.as_slice() == b"date".as_slice() => page.number(

@@ -4,7 +4,7 @@ use crate::page::{begin, push_record, push_sent};
 use hc_facts::{Newest, RecordName};
 use hc_past::Source;
 use hc_shown::Page;
-use hc_why::{Explanation, Invalidator, Nearest, OriginError, Shortfall};
+use hc_why::{Invalidator, Nearest, OriginError, Shortfall};
 
 /// What a reply has that isn't from the store.
 const ANSWER: &str = "an answer of the origin to this request";
@@ -15,8 +15,7 @@ fn push_other_answer(given: Option<&Source>, page: &mut Page) {
     let Some(source) = given else {
         return;
     };
-    page.text("; came ");
-    push_record(source.record, page);
+    push_record("; came ", source.record, page);
     push_sent(source.sent, page);
 }
 
@@ -44,8 +43,7 @@ fn push_came(given: Option<&Source>, page: &mut Page) {
     let Some(source) = given else {
         return;
     };
-    page.text("; came ");
-    push_record(source.record, page);
+    push_record("; came ", source.record, page);
     page.text(" as it was stored");
 }
 
@@ -66,15 +64,17 @@ fn push_due_behind(nearest: &Nearest, by: &Newest<Invalidator>, page: &mut Page)
 
 /// Writes the error of the origin that was due.
 fn push_due_error(error: OriginError, page: &mut Page) {
-    page.text("the error ");
-    push_record(error.record, page);
+    push_record("the error ", error.record, page);
     page.number(", a ", u64::from(error.status.as_u16()), "");
 }
 
 /// Writes the error of the cache's own that was due behind a failure (RFC 9111 section 5.2.2.2).
 fn push_due_behind_failure(failure: RecordName, page: &mut Page) {
-    page.text("an error of the cache's own, as 504, since the forward failed: ");
-    push_record(failure, page);
+    push_record(
+        "an error of the cache's own, as 504, since the forward failed: ",
+        failure,
+        page,
+    );
 }
 
 /// Writes what was due in place of a response that may not be used.
@@ -89,14 +89,14 @@ fn push_due_unused(nearest: &Nearest, page: &mut Page) {
     }
 }
 
-/// Writes the line of what was due in place of the response that is named, where that may not be given.
+/// Writes the line of what was due in place of the response that is named, of which that is the record, where that may
+/// not be given.
 pub(crate) fn say_due(
-    explanation: &Explanation,
+    source: Option<&Source>,
     nearest: &Nearest,
     shortfall: &Shortfall,
     page: &mut Page,
 ) {
-    let source = explanation.source(nearest.position);
     let given = match source {
         Some(source) if source.is_given => Some(source),
         _ => None,

@@ -71,17 +71,12 @@ impl Told for AskedReply {
         let numbers = [("moment", self.moment), ("octets", self.body.len() as u64)];
         members.numbers(&numbers);
         members.status("status", self.status);
-        put_asked(self, members);
+        members.octets("method", self.method.as_slice());
+        members.target("target", &self.target);
+        members.objects("asked", self.fields.as_slice());
         members.value("cache_status", b"cache-status", self.cache_status.as_ref());
         members.flag("inferred", self.is_inferred);
     }
-}
-
-// Adds what was asked.
-fn put_asked(reply: &AskedReply, members: &mut Members) {
-    members.octets("method", reply.method.as_slice());
-    members.target("target", &reply.target);
-    members.objects("asked", reply.fields.as_slice());
 }
 
 impl Told for ShownField {

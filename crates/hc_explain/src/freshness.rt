@@ -5,9 +5,9 @@ use crate::page::{begin, push_reason};
 use crate::sources::{push_trouble, stated_by};
 use hc_facts::{StaleUse, Usage};
 use hc_history::Finding;
-use hc_past::StatedLifetime;
+use hc_past::{Source, StatedLifetime};
 use hc_shown::Page;
-use hc_why::{Explanation, Nearest};
+use hc_why::Nearest;
 
 /// What is said of a lifetime that is none, by an Expires (RFC 9111 sections 4.2.1 and 5.3).
 const PAST: &str =
@@ -69,15 +69,10 @@ pub(crate) fn say_setting(usage: &Usage, found: Option<Finding>, page: &mut Page
     push_found(found, page);
 }
 
-/// Writes why the response that is named may not be used, which states its lifetime so where it is as it came.
-pub(crate) fn say_use(
-    usage: &Usage,
-    explanation: &Explanation,
-    nearest: &Nearest,
-    page: &mut Page,
-) {
-    push_lifetime(usage.lifetime, stated_by(explanation, nearest), page);
-    push_usage(usage, AgeOrigin::of(explanation, nearest), page);
+/// Writes why the response that is named, of which that is the record, may not be used.
+pub(crate) fn say_use(usage: &Usage, source: Option<&Source>, nearest: &Nearest, page: &mut Page) {
+    push_lifetime(usage.lifetime, stated_by(source, nearest), page);
+    push_usage(usage, AgeOrigin::of(source, nearest), page);
     push_slack(usage.slack, page);
     page.text("; ");
     page.text(usage.forbidden.words());
@@ -85,17 +80,17 @@ pub(crate) fn say_use(
     usage.say_over(had_error, page);
 }
 
-/// Writes the line of what permits to give the response that is named, where it is stale.
+/// Writes the line of what permits to give the response that is named, of which that is the record, where it is stale.
 pub(crate) fn say_stale(
     stale: &StaleUse,
-    explanation: &Explanation,
+    source: Option<&Source>,
     nearest: &Nearest,
     page: &mut Page,
 ) {
     begin("stale", page);
     page.text("no fault: ");
-    push_lifetime(stale.usage.lifetime, stated_by(explanation, nearest), page);
-    push_usage(&stale.usage, AgeOrigin::of(explanation, nearest), page);
+    push_lifetime(stale.usage.lifetime, stated_by(source, nearest), page);
+    push_usage(&stale.usage, AgeOrigin::of(source, nearest), page);
     page.text(", ");
     stale.say_permit(page);
     push_trouble(nearest, page);

@@ -73,7 +73,7 @@ pub(crate) fn say_reply(explanation: &Explanation, page: &mut Page) {
     begin_between("reply", explanation.since, explanation.position, page);
     push_asked(reply, page);
     push_answer(reply, page);
-    push_mark(explanation, page);
+    push_mark(explanation.way, reply, page);
     page.end_line();
     say_fields(reply.fields.as_slice(), page);
 }

@@ -4,7 +4,7 @@ use crate::page::begin_rule;
 use hc_facts::AskedReply;
 use hc_history::Reason;
 use hc_shown::Page;
-use hc_why::{Explanation, NoMark, Way};
+use hc_why::{NoMark, Way};
 
 /// Writes the Cache-Status of the reply.
 pub(crate) fn push_cache_status(reply: &AskedReply, page: &mut Page) {
@@ -27,16 +27,16 @@ fn by_mark(reply: &AskedReply) -> &'static str {
 }
 
 /// Writes as what a reply is judged, and by which mark.
-pub(crate) fn push_mark(explanation: &Explanation, page: &mut Page) {
-    let judged = match explanation.way {
+pub(crate) fn push_mark(way: Way, reply: &AskedReply, page: &mut Page) {
+    let judged = match way {
         Way::Hit => "a hit",
         Way::Forwarded => "forwarded",
         Way::Collapsed => "collapsed",
-        Way::Unmarked => return push_cache_status(&explanation.reply, page),
+        Way::Unmarked => return push_cache_status(reply, page),
     };
     page.text(judged);
-    page.text(by_mark(&explanation.reply));
-    push_cache_status(&explanation.reply, page);
+    page.text(by_mark(reply));
+    push_cache_status(reply, page);
 }
 
 /// What a mark comes to that says nothing of the reply.

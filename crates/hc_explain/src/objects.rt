@@ -86,8 +86,7 @@ impl Members {
 
     /// Adds null.
     pub(crate) fn null(&mut self, name: &str) {
-        let added = put(&mut self.map, self.alloc, name, Value::Null);
-        self.note(added);
+        self.some(name, None);
     }
 
     /// Adds true or false.

@@ -32,7 +32,7 @@ pub(crate) fn begin(word: &str, page: &mut Page) {
 pub(crate) fn begin_record(word: &str, record: RecordName, page: &mut Page) {
     page.word(word, 7);
     let begun = page.columns();
-    push_record(record, page);
+    push_record("", record, page);
     end_about(begun, page);
 }
 
@@ -61,9 +61,9 @@ pub(crate) fn begin_rule(number: u32, page: &mut Page) {
     page.pad(begun, 11);
 }
 
-/// Writes the position, the letter and the number of a record.
-pub(crate) fn push_record(record: RecordName, page: &mut Page) {
-    page.number("", record.position, " ");
+/// Writes the position, the letter and the number of a record behind a text.
+pub(crate) fn push_record(before: &str, record: RecordName, page: &mut Page) {
+    page.number(before, record.position, " ");
     page.text(letter(record.kind));
     page.number(" ", record.number, "");
 }
@@ -77,7 +77,6 @@ pub(crate) fn push_reason(reason: Reason, page: &mut Page) {
 /// Writes of which forward something is the answer, if that is known.
 pub(crate) fn push_sent(sent: Option<RecordName>, page: &mut Page) {
     if let Some(sent) = sent {
-        page.text(", the answer to ");
-        push_record(sent, page);
+        push_record(", the answer to ", sent, page);
     }
 }

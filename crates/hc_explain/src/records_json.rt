@@ -36,12 +36,18 @@ impl Told for Source {
         members.flag("given", self.is_given);
         members.flag("dated", self.is_dated);
         members.value("age", b"age", self.age.as_ref());
-        let (name, value) = match &self.lifetime {
-            StatedLifetime::CacheControl(value) => ("cache-control", value),
-            StatedLifetime::Expires(value) => ("expires", value),
-            StatedLifetime::Nothing => return,
-        };
-        members.value(name, name.as_bytes(), Some(value));
+        put_lifetime(&self.lifetime, members);
+    }
+}
+
+// Adds what a response says of its lifetime, if it says something.
+fn put_lifetime(lifetime: &StatedLifetime, members: &mut Members) {
+    match lifetime {
+        StatedLifetime::CacheControl(value) => {
+            members.value("cache-control", b"cache-control", Some(value));
+        }
+        StatedLifetime::Expires(value) => members.value("expires", b"expires", Some(value)),
+        StatedLifetime::Nothing => {}
     }
 }
 

@@ -17,20 +17,12 @@ use hc_shown::Page;
 use hc_why::{Explanation, Ground, Nearest, Way, Why};
 use std::alloc::{AllocError, Global};
 
-/// Writes the line of what a reply carries that went forward by itself.
-fn say_forwarded(explanation: &Explanation, page: &mut Page) {
-    match &explanation.carried {
-        Some(source) => say_carried(source, page),
-        None => say_nearest(explanation, page),
-    }
-}
-
 /// Writes the line of what a right reply carries.
 fn say_right(explanation: &Explanation, page: &mut Page) {
-    match explanation.way {
-        Way::Hit | Way::Collapsed => say_nearest(explanation, page),
-        Way::Forwarded => say_forwarded(explanation, page),
-        Way::Unmarked => {}
+    match (explanation.way, &explanation.carried) {
+        (Way::Unmarked, _) => {}
+        (Way::Forwarded, Some(source)) => say_carried(source, page),
+        _ => say_nearest(explanation, page),
     }
 }
 
@@ -53,12 +45,13 @@ fn say_no_response(explanation: &Explanation, unstored: &Unstored, page: &mut Pa
 
 /// The latest of those responses of which the reply has the status and the body, if there is one.
 fn latest_given(sources: &[Source]) -> Option<&Source> {
-    for source in sources.iter().rev() {
+    let mut given = None;
+    for source in sources {
         if source.is_given {
-            return Some(source);
+            given = Some(source);
         }
     }
-    None
+    given
 }
 
 /// Writes the lines of what came between request and reply, of the stored response that is named, if one is, and of
@@ -85,24 +78,25 @@ fn say_not_forwarded(
 /// so, and in what it falls short of that response; and the line of what was due.
 fn say_forwarding(explanation: &Explanation, nearest: &Nearest, page: &mut Page) {
     begin_rule(Reason::NotForwarded.number(), page);
+    let was_validated = explanation.was_validated(nearest);
     let Some(shortfall) = &nearest.shortfall else {
-        push_standing(explanation, nearest, page);
+        push_standing(was_validated, nearest, page);
         return page.end_line();
     };
     page.text("NotForwarded stands here for ");
     push_reason(shortfall.rule().reason(), page);
     page.text(": ");
-    push_standing(explanation, nearest, page);
+    push_standing(was_validated, nearest, page);
     page.text(": ");
     end_shortfall(explanation, nearest, shortfall, page);
 }
 
-/// Writes which stored response such a reply is to be, or gives.
-fn push_standing(explanation: &Explanation, nearest: &Nearest, page: &mut Page) {
+/// Writes which stored response such a reply is to be, or gives: the first where a 304 behind the request validated it.
+fn push_standing(was_validated: bool, nearest: &Nearest, page: &mut Page) {
     match nearest.validated_at {
-        Some(validated) if explanation.was_validated(nearest) => {
-            page.text("it went forward, as it says, and the origin answered ");
-            page.number("by the 304 ", validated, ", so due is ");
+        Some(validated) if was_validated => {
+            let before = "it went forward, as it says, and the origin answered by the 304 ";
+            page.number(before, validated, ", so due is ");
             page.number("", nearest.position, " with the fields of ");
             page.number("", validated, "");
         }
@@ -121,10 +115,10 @@ fn say_stored(explanation: &Explanation, nearest: &Nearest, page: &mut Page) {
     page.end_line();
 }
 
-/// Writes the line of what a reply doesn't keep that is wrong for that reason, behind the sections that ask it.
-fn say_broken(explanation: &Explanation, reason: Reason, page: &mut Page) {
+/// Writes the line of what a wrong reply doesn't keep, behind the sections that ask it.
+fn say_broken(demand: Demand, page: &mut Page) {
     begin("broken", page);
-    let Demand { words, sections } = explanation.demand(reason);
+    let Demand { words, sections } = demand;
     page.text(sections);
     page.text(": ");
     page.text(words);
@@ -168,7 +162,10 @@ fn say_wrong(explanation: &Explanation, why: &Why, page: &mut Page) {
 /// Writes the line of what permits to give the response that is named, where it is stale.
 fn say_permitted(explanation: &Explanation, page: &mut Page) {
     match (&explanation.stale, explanation.nearest()) {
-        (Some(stale), Some(nearest)) => say_stale(stale, explanation, nearest, page),
+        (Some(stale), Some(nearest)) => {
+            let source = explanation.source(nearest.position);
+            say_stale(stale, source, nearest, page);
+        }
         _ => {}
     }
 }
@@ -183,7 +180,7 @@ pub fn say(alloc: Global, explanation: &Explanation, out: &mut String) -> Result
 /// The same on a page.
 fn say_all(explanation: &Explanation, page: &mut Page) {
     if let Finding::Wrong(reason) = explanation.finding {
-        say_broken(explanation, reason, page);
+        say_broken(explanation.demand(reason), page);
     }
     say_reply(explanation, page);
     match &explanation.ground {

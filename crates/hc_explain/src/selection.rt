@@ -16,7 +16,7 @@ fn push_answered(
 ) {
     page.text(": its forward ");
     if let Some(sent) = sent {
-        push_record(sent, page);
+        push_record("", sent, page);
         page.text(" ");
     }
     page.text("has ");
@@ -52,8 +52,7 @@ pub(crate) fn say_selection(
     page.more(selection.more);
     match (selection.validated_at, nearest.validator) {
         (Some(_), Some(validator)) => {
-            page.text(", though the 304 ");
-            push_record(validator.record, page);
+            push_record(", though the 304 ", validator.record, page);
             page.text(" validated it");
         }
         _ => {}

@@ -16,11 +16,11 @@ use hc_why::{Explanation, Invalidator, Nearest, Shortfall};
 
 /// Writes a response that invalidated another one.
 fn push_invalidator(invalidator: &Invalidator, page: &mut Page) {
-    push_record(invalidator.record, page);
+    push_record("", invalidator.record, page);
     page.number(", a ", u64::from(invalidator.status.as_u16()), "");
     page.method(" to the ", &invalidator.method, " ");
     if let Some(sent) = invalidator.sent {
-        push_record(sent, page);
+        push_record("", sent, page);
         page.text(" ");
     }
     page.text("of the same target, invalidated it");
@@ -53,19 +53,15 @@ fn origin_of(explanation: &Explanation, nearest: &Nearest) -> FieldsOrigin {
 
 /// Writes what is due, and what came.
 fn push_gap(explanation: &Explanation, nearest: &Nearest, shortfall: &Shortfall, page: &mut Page) {
+    let source = explanation.source(nearest.position);
     match shortfall {
         Shortfall::Asked(method) => page.method("", method, NO_GET),
-        Shortfall::Selected(selection) => {
-            let sent = sent_of(explanation.source(nearest.position));
-            say_selection(selection, nearest, sent, page);
-        }
+        Shortfall::Selected(selection) => say_selection(selection, nearest, sent_of(source), page),
         Shortfall::Valid(by) => say_invalidators(by, page),
-        Shortfall::Lifetime(usage) | Shortfall::Use(usage) => {
-            say_use(usage, explanation, nearest, page);
-        }
+        Shortfall::Lifetime(usage) | Shortfall::Use(usage) => say_use(usage, source, nearest, page),
         Shortfall::Body(gap) => say_contents(gap, page),
         Shortfall::Fields(found) => say_differences(found, origin_of(explanation, nearest), page),
-        Shortfall::Age(gap) => say_age(gap, AgeOrigin::of(explanation, nearest), page),
+        Shortfall::Age(gap) => say_age(gap, AgeOrigin::of(source, nearest), page),
         Shortfall::Ttl(gap) => say_ttl(*gap, page),
     }
 }
@@ -78,7 +74,8 @@ fn push_shortfall(
     page: &mut Page,
 ) {
     push_gap(explanation, nearest, shortfall, page);
-    say_validations(explanation, nearest, shortfall, page);
+    let window = (explanation.since, explanation.position);
+    say_validations(window, nearest, shortfall, page);
     match shortfall {
         Shortfall::Lifetime(usage) | Shortfall::Use(usage) => {
             say_setting(usage, explanation.with_setting, page);
@@ -96,7 +93,12 @@ pub(crate) fn end_shortfall(
 ) {
     push_shortfall(explanation, nearest, shortfall, page);
     page.end_line();
-    say_due(explanation, nearest, shortfall, page);
+    say_due(
+        explanation.source(nearest.position),
+        nearest,
+        shortfall,
+        page,
+    );
 }
 
 /// Writes which rule the response that is named breaks, and how.

@@ -50,8 +50,7 @@ pub(crate) fn push_reach(breaks: Option<Rule>, page: &mut Page) {
 /// Writes what the records behind it made of the response that is named.
 fn push_changes(nearest: &Nearest, page: &mut Page) {
     if let Some(validator) = nearest.validator {
-        page.text(", which the 304 ");
-        push_record(validator.record, page);
+        push_record(", which the 304 ", validator.record, page);
         push_sent(validator.sent, page);
         page.text(if validator.sent.is_some() {
             ", freshens"
@@ -68,15 +67,13 @@ fn push_changes(nearest: &Nearest, page: &mut Page) {
 /// Writes behind which error, and behind which failure of the window the response was given.
 pub(crate) fn push_trouble(nearest: &Nearest, page: &mut Page) {
     if let Some(error) = nearest.error {
-        page.text(", given after the error ");
-        push_record(error.record, page);
+        push_record(", given after the error ", error.record, page);
         let status = u64::from(error.status.as_u16());
         page.number(", a ", status, ", which validates nothing");
     }
     match nearest.failure {
         Some(failure) => {
-            page.text(", given after the failure ");
-            push_record(failure, page);
+            push_record(", given after the failure ", failure, page);
             page.text(", to which no response came");
         }
         None => {}
@@ -96,16 +93,15 @@ pub(crate) fn sent_of(source: Option<&Source>) -> Option<RecordName> {
     source?.sent
 }
 
-/// What the response that is named states of its lifetime, where it is as it came.
+/// What the response that is named, of which that is the record, states of its lifetime, where it is as it came.
 pub(crate) fn stated_by<'a>(
-    explanation: &'a Explanation,
+    source: Option<&'a Source>,
     nearest: &Nearest,
 ) -> Option<&'a StatedLifetime> {
     if nearest.validated_at.is_some() {
         return None;
     }
-    let source = explanation.source(nearest.position)?;
-    Some(&source.lifetime)
+    Some(&source?.lifetime)
 }
 
 /// Writes the line of the response that is named, if one is.
@@ -142,6 +138,14 @@ fn say_other(reach: &Reach, nearest: Option<Rule>, source: Option<&Source>, page
     page.end_line();
 }
 
+/// Writes the lines of the others, where the one that is named breaks that rule.
+fn say_others(explanation: &Explanation, others: &[Reach], nearest: Option<Rule>, page: &mut Page) {
+    for reach in others {
+        let source = explanation.source(reach.position);
+        say_other(reach, nearest, source, page);
+    }
+}
+
 /// Writes how many more there are, if there are any.
 fn say_more(more: u64, page: &mut Page) {
     if more == 0 {
@@ -158,9 +162,8 @@ pub(crate) fn say_sources(explanation: &Explanation, page: &mut Page) {
         Some(nearest) => nearest.breaks(),
         None => None,
     };
-    for reach in explanation.reaches.named.iter().skip(1) {
-        let source = explanation.source(reach.position);
-        say_other(reach, nearest, source, page);
+    if let Some((_named, others)) = explanation.reaches.named.as_slice().split_first() {
+        say_others(explanation, others, nearest, page);
     }
     say_more(explanation.reaches.more, page);
 }

@@ -29,12 +29,12 @@ fn push_asked(source: &Source, page: &mut Page) {
         return push_sent(Some(sent), page);
     }
     page.method(", the answer to the ", &source.method, " ");
-    push_record(sent, page);
+    push_record("", sent, page);
 }
 
 /// Writes a response that may not be stored, what it is, and what forbids it.
 fn push_unstorable(unstorable: &Unstorable, source: Option<&Source>, page: &mut Page) {
-    push_record(unstorable.record, page);
+    push_record("", unstorable.record, page);
     page.text(" (");
     push_kind(unstorable, source, page);
     page.text("), since ");

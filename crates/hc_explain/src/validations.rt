@@ -3,12 +3,11 @@
 use crate::page::{push_record, push_sent};
 use hc_facts::Against;
 use hc_shown::Page;
-use hc_why::{Explanation, Nearest, NotAbout, Shortfall};
+use hc_why::{Nearest, NotAbout, Shortfall};
 
 /// Writes a 304 that came then, and why it doesn't validate the response at that position (RFC 9111 section 4.3.4).
 fn push_not_about(not_about: &NotAbout, (when, position): (&str, u64), page: &mut Page) {
-    page.text("; the 304 ");
-    push_record(not_about.record, page);
+    push_record("; the 304 ", not_about.record, page);
     push_sent(not_about.sent, page);
     page.text(", came ");
     page.text(when);
@@ -55,21 +54,21 @@ fn push_none(since: u64, position: u64, page: &mut Page) {
     }
 }
 
-/// Writes that no 304 is about the response, where it should be valid, or validated, or there are some.
+/// Writes that no 304 between those positions is about the response, where it should be valid, or validated, or there
+/// are some.
 pub(crate) fn say_validations(
-    explanation: &Explanation,
+    (since, position): (u64, u64),
     nearest: &Nearest,
     shortfall: &Shortfall,
     page: &mut Page,
 ) {
-    let since = explanation.since;
     if !nearest.not_about.is_empty() {
         return push_each(since_when(nearest, since), nearest, page);
     }
     match shortfall {
         Shortfall::Valid(_) => page.text("; no 304 since"),
         Shortfall::Lifetime(_) | Shortfall::Use(_) => {
-            push_none(since, explanation.position, page);
+            push_none(since, position, page);
         }
         _ => {}
     }

@@ -53,7 +53,7 @@ fn push_apart(apart: &Apart, page: &mut Page) {
 
 /// Writes the end of a forward in the window.
 fn push_end(end: &WindowEnd, page: &mut Page) {
-    push_record(end.record, page);
+    push_record("", end.record, page);
     push_cause(end.cause, page);
     push_apart(&end.apart, page);
 }
@@ -100,11 +100,6 @@ fn say_near(near: &NearAnswer, host: &Octets, page: &mut Page) {
     page.end_line();
 }
 
-/// Begins the line of the window, which lies between request and reply.
-fn begin_window(explanation: &Explanation, page: &mut Page) {
-    begin_between("window", explanation.since, explanation.position, page);
-}
-
 /// Writes the line of the window, and those of what comes near.
 pub(crate) fn say_window(
     explanation: &Explanation,
@@ -112,7 +107,7 @@ pub(crate) fn say_window(
     nearest: Option<&Nearest>,
     page: &mut Page,
 ) {
-    begin_window(explanation, page);
+    begin_between("window", explanation.since, explanation.position, page);
     push_window(window, page);
     if nearest.is_none() {
         page.text("; stored: nothing");
@@ -132,8 +127,8 @@ pub(crate) fn say_validated(explanation: &Explanation, nearest: &Nearest, page: 
     if explanation.way != Way::Hit || !explanation.was_validated(nearest) {
         return;
     }
-    begin_window(explanation, page);
-    push_record(validator.record, page);
+    begin_between("window", explanation.since, explanation.position, page);
+    push_record("", validator.record, page);
     let behind = if explanation.reply.is_inferred {
         "; the reply is inferred to be a hit all the same"
     } else {
@@ -146,7 +141,7 @@ pub(crate) fn say_validated(explanation: &Explanation, nearest: &Nearest, page: 
 /// Writes the line of the answer of its own window that a reply carries which is marked as a hit.
 pub(crate) fn say_own(record: RecordName, page: &mut Page) {
     begin("window", page);
-    push_record(record, page);
+    push_record("", record, page);
     page.text(
         " is carried: the reply is an answer of its own window, though it is marked as a hit",
     );
