@@ -14,12 +14,22 @@ use hc_past::Unstored;
 
 // Whether the Date differs, and the latest 304 has none.
 fn has_own_date(found: &Differences) -> bool {
-    found.listed.iter().any(|gap| gap.name.as_slice() == b"date".as_slice() && !gap.is_renewed)
+    for gap in found.listed.iter() {
+        if gap.name.as_slice() == b"date".as_slice() && !gap.is_renewed {
+            return true;
+        }
+    }
+    false
 }
 
 // Whether Vary names what selects no request.
 fn has_star(selection: &Selection) -> bool {
-    selection.unmet.iter().any(|unmet| !unmet.is_name)
+    for unmet in selection.unmet.iter() {
+        if !unmet.is_name {
+            return true;
+        }
+    }
+    false
 }
 
 // What is asked of a hit of that status for which nothing is stored.
@@ -58,19 +68,23 @@ impl Explanation {
     // The same where that response is named.
     fn demand_by(&self, nearest: &Nearest, demanded: Reason) -> Demand {
         let status = self.reply.status;
-        match (demanded, &nearest.shortfall) {
-            (Reason::Vary, Some(Shortfall::Selected(selection))) if has_star(selection) => {
+        let Some(shortfall) = &nearest.shortfall else {
+            return demand_of(demanded, status);
+        };
+        if shortfall.rule().reason() != demanded {
+            return demand_of(demanded, status);
+        }
+        match shortfall {
+            Shortfall::Selected(selection) if has_star(selection) => {
                 star_demand(!nearest.not_about.is_empty())
             }
-            (Reason::NotAllowed, Some(Shortfall::Use(usage))) => usage_demand(usage),
-            (Reason::Body, Some(Shortfall::Body(gap))) => content_demand(gap),
-            (Reason::Age, Some(Shortfall::Age(gap))) => {
-                age_demand(gap, nearest.validated_at.is_some(), status)
+            Shortfall::Use(usage) => usage_demand(usage),
+            Shortfall::Body(gap) => content_demand(gap),
+            Shortfall::Age(gap) => age_demand(gap, nearest.validated_at.is_some(), status),
+            Shortfall::Fields(found) if self.is_undated(nearest) && has_own_date(found) => {
+                date_demand()
             }
-            (Reason::Fields, Some(Shortfall::Fields(found)))
-                if self.is_undated(nearest) && has_own_date(found) => date_demand(),
-            (Reason::Fields, Some(Shortfall::Fields(found)))
-                if status != StatusCode::NOT_MODIFIED => fields_demand(found),
+            Shortfall::Fields(found) if status != StatusCode::NOT_MODIFIED => fields_demand(found),
             _ => demand_of(demanded, status),
         }
     }

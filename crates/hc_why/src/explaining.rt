@@ -155,7 +155,10 @@ fn found_with_setting<I: Index>(
     judged: &JudgedReply<'_, I>,
     nearest: Option<&Nearest>,
 ) -> Result<Option<Finding>, AllocError> {
-    match nearest.and_then(|nearest| nearest.setting()) {
+    let Some(nearest) = nearest else {
+        return Ok(None);
+    };
+    match nearest.setting() {
         Some(setting) => Ok(Some(found_with(alloc, judged, setting)?)),
         None => Ok(None),
     }
@@ -200,8 +203,8 @@ fn list(
     Ok(())
 }
 
-// The position behind which the responses lie that a reply of that way may carry.
-fn bound_of(way: Way, since: u64) -> u64 {
+/// The position behind which the responses lie that a reply of that way may carry.
+pub(crate) fn bound_of(way: Way, since: u64) -> u64 {
     match way {
         Way::Collapsed => since,
         Way::Hit | Way::Forwarded | Way::Unmarked => 0,
@@ -279,11 +282,6 @@ impl Explanation {
         self.finding
     }
 
-    /// The position behind which the responses lie that it may carry.
-    pub(crate) fn bound(&self) -> u64 {
-        bound_of(self.way, self.since)
-    }
-
     /// The response that is named, if one is.
     pub fn nearest(&self) -> Option<&Nearest> {
         match &self.ground {
@@ -294,9 +292,12 @@ impl Explanation {
 
     /// The record of the response at that position, if it is named.
     pub fn source(&self, position: u64) -> Option<&Source> {
-        self.sources
-            .iter()
-            .find(|source| source.record.position == position)
+        for source in self.sources.iter() {
+            if source.record.position == position {
+                return Some(source);
+            }
+        }
+        None
     }
 
     /// Whether a 304 behind the request validated that response.
@@ -331,17 +332,5 @@ impl Explanation {
         }
         let nearest = self.nearest()?;
         index.response(&self.reply.target, nearest.position)
-    }
-
-    /// Takes in what the end of a forward before the reply tells of what is named, which is in that state before it,
-    /// if it is there.
-    pub(crate) fn take(
-        &mut self,
-        ended: &EndedForward<'_>,
-        state: Option<&Stored>,
-    ) -> Result<(), AllocError> {
-        self.take_source(ended)?;
-        self.take_ground(ended, state)?;
-        self.take_unstored(ended)
     }
 }

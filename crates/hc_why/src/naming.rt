@@ -55,7 +55,12 @@ impl Reaches {
 
     /// Whether the response at that position is named.
     pub(crate) fn names(&self, position: u64) -> bool {
-        self.named.iter().any(|reach| reach.position == position)
+        for reach in self.named.iter() {
+            if reach.position == position {
+                return true;
+            }
+        }
+        false
     }
 }
 
@@ -100,7 +105,10 @@ impl Drop for Nearest {
 impl Nearest {
     /// The first rule that it breaks; none where it keeps all.
     pub fn breaks(&self) -> Option<Rule> {
-        self.shortfall.as_ref().map(|shortfall| shortfall.rule())
+        match &self.shortfall {
+            Some(shortfall) => Some(shortfall.rule()),
+            None => None,
+        }
     }
 
     /// The setting by which it may be used, where it may not be used without, and there is one.
@@ -172,6 +180,43 @@ fn has_its_body<I: Index>(index: &I, claim: &ReplyClaim<'_>, position: u64) -> b
     }
 }
 
+// The first candidate behind a position.
+fn first_behind(candidates: &[Candidate], since: u64) -> Option<Candidate> {
+    for one in candidates {
+        if since < one.position {
+            return Some(*one);
+        }
+    }
+    None
+}
+
+// Whether another candidate behind a position gets as far as that one.
+fn has_equal(candidates: &[Candidate], furthest: Candidate, since: u64) -> bool {
+    for one in candidates {
+        if since < one.position && one.passed == furthest.passed && *one != furthest {
+            return true;
+        }
+    }
+    false
+}
+
+// The first candidate behind a position that gets so far, and has the body of the reply.
+fn first_with_body<I: Index>(
+    index: &I,
+    claim: &ReplyClaim<'_>,
+    candidates: &[Candidate],
+    since: u64,
+    passed: u32,
+) -> Option<Candidate> {
+    for one in candidates {
+        let gets_as_far = since < one.position && one.passed == passed;
+        if gets_as_far && has_its_body(index, claim, one.position) {
+            return Some(*one);
+        }
+    }
+    None
+}
+
 /// The candidate that is named of those behind a position: of those that get furthest the one with the reply's
 /// body, and of these the newest.
 pub(crate) fn named<I: Index>(
@@ -180,17 +225,11 @@ pub(crate) fn named<I: Index>(
     candidates: &[Candidate],
     since: u64,
 ) -> Option<Candidate> {
-    let furthest = candidates.iter().find(|one| since < one.position)?;
-    let gets_as_far = |one: &Candidate| since < one.position && one.passed == furthest.passed;
-    if !candidates
-        .iter()
-        .any(|one| gets_as_far(one) && one != furthest)
-    {
-        return Some(*furthest);
+    let furthest = first_behind(candidates, since)?;
+    if !has_equal(candidates, furthest, since) {
+        return Some(furthest);
     }
-    let with_body = candidates.iter().find(|one| gets_as_far(one)
-        && has_its_body(index, claim, one.position));
-    Some(*with_body.unwrap_or(furthest))
+    first_with_body(index, claim, candidates, since, furthest.passed).or(Some(furthest))
 }
 
 /// What the index knows of that candidate, if there is one.

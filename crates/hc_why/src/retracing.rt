@@ -2,7 +2,7 @@
 
 ghost use Rattle.std.specs.Prelude.{◌≡◌};
 
-use crate::explaining::{Explanation, Ground};
+use crate::explaining::{Explanation, Ground, bound_of};
 use crate::naming::Nearest;
 use crate::shortfalls::{Invalidator, NotAbout, OriginError, Shortfall, Validator};
 use crate::whys::Why;
@@ -134,22 +134,18 @@ fn wanted_of(reply: &AskedReply, exchange: u64, since: u64) -> Wanted<'_> {
 }
 
 impl Explanation {
-    // What it was asked for, and what it carries.
-    fn wanted(&self) -> Wanted<'_> {
-        wanted_of(&self.reply, self.exchange, self.since)
-    }
-
     // The record of the response with which that forward ended.
     fn source_of(
         &self,
         ended: &EndedForward<'_>,
         response: &Message<ResponseHead>,
     ) -> Result<Source, AllocError> {
-        Source::read(self.alloc, ended, response, &self.wanted())
+        let wanted = wanted_of(&self.reply, self.exchange, self.since);
+        Source::read(self.alloc, ended, response, &wanted)
     }
 
     // Takes in the record of a response that it may carry.
-    pub(crate) fn take_source(&mut self, ended: &EndedForward<'_>) -> Result<(), AllocError> {
+    fn take_source(&mut self, ended: &EndedForward<'_>) -> Result<(), AllocError> {
         let Some(response) = ended.response else {
             return Ok(());
         };
@@ -157,43 +153,42 @@ impl Explanation {
             let source = self.source_of(ended, response)?;
             self.sources.push(source)?;
         }
-        if self.wanted().carries(&ended.end())? {
+        let wanted = wanted_of(&self.reply, self.exchange, self.since);
+        if wanted.carries(&ended.end())? {
             self.carried = Some(self.source_of(ended, response)?);
         }
         Ok(())
     }
 
     // Takes in the record of a response that may not be stored, where what is wrong names it.
-    pub(crate) fn take_unstored(&mut self, ended: &EndedForward<'_>) -> Result<(), AllocError> {
+    fn take_unstored(&mut self, ended: &EndedForward<'_>) -> Result<(), AllocError> {
         let Some(response) = ended.response else {
             return Ok(());
         };
-        if self.ground.ends_at(ended.record.position) {
-            let source = self.source_of(ended, response)?;
-            self.unstored.push(source)?;
+        if !self.ground.ends_at(ended.record.position) {
+            return Ok(());
         }
-        Ok(())
+        let source = self.source_of(ended, response)?;
+        self.unstored.push(source)
     }
 
-    // Takes in what it tells of what is wrong.
-    pub(crate) fn take_ground(
-        &mut self,
-        ended: &EndedForward<'_>,
-        state: Option<&Stored>,
-    ) -> Result<(), AllocError> {
-        let alloc = self.alloc;
+    // Takes in what the end of a forward before the reply tells of what is named, which is in that state before it, if
+    // it is there.
+    fn take(&mut self, ended: &EndedForward<'_>, state: Option<&Stored>) -> Result<(), AllocError> {
+        self.take_source(ended)?;
         let standing = Standing {
             exchange: self.exchange,
             since: self.since,
-            bound: self.bound(),
+            bound: bound_of(self.way, self.since),
         };
         take_in(
-            alloc,
+            self.alloc,
             &self.reply,
             standing,
             (ended, state),
             &mut self.ground,
-        )
+        )?;
+        self.take_unstored(ended)
     }
 }
 

@@ -49,18 +49,19 @@ impl FirstWrong {
             → OnOk result (self.new.first ≡ slice_get (wrongs ++ wrong_of judged.now.position judged.now.finding) 0) }
         ensures heard { (h : List Item) → HasFound self.old → IsReplyBehind I.seen h judged.now → OnOk result (HasFound self.new) }
     {
-        match (judged.finding, self.first) {
-            (Finding::Wrong(reason), None) => {
-                let found = Explanation::read(self.alloc, judged)?;
-                self.first = Some(WrongReply {
-                    position: judged.position,
-                    reason,
-                });
-                self.found = found;
-                Ok(())
-            }
-            (Finding::Wrong(_), Some(_)) | (Finding::Right, _) => Ok(()),
+        let Finding::Wrong(reason) = judged.finding else {
+            return Ok(());
+        };
+        if self.first.is_some() {
+            return Ok(());
         }
+        let found = Explanation::read(self.alloc, judged)?;
+        self.first = Some(WrongReply {
+            position: judged.position,
+            reason,
+        });
+        self.found = found;
+        Ok(())
     }
 }
 
