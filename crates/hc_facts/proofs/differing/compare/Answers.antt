@@ -1,7 +1,8 @@
-use Rattle.std.proofs.Common.{◌≡◌, rules, ◌++◌, ◌∷◌, [], List, ℕ, Bor, get_or, ap}
+use Rattle.std.proofs.Common.{◌≡◌, rules, ◌++◌, ◌∷◌, [], List, ℕ, Bor, get_or, ap, subst, sym, ◌∙◌}
+use Rattle.std.proofs.lemmas.List.{append-nil, drop_all}
 use Rattle.std.specs.Prelude.{filter}
 use Rattle.hc_history.specs.Filters.{compared_names}
-use Rattle.hc_facts.specs.Differing.{differing_in, differs, with_names}
+use Rattle.hc_facts.specs.Differing.{AreListed, differing_in, differs, with_names}
 use Rattle.hc_facts.proofs.NameLemmas.{on_to, plain}
 use Rattle.hc_facts.proofs.differing.compare.Goals as goal
 
@@ -20,3 +21,13 @@ loop-name-preserved c =
       c.in_ok-take.ensures before.0 before.1,
       on_to p before.0 (differing_in c.args.claim.now c.args.state.now) items c.loop-name.name-index none (search rules) before.2,
     )
+
+pub returns : goal.returns
+returns c =
+    let claim = c.args.claim.now in
+    let state = c.args.state.now in
+    let items = c.as_slice-name-items.result.now in
+    let all = c.loop-name.invariant in
+    subst (λ (names : List (List ℕ)). AreListed claim state names c.loop-name.found)
+    (sym (append-nil all.0) ∙ ap (λ (left : List (Bor (List ℕ))). all.0 ++ filter (differs claim state) (plain left)) (sym (drop_all c.loop-name.name-index items c.loop-name-test.false)) ∙ all.2)
+    all.1
