@@ -182,13 +182,13 @@ impl<S: BuildHasher> Desk<S> {
     pub(crate) fn fail(
         &mut self,
         held: HeldExchange,
-        forward: OpenForward,
+        forward: &OpenForward,
         cause: Cause,
         actions: &mut Vec<Action>,
     ) -> Result<(), AllocError>
         requires { self.old.numbers.moment < end_of_moments }
         ensures { OnOk result (GivesReply held
-            (λ reply old new. Fails (wanted_of self.old held) forward.target cause old (Replies reply) new)
+            (λ reply old new. Fails (wanted_of self.old held) forward.now.target cause old (Replies reply) new)
             (at_desk actions.old.items self.old) (at_desk actions.new.items self.new)) }
     {
         let closes = closes_behind(&held.exchange.request, held.client.leaves);
@@ -198,7 +198,7 @@ impl<S: BuildHasher> Desk<S> {
             asked: &held.exchange.request,
             closes,
         };
-        let reply = fail(self.alloc, &mut self.store, &wanted, &forward, cause)?;
+        let reply = fail(self.alloc, &mut self.store, &wanted, forward, cause)?;
         self.reply_to(held, closes, &reply, actions)
     }
 

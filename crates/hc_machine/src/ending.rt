@@ -102,7 +102,7 @@ impl<S: BuildHasher> Desk<S> {
                     return Ok(None);
                 };
                 let client = held.exchange.connection;
-                self.fail(held, forward, cause, actions)?;
+                self.fail(held, &forward, cause, actions)?;
                 Ok(Some(client))
             }
         }

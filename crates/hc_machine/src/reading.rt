@@ -64,10 +64,7 @@ impl<S: BuildHasher> Desk<S> {
                 self.trim(c, client)?;
                 Ok(false)
             }
-            None => {
-                let more = self.read_idle(c, client, actions)?;
-                Ok(more)
-            }
+            None => self.read_idle(c, client, actions),
         }
     }
 
@@ -253,8 +250,7 @@ impl<S: BuildHasher> Desk<S> {
             client,
             reply,
             actions,
-        )?;
-        Ok(())
+        )
     }
 
     /// A request that was read of a connection, which was taken out, goes to the origin, and awaits
@@ -289,8 +285,7 @@ impl<S: BuildHasher> Desk<S> {
             number,
             client,
             exchange,
-        )?;
-        Ok(())
+        )
     }
 
     /// A request that was read of a connection, which was taken out, waits for the forward of another one, and

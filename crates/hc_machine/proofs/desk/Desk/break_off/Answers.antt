@@ -16,8 +16,8 @@ returns-in-Background g c = λ settings s awaited how stands there same closes f
     (record { numbers_are = c.in_ok-record_failure.ensures.numbers; actions_are = c.in_ok-record_failure.ensures.actions })
     c.in-Background.is
 
-pub returns-in_ok-fail-in-Reply : goal.returns-in_ok-fail-in-Reply
-returns-in_ok-fail-in-Reply g c = λ settings s awaited how stands there same closes fails.
+pub returns : goal.returns
+returns g c = λ settings s awaited how stands there same closes fails.
     breaks_request g.row.S.Denot g.row.S-Hasher.Denot settings c.args.self.now s c.args.f awaited c.args.forward stands there same
     how c.args.closes c.args.actions.now.items c.record_failure.new.actions.items c.record_failure.new.numbers closes fails
     (record { numbers_are = c.in_ok-record_failure.ensures.numbers; actions_are = c.in_ok-record_failure.ensures.actions })

@@ -11,9 +11,9 @@ returns g c =
     let w = c.args.held in
     on_ok_by c.reply_to.result _ _
     (gives_reply g.row.S.Denot g.row.S-Hasher.Denot w
-    (λ reply old new. Fails (wanted_of {S = g.row.S.Denot} {H = g.row.S-Hasher.Denot} d w) c.args.forward.target c.args.cause old (Replies reply) new)
+    (λ reply old new. Fails (wanted_of {S = g.row.S.Denot} {H = g.row.S-Hasher.Denot} d w) c.args.forward.now.target c.args.cause old (Replies reply) new)
     c.args.actions.now.items c.reply_to.new.actions.items d c.reply_to.new.self c.fail.new.store c.closes_behind-closes.result c.in_ok-reply.reply c.closes_behind-closes.ensures
     (wanted_with g.row.S.Denot g.row.S-Hasher.Denot d w
-    (λ (wanted : Wanted). Fails wanted c.args.forward.target c.args.cause d.store (Replies c.in_ok-reply.reply) c.fail.new.store)
+    (λ (wanted : Wanted). Fails wanted c.args.forward.now.target c.args.cause d.store (Replies c.in_ok-reply.reply) c.fail.new.store)
     c.closes_behind-closes.result c.closes_behind-closes.ensures c.in_ok-reply.ensures))
     c.reply_to.ensures

@@ -4,13 +4,14 @@ use Rattle.hc_head.specs.declared.head.Target.{Target}
 use Rattle.hc_service.specs.Numbers.{one_more}
 use Rattle.hc_service.specs.Turns.{sent_forward}
 use Rattle.hc_open.specs.Links.{AreLinks, HasPlace}
+use Rattle.hc_machine.proofs.SendLemmas.{of_ok, when_ok}
 use Rattle.hc_machine.proofs.desk.Desk.go_forward.Goals as goal
 
 pub returns-clause-goes : goal.returns-clause-goes
-returns-clause-goes g c = record {
+returns-clause-goes g c = when_ok c.await_reply.result _ (λ ok. record {
   numbers = c.in_ok-send_forward.ensures.numbers;
-  clients = c.in_ok-await_reply.ensures.clients;
-  exchanges = c.in_ok-await_reply.ensures.exchanges;
+  clients = λ connections k are is. of_ok c.await_reply.result _ (c.await_reply.ensures.clients connections k are is) ok;
+  exchanges = λ table are. of_ok c.await_reply.result _ (c.await_reply.ensures.exchanges table are) ok;
   links = λ forwards are place.
       subst (λ (t : Target). AreLinks c.send_forward.new.links (insert forwards (one_more c.args.self.now.numbers.forward)
       (sent_forward c.args.forward.head t c.args.self.now.numbers.moment c.args.purpose)))
@@ -18,4 +19,4 @@ returns-clause-goes g c = record {
       (subst (λ (t : Target). HasPlace (sent_forward c.args.forward.head t c.args.self.now.numbers.moment c.args.purpose) forwards) (sym c.in_ok-target.ensures) place));
   keeps = record { name = refl; store = refl };
   actions = c.in_ok-send_forward.ensures.actions;
-}
+})

@@ -17,8 +17,8 @@ returns-in_ok-trim-in-Some-exchange-clause-reading g c = λ settings s stands.
     c.in-Some.ensures.updates c.in-Some.ensures.value c.in-Some.ensures.len in
     c.in_ok-trim-in-Some-exchange.ensures settings s taken.0 c.in-Some-exchange.field-0 c.args.actions.now.items taken.3 taken.1 taken.2 (sym taken.2.exchange ∙ c.in-Some-exchange.is)
 
-pub returns-in_ok-more-in-None-clause-reading : goal.returns-in_ok-more-in-None-clause-reading
-returns-in_ok-more-in-None-clause-reading g c = λ settings s stands.
+pub returns-in-None-clause-reading : goal.returns-in-None-clause-reading
+returns-in-None-clause-reading g c = λ settings s stands.
     let taken = taken_with g.row.S.Denot g.row.S-Hasher.Denot settings c.args.c c.args.self.now s c.in-Some.client c.remove.new.self stands
     c.in-Some.ensures.updates c.in-Some.ensures.value c.in-Some.ensures.len in
-    c.in_ok-more-in-None.ensures.reading settings s taken.0 taken.3 taken.1 taken.2 (sym taken.2.exchange ∙ c.in-None.is)
+    c.read_idle.ensures.reading settings s taken.0 taken.3 taken.1 taken.2 (sym taken.2.exchange ∙ c.in-None.is)
