@@ -136,13 +136,18 @@ fn read_anew<F: Read + Seek>(file: &mut F, buffer: &mut [u8]) -> io::Result<usiz
 
 /// The masks of a text that tells them.
 fn masks_of(text: &[u8]) -> Option<Masks> {
-    let blocked = mask_of(behind_name(text, "SigBlk:")?)?;
-    let thread = mask_of(behind_name(text, "SigPnd:")?)?;
-    let process = mask_of(behind_name(text, "ShdPnd:")?)?;
+    let blocked = mask_behind(text, "SigBlk:")?;
+    let thread = mask_behind(text, "SigPnd:")?;
+    let process = mask_behind(text, "ShdPnd:")?;
     Some(Masks {
         blocked,
         pending: thread | process,
     })
+}
+
+/// The mask that a text tells behind that name.
+fn mask_behind(text: &[u8], name: &str) -> Option<u64> {
+    mask_of(behind_name(text, name)?)
 }
 
 /// The mask that hexadecimal digits tell, with blanks around them.

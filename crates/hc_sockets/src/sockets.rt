@@ -29,7 +29,7 @@ const MOST_EVENTS: usize = 1_024;
 const LONGEST_WAIT: u64 = 250;
 
 /// Why there are no sockets.
-#[derive(Clone, Copy, Debug)]
+#[derive(Clone, Copy)]
 pub(crate) enum SocketsFault {
     /// Memory was refused.
     Memory,

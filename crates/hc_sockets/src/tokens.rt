@@ -20,7 +20,7 @@ const GUEST: u64 = 3;
 const ATTEMPTS: u64 = 64;
 
 /// Of what something is told. No two have one token.
-#[derive(Clone, Copy, PartialEq, Eq)]
+#[derive(Clone, Copy)]
 pub(crate) enum Source {
     /// The listener at that place.
     Listener(u64),
