@@ -10,10 +10,12 @@ use Rattle.hc_events.specs.declared.Event.{Event}
 use Rattle.hc_transcript.specs.Limits.{longest_line}
 use Rattle.hc_transcript.specs.Lines.{is_feed, HasLongLine}
 use Rattle.hc_scripts.specs.declared.fault.ScriptFault.{ScriptFault}
+use Rattle.hc_scripts.specs.declared.kind.EventKind.{EventKind}
+use Rattle.hc_scripts.specs.declared.kind.EventKind.TheVariants as kind
 use Rattle.hc_scripts.specs.declared.fault.ScriptFault.TheVariants as fault
-use Rattle.hc_scripts.specs.Scripts.{line_text, kind_of, octets_of, line_of, octets_text, event_text, events_text, EventFits, opening, settings_text}
-use Rattle.hc_scripts.specs.ScriptFaults.{IsUnfinishedOpening, ScriptBreaks}
-use Rattle.hc_scripts.specs.ScriptParts.{SplitsAt, BeginsSettings, BeginsEvent, AreEvents, EventsBreak}
+use Rattle.hc_scripts.specs.Scripts.{has_octets, line_text, kind_of, octets_of, line_of, octets_text, event_text, events_text, EventFits, opening, settings_text}
+use Rattle.hc_scripts.specs.ScriptFaults.{HasLine, IsUnfinishedOpening, ScriptBreaks}
+use Rattle.hc_scripts.specs.ScriptParts.{event_with, SplitsAt, BeginsSettings, BeginsEvent, AreEvents, EventsBreak}
 
 -- ---- the opening
 
@@ -57,6 +59,28 @@ long_before_feed octets text behind splits long = record {
 }
 
 -- ---- events, one behind the other
+
+-- the line of an event that brings no octets is all of it
+pub begins_bare : (k : EventKind) (number moment size : ℕ) (text behind : List ℕ) → has_octets k ≡ false → HasLine text (record { kind = k; number = number; moment = moment; size = size }) behind
+    → BeginsEvent text (event_with (record { kind = k; number = number; moment = moment; size = size }) []) behind
+begins_bare kind.ClientOpened number moment size text behind bare has = record {
+  text_is = has.octets_are ∙ sym (append_assoc (line_text (record { kind = kind.ClientOpened; number = number; moment = moment; size = size })) (10 ∷ []) behind);
+  fits = record { number = has.fits.number; moment = has.fits.moment; size = omega arith };
+}
+begins_bare kind.ClientBytes number moment size text behind bare has = absurd (true_is_not_false bare)
+begins_bare kind.ClientEnd number moment size text behind bare has = record {
+  text_is = has.octets_are ∙ sym (append_assoc (line_text (record { kind = kind.ClientEnd; number = number; moment = moment; size = size })) (10 ∷ []) behind);
+  fits = record { number = has.fits.number; moment = has.fits.moment; size = omega arith };
+}
+begins_bare kind.OriginBytes number moment size text behind bare has = absurd (true_is_not_false bare)
+begins_bare kind.OriginEnd number moment size text behind bare has = record {
+  text_is = has.octets_are ∙ sym (append_assoc (line_text (record { kind = kind.OriginEnd; number = number; moment = moment; size = size })) (10 ∷ []) behind);
+  fits = record { number = has.fits.number; moment = has.fits.moment; size = omega arith };
+}
+begins_bare kind.OriginFailed number moment size text behind bare has = record {
+  text_is = has.octets_are ∙ sym (append_assoc (line_text (record { kind = kind.OriginFailed; number = number; moment = moment; size = size })) (10 ∷ []) behind);
+  fits = record { number = has.fits.number; moment = has.fits.moment; size = omega arith };
+}
 
 events_text-append : (events : List Event) (e : Event) → events_text (events ++ e ∷ []) ≡ events_text events ++ event_text e
 events_text-append [] e = append-nil (event_text e)

@@ -16,7 +16,7 @@ use hc_transcript::LONGEST_MESSAGE;
 
 /// The line of an event: its kind, the number of its connection or forward, its moment in whole
 /// seconds since 1970, and how many octets follow, 0 where none may.
-#[derive(Clone, Copy, PartialEq, Eq)]
+#[derive(Clone, Copy)]
 pub struct EventLine {
     /// What happens.
     pub kind: EventKind,

@@ -5,7 +5,7 @@ ghost use Rattle.hc_scripts.specs.declared.kind.EventKind.{EventKind};
 ghost use Rattle.hc_scripts.specs.Scripts.{word, has_octets};
 
 /// What an event tells.
-#[derive(Clone, Copy, PartialEq, Eq)]
+#[derive(Clone, Copy)]
 pub enum EventKind {
     /// `open`
     ClientOpened,

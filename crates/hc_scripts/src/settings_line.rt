@@ -12,7 +12,7 @@ use crate::numeral::{numeral, numeral_before_space};
 use crate::splitting::split_at_mark;
 
 /// How large the store of a cache may be.
-#[derive(Clone, Copy, PartialEq, Eq)]
+#[derive(Clone, Copy)]
 pub(crate) struct StoreSize {
     pub keys: u64,
     pub bytes: u64,
