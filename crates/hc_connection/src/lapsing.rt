@@ -10,7 +10,7 @@ use crate::link::{Link, LinkFailure};
 use crate::recorder::Recorder;
 
 /// Why a recorder is silent.
-#[derive(Clone, Copy, Debug, PartialEq, Eq)]
+#[derive(Clone, Copy)]
 pub enum Silence {
     /// The recorder beneath failed.
     Failed,

@@ -14,7 +14,7 @@ use std::alloc::{AllocError, Global};
 use std::collections::VecDeque;
 
 /// What the cache may have to be told, in its turn.
-#[derive(Clone, Copy, PartialEq, Eq)]
+#[derive(Clone, Copy)]
 enum Waiting {
     /// That the client sends no more, since its link failed as a reply was sent.
     Leaving,
