@@ -9,7 +9,7 @@ use std::alloc::AllocError;
 use thiserror::Error;
 
 /// What went wrong while a connection was served.
-#[derive(Clone, Copy, Debug, PartialEq, Eq, Error)]
+#[derive(Clone, Copy, Debug, Error)]
 pub enum DriveFault {
     /// The client's link failed. All that was open was served to its end, or to the bound on reads.
     #[error("the client's link failed")]
@@ -20,7 +20,7 @@ pub enum DriveFault {
     /// The cache didn't serve an event, or memory was refused to the driver itself. `Failed` is also that the driver gave
     /// up: nothing more happens, and the cache isn't idle, or 2^64 - 1 events were served. The former can't be of a cache
     /// that was at rest before and mirrored the log.
-    #[error("{0}")]
+    #[error(transparent)]
     Core(StepFault),
 }
 
@@ -67,7 +67,7 @@ impl From<StepFault> for DriveFault {
 }
 
 /// Why no further connection is served.
-#[derive(Clone, Copy, Debug, PartialEq, Eq, Error)]
+#[derive(Clone, Copy, Debug, Error)]
 pub enum ServingFault {
     /// No further client came. All that came were served.
     #[error("no further client came")]
@@ -76,6 +76,6 @@ pub enum ServingFault {
     #[error("the recorder failed")]
     Recorder,
     /// The cache didn't serve an event of a connection, or the driver of that gave up, as `DriveFault::Core` says.
-    #[error("{0}")]
+    #[error(transparent)]
     Core(StepFault),
 }

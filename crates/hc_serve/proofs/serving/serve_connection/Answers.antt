@@ -1,3 +1,4 @@
+use Rattle.std.proofs.lemmas.Result.{err_from_is_err_and}
 use Rattle.hc_serve.proofs.DriveLemmas.{as_broken, is_busy}
 use Rattle.hc_serve.proofs.serving.serve_connection.Goals as goal
 
@@ -14,3 +15,8 @@ returns-then-has_failed-clause-serves g c = λ log text told held. c.in_ok-drive
 
 pub returns-clause-serves : goal.returns-clause-serves
 returns-clause-serves g c = λ log text told held. c.in_ok-drive.ensures.drive log text told held
+
+pub returns-in_err-drive-clause-serves : goal.returns-in_err-drive-clause-serves
+returns-in_err-drive-clause-serves g c =
+    let p = err_from_is_err_and c.from_residual.result c.from_residual.ensures.1 in
+    rw (p.1, p.2) (λ log text told held. c.in_err-drive.ensures.drive log text told held)
