@@ -128,20 +128,20 @@ where
     serve_clients_of(rt, sockets, terms, &mut core, faults)
 }
 
-/// Serves those who come to these sockets.
-fn serve_clients_of<R, E: Write>(
+/// Serves those who come in that world.
+fn serve_clients_of<R, W: World + Drop, E: Write>(
     rt: &R,
-    sockets: Sockets<'_, R>,
+    world: W,
     terms: Terms<'_>,
     core: &mut Core<RandomState>,
     faults: &mut E,
 ) -> Result<(), ServeFault>
 where
-    R: Net + Files + Clock + AllocGlobal,
+    R: Files + AllocGlobal,
     R::File: Claim,
     ensures { SaysSome (E.contents faults.old) (E.contents faults.new) }
 {
-    let mut crowd = Crowd::new(rt.alloc(), sockets, terms.limits)?;
+    let mut crowd = Crowd::new(rt.alloc(), world, terms.limits)?;
     serve_recorded(rt, &mut crowd, terms.opening, terms.recording, core, faults)
 }
 
