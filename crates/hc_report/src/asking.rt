@@ -1,6 +1,6 @@
 //! What a wrong reply asks for, so that what can't help isn't tried.
 
-use hc_facts::{Change, Rule, rule_behind};
+use hc_facts::{Change, Differences, Rule, rule_behind};
 use hc_history::{Candidate, Reason};
 use hc_index::Index;
 use hc_why::{Shortfall, Why, WrongClaim};
@@ -79,5 +79,15 @@ fn may_be_joined(why: &Why) -> bool {
     let Some(Shortfall::Fields(found)) = why.shortfall() else {
         return true;
     };
-    found.more != 0 || found.listed.iter().any(|gap| gap.change == Change::Changed)
+    found.more != 0 || is_one_changed(found)
+}
+
+// Whether one of these has changed.
+fn is_one_changed(found: &Differences) -> bool {
+    for gap in found.listed.iter() {
+        if gap.change == Change::Changed {
+            return true;
+        }
+    }
+    false
 }

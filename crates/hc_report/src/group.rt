@@ -50,10 +50,10 @@ impl WrongOfKind {
 
     /// The group of it alone.
     pub(crate) fn into_group(self, alloc: Global) -> Result<Group, AllocError> {
-        let spread = self.seconds_off().map(|seconds| Spread {
-            least: seconds,
-            greatest: seconds,
-        });
+        let spread = match self.seconds_off() {
+            Some(seconds) => Some(Spread::of(seconds)),
+            None => None,
+        };
         let WrongOfKind {
             position,
             reason,
@@ -81,6 +81,14 @@ pub(crate) struct Spread {
 }
 
 impl Spread {
+    /// Of one difference.
+    fn of(seconds: u64) -> Self {
+        Spread {
+            least: seconds,
+            greatest: seconds,
+        }
+    }
+
     /// With one difference more.
     fn with(self, seconds: u64) -> Self {
         Spread {

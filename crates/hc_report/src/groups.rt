@@ -30,6 +30,16 @@ impl Drop for Groups {
     }
 }
 
+// The place of the group to which a wrong reply belongs, or behind all of them.
+fn place_of(groups: &[Group], wrong: &WrongOfKind) -> usize {
+    for (place, group) in groups.iter().enumerate() {
+        if group.has_kind_of(wrong) {
+            return place;
+        }
+    }
+    groups.len()
+}
+
 impl Groups {
     /// No group.
     pub(crate) fn new(alloc: Global) -> Self {
@@ -42,22 +52,21 @@ impl Groups {
 
     /// How many replies are of targets of which nothing is recorded.
     pub(crate) fn unrecorded(&self) -> u64 {
-        let group = self.groups.iter().find(|group| group.why.is_unrecorded());
-        match group {
-            Some(group) => group.count,
-            None => 0,
+        for group in self.groups.iter() {
+            if group.why.is_unrecorded() {
+                return group.count;
+            }
         }
+        0
     }
 
     /// Takes in a wrong reply: puts it into its group, or into a new one.
     pub(crate) fn note(&mut self, wrong: WrongOfKind) -> Result<(), AllocError> {
-        let place = self
-            .groups
-            .iter()
-            .position(|group| group.has_kind_of(&wrong));
-        match place {
-            Some(place) => self.groups[place].note(wrong),
-            None => self.begin(wrong),
+        let place = place_of(self.groups.as_slice(), &wrong);
+        if place < self.groups.len() {
+            self.groups[place].note(wrong)
+        } else {
+            self.begin(wrong)
         }
     }
 

@@ -90,12 +90,13 @@ impl IgnoringTry {
 
     // How many of those names aren't ignored.
     fn new_among(&self, differences: &Differences) -> usize {
-        let ignored = &self.settings.ignored;
-        differences
-            .listed
-            .iter()
-            .filter(|gap| !ignored.contains(gap.name.as_slice()))
-            .count()
+        let mut new = 0_usize;
+        for gap in differences.listed.iter() {
+            if !self.settings.ignored.contains(gap.name.as_slice()) {
+                new = new.saturating_add(1);
+            }
+        }
+        new
     }
 
     // Whether so many names more are not too many: this saves a copy of those so far.
@@ -170,13 +171,18 @@ fn ignore_all(
 // The fields in which a reply differs from the response that is named, if that is what is wrong, and only added ones
 // are among them.
 fn added_by(why: &Why) -> Option<&Differences> {
-    let Some(Shortfall::Fields(found)) = why.nearest()?.shortfall.as_ref() else {
-        return None;
-    };
-    let are_added = found.listed.iter().all(|gap| gap.change == Change::Added);
-    if are_added && found.more == 0 {
-        Some(found)
-    } else {
-        None
+    match why.nearest()?.shortfall.as_ref() {
+        Some(Shortfall::Fields(found)) if are_added(found) => Some(found),
+        _ => None,
     }
+}
+
+// Whether all of these are added fields.
+fn are_added(differences: &Differences) -> bool {
+    for gap in differences.listed.iter() {
+        if gap.change != Change::Added {
+            return false;
+        }
+    }
+    differences.more == 0
 }

@@ -54,6 +54,16 @@ impl Drop for Suspects {
     }
 }
 
+// The place of a field among those that are named, or behind all of them.
+fn place_of(named: &[Suspect], gap: &FieldGap) -> usize {
+    for (place, known) in named.iter().enumerate() {
+        if known.change == gap.change && known.name == gap.name {
+            return place;
+        }
+    }
+    named.len()
+}
+
 impl Suspects {
     /// None.
     pub(crate) fn new(alloc: Global) -> Self {
@@ -79,15 +89,13 @@ impl Suspects {
 
     // Takes in a field.
     fn take(&mut self, gap: &FieldGap) -> Result<(), AllocError> {
-        let place = self.named.iter().position(|known| known.change == gap.change
-            && known.name == gap.name);
-        match place {
-            Some(place) => {
-                let count = self.named[place].count;
-                self.named[place].count = count.saturating_add(1);
-                Ok(())
-            }
-            None => self.begin(gap),
+        let place = place_of(self.named.as_slice(), gap);
+        if place < self.named.len() {
+            let count = self.named[place].count;
+            self.named[place].count = count.saturating_add(1);
+            Ok(())
+        } else {
+            self.begin(gap)
         }
     }
 

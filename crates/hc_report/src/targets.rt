@@ -49,6 +49,11 @@ impl NamedTargets {
     }
 
     fn knows(&self, name: &str) -> bool {
-        self.names.iter().any(|known| known.as_str() == name)
+        for known in self.names.iter() {
+            if known.as_str() == name {
+                return true;
+            }
+        }
+        false
     }
 }

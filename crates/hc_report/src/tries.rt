@@ -71,6 +71,16 @@ fn may_carry_others<I: Index>(wrong: &WrongClaim<'_, I>) -> bool {
     }
 }
 
+// Whether one of them makes fewer replies wrong than that.
+fn are_fewer(tries: &[FixedTry], wrong: u64) -> bool {
+    for fixed in tries {
+        if fixed.wrong < wrong {
+            return true;
+        }
+    }
+    false
+}
+
 impl Tries {
     /// What is tried beside those settings.
     pub(crate) fn new(alloc: Global, settings: Settings) -> Result<Self, AllocError> {
@@ -103,6 +113,6 @@ impl Tries {
 
     /// Whether one of them makes fewer replies wrong than that.
     pub(crate) fn help(&self, wrong: u64) -> bool {
-        self.ignoring.wrong < wrong || self.fixed.iter().any(|fixed| fixed.wrong < wrong)
+        self.ignoring.wrong < wrong || are_fewer(self.fixed.as_slice(), wrong)
     }
 }
