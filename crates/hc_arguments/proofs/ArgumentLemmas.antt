@@ -1,5 +1,5 @@
 -- What a parse of the program's words comes to.
-use Rattle.std.proofs.Common.{◌≡◌, ◌∙◌, ◌&&◌, ◌<◌, ℕ, List, [], ◌∷◌, Option, None, Some, ap, cond, inl, inr, refl, rules, sym, subst, true, false, codes, Bool, is_some, length, nat_le, nat_lt, take, drop, option_and_then, option_map}
+use Rattle.std.proofs.Common.{◌≡◌, ◌∙◌, ◌&&◌, ◌++◌, ◌<◌, ℕ, List, [], ◌∷◌, Option, None, Some, ap, cond, inl, inr, refl, rules, sym, subst, true, false, codes, Bool, is_some, length, nat_le, nat_lt, take, drop, option_and_then, option_map}
 use Rattle.std.specs.Prelude.{Result, Ok, Err, IfOk, IfErr, MatchResult}
 use Rattle.std.proofs.lemmas.Bool.{leb-true}
 use Rattle.std.proofs.lemmas.Result.{IfErr-weaker, IfOk-weaker}
@@ -32,7 +32,7 @@ use Rattle.hc_options.specs.Allowing.{AsksAllowed, allow_by, normalized_by}
 use Rattle.hc_options.specs.Auditing.{AsksAuditTerms, AsksMinimums, no_minimums, plain_audit}
 use Rattle.hc_options.specs.Commands.{IsFileName, IsWord, value_in}
 use Rattle.hc_options.specs.Refusals.{refused_kind}
-use Rattle.hc_options.specs.Rows.{judging, terms}
+use Rattle.hc_options.specs.Rows.{Entry, IsAmong, judging, terms}
 use Rattle.hc_options.specs.Settings.{AsksSettings, plain}
 use Rattle.hc_options.specs.Values.{count_by, count_or_zero, flag_by, ignored_by, number_by, number_of, number_or, number_within, size_from, unmarked_by}
 use Rattle.hc_options.proofs.AuditWordLemmas.{one_some}
@@ -417,6 +417,12 @@ none_outside command value task e refusal is asks refuses kind =
     none_refused taken_by value (entries_of (command_of task)) refusal (kind_of e) (values_fine value task asks)
     (subst (λ (c : Option Command). RefusesBy c value refusal) is refuses) kind
 
+-- who is among some is among more
+pub among_more : (entry : Entry) (some more : List Entry) → IsAmong entry some → IsAmong entry (some ++ more)
+among_more entry [] more among = absurd among
+among_more entry (first ∷ rest) more (inl same) = inl same
+among_more entry (first ∷ rest) more (inr among) = inr (among_more entry rest more among)
+
 -- a number that may be left out, and is
 pub none_given : (takes : Takes) (o : Option Text) → number_by takes o ≡ Some None → o ≡ None
 none_given takes None is = refl
@@ -560,23 +566,23 @@ words_give words plain_words task (Err e) are same asked refused = words_at_err 
 module _ (name file : Text) (h : IsNoFlag file) where
   audit_settings : AsksSettings (value_in (subcommand_of hcache (name ∷ codes "audit" ∷ file ∷ []))) plain
   unfolding clap_on_literals
-  audit_settings = record {
-    slack_is = rw (h.dashes, h.long, h.short) refl;
-    ignored_is = rw (h.dashes, h.long, h.short) refl;
-    unmarked_is = rw (h.dashes, h.long, h.short) refl;
+  audit_settings = rw (h.dashes, h.long, h.short) (record {
+    slack_is = refl;
+    ignored_is = refl;
+    unmarked_is = refl;
     allowed_are = record {
-      words_are = rw (h.dashes, h.long, h.short) refl;
-      default_lifetime_is = rw (h.dashes, h.long, h.short) refl;
-      grace_is = rw (h.dashes, h.long, h.short) refl;
-      normalized_is = rw (h.dashes, h.long, h.short) refl;
-      age_slack_is = rw (h.dashes, h.long, h.short) refl;
-      inferred_marks_is = rw (h.dashes, h.long, h.short) refl;
+      words_are = refl;
+      default_lifetime_is = refl;
+      grace_is = refl;
+      normalized_is = refl;
+      age_slack_is = refl;
+      inferred_marks_is = refl;
     };
-  }
+  })
 
   audit_minimums : AsksMinimums (value_in (subcommand_of hcache (name ∷ codes "audit" ∷ file ∷ []))) no_minimums
   unfolding clap_on_literals
-  audit_minimums = record { hits_are = rw (h.dashes, h.long, h.short) refl; judged_are = rw (h.dashes, h.long, h.short) refl }
+  audit_minimums = rw (h.dashes, h.long, h.short) (record { hits_are = refl; judged_are = refl })
 
   audited : value_in (subcommand_of hcache (name ∷ codes "audit" ∷ file ∷ [])) (codes "FILE") ≡ Some file
   unfolding clap_on_literals
@@ -592,23 +598,23 @@ module _ (name file : Text) (h : IsNoFlag file) where
 
   report_settings : AsksSettings (value_in (subcommand_of hcache (name ∷ codes "report" ∷ file ∷ []))) plain
   unfolding clap_on_literals
-  report_settings = record {
-    slack_is = rw (h.dashes, h.long, h.short) refl;
-    ignored_is = rw (h.dashes, h.long, h.short) refl;
-    unmarked_is = rw (h.dashes, h.long, h.short) refl;
+  report_settings = rw (h.dashes, h.long, h.short) (record {
+    slack_is = refl;
+    ignored_is = refl;
+    unmarked_is = refl;
     allowed_are = record {
-      words_are = rw (h.dashes, h.long, h.short) refl;
-      default_lifetime_is = rw (h.dashes, h.long, h.short) refl;
-      grace_is = rw (h.dashes, h.long, h.short) refl;
-      normalized_is = rw (h.dashes, h.long, h.short) refl;
-      age_slack_is = rw (h.dashes, h.long, h.short) refl;
-      inferred_marks_is = rw (h.dashes, h.long, h.short) refl;
+      words_are = refl;
+      default_lifetime_is = refl;
+      grace_is = refl;
+      normalized_is = refl;
+      age_slack_is = refl;
+      inferred_marks_is = refl;
     };
-  }
+  })
 
   report_minimums : AsksMinimums (value_in (subcommand_of hcache (name ∷ codes "report" ∷ file ∷ []))) no_minimums
   unfolding clap_on_literals
-  report_minimums = record { hits_are = rw (h.dashes, h.long, h.short) refl; judged_are = rw (h.dashes, h.long, h.short) refl }
+  report_minimums = rw (h.dashes, h.long, h.short) (record { hits_are = refl; judged_are = refl })
 
   reported : value_in (subcommand_of hcache (name ∷ codes "report" ∷ file ∷ [])) (codes "FILE") ≡ Some file
   unfolding clap_on_literals
@@ -632,19 +638,19 @@ module _ (name file : Text) (h : IsNoFlag file) where
 
   explain_settings : AsksSettings (value_in (subcommand_of hcache (name ∷ codes "explain" ∷ file ∷ []))) plain
   unfolding clap_on_literals
-  explain_settings = record {
-    slack_is = rw (h.dashes, h.long, h.short) refl;
-    ignored_is = rw (h.dashes, h.long, h.short) refl;
-    unmarked_is = rw (h.dashes, h.long, h.short) refl;
+  explain_settings = rw (h.dashes, h.long, h.short) (record {
+    slack_is = refl;
+    ignored_is = refl;
+    unmarked_is = refl;
     allowed_are = record {
-      words_are = rw (h.dashes, h.long, h.short) refl;
-      default_lifetime_is = rw (h.dashes, h.long, h.short) refl;
-      grace_is = rw (h.dashes, h.long, h.short) refl;
-      normalized_is = rw (h.dashes, h.long, h.short) refl;
-      age_slack_is = rw (h.dashes, h.long, h.short) refl;
-      inferred_marks_is = rw (h.dashes, h.long, h.short) refl;
+      words_are = refl;
+      default_lifetime_is = refl;
+      grace_is = refl;
+      normalized_is = refl;
+      age_slack_is = refl;
+      inferred_marks_is = refl;
     };
-  }
+  })
 
   explained : value_in (subcommand_of hcache (name ∷ codes "explain" ∷ file ∷ [])) (codes "FILE") ≡ Some file
   unfolding clap_on_literals
@@ -717,19 +723,19 @@ explain_words name file named = let h = no_flag file (inr named) in record {
 module _ (name file number : Text) (h : IsNoFlag file) (n : IsNoFlag number) where
   explain_at_settings : AsksSettings (value_in (subcommand_of hcache (name ∷ codes "explain" ∷ file ∷ number ∷ []))) plain
   unfolding clap_on_literals
-  explain_at_settings = record {
-    slack_is = rw (h.dashes, h.long, h.short, n.dashes, n.long, n.short) refl;
-    ignored_is = rw (h.dashes, h.long, h.short, n.dashes, n.long, n.short) refl;
-    unmarked_is = rw (h.dashes, h.long, h.short, n.dashes, n.long, n.short) refl;
+  explain_at_settings = rw (h.dashes, h.long, h.short, n.dashes, n.long, n.short) (record {
+    slack_is = refl;
+    ignored_is = refl;
+    unmarked_is = refl;
     allowed_are = record {
-      words_are = rw (h.dashes, h.long, h.short, n.dashes, n.long, n.short) refl;
-      default_lifetime_is = rw (h.dashes, h.long, h.short, n.dashes, n.long, n.short) refl;
-      grace_is = rw (h.dashes, h.long, h.short, n.dashes, n.long, n.short) refl;
-      normalized_is = rw (h.dashes, h.long, h.short, n.dashes, n.long, n.short) refl;
-      age_slack_is = rw (h.dashes, h.long, h.short, n.dashes, n.long, n.short) refl;
-      inferred_marks_is = rw (h.dashes, h.long, h.short, n.dashes, n.long, n.short) refl;
+      words_are = refl;
+      default_lifetime_is = refl;
+      grace_is = refl;
+      normalized_is = refl;
+      age_slack_is = refl;
+      inferred_marks_is = refl;
     };
-  }
+  })
 
   explained_at : value_in (subcommand_of hcache (name ∷ codes "explain" ∷ file ∷ number ∷ [])) (codes "FILE") ≡ Some file
   unfolding clap_on_literals

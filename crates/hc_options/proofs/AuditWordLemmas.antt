@@ -90,23 +90,23 @@ refused_for_memory words file asked e none asks refused = elim refused [
 module _ (name file : Text) (h : IsNoFlag file) where
   audit_settings : AsksSettings (value_in (subcommand_of auditing (name ∷ codes "audit" ∷ file ∷ []))) plain
   unfolding clap_on_literals
-  audit_settings = record {
-    slack_is = rw (h.dashes, h.long, h.short) refl;
-    ignored_is = rw (h.dashes, h.long, h.short) refl;
-    unmarked_is = rw (h.dashes, h.long, h.short) refl;
+  audit_settings = rw (h.dashes, h.long, h.short) (record {
+    slack_is = refl;
+    ignored_is = refl;
+    unmarked_is = refl;
     allowed_are = record {
-      words_are = rw (h.dashes, h.long, h.short) refl;
-      default_lifetime_is = rw (h.dashes, h.long, h.short) refl;
-      grace_is = rw (h.dashes, h.long, h.short) refl;
-      normalized_is = rw (h.dashes, h.long, h.short) refl;
-      age_slack_is = rw (h.dashes, h.long, h.short) refl;
-      inferred_marks_is = rw (h.dashes, h.long, h.short) refl;
+      words_are = refl;
+      default_lifetime_is = refl;
+      grace_is = refl;
+      normalized_is = refl;
+      age_slack_is = refl;
+      inferred_marks_is = refl;
     };
-  }
+  })
 
   audit_minimums : AsksMinimums (value_in (subcommand_of auditing (name ∷ codes "audit" ∷ file ∷ []))) no_minimums
   unfolding clap_on_literals
-  audit_minimums = record { hits_are = rw (h.dashes, h.long, h.short) refl; judged_are = rw (h.dashes, h.long, h.short) refl }
+  audit_minimums = rw (h.dashes, h.long, h.short) (record { hits_are = refl; judged_are = refl })
 
   audited_file : value_in (subcommand_of auditing (name ∷ codes "audit" ∷ file ∷ [])) (codes "FILE") ≡ Some file
   unfolding clap_on_literals
