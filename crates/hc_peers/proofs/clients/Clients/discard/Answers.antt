@@ -2,6 +2,7 @@ use Rattle.std.proofs.Common.{arith}
 use Rattle.hc_order.specs.declared.receiver.Receiver.TheVariants.{Client}
 use Rattle.hc_peers.specs.Links.{IsClientAt}
 use Rattle.hc_heard.proofs.TableLemmas.{lent_stays}
+use Rattle.hc_peers.proofs.ShownLemmas.{lent_shown}
 use Rattle.hc_peers.proofs.clients.Clients.discard.Goals as goal
 
 pub returns-in-Some-clause-kept : goal.returns-in-Some-clause-kept
@@ -11,3 +12,8 @@ returns-in-Some-clause-kept g c =
 
 pub returns-in-Some-clause-many : goal.returns-in-Some-clause-many
 returns-in-Some-clause-many g c = omega (arith, (c.get_mut.follows.holds c.discard.new.self).2)
+
+pub returns-in-Some-clause-shown : goal.returns-in-Some-clause-shown
+returns-in-Some-clause-shown g c =
+    lent_shown g.S.Stream.has_got c.args.self.now.table (c.get_mut.follows.lender c.discard.new.self) c.args.number c.in-Some.client.now c.discard.new.self
+    c.in-Some.ensures.value (c.get_mut.follows.holds c.discard.new.self) c.discard.ensures.got
