@@ -13,7 +13,7 @@ use thiserror::Error;
 #[derive(Clone, Copy, Debug, PartialEq, Eq, Error)]
 pub enum FrameFault {
     /// The head can't be read. It never bears `Memory`.
-    #[error("{0}")]
+    #[error(transparent)]
     Head(HeadFault),
     /// Transfer-Encoding and Content-Length are both there (RFC 9112 section 6.3).
     #[error("the message has both Transfer-Encoding and Content-Length")]
