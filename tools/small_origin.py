@@ -145,6 +145,7 @@ ANSWERS = {
     "kept": tagged("max-age=3600", "max-age=3600"),
     "tagged": tagged("max-age=2", "max-age=3600"),
     "checked": tagged("max-age=3600, no-cache", "max-age=3600, no-cache"),
+    "behind": tagged("max-age=1, stale-while-revalidate=60", "max-age=1, stale-while-revalidate=60"),
     "dated": dated,
     "lasting": lives("max-age=3600", last_modified=MODIFIED),
     "vary": lives("max-age=3600", vary="Accept-Language"),
