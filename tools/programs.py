@@ -53,6 +53,11 @@ def toolchain(name):
     return found
 
 
+def keeps():
+    """Whether this kit keeps what `rt ci` passed, so that this takes the names of crates, and can be told to prove anew."""
+    return "--anew" in subprocess.run(["rt", "help"], capture_output=True, text=True, check=False).stderr
+
+
 def crate_here(rt):
     """The crate of this folder, over libraries of statements; `rt` is a module of the toolchain's. It ends where one of
     the libraries lacks."""
