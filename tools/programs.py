@@ -54,7 +54,7 @@ def toolchain(name):
 
 
 def keeps():
-    """Whether this kit keeps what `rt ci` passed, so that this takes the names of crates, and can be told to prove anew."""
+    """Whether this kit keeps what `rt ci` passed, which takes names of crates there, and can be told to prove anew."""
     return "--anew" in subprocess.run(["rt", "help"], capture_output=True, text=True, check=False).stderr
 
 
