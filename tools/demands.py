@@ -1,0 +1,284 @@
+"""What the RFCs ask of a wrong reply, and what is only hcache's own stricter rule, case by case: what tools/check_facts
+holds against the sections that an explanation names as broken. Written from RFC 9110, 9111, 9211 and 5861 alone.
+
+A demand is a set of what may be named: sections as `9111 4.1`, or OWN for that no RFC is broken. It has both where the
+RFCs leave that open."""
+
+import re
+
+import walks
+from walks import (AGE, BODY, FIELDS, HEURISTIC, INVALIDATED, LIFETIME, OF_CONTENT, REPEATED, TTL, USE, VARY,
+                   directives, joined, members, tag_of, values, weak)
+
+OWN, WRONG_MARK = "no RFC", {"9211 2.1"}
+STORING = {"request_no_store": "9111 5.2.1.5", "authorization": "9111 3.5", "no_store": "9111 5.2.2.5",
+           "private": "9111 5.2.2.7", "must_understand": "9111 5.2.2.3", "uninvited": "9111 3"}
+STALE = {"no-cache": "9111 5.2.2.4", "must-revalidate": "9111 5.2.2.2", "proxy-revalidate": "9111 5.2.2.8",
+         "s-maxage": "9111 5.2.2.10"}
+SINGLE = {"date", "expires", "last-modified", "etag", "set-cookie"}  # what is no list
+
+
+def cited(text):
+    """What the sections of an explanation say."""
+    found = {OWN} if text.startswith("no RFC") else set()
+    for rfc, sections in re.findall(r"RFC (\d+) sections? ((?:\d+(?:\.\d+)*(?:, | and )?)+)", "" if found else text):
+        found |= {f"{rfc} {section}" for section in re.findall(r"\d+(?:\.\d+)*", sections)}
+    return found
+
+
+def meaning(name, value):
+    """A value without what makes no difference in a list: white space, and of what is negotiated case and order."""
+    found = [re.sub(r"[ \t]*([;=])[ \t]*", r"\1", member) for member in members(value)]
+    return sorted(member.lower() for member in found) if name in walks.NEGOTIATED else found
+
+
+def means_the_same(name, one, other):
+    is_there = one is not None and other is not None and name not in SINGLE
+    return is_there and meaning(name, one) == meaning(name, other)
+
+
+# -- 304s
+
+
+def looser(record, state):
+    """Whether a 304 is about a response by RFC 9111 sections 4.3.3 and 4.3.4, though not by hcache's rules: yes, no, or
+    none where that is open."""
+    stands, told, due = walks.against(record, state), tag_of(record.fields), tag_of(state.fields)
+    if stands <= {"private", "no_store"}:
+        return True  # It validates, and may not be stored itself.
+    is_about = stands <= {"private", "no_store", "method", "forward_no_store", "vary"}
+    is_weakly = "earlier" not in stands and told and due and weak(told) == weak(due)
+    return None if is_about or is_weakly else False
+
+
+def validated(state, after, demand):
+    """What is asked where a 304 behind that position may have validated the response by the RFCs."""
+    found = {looser(record, before) for record, before in state.not_about if record.position > after}
+    return {OWN} if True in found else demand | {OWN} if None in found else demand
+
+
+# -- What may be stored
+
+
+def leaves_out(response, name, told):
+    """Whether a directive names fields, and those that the response has are left out (RFC 9111 sections 5.2.2.4 and
+    5.2.2.7)."""
+    said = directives(response.fields).get(name)
+    names = [member.lower() for member in members(said or "")]
+    return bool(names) and not any(values(response.fields, each) and values(told, each) for each in names)
+
+
+def storing(reply, response):
+    """What is asked by what forbids to store a response (RFC 9111 section 3)."""
+    forbidden, method = walks.forbids(response), response.of.method
+    if leaves_out(response, "private", reply.record.fields):
+        if not reply.is_given(response):
+            return {STORING[word] for word in forbidden if word in STORING} | {OWN}
+        forbidden.discard("private")
+    found = {STORING[word] for word in forbidden if word in STORING}
+    found |= {"9111 3"} if "must_understand" in forbidden else set()
+    if found or "method" not in forbidden:
+        return found or ({OWN, "9111 3"} if "status" in forbidden else {OWN})
+    if method == "HEAD":  # RFC 9110 section 9.3.2 lets it answer HEAD.
+        return {OWN} if reply.is_head else {OWN, "9111 4", "9110 9.3.2"}
+    return {OWN, "9111 3", "9111 4", "9110 9.3.3", "9110 9.3.4", "9110 9.3.5"}
+
+
+def no_response(reply, _):
+    """What is asked where nothing of the target may be stored: by the latest response that is given, or the latest."""
+    unstored = [end for end in reply.ends if end.kind == "r" and walks.forbids(end)]
+    given = [end for end in unstored if reply.is_given(end)]
+    if reply.request.method not in ("GET", "HEAD"):
+        return {"9111 3", "9111 4", "9110 9.3.3", "9110 9.3.7", "9110 9.3.8"}
+    return storing(reply, (given or unstored)[-1]) if unstored else {"9111 3", "9111 4"}
+
+
+# -- What may be used
+
+
+def selecting(reply, state):
+    """What is asked where Vary doesn't select the request (RFC 9111 section 4.1)."""
+    asked = reply.request.fields
+    names = [member.lower() for member in walks.unmet(state, asked, reply.settings.normalized)]
+    if all(means_the_same(name, joined(state.asked, name), joined(asked, name)) for name in names):
+        return {OWN}
+    behind = [each for each in state.not_about if each[0].position > reply.since]
+    if "*" in names and any(walks.against(*each) == {"vary"} for each in behind):
+        return {OWN}  # What a 304 about it permits is open.
+    is_open = reply.is_validated(state) or any(looser(*each) is not False for each in behind)
+    return {OWN, "9111 4.1"} if is_open else {"9111 4.1"}
+
+
+def invalidated(reply, state):
+    return validated(state, state.invalidated_by[-1].position, {"9111 4.4"})
+
+
+def no_cache(reply, state):
+    """What is asked of what says no-cache, but is fresh."""
+    if not leaves_out(state.response, "no-cache", reply.record.fields):
+        return {STALE["no-cache"]}
+    return {OWN} if reply.is_given(state.response) else {OWN, STALE["no-cache"]}
+
+
+def lifetime(reply, state):
+    """What is asked where no lifetime is stated (RFC 9111 section 4.2.2)."""
+    said = directives(state.fields)
+    demand = no_cache(reply, state) if "no-cache" in said else {OWN}
+    may_be_guessed = state.status in HEURISTIC or "public" in said
+    return validated(state, reply.since, demand if may_be_guessed else demand | {OWN, "9111 4.2.2", "9111 4.2.4"})
+
+
+def failed_validation(reply):
+    """Whether a validation was answered by a 5xx (RFC 9111 section 4.3.3): yes, no, or none where that isn't known."""
+    errors = [end for end in reply.window if end.status >= 500 and reply.may_be_for(end)]
+    asked = [joined(end.of.fields, "if-none-match") or joined(end.of.fields, "if-modified-since") for end in errors
+             if end.of.method in ("GET", "HEAD")]
+    return True if any(asked) and reply.recording.format == 2 else None if asked else False
+
+
+def using(reply, state):
+    """What is asked where a response may not be used (RFC 9111 sections 4.2.4 and 5.2.2)."""
+    said, by_age = directives(state.fields), state.age(reply.moment, by_age_alone=True)
+    demand = {section for name, section in STALE.items() if name in said} | {"9111 4.2.4", "9111 5.3", "9111 4"}
+    failed = failed_validation(reply)
+    if "no-cache" in said:
+        demand = no_cache(reply, state) if reply.is_fresh(state) else demand
+    elif state.lifetime() + reply.settings.slack > by_age:
+        # The Age may be believed, whatever the Date (section 4.2.3).
+        demand = {OWN} if state.age_value else demand | {OWN}
+    elif any(isinstance(walks.seconds(state.fields, name), str) for name in ("s-maxage", "max-age")):
+        demand = demand | {OWN}
+    elif not said.keys() & set(STALE) and failed is not False:
+        demand = {OWN} if failed else demand | {OWN}
+    return validated(state, reply.since, demand)
+
+
+# -- What a reply has
+
+
+def content(reply, state):
+    """What is asked of the status and the body."""
+    record, asked = reply.record, reply.request.fields
+    if record.status == 304 and not record.body:
+        found = {"9111 4.3.2", "9110 13.1.2", "9110 13.1.3", "9110 13.2.1", "9110 13.2.2", "9110 15.4.5"}
+        since = walks.date_of(joined(asked, "if-modified-since") or "")
+        by_date = since is not None and not values(state.fields, "last-modified") and state.date <= since
+        by_tag = values(asked, "if-none-match") and 200 < state.status < 300
+        return found | {OWN} if by_tag or by_date else found
+    if reply.is_part(state.status, state.body):
+        return {OWN}
+    if record.status in (206, 416):
+        return {"9110 14.2", "9110 15.3.7", "9110 15.5.17", "9111 4", "9110 7.7"}
+    is_for_origins = values(asked, "if-match") or values(asked, "if-unmodified-since")
+    return {"9111 4.3.2"} if record.status == 412 and is_for_origins else {"9111 4", "9110 7.7"}
+
+
+def by_head(reply, state):
+    """Whether the reply differs by what a 200 to HEAD says that is about the response (RFC 9111 section 4.3.5)."""
+    told, names, found = reply.record.fields, reply.gaps(state), []
+    for end in reply.ends:
+        validators = ((values(end.fields, name), values(state.fields, name)) for name in ("etag", "last-modified"))
+        is_about = all(one in ([], other) for one, other in validators)
+        if end.of.method == "HEAD" and end.status == 200 and end.position > state.settled and is_about:
+            made = walks.replaced(state.fields, walks.stored_fields(end.fields, end.moment)[0])
+            found.append(all(values(told, name) == values(made, name) for name in names))
+    return any(found)
+
+
+def of_field(reply, state, name):
+    """What is asked of one field that differs."""
+    due, told, is_304 = values(state.fields, name), values(reply.record.fields, name), reply.record.status == 304
+    said, latest = directives(state.fields), state.validator or state.response
+    if not due:
+        return {"9110 7.7", "9110 15.4.5"} if name in OF_CONTENT or name == "set-cookie" else {OWN}
+    if told and means_the_same(name, ", ".join(told), ", ".join(due)):
+        return {OWN}
+    if not told and name in map(str.lower, members(f"{said.get('private')},{said.get('no-cache')}")):
+        return {OWN}
+    found = {"9110 15.4.5"} if is_304 and (told or name in REPEATED) else set()
+    found |= {"9111 4.3.4", "9111 3.2"} if state.validator and values(latest.fields, name) else set()
+    if name == "date" and not values(latest.fields, "date"):
+        return found | {"9110 6.6.1", "9110 7.7" if told else "9111 3.1"}
+    return found or ({"9110 7.7", "9111 3.1"} if told else {"9111 3.1"})
+
+
+def fields(reply, state):
+    """What is asked of the fields that differ: that of any, and that no RFC is broken only where none is."""
+    found = set().union(*(of_field(reply, state, name) for name in reply.gaps(state)))
+    demand = {OWN} if by_head(reply, state) else found - {OWN} or {OWN}
+    return demand if validated(state, state.settled, demand) == demand else demand | {OWN}
+
+
+def age(reply, state):
+    """What is asked of the Age (RFC 9111 sections 4, 4.2.3 and 5.1)."""
+    told, settings = values(reply.record.fields, "age"), reply.settings
+    if not told and reply.is_validated(state):
+        # It is a MUST for what is used without validation.
+        is_own = reply.recording.format == 2 and state.validator.of.cause == reply.record.number
+        return {OWN, "9211 2.1"} if is_own else {OWN, "9211 2.1", "9111 4", "9111 5.1"}
+    found = walks.number(told[0]) if len(told) == 1 else None
+    if found is None:
+        return {"9111 5.1"} if told else {"9111 4"}
+    demand = {"9111 4", "9111 4.2", "9111 4.2.3", "9111 5.1"}
+    if abs(found - state.age(reply.moment, by_age_alone=True)) <= max(settings.slack, settings.age_slack):
+        return {OWN} if state.age_value else demand | {OWN}
+    return demand if validated(state, state.settled, demand) == demand else demand | {OWN}
+
+
+def ttl(reply, state):
+    is_open = not state.is_explicit() or state.date < state.response_time or state.not_about
+    return {"9211 2.4"} | ({OWN} if is_open else set())
+
+
+BY_RULE = {1: no_response, VARY: selecting, INVALIDATED: invalidated, LIFETIME: lifetime, USE: using, BODY: content,
+           FIELDS: fields, AGE: age, TTL: ttl}
+
+
+def by_rule(reply, state):
+    """What is asked by the first rule that a stored response breaks."""
+    return BY_RULE[reply.breaks(state)](reply, state)
+
+
+# -- What is asked of a reply
+
+
+def of_hit(reply, demand, reason):
+    """What is asked of a hit. One that carries an answer of its own window, and nothing that was stored before, isn't
+    one."""
+    if not reply.carried(ranges=False) or reply.is_inferred:
+        return demand
+    is_stored = any(reply.is_given(end) for end in reply.ends if end.position < reply.since)
+    is_alone = reply.recording.format == 2 or reply.is_alone()
+    is_certain = is_alone and not is_stored and reason != TTL and reply.record.status != 304
+    return WRONG_MARK if is_certain else demand | WRONG_MARK
+
+
+def of_forwarded(reply, state):
+    """What is asked of what went forward: where it gives what is stored, or was validated, what a hit would break."""
+    demand = {"9211 2.2", "9110 7.7", "9111 4"}
+    parts = [end for end in reply.window if end.kind == "r" and reply.is_part(end.status, end.body)]
+    if any(reply.may_be_for(end) for end in parts):
+        return {OWN}
+    if reply.record.status >= 500 or reply.record.status == 416 or parts:
+        demand |= {OWN, "9211 2"}  # It may be one that the cache makes itself.
+    if state is None or not reply.breaks(state) or not (reply.is_given(state.response) or reply.is_validated(state)):
+        return demand
+    found, went = by_rule(reply, state), any(reply.may_be_for(end) for end in reply.window)
+    return found if found == {OWN} and went else found | demand
+
+
+def of_collapsed(reply, state):
+    """What is asked of what was collapsed. What waits may be answered by what is stored then (RFC 9211 section 2.6)."""
+    was_stored = any(reply.is_validated(each) for each in reply.states if each.position < reply.since)
+    found = by_rule(reply, state) if state is not None and reply.breaks(state) else set()
+    return {"9211 2.6"} | found | ({OWN} if was_stored else set())
+
+
+def demanded(reply, state):
+    """What may be named as broken by a wrong reply, of which that stored response is told, if one is."""
+    reason = reply.reason()
+    if reason < 10:
+        return of_hit(reply, by_rule(reply, state) if state and reason > 1 else no_response(reply, state), reason)
+    if reason in (11, 12):
+        return {"9211 2", OWN} if reason == 11 else {"9211 2.1", "9211 2.2"}
+    return of_forwarded(reply, state) if reason == 10 else of_collapsed(reply, state)
