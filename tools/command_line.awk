@@ -405,10 +405,16 @@ function check_values(file,    line, parts, name) {
     while ((getline line < file) > 0) {
         if (line ~ /^#/ || split(line, parts, " ") < 2) continue
         name = parts[1]
+        if (parts[2] == "needs") { check_need(name, parts[3]); continue }
         if (is_used(name) && !is_right(parts[2], value[name], parts[3], parts[4]))
             refuse("invalid value for '" shown(asked, name) "': " fault_of(parts[2], parts[3], parts[4]),
                 plain_usage(asked))
     }
+}
+
+# Refuses an option that is given without the one that it needs.
+function check_need(name, needed) {
+    if (is_used(name) && !is_used(needed)) refuse("--" name " needs " shown(asked, needed), plain_usage(asked))
 }
 
 # Whether a value is of that kind.

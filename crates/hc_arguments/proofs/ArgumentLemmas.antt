@@ -22,7 +22,7 @@ use Rattle.hc_history.specs.declared.allowed.Allowed.{Allowed}
 use Rattle.hc_history.specs.declared.settings.Settings.{Settings}
 use Rattle.hc_service.specs.declared.settings.CoreSettings.{CoreSettings}
 use Rattle.hc_service.specs.Settings.{AreGood, is_name, is_size}
-use Rattle.hc_showing.specs.declared.span.Span.{Span}
+use Rattle.hc_shown.specs.declared.span.Span.{Span}
 use Rattle.hc_options.specs.declared.auditing.AuditTerms.{AuditTerms}
 use Rattle.hc_options.specs.declared.auditing.Minimums.{Minimums}
 use Rattle.hc_options.specs.declared.refusal.Refusal.{Refusal}
@@ -51,7 +51,7 @@ use Rattle.hc_arguments.specs.Tables.{origin_connections, origin_timeout, origin
 use Rattle.hc_arguments.specs.Tables.{explaining_form}
 use Rattle.hc_arguments.specs.Tables.Command.{Audits, Reports, Explains, Shows, Replays, Converts, Serves, Proxies}
 use Rattle.hc_arguments.specs.Tasks.{Asks, AsksBy, AsksIn, AsksProxy, AsksService, CanBeDone, IsRefused, RefusesBy, RefusesIn, Task, ValuesAsk}
-use Rattle.hc_arguments.specs.Tasks.{command_in, command_of, explaining, proxy_words, service_words, task_of}
+use Rattle.hc_arguments.specs.Tasks.{command_in, command_of, explaining, plain_form, proxy_words, service_words, task_of}
 use Rattle.hc_arguments.specs.Tasks.Task.{ToAudit, ToReport, ToExplain, ToShow, ToReplay, ToConvert, ToServe, ToProxy}
 
 -- the command is one of which a parse is known exactly
@@ -143,7 +143,9 @@ file_named (Some file) = cond (bytes_eq file (codes "-")) None (Some file)
 
 abbrev task_from : Command → (Text → Option Text) → Option Task
 task_from Audits value = option_map (λ p. ToAudit p.0 p.1) (both (value (codes "FILE")) (audit_terms_from value))
-task_from Reports value = option_map (λ p. ToReport p.0 p.1 (flag_by (value (codes "json"))) (value (codes "baseline"))) (both (value (codes "FILE")) (audit_terms_from value))
+task_from Reports value =
+    option_map (λ p. ToReport p.0 p.1 record { json = flag_by (value (codes "json")); baseline = value (codes "baseline"); strict = flag_by (value (codes "baseline-strict")); annotates = flag_by (value (codes "annotations")); junit = value (codes "junit") })
+    (both (value (codes "FILE")) (audit_terms_from value))
 task_from Explains value = option_map (λ p. ToExplain p.0 record { position = p.1.0; settings = p.1.1; json = flag_by (value (codes "json")) })
     (both (file_named (value (codes "FILE"))) (both (number_by (Number 1 greatest_number) (value (codes "POSITION"))) (settings_from value)))
 task_from Shows value = option_map (λ p. ToShow p.0 p.1) (both (value (codes "FILE")) (option_and_then span_of (value (codes "POSITION[-POSITION]"))))
@@ -224,9 +226,9 @@ values_give : (value : Text → Option Text) (task : Task) → ValuesAsk value t
 values_give value (ToAudit file terms) a =
     let set = audit_terms_given value terms a.terms_are in
     λ i. option_map (λ p. ToAudit p.0 p.1) (both (a.file_is i) (set i))
-values_give value (ToReport file terms json baseline) a =
+values_give value (ToReport file terms form) a =
     let set = audit_terms_given value terms a.terms_are in
-    λ i. option_map (λ p. ToReport p.0 p.1 (a.json_is i) (a.baseline_is i)) (both (a.file_is i) (set i))
+    λ i. option_map (λ p. ToReport p.0 p.1 record { json = a.json_is i; baseline = a.baseline_is i; strict = a.strict_is i; annotates = a.annotates_is i; junit = a.junit_is i }) (both (a.file_is i) (set i))
 values_give value (ToExplain file terms) a =
     let set = settings_given value terms.settings a.settings_are in
     let named = ap file_named a.file_is ∙ ap (λ b. cond b None (Some file)) a.file_has_name in
@@ -388,10 +390,12 @@ proxying_fine value listen origin file terms limits settings a =
 
 values_fine : (value : Text → Option Text) (task : Task) → ValuesAsk value task → AreFine taken_by value (entries_of (command_of task))
 values_fine value (ToAudit file terms) a = audit_fine taken_by taken_by_judges value file terms a
-values_fine value (ToReport file asked json baseline) a = (
+values_fine value (ToReport file asked form) a = (
   there taken_by taken_by_judges (value (codes "FILE")) file a.file_is,
-  appended taken_by value terms reporting (terms_fine taken_by taken_by_judges value asked a.terms_are)
-      (any_fine taken_by taken_by_judges (value (codes "json")), (any_fine taken_by taken_by_judges (value (codes "baseline")), tt)),
+  appended taken_by value terms reporting (terms_fine taken_by taken_by_judges value asked a.terms_are) (
+    any_fine taken_by taken_by_judges (value (codes "json")),
+    (any_fine taken_by taken_by_judges (value (codes "baseline")), (any_fine taken_by taken_by_judges (value (codes "baseline-strict")), (any_fine taken_by taken_by_judges (value (codes "junit")), (any_fine taken_by taken_by_judges (value (codes "annotations")), tt)))),
+  ),
 )
 values_fine value (ToExplain file terms) a = (
   file_taken file (value (codes "FILE")) a.file_is a.file_has_name,
@@ -489,7 +493,7 @@ last_is_one (Some text) span is =
 
 pub possible_from : (command : Option Command) (value : Text → Option Text) (task : Task) → AsksBy command value task → CanBeDone task
 possible_from command value (ToAudit file asked) asks = tt
-possible_from command value (ToReport file asked json baseline) asks = tt
+possible_from command value (ToReport file asked form) asks = tt
 possible_from command value (ToExplain file asked) asks = tt
 possible_from command value (ToShow file span) asks = last_is_one (value (codes "POSITION[-POSITION]")) span asks.1.span_is
 possible_from command value (ToReplay file) asks = tt
@@ -628,6 +632,18 @@ module _ (name file : Text) (h : IsNoFlag file) where
   unfolding clap_on_literals
   no_baseline = rw (h.dashes, h.long, h.short) refl
 
+  not_strict : flag_by (value_in (subcommand_of hcache (name ∷ codes "report" ∷ file ∷ [])) (codes "baseline-strict")) ≡ false
+  unfolding clap_on_literals
+  not_strict = rw (h.dashes, h.long, h.short) refl
+
+  not_annotated : flag_by (value_in (subcommand_of hcache (name ∷ codes "report" ∷ file ∷ [])) (codes "annotations")) ≡ false
+  unfolding clap_on_literals
+  not_annotated = rw (h.dashes, h.long, h.short) refl
+
+  no_junit : value_in (subcommand_of hcache (name ∷ codes "report" ∷ file ∷ [])) (codes "junit") ≡ None
+  unfolding clap_on_literals
+  no_junit = rw (h.dashes, h.long, h.short) refl
+
   is_report : command_in (subcommand_of hcache (name ∷ codes "report" ∷ file ∷ [])) ≡ Some Reports
   unfolding clap_on_literals
   is_report = refl
@@ -684,7 +700,7 @@ audit_words name file is = let h = no_flag file is in record {
   no_fault = no_audit_fault name file h;
 }
 
-pub report_words : (name file : Text) → IsWord file → AreWordsFor (name ∷ codes "report" ∷ file ∷ []) (ToReport file plain_audit false None)
+pub report_words : (name file : Text) → IsWord file → AreWordsFor (name ∷ codes "report" ∷ file ∷ []) (ToReport file plain_audit plain_form)
 report_words name file is = let h = no_flag file is in record {
   asks = (
     is_report name file h,
@@ -693,6 +709,9 @@ report_words name file is = let h = no_flag file is in record {
       terms_are = record { settings_are = report_settings name file h; minimums_are = report_minimums name file h };
       json_is = no_json name file h;
       baseline_is = no_baseline name file h;
+      strict_is = not_strict name file h;
+      annotates_is = not_annotated name file h;
+      junit_is = no_junit name file h;
     },
   );
   no_fault = no_report_fault name file h;

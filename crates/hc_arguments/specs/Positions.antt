@@ -1,7 +1,7 @@
 -- Positions, and hyphens between two of them.
 use Rattle.std.specs.Prelude.{ℕ, Bool, ◌==◌, ◌+◌, [], ◌∷◌, Option, Some, None, drop, take, if◌then◌else◌, nat_le, option_and_then}
 use Rattle.clap.specs.Words.{Text}
-use Rattle.hc_showing.specs.declared.span.Span.{Span}
+use Rattle.hc_shown.specs.declared.span.Span.{Span}
 use Rattle.hc_transcript.specs.Limits.{greatest_number}
 use Rattle.hc_options.specs.Values.{number_within}
 

@@ -7,7 +7,7 @@ use Rattle.clap.specs.declared.error.ErrorKind.TheVariants.{OutOfMemory}
 use Rattle.hc_transcript.specs.Limits.{greatest_number}
 use Rattle.hc_service.specs.declared.settings.CoreSettings.{CoreSettings}
 use Rattle.hc_service.specs.Settings.{AreGood}
-use Rattle.hc_showing.specs.declared.span.Span.{Span}
+use Rattle.hc_shown.specs.declared.span.Span.{Span}
 use Rattle.hc_options.specs.declared.auditing.AuditTerms.{AuditTerms}
 use Rattle.hc_options.specs.declared.refusal.Refusal.{Refusal}
 use Rattle.hc_options.specs.declared.refusal.Refusal.TheVariants.{Memory, Missing, Value}
@@ -22,6 +22,7 @@ use Rattle.hc_arguments.specs.declared.order.Order.{Order}
 use Rattle.hc_arguments.specs.declared.order.Order.TheVariants.{Audit, Report, Explain, Show, Replay, Convert, Serve, Proxy}
 use Rattle.hc_arguments.specs.declared.order.ProxyLimits.{ProxyLimits}
 use Rattle.hc_arguments.specs.declared.order.RecordTerms.{RecordTerms}
+use Rattle.hc_arguments.specs.declared.order.ReportTerms.{ReportTerms}
 use Rattle.hc_arguments.specs.Cache.{AsksCache}
 use Rattle.hc_arguments.specs.Commands.{hcache}
 use Rattle.hc_arguments.specs.Limits.{AsksLimits, AsksTerms}
@@ -31,12 +32,33 @@ use Rattle.hc_arguments.specs.Tables.Command.{Audits, Reports, Explains, Shows, 
 
 -- ---- what is asked
 
+-- a report is one JSON object or else text, what an earlier report has isn't held against the file, if one is named, and it is asked whether that has more; annotations stand behind it, and a file gets test cases, if one is named
+pub record Form : Type 0 where
+  pub json : Bool
+  pub baseline : Option Text
+  pub strict : Bool
+  pub annotates : Bool
+  pub junit : Option Text
+
+abbrev pub form_of : ReportTerms → Form
+form_of form = record {
+  json = form.json;
+  baseline = option_map (λ name. name.now) form.baseline;
+  strict = form.strict;
+  annotates = form.annotates;
+  junit = option_map (λ name. name.now) form.junit;
+}
+
+-- text, and nothing is known
+abbrev pub plain_form : Form
+plain_form = record { json = false; baseline = None; strict = false; annotates = false; junit = None }
+
 -- what the commands can be asked
 pub data Task : Type 0 where
   -- to audit that file on those terms
   ToAudit : (file : Text) (terms : AuditTerms) → Task
-  -- to report on it on those terms, by one JSON object or else in text, and not to hold against it what an earlier report has, if one is named
-  ToReport : (file : Text) (terms : AuditTerms) (json : Bool) (baseline : Option Text) → Task
+  -- to report on it on those terms, in that form
+  ToReport : (file : Text) (terms : AuditTerms) (form : Form) → Task
   -- to explain a reply of it on those terms
   ToExplain : (file : Text) (terms : ExplainTerms) → Task
   -- to show its records at these positions
@@ -53,7 +75,7 @@ pub data Task : Type 0 where
 
 abbrev pub command_of : Task → Command
 command_of (ToAudit file terms) = Audits
-command_of (ToReport file terms json baseline) = Reports
+command_of (ToReport file terms form) = Reports
 command_of (ToExplain file terms) = Explains
 command_of (ToShow file span) = Shows
 command_of (ToReplay file) = Replays
@@ -63,7 +85,7 @@ command_of (ToProxy listen origin file terms limits settings) = Proxies
 
 abbrev pub task_of : Order → Task
 task_of (Audit file terms) = ToAudit file.now terms
-task_of (Report file terms json baseline) = ToReport file.now terms json (option_map (λ name. name.now) baseline)
+task_of (Report file terms form) = ToReport file.now terms (form_of form)
 task_of (Explain file terms) = ToExplain file.now terms
 task_of (Show file span) = ToShow file.now span
 task_of (Replay file) = ToReplay file.now
@@ -72,11 +94,14 @@ task_of (Serve s) = ToServe s.listen.now s.origin.now s.connections s.file.now s
 task_of (Proxy p) = ToProxy p.listen.now p.origin.now (option_map (λ file. file.now) p.file) p.terms p.limits p.settings
 
 -- the values, by their names, ask that of `report`
-pub record AsksReport (value : Text → Option Text) (file : Text) (terms : AuditTerms) (json : Bool) (baseline : Option Text) : Type 0 where
+pub record AsksReport (value : Text → Option Text) (file : Text) (terms : AuditTerms) (form : Form) : Type 0 where
   pub file_is : value (codes "FILE") ≡ Some file
   pub terms_are : AsksAuditTerms value terms
-  pub baseline_is : value (codes "baseline") ≡ baseline
-  pub json_is : flag_by (value (codes "json")) ≡ json
+  pub baseline_is : value (codes "baseline") ≡ form.baseline
+  pub json_is : flag_by (value (codes "json")) ≡ form.json
+  pub strict_is : flag_by (value (codes "baseline-strict")) ≡ form.strict
+  pub annotates_is : flag_by (value (codes "annotations")) ≡ form.annotates
+  pub junit_is : value (codes "junit") ≡ form.junit
 
 -- and that of `explain`, which can't read standard input twice
 pub record AsksExplain (value : Text → Option Text) (file : Text) (terms : ExplainTerms) : Type 0 where
@@ -110,7 +135,7 @@ pub record AsksProxy (value : Text → Option Text) (listen origin : Text) (file
 
 abbrev pub ValuesAsk : (Text → Option Text) → Task → Type 0
 ValuesAsk value (ToAudit file terms) = AsksAudit value file terms
-ValuesAsk value (ToReport file terms json baseline) = AsksReport value file terms json baseline
+ValuesAsk value (ToReport file terms form) = AsksReport value file terms form
 ValuesAsk value (ToExplain file terms) = AsksExplain value file terms
 ValuesAsk value (ToShow file span) = AsksShow value file span
 ValuesAsk value (ToReplay file) = value (codes "FILE") ≡ Some file

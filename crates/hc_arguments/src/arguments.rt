@@ -1,6 +1,6 @@
 //! What the words of a command line ask.
 
-ghost use Rattle.std.specs.Prelude.{◌≡◌, ◌∷◌, [], IfErr, IfOk, MatchResult, ℕ, Some, None, codes, false, map};
+ghost use Rattle.std.specs.Prelude.{◌≡◌, ◌∷◌, [], IfErr, IfOk, MatchResult, ℕ, Some, None, codes, map};
 ghost use Rattle.clap.specs.Words.{HasKind, Text, fault_of, first_value, found_of, kind_of, subcommand_of, subcommand_rows_of};
 ghost use Rattle.hc_options.specs.Auditing.{plain_audit};
 ghost use Rattle.hc_options.specs.Commands.{IsFileName, IsWord};
@@ -15,13 +15,13 @@ ghost use Rattle.hc_arguments.specs.Limits.{TakesNumbers, AsksLimits, AsksPatien
 ghost use Rattle.hc_arguments.specs.Positions.{positive_of};
 ghost use Rattle.hc_arguments.specs.Tables.{Command, proxying, taken_by};
 ghost use Rattle.hc_arguments.specs.Tables.Command.{Audits, Converts, Explains, Proxies, Replays, Reports, Serves, Shows};
-ghost use Rattle.hc_arguments.specs.Tasks.{Asks, AsksBy, AsksIn, CanBeDone, IsRefused, IsRefusedIn, RefusesBy, RefusesIn, explaining, proxy_words, service_words, task_of};
+ghost use Rattle.hc_arguments.specs.Tasks.{Asks, AsksBy, AsksIn, CanBeDone, IsRefused, IsRefusedIn, RefusesBy, RefusesIn, explaining, plain_form, proxy_words, service_words, task_of};
 ghost use Rattle.hc_arguments.specs.Tasks.Task.{ToAudit, ToConvert, ToExplain, ToProxy, ToReplay, ToReport, ToServe};
 
 use crate::cache::cache_in;
 use crate::command::{command, command_named};
 use crate::order::{
-    ExplainTerms, Order, ProxyLimits, ProxyPatience, Proxying, RecordTerms, Serving,
+    ExplainTerms, Order, ProxyLimits, ProxyPatience, Proxying, RecordTerms, ReportTerms, Serving,
 };
 use crate::positions::span_of;
 use crate::rows::{
@@ -51,7 +51,7 @@ pub fn parsed<'a, S: AsStr>(alloc: Global, words: &'a [S]) -> Result<Order<'a>, 
     // `report FILE` asks for text, and gives that FILE and those settings too.
     ensures report { (name file : Text) → IsWord file
         → map S.text words.entry.now ≡ name ∷ codes "report" ∷ file ∷ []
-        → MatchResult result (λ order. task_of order ≡ ToReport file plain_audit false None)
+        → MatchResult result (λ order. task_of order ≡ ToReport file plain_audit plain_form)
         (λ error. kind_of error ≡ ErrorKind.OutOfMemory) }
     // And `explain FILE` asks for the first wrong reply, where FILE isn't `-`.
     ensures explain { (name file : Text) → IsFileName file
@@ -164,14 +164,15 @@ fn report_in<'a>(alloc: Global, found: &ArgMatches<'a>) -> Result<Order<'a>, Ref
     ensures err { IfErr result (RefusesBy (Some Reports) (first_value (found_of found.now))) }
 {
     let file = required(found, "FILE")?;
-    let json = flag_in(found, "json");
-    let terms = audit_terms_in(alloc, found)?;
-    Ok(Order::Report {
-        file,
-        terms,
-        json,
+    let form = ReportTerms {
+        json: flag_in(found, "json"),
         baseline: found.get_str("baseline"),
-    })
+        strict: flag_in(found, "baseline-strict"),
+        annotates: flag_in(found, "annotations"),
+        junit: found.get_str("junit"),
+    };
+    let terms = audit_terms_in(alloc, found)?;
+    Ok(Order::Report { file, terms, form })
 }
 
 // What `explain` asks.
@@ -319,6 +320,17 @@ fn limit_in(found: &ArgMatches<'_>, limit: &'static Row, usual: u64) -> Result<u
     ensures err { IfErr result (Refuses taken_by proxying (first_value (found_of found.now))) }
 {
     number_or(found, limit, usual)
+}
+
+/// The error of a command line that asks to hold a transcript against a baseline strictly, and names none.
+pub fn without_baseline(alloc: Global) -> Result<Error, AllocError>
+    ensures { IfOk result (λ error. kind_of error ≡ ErrorKind.MissingRequiredArgument) }
+{
+    usage_error(
+        command_named(alloc, Some("report")),
+        ErrorKind::MissingRequiredArgument,
+        "--baseline-strict needs --baseline <FILE>",
+    )
 }
 
 /// The error of a command line that is not text.

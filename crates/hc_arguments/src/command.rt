@@ -43,7 +43,8 @@ Exit status:
   2   malformed: the transcript breaks at this position, by this fault
   3   no verdict: standard error says `error: memory` or `error: device`
   4   too few: it is yes, or --baseline makes it so, but fewer replies were judged than is asked for, as standard error says
-  64  the command line is wrong, or --baseline names no such report: standard error says how";
+  5   fewer wrong: it would be 0, but --baseline-strict is asked, and --baseline has wrong replies that aren't there any more
+  64  the command line is wrong, or --baseline names no such report, or one by other settings: standard error says how";
 
 const EXPLAIN_STATUSES: &str = "\
 Exit status:

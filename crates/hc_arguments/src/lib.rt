@@ -8,6 +8,8 @@ mod order;
 mod positions;
 mod rows;
 
-pub use arguments::{not_text, parsed};
+pub use arguments::{not_text, parsed, without_baseline};
 pub use hc_options::{AuditTerms, Minimums};
-pub use order::{ExplainTerms, Order, ProxyLimits, ProxyPatience, Proxying, RecordTerms, Serving};
+pub use order::{
+    ExplainTerms, Order, ProxyLimits, ProxyPatience, Proxying, RecordTerms, ReportTerms, Serving,
+};

@@ -3,7 +3,7 @@
 use hc_history::Settings;
 use hc_options::AuditTerms;
 use hc_service::CoreSettings;
-use hc_showing::Span;
+use hc_shown::Span;
 
 /// What the words ask.
 #[derive(Drop)]
@@ -21,10 +21,8 @@ pub enum Order<'a> {
         file: &'a str,
         /// On what terms it is audited.
         terms: AuditTerms,
-        /// Whether the report is one JSON object, in place of text.
-        json: bool,
-        /// The name of the file that has the JSON of an earlier report, whose wrong replies aren't held against it.
-        baseline: Option<&'a str>,
+        /// In which form, and what isn't held against the transcript.
+        form: ReportTerms<'a>,
     },
     /// To explain a reply of a transcript.
     Explain {
@@ -54,6 +52,21 @@ pub enum Order<'a> {
     Serve(Serving<'a>),
     /// To serve many clients at once.
     Proxy(Proxying<'a>),
+}
+
+/// In which form a report is given, and what isn't held against the transcript.
+#[derive(Clone, Copy)]
+pub struct ReportTerms<'a> {
+    /// Whether it is one JSON object, in place of text.
+    pub json: bool,
+    /// The name of the file that has the JSON of an earlier report, whose wrong replies aren't held against the transcript.
+    pub baseline: Option<&'a str>,
+    /// Whether the exit status is one of its own where that report has wrong replies that aren't there any more.
+    pub strict: bool,
+    /// Whether the wrong replies are annotations, too, behind it.
+    pub annotates: bool,
+    /// The name of the file that gets the wrong replies as JUnit's XML.
+    pub junit: Option<&'a str>,
 }
 
 /// Which reply an explanation is of, and how that is given.

@@ -4,7 +4,7 @@ ghost use Rattle.std.specs.Prelude.{◌≡◌, ◌≤◌, length};
 ghost use Rattle.hc_arguments.specs.Positions.{len_before_hyphen, positive_of, span_between, span_of};
 
 use hc_options::{Takes, number_of};
-use hc_showing::Span;
+use hc_shown::Span;
 use hc_transcript::GREATEST_NUMBER;
 
 /// How many octets stand before the first hyphen.

@@ -72,8 +72,36 @@ const BASELINE: Row = Row {
         reason, method and target",
 };
 
+const BASELINE_STRICT: Row = Row {
+    name: "baseline-strict",
+    kind: Kind::Flag,
+    value: "",
+    takes: Takes::AnyText,
+    required: false,
+    help: "Where it would be 0, the status is 5 if --baseline has wrong replies that aren't there any more: write it anew",
+};
+
+const JUNIT: Row = Row {
+    name: "junit",
+    kind: Kind::Valued,
+    value: "FILE",
+    takes: Takes::AnyText,
+    required: false,
+    help: "A file that is created or emptied, and gets the wrong replies as JUnit's XML: a failing test case each, or a skipped \
+        one if --baseline has it",
+};
+
+const ANNOTATIONS: Row = Row {
+    name: "annotations",
+    kind: Kind::Flag,
+    value: "",
+    takes: Takes::AnyText,
+    required: false,
+    help: "Behind the report, a command of GitHub's workflows for each of the first 1000 wrong replies that --baseline hasn't",
+};
+
 /// In which form it reports, and what isn't held against a recording.
-pub(crate) const REPORTING: [Row; 2] = [JSON, BASELINE];
+pub(crate) const REPORTING: [Row; 5] = [JSON, BASELINE, BASELINE_STRICT, JUNIT, ANNOTATIONS];
 
 const LISTEN: Row = Row {
     name: "listen",

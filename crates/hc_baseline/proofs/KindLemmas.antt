@@ -1,5 +1,5 @@
 -- Kinds that are counted, and held against a baseline.
-use Rattle.std.proofs.Common.{◌≡◌, ◌≤◌, ◌<◌, ◌+◌, ◌-◌, ◌++◌, ◌^◌, ◌&&◌, ◌⊎◌, ℕ, Bool, true, false, List, [], ◌∷◌, Option, None, Result, Ok, Err, OnOk, length, min, nat_le, bytes_eq, unwrap_or, cond, Ordering, Less, Equal, Greater, is_eq, nat_cmp, true≢false, ap, sym, ◌∙◌, inl, inr, refl, subst, arith}
+use Rattle.std.proofs.Common.{◌≡◌, ◌≤◌, ◌<◌, ◌+◌, ◌-◌, ◌++◌, ◌^◌, ◌&&◌, ◌⊎◌, ℕ, Bool, true, false, List, [], ◌∷◌, Option, None, Some, option_map, Result, Ok, Err, OnOk, length, min, nat_le, bytes_eq, unwrap_or, cond, Ordering, Less, Equal, Greater, is_eq, nat_cmp, true≢false, ap, sym, ◌∙◌, inl, inr, refl, subst, arith}
 use Rattle.std.proofs.lemmas.Bool.Decides.{nat_tests}
 use Rattle.std.proofs.lemmas.Map.Text.{is_eq-slice_cmp}
 use Rattle.std.specs.Cmp.Lexicographic.{slice_cmp}
@@ -9,7 +9,7 @@ use Rattle.serde_json.specs.Data.{Data, Members, no_members, member, number, uns
 use Rattle.serde_json.specs.Find.{get_member}
 use Rattle.serde_json.proofs.Views.{get_member-put, get_member-put_other}
 use Rattle.hc_baseline.specs.Kinds.{AreKnown, Kind, times}
-use Rattle.hc_baseline.specs.Reports.{count_under, covers, number_of, with_one_more}
+use Rattle.hc_baseline.specs.Reports.{count_under, counts_in, covers, gone_in, gone_of, number_of, with_one_more}
 use Rattle.hc_baseline.specs.Tallies.{AreCounts}
 
 times-append : (kind : Kind) (kinds more : List Kind) → times kind (kinds ++ more) ≡ times kind kinds + times kind more
@@ -115,6 +115,28 @@ known_covered base all (member one count counts) kinds are known =
 
 pub not_covered : (base : Kind → ℕ) (counts : Members) (kinds : List Kind) → AreCounts counts kinds → covers base counts counts ≡ false → ¬ AreKnown base kinds
 not_covered base counts kinds are other known = absurd (true≢false (sym (known_covered base counts counts kinds are known) ∙ other))
+
+-- ---- what is gone
+
+-- by counts or by the kinds that were counted, as many are gone
+same_gone : (counted all counts : Members) (kinds : List Kind) → AreCounts counted kinds → length kinds < 2 ^ 64
+    → gone_of all (λ kind. count_under kind counted) counts ≡ gone_of all (λ kind. times kind kinds) counts
+same_gone counted all no_members kinds are few = refl
+same_gone counted all (member one count counts) kinds are few =
+    let is = are one in
+    let short = times-few one kinds in
+    let same : count_under one counted ≡ times one kinds = omega (arith, is, short, few) in
+    λ i. (count_under one all - same i) + same_gone counted all counts kinds are few i
+
+gone_in_either : (had : Option Members) (counted : Members) (kinds : List Kind) → AreCounts counted kinds → length kinds < 2 ^ 64
+    → unwrap_or (option_map (λ counts. gone_of counts (λ kind. count_under kind counted) counts) had) 0
+    ≡ unwrap_or (option_map (λ counts. gone_of counts (λ kind. times kind kinds) counts) had) 0
+gone_in_either None counted kinds are few = refl
+gone_in_either (Some counts) counted kinds are few = same_gone counted counts counts kinds are few
+
+pub gone_by_kinds : (report : Data) (counted : Members) (kinds : List Kind) → AreCounts counted kinds → length kinds < 2 ^ 64
+    → gone_in report (λ kind. count_under kind counted) ≡ gone_in report (λ kind. times kind kinds)
+gone_by_kinds report counted kinds are few = gone_in_either (counts_in report) counted kinds are few
 
 -- ---- results
 

@@ -1,3 +1,4 @@
 pub mod Kinds
+pub mod Made
 pub mod Reports
 pub mod Tallies

@@ -38,6 +38,11 @@ abbrev pub known_of : (Kind → ℕ) → Members → Members → ℕ
 known_of base all no_members = 0
 known_of base all (member kind count counts) = min (count_under kind all) (base kind) + known_of base all counts
 
+-- how many of these aren't there any more: of each kind as many as there are fewer of it now
+abbrev pub gone_of : Members → (Kind → ℕ) → Members → ℕ
+gone_of all now no_members = 0
+gone_of all now (member kind count counts) = (count_under kind all - now kind) + gone_of all now counts
+
 -- ---- a report
 
 -- whether its transcript doesn't break
@@ -77,3 +82,7 @@ pub record IsBaseline (octets : List ℕ) (report : Data) : Type 0 where
 -- how many it has of a kind
 abbrev pub base_in : Data → Kind → ℕ
 base_in report kind = unwrap_or (option_map (count_under kind) (counts_in report)) 0
+
+-- how many of its wrong replies aren't there any more, where there are so many of each kind now
+abbrev pub gone_in : Data → (Kind → ℕ) → ℕ
+gone_in report now = unwrap_or (option_map (λ counts. gone_of counts now counts) (counts_in report)) 0

@@ -7,11 +7,15 @@ use Rattle.hc_json.specs.Nesting.{MembersNestTo}
 use Rattle.hc_baseline.specs.declared.baseline.Baseline.{Baseline}
 use Rattle.hc_baseline.specs.declared.tally.Tally.{Tally}
 use Rattle.hc_baseline.specs.Kinds.{Kind, times}
-use Rattle.hc_baseline.specs.Reports.{base_in, count_under}
+use Rattle.hc_baseline.specs.Reports.{base_in, count_under, gone_in}
 
 -- how many a baseline has of a kind
 abbrev pub base_of : Baseline → Kind → ℕ
 base_of baseline = base_in (view baseline.report)
+
+-- how many of its wrong replies aren't among these, by their kinds, up to the greatest number
+abbrev pub gone_from : Baseline → List Kind → ℕ
+gone_from baseline kinds = min (gone_in (view baseline.report) (λ kind. times kind kinds)) (2 ^ 64 - 1)
 
 -- the members count these by their kind, each up to the greatest number
 abbrev pub AreCounts : Members → List Kind → Type 0

@@ -83,8 +83,8 @@ fn has_all(report: &Value) -> bool
     }
 }
 
-// Its wrong replies by their kind.
-fn counts_in(report: &Value) -> Option<&Map<String, Value>>
+/// Its wrong replies by their kind.
+pub(crate) fn counts_in(report: &Value) -> Option<&Map<String, Value>>
     ensures { option_map (λ m. members_view m.now.entries) result ≡ counts_in (view report.now) }
 {
     report.get("baseline")?.as_object()

@@ -7,43 +7,11 @@ ghost use Rattle.hc_baseline.specs.Reports.{covers, known_of};
 ghost use Rattle.hc_baseline.specs.Tallies.{HasCounted, base_of};
 
 use crate::baseline::Baseline;
+use crate::kinds::NamedKinds;
 use crate::members::count_under;
 use crate::tally::Tally;
 use serde_json::{Map, Value};
 use std::alloc::{AllocError, Global};
-
-/// How many kinds are named at most that have new wrong replies.
-const MOST_KINDS: usize = 100;
-
-/// A kind that has new wrong replies.
-pub struct NewKind {
-    /// What kind.
-    pub kind: String,
-    /// How many there are more than the baseline has.
-    pub count: u64,
-}
-
-impl Drop for NewKind {
-    fn drop(self) {
-        let NewKind { kind, count: _ } = self;
-        drop(kind);
-    }
-}
-
-/// The first kinds that have new wrong replies, in the order of their texts.
-pub struct NewKinds {
-    /// These.
-    pub named: Vec<NewKind>,
-    /// How many kinds more there are.
-    pub more: u64,
-}
-
-impl Drop for NewKinds {
-    fn drop(self) {
-        let NewKinds { named, more: _ } = self;
-        drop(named);
-    }
-}
 
 impl Baseline {
     /// Whether it has all wrong replies of a tally: as many of each kind, or more.
@@ -86,11 +54,8 @@ impl Baseline {
     }
 
     /// The kinds of a tally that have more wrong replies than it has.
-    pub fn new_kinds(&self, alloc: Global, tally: &Tally) -> Result<NewKinds, AllocError> {
-        let mut kinds = NewKinds {
-            named: Vec::new(alloc),
-            more: 0,
-        };
+    pub fn new_kinds(&self, alloc: Global, tally: &Tally) -> Result<NamedKinds, AllocError> {
+        let mut kinds = NamedKinds::new(alloc);
         let named = self.name_new(alloc, &tally.counts, &mut kinds);
         named?;
         Ok(kinds)
@@ -100,7 +65,7 @@ impl Baseline {
         &self,
         alloc: Global,
         counts: &Map<String, Value>,
-        kinds: &mut NewKinds,
+        kinds: &mut NamedKinds,
     ) -> Result<(), AllocError> {
         for (kind, _count) in counts.iter() {
             let count = count_under(counts, kind.as_str());
@@ -108,20 +73,5 @@ impl Baseline {
             kinds.name(alloc, kind.as_str(), new)?;
         }
         Ok(())
-    }
-}
-
-impl NewKinds {
-    // Takes in a kind that has so many, if it has any.
-    fn name(&mut self, alloc: Global, kind: &str, count: u64) -> Result<(), AllocError> {
-        if count == 0 {
-            return Ok(());
-        }
-        if MOST_KINDS <= self.named.len() {
-            self.more = self.more.saturating_add(1);
-            return Ok(());
-        }
-        let kind = String::from_str(alloc, kind)?;
-        Ok(self.named.push(NewKind { kind, count })?)
     }
 }

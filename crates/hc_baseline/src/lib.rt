@@ -4,10 +4,14 @@
 mod baseline;
 mod covering;
 mod fault;
+mod kinds;
+mod leaving;
+mod made;
 mod members;
 mod tally;
 
 pub use baseline::Baseline;
-pub use covering::{NewKind, NewKinds};
 pub use fault::BaselineFault;
+pub use kinds::{NamedKind, NamedKinds};
+pub use made::Difference;
 pub use tally::Tally;

@@ -20,8 +20,8 @@ pub(crate) fn count_under(counts: &Map<String, Value>, kind: &str) -> u64
     }
 }
 
-// The member of that name, if there is one.
-fn member<'a>(members: &'a Map<String, Value>, name: &str) -> Option<&'a Value>
+/// The member of that name, if there is one.
+pub(crate) fn member<'a>(members: &'a Map<String, Value>, name: &str) -> Option<&'a Value>
     ensures { option_map (λ v. view v.now) result ≡ get_member name.now (members_view members.now.entries) }
 {
     members.get(name)

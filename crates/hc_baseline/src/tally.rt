@@ -1,10 +1,11 @@
 //! Wrong replies by their kind, as they come.
 
-ghost use Rattle.std.specs.Prelude.{◌++◌, ◌∷◌, [], ℕ, List, OnOk};
-ghost use Rattle.serde_json.specs.View.{view};
+ghost use Rattle.std.specs.Prelude.{◌≡◌, ◌++◌, ◌∷◌, [], ℕ, List, OnOk};
+ghost use Rattle.serde_json.specs.View.{members_view, view};
+ghost use Rattle.hc_baseline.specs.Reports.{count_under};
 ghost use Rattle.hc_baseline.specs.Tallies.{CountsKinds, HasCounted};
 
-use crate::members::count_one;
+use crate::members::{count_one, count_under};
 use serde_json::{Map, Value};
 use std::alloc::{AllocError, Global};
 
@@ -37,6 +38,13 @@ impl Tally {
         ensures { (kinds : List (List ℕ)) → HasCounted self.old kinds → OnOk result (HasCounted self.new (kinds ++ kind.now ∷ [])) }
     {
         count_one(&mut self.counts, self.alloc, kind)
+    }
+
+    /// How many there are of a kind.
+    pub fn count(&self, kind: &str) -> u64
+        ensures { result ≡ count_under kind.now (members_view self.now.counts.entries) }
+    {
+        count_under(&self.counts, kind)
     }
 
     /// The JSON object that has the count of each kind, as a report has it that is to be a baseline.

@@ -1,13 +1,13 @@
 -- How the program ends, by the task that its words ask for.
-use Rattle.std.proofs.Common.{◌≡◌, ℕ, Bool, List, Option, Some, None, inl, inr, subst}
+use Rattle.std.proofs.Common.{◌≡◌, ℕ, Bool, true, false, List, Option, Some, None, inl, inr, subst}
 use Rattle.std.specs.Io.KnownBytes.{Keeps}
 use Rattle.hc_options.specs.declared.auditing.AuditTerms.{AuditTerms}
 use Rattle.hc_arguments.specs.Tasks.{Task}
 use Rattle.hc_arguments.specs.Tasks.Task.{ToAudit, ToReport, ToExplain, ToShow, ToReplay, ToConvert, ToServe, ToProxy}
 use Rattle.hc_auditing.specs.Ends.{EndsUnasked}
 use Rattle.hc_command.specs.Ends.{Does, Ends}
-use Rattle.hc_command.specs.Report.{Explained}
-use Rattle.hc_command.specs.Reporting.{ReportedOn}
+use Rattle.hc_command.specs.Report.{ExplainedTwice}
+use Rattle.hc_command.specs.Reporting.{ReportedFor}
 
 pub does_as : (done task : Task) (status : ℕ) (old new faults_old faults_new : Option (List ℕ)) → done ≡ task
     → Does done status old new faults_old faults_new → Does task status old new faults_old faults_new
@@ -15,20 +15,21 @@ does_as done task status old new faults_old faults_new same does = subst (λ (t 
 
 -- where memory is refused, any task may end so
 explained_with_3 : (json : Bool) (position : Option ℕ) (status : ℕ) (old new faults_old faults_new : Option (List ℕ)) → status ≡ 3
-    → Explained json position status old new faults_old faults_new
+    → ExplainedTwice json position status old new faults_old faults_new
 explained_with_3 json None status old new faults_old faults_new is = inl is
 explained_with_3 json (Some place) status old new faults_old faults_new is = inl is
 
-report_with_3 : (json : Bool) (baseline : Option (List ℕ)) (terms : AuditTerms) (status : ℕ) (old new faults_old faults_new : Option (List ℕ)) → status ≡ 3 → Keeps old new
-    → ReportedOn json baseline terms status old new faults_old faults_new
-report_with_3 json None terms status old new faults_old faults_new is kept = inl is
-report_with_3 json (Some name) terms status old new faults_old faults_new is kept = inr (inl is)
+report_with_3 : (json : Bool) (baseline : Option (List ℕ)) (strict annotates : Bool) (terms : AuditTerms) (status : ℕ) (old new faults_old faults_new : Option (List ℕ)) → status ≡ 3
+    → Keeps old new → ReportedFor json baseline strict annotates terms status old new faults_old faults_new
+report_with_3 json None true annotates terms status old new faults_old faults_new is kept = (inr is, kept)
+report_with_3 json None false annotates terms status old new faults_old faults_new is kept = inl is
+report_with_3 json (Some name) strict annotates terms status old new faults_old faults_new is kept = inr (inl is)
 
 pub fails_with_3 : (task : Task) (status : ℕ) (old new faults_old faults_new : Option (List ℕ)) → status ≡ 3 → Keeps old new
     → Does task status old new faults_old faults_new
 fails_with_3 (ToAudit file terms) status old new faults_old faults_new is kept = inl is
-fails_with_3 (ToReport file terms json baseline) status old new faults_old faults_new is kept = report_with_3 json baseline terms status old new faults_old faults_new is kept
-fails_with_3 (ToExplain file terms) status old new faults_old faults_new is kept = explained_with_3 terms.json terms.position status old new faults_old faults_new is
+fails_with_3 (ToReport file terms form) status old new faults_old faults_new is kept = report_with_3 form.json form.baseline form.strict form.annotates terms status old new faults_old faults_new is kept
+fails_with_3 (ToExplain file terms) status old new faults_old faults_new is kept = inr (explained_with_3 terms.json terms.position status old new faults_old faults_new is)
 fails_with_3 (ToShow file span) status old new faults_old faults_new is kept = inl is
 fails_with_3 (ToReplay file) status old new faults_old faults_new is kept = inl is
 fails_with_3 (ToConvert file) status old new faults_old faults_new is kept = inl is
@@ -39,7 +40,7 @@ fails_with_3 (ToProxy listen origin file terms limits settings) status old new f
 pub does_ends : (task : Task) (status : ℕ) (old new faults_old faults_new : Option (List ℕ)) → Does task status old new faults_old faults_new
     → Ends status old new faults_old faults_new
 does_ends (ToAudit file terms) status old new faults_old faults_new does = inl (terms.minimums, does)
-does_ends (ToReport file terms json baseline) status old new faults_old faults_new does = inr (inl (json, baseline, terms, does))
+does_ends (ToReport file terms form) status old new faults_old faults_new does = inr (inl (form, terms, does))
 does_ends (ToExplain file terms) status old new faults_old faults_new does = inr (inr (inl (terms.json, terms.position, does)))
 does_ends (ToShow file span) status old new faults_old faults_new does = inr (inr (inr (inl (span, does))))
 does_ends (ToReplay file) status old new faults_old faults_new does = inr (inr (inr (inr (inl does))))

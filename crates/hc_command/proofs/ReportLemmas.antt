@@ -27,7 +27,7 @@ use Rattle.hc_command.specs.declared.surveying.Stop.TheVariants as stop
 use Rattle.hc_command.specs.declared.surveying.Outcome.{Outcome}
 use Rattle.hc_command.specs.declared.surveying.Outcome.TheVariants.{Whole, Broken}
 use Rattle.hc_auditing.specs.Line.{status_of}
-use Rattle.hc_command.specs.Report.{BreaksIfSome, Explained, ExplainsAt, FeedsSurvey, HasNoWrongAt, IsReadOf, IsSurveyed, Reported, ReportsFor, SaysLineFirst, SaysReplyIn, StopsBy, SurveysFor, WritesIfSome, ending_of}
+use Rattle.hc_command.specs.Report.{BreaksIfSome, ExplainedTwice, ExplainsAt, FeedsSurvey, HasNoWrongAt, IsReadOf, IsSurveyed, Reported, ReportsFor, SaysLineFirst, SaysReplyIn, StopsBy, SurveysFor, WritesIfSome, ending_of}
 
 -- ---- the verdict
 
@@ -219,7 +219,7 @@ reported_of json settings input status old new faults_old faults_new reports = e
 pub explained_of : (json : Bool) (position : Option ℕ) (settings : Settings) (input left : Option (List ℕ)) (status : ℕ) (old new faults_old faults_new : Option (List ℕ))
     → (position ≡ None → ReportsFor json settings input status old new faults_old faults_new)
     → ((place : ℕ) → position ≡ Some place → ExplainsAt json settings input left place status old new faults_old faults_new)
-    → Explained json position status old new faults_old faults_new
+    → ExplainedTwice json position status old new faults_old faults_new
 explained_of json None settings input left status old new faults_old faults_new first at = reported_of json settings input status old new faults_old faults_new (first refl)
 explained_of json (Some place) settings input left status old new faults_old faults_new first at =
     inr (record { settings = settings; input = input; left = left; explains = at place refl })

@@ -2,11 +2,11 @@
 use Rattle.std.proofs.Common.{◌≡◌, ℕ, List, [], ◌++◌, Option, None, ◌∙◌, ap, inl, inr, subst, sym}
 use Rattle.std.specs.Io.KnownBytes.{Appends, Consumes, IsAtEnd}
 use Rattle.std.proofs.KnownBytes.{Appends-trans}
-use Rattle.hc_showing.specs.declared.showing.Reach.{Reach}
-use Rattle.hc_showing.specs.declared.showing.Reach.TheVariants as reach
-use Rattle.hc_showing.specs.declared.showing.Showing.{Showing}
-use Rattle.hc_showing.specs.declared.span.Span.{Span}
-use Rattle.hc_showing.specs.Showings.{GivesReach, Reaches}
+use Rattle.hc_shown.specs.declared.showing.Reach.{Reach}
+use Rattle.hc_shown.specs.declared.showing.Reach.TheVariants as reach
+use Rattle.hc_shown.specs.declared.showing.Showing.{Showing}
+use Rattle.hc_shown.specs.declared.span.Span.{Span}
+use Rattle.hc_shown.specs.Showings.{GivesReach, Reaches}
 use Rattle.hc_command.specs.declared.showing.Shown.{Shown}
 use Rattle.hc_command.specs.declared.showing.Shown.TheVariants.{Fewer}
 use Rattle.hc_command.specs.Show.{ComesTo, GoesOn, PutsOut, ShownFor, ShowsFor, ShowsOf, shown_end, stopped_by}

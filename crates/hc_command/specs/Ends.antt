@@ -3,7 +3,7 @@ use Rattle.std.specs.Prelude.{◌≡◌, ◌⊎◌, ℕ, List, Bool, Option}
 use Rattle.std.specs.Io.KnownBytes.{Keeps}
 use Rattle.hc_options.specs.declared.auditing.AuditTerms.{AuditTerms}
 use Rattle.hc_options.specs.declared.auditing.Minimums.{Minimums}
-use Rattle.hc_arguments.specs.Tasks.{Task}
+use Rattle.hc_arguments.specs.Tasks.{Form, Task}
 use Rattle.hc_arguments.specs.Tasks.Task.{ToAudit, ToReport, ToExplain, ToShow, ToReplay, ToConvert, ToServe, ToProxy}
 use Rattle.hc_auditing.specs.Audit.{Answers}
 use Rattle.hc_command.specs.Convert.{Converted}
@@ -11,7 +11,7 @@ use Rattle.hc_command.specs.Replay.{Played}
 use Rattle.hc_command.specs.Report.{Explained}
 use Rattle.hc_command.specs.Reporting.{ReportedOn}
 use Rattle.hc_command.specs.Show.{ShownFor}
-use Rattle.hc_showing.specs.declared.span.Span.{Span}
+use Rattle.hc_shown.specs.declared.span.Span.{Span}
 use Rattle.hc_notices.specs.Notices.{SaysSome}
 
 -- nothing was written on the output; all clients were served and nothing was said, or the status is 3
@@ -25,7 +25,7 @@ Proxied status old new faults_old faults_new = Keeps old new × ((status ≡ 3) 
 -- what is answered to a task
 abbrev pub Does : Task → ℕ → Option (List ℕ) → Option (List ℕ) → Option (List ℕ) → Option (List ℕ) → Type 0
 Does (ToAudit file terms) status old new faults_old faults_new = Answers terms.minimums status old new faults_old faults_new
-Does (ToReport file terms json baseline) status old new faults_old faults_new = ReportedOn json baseline terms status old new faults_old faults_new
+Does (ToReport file terms form) status old new faults_old faults_new = ReportedOn form terms status old new faults_old faults_new
 Does (ToExplain file terms) status old new faults_old faults_new = Explained terms.json terms.position status old new faults_old faults_new
 Does (ToShow file span) status old new faults_old faults_new = ShownFor span status old new faults_old faults_new
 Does (ToReplay file) status old new faults_old faults_new = Played status old new faults_old faults_new
@@ -36,7 +36,7 @@ Does (ToProxy listen origin file terms limits settings) status old new faults_ol
 -- a task is answered, help or the version is shown, or the words are refused with nothing on the output
 abbrev pub Ends : ℕ → Option (List ℕ) → Option (List ℕ) → Option (List ℕ) → Option (List ℕ) → Type 0
 Ends status old new faults_old faults_new = ((least : Minimums) × Answers least status old new faults_old faults_new)
-    ⊎ ((json : Bool) × (baseline : Option (List ℕ)) × (terms : AuditTerms) × ReportedOn json baseline terms status old new faults_old faults_new)
+    ⊎ ((form : Form) × (terms : AuditTerms) × ReportedOn form terms status old new faults_old faults_new)
     ⊎ ((json : Bool) × (position : Option ℕ) × Explained json position status old new faults_old faults_new)
     ⊎ ((span : Span) × ShownFor span status old new faults_old faults_new)
     ⊎ Played status old new faults_old faults_new ⊎ Converted status old new faults_old faults_new ⊎ Served status old new faults_old faults_new

@@ -220,10 +220,19 @@ pub record ExplainsSome (json : Bool) (place status : ℕ) (old new faults_old f
   pub left : Option (List ℕ)
   pub explains : ExplainsAt json settings input left place status old new faults_old faults_new
 
--- an explanation of a reply of some input: of the first wrong one, or else of the one at that place
+-- an explanation of a reply of some input, which is read twice: of the first wrong one, or else of the one at that place
+abbrev pub ExplainedTwice : Bool → Option ℕ → ℕ → Option (List ℕ) → Option (List ℕ) → Option (List ℕ) → Option (List ℕ) → Type 0
+ExplainedTwice json None status old new faults_old faults_new = Reported json status old new faults_old faults_new
+ExplainedTwice json (Some place) status old new faults_old faults_new = (status ≡ 3) ⊎ ExplainsSome json place status old new faults_old faults_new
+
+-- the input can't be read twice, and the output gets nothing
+abbrev pub IsRefused : ℕ → Option (List ℕ) → Option (List ℕ) → Type 0
+IsRefused status old new = (status ≡ 64) × Keeps old new
+
+-- one of both
 abbrev pub Explained : Bool → Option ℕ → ℕ → Option (List ℕ) → Option (List ℕ) → Option (List ℕ) → Option (List ℕ) → Type 0
-Explained json None status old new faults_old faults_new = Reported json status old new faults_old faults_new
-Explained json (Some place) status old new faults_old faults_new = (status ≡ 3) ⊎ ExplainsSome json place status old new faults_old faults_new
+Explained json position status old new faults_old faults_new =
+    IsRefused status old new ⊎ ExplainedTwice json position status old new faults_old faults_new
 
 -- ---- what private functions promise
 

@@ -1,5 +1,5 @@
 -- What a report on all replies of a transcript leaves on its two writers, and by which verdict it ends.
-use Rattle.std.specs.Prelude.{◌≡◌, ◌⊎◌, ◌++◌, ℕ, List, [], ◌∷◌, Bool, true, false, Option, Some, None, IfSome}
+use Rattle.std.specs.Prelude.{◌≡◌, ◌⊎◌, ◌++◌, ◌&&◌, ◌==◌, ℕ, List, [], ◌∷◌, Bool, true, false, Option, Some, None, IfSome, codes, decimal, if◌then◌else◌, nat_lt}
 use Rattle.std.specs.Io.KnownBytes.{Appends, Consumes, Keeps}
 use Rattle.hc_transcript.specs.Items.{Item}
 use Rattle.hc_history.specs.declared.settings.Settings.{Settings}
@@ -9,17 +9,20 @@ use Rattle.hc_history.specs.declared.wrong.WrongReply.{WrongReply}
 use Rattle.hc_history.specs.Verdicts.{IsVerdict}
 use Rattle.hc_baseline.specs.declared.baseline.Baseline.{Baseline}
 use Rattle.hc_baseline.specs.Kinds.{AreKnown}
-use Rattle.hc_baseline.specs.Tallies.{base_of}
+use Rattle.hc_baseline.specs.Tallies.{base_of, gone_from}
 use Rattle.hc_report.specs.declared.counting.CountingReport.{CountingReport}
 use Rattle.hc_report.specs.Counting.{HasCountedIn, HasHeardOf, TellsAllOf}
 use Rattle.hc_report.specs.Json.{WritesAll}
 use Rattle.hc_report.specs.Kinds.{kinds_in}
+use Rattle.hc_report.specs.Made.{made_by}
+use Rattle.hc_arguments.specs.Tasks.{Form}
 use Rattle.hc_options.specs.declared.auditing.AuditTerms.{AuditTerms}
 use Rattle.hc_options.specs.declared.auditing.Minimums.{Minimums}
+use Rattle.hc_command.specs.declared.reporting.ReportEnd.{ReportEnd}
 use Rattle.hc_command.specs.declared.surveying.Outcome.{Outcome}
 use Rattle.hc_command.specs.declared.surveying.Outcome.TheVariants.{Whole, Broken}
 use Rattle.hc_auditing.specs.Line.{status_of}
-use Rattle.hc_auditing.specs.Minimums.{EndsBy}
+use Rattle.hc_auditing.specs.Minimums.{EndsBy, shortfall_lines, status_by}
 use Rattle.hc_command.specs.Report.{IsSurveyed, SaysLineFirst, ending_of, whole_counts}
 
 -- ---- by which verdict it ends
@@ -34,10 +37,10 @@ abbrev pub IsLastBy : Baseline → List Item → List WrongReply → Outcome →
 IsLastBy baseline h wrongs outcome verdict last =
     (AreKnown (base_of baseline) (kinds_in h wrongs) × (last ≡ verdict_without outcome)) ⊎ ((¬ AreKnown (base_of baseline) (kinds_in h wrongs)) × (last ≡ verdict))
 
--- where there is no baseline, it is the report's own
-abbrev pub IsLast : Option Baseline → List Item → List WrongReply → Outcome → Verdict → Verdict → Type 0
-IsLast None h wrongs outcome verdict last = last ≡ verdict
-IsLast (Some baseline) h wrongs outcome verdict last = IsLastBy baseline h wrongs outcome verdict last
+-- where there is no baseline, it is the report's own, and nothing is gone
+abbrev pub IsLast : Option Baseline → List Item → List WrongReply → Outcome → Verdict → ReportEnd → Type 0
+IsLast None h wrongs outcome verdict end = (end.verdict ≡ verdict) × (end.gone ≡ 0)
+IsLast (Some baseline) h wrongs outcome verdict end = IsLastBy baseline h wrongs outcome verdict end.verdict × (end.gone ≡ gone_from baseline (kinds_in h wrongs))
 
 -- these are all items and all wrong replies of what was read of the input, and of all that it had, where that is known
 pub record AreOfInput (settings : Settings) (input left : Option (List ℕ)) (history : List Item) (wrongs : List WrongReply) (outcome : Outcome) : Type 0 where
@@ -47,16 +50,55 @@ pub record AreOfInput (settings : Settings) (input left : Option (List ℕ)) (hi
   pub all : IfSome input (λ octets. IsSurveyed octets settings history wrongs outcome)
 
 -- and so it is by them
-pub record IsHeldAgainst (baseline : Baseline) (settings : Settings) (verdict last : Verdict) (input left : Option (List ℕ)) : Type 0 where
+pub record IsHeldAgainst (baseline : Baseline) (settings : Settings) (verdict : Verdict) (end : ReportEnd) (input left : Option (List ℕ)) : Type 0 where
   pub history : List Item
   pub wrongs : List WrongReply
   pub outcome : Outcome
   pub of_input : AreOfInput settings input left history wrongs outcome
-  pub is_last : IsLastBy baseline history wrongs outcome verdict last
+  pub is_last : IsLastBy baseline history wrongs outcome verdict end.verdict
+  pub gone_is : end.gone ≡ gone_from baseline (kinds_in history wrongs)
 
-abbrev pub EndsFor : Option Baseline → Settings → Verdict → Verdict → Option (List ℕ) → Option (List ℕ) → Type 0
-EndsFor None settings verdict last input left = last ≡ verdict
-EndsFor (Some baseline) settings verdict last input left = IsHeldAgainst baseline settings verdict last input left
+abbrev pub EndsFor : Option Baseline → Settings → Verdict → ReportEnd → Option (List ℕ) → Option (List ℕ) → Type 0
+EndsFor None settings verdict end input left = (end.verdict ≡ verdict) × (end.gone ≡ 0)
+EndsFor (Some baseline) settings verdict end input left = IsHeldAgainst baseline settings verdict end input left
+
+-- ---- by which status it ends
+
+-- whether it is asked for, some are gone, and that is the status
+abbrev pub is_fewer : Bool → ℕ → ℕ → Bool
+is_fewer strict gone status = strict && (nat_lt 0 gone && (status == 0))
+
+-- and so it ends by what is gone: with 5 in place of 0
+abbrev pub ends_by_gone : Bool → Minimums → ReportEnd → Bool
+ends_by_gone strict least end = is_fewer strict end.gone (status_by least end.verdict)
+
+abbrev pub status_strictly : Bool → Minimums → ReportEnd → ℕ
+status_strictly strict least end = if ends_by_gone strict least end then 5 else status_by least end.verdict
+
+-- the line that says how many are gone
+abbrev pub gone_line : ℕ → List ℕ
+gone_line gone = codes "fewer wrong: gone=" ++ (decimal gone ++ 10 ∷ [])
+
+-- what is said of how it ends
+abbrev pub lines_strictly : Bool → Minimums → ReportEnd → List ℕ
+lines_strictly strict least end = shortfall_lines least end.verdict ++ (if ends_by_gone strict least end then gone_line end.gone else [])
+
+-- this is the status, and the faults got the lines that say what is too few or how many are gone, and nothing else
+pub record EndsStrictly (strict : Bool) (least : Minimums) (end : ReportEnd) (status : ℕ) (faults_old faults_new : Option (List ℕ)) : Type 0 where
+  pub has_status : status ≡ status_strictly strict least end
+  pub says : Appends faults_old faults_new (lines_strictly strict least end)
+
+-- ---- by which settings the baseline was made
+
+-- by these, or it doesn't say by which, or there is none
+abbrev pub IsMadeBy : Option Baseline → Settings → Type 0
+IsMadeBy None settings = Unit {0}
+IsMadeBy (Some baseline) settings = made_by baseline settings ≡ true
+
+-- by others
+abbrev pub IsMadeByOthers : Option Baseline → Settings → Type 0
+IsMadeByOthers None settings = ⊥
+IsMadeByOthers (Some baseline) settings = made_by baseline settings ≡ false
 
 -- ---- what is said
 
@@ -74,60 +116,81 @@ pub record SaysInJson (base : Option Baseline) (settings : Settings) (verdict : 
   pub report : CountingReport
   pub told : TellsAllOf report wrongs
   pub heard : HasHeardOf report history
-  pub all : WritesAll text report (kinds_in history wrongs) base (ending_of outcome) (whole_counts outcome)
+  pub all : WritesAll text report (kinds_in history wrongs) settings base (ending_of outcome) (whole_counts outcome)
 
 -- in JSON, or as text
 abbrev pub SaysReportIn : Bool → Option Baseline → Settings → Verdict → ℕ → Option (List ℕ) → Option (List ℕ) → Option (List ℕ) → Option (List ℕ) → Type 0
 SaysReportIn true base settings verdict status input left old new = SaysInJson base settings verdict status input left old new
 SaysReportIn false base settings verdict status input left old new = SaysLineFirst verdict status old new
 
--- the verdict is that on all octets that the input had, where these are known, and the writer got what a report says of it, which ends by the last verdict
-pub record SaysReportOf (json : Bool) (base : Option Baseline) (settings : Settings) (last : Verdict) (input left old new : Option (List ℕ)) : Type 0 where
+-- the verdict is that on all octets that the input had, where these are known, and the writer got what a report says of it, which ends so
+pub record SaysReportOf (json : Bool) (base : Option Baseline) (settings : Settings) (end : ReportEnd) (input left old new : Option (List ℕ)) : Type 0 where
   pub verdict : Verdict
   pub is : IfSome input (λ octets. IsVerdict octets settings verdict)
   pub says : SaysReportIn json base settings verdict (status_of verdict) input left old new
-  pub ends : EndsFor base settings verdict last input left
+  pub ends : EndsFor base settings verdict end input left
 
--- a report on those terms says so on the output, and ends by that verdict; where there is none, the status is 3
-abbrev pub ReportsBy : Bool → Option Baseline → Settings → Minimums → Option (List ℕ) → Option (List ℕ) → ℕ → Option (List ℕ) → Option (List ℕ) → Option (List ℕ) → Option (List ℕ) → Type 0
-ReportsBy json base settings least input left status old new faults_old faults_new =
-    (status ≡ 3) ⊎ ((last : Verdict) × SaysReportOf json base settings last input left old new × EndsBy least last status faults_old faults_new)
+-- behind it stand annotations, if they are asked for
+abbrev pub Annotates : Bool → Option (List ℕ) → Option (List ℕ) → Type 0
+Annotates true old new = (text : List ℕ) × Appends old new text
+Annotates false old new = new ≡ old
+
+abbrev pub SaysAll : Bool → Bool → Option Baseline → Settings → ReportEnd → Option (List ℕ) → Option (List ℕ) → Option (List ℕ) → Option (List ℕ) → Type 0
+SaysAll json annotates base settings end input left old new =
+    (reported : Option (List ℕ)) × SaysReportOf json base settings end input left old reported × Annotates annotates reported new
+
+-- where the baseline was made by these settings, a report on those terms says so on the output, and ends so; where it was made by others, the status is 64, and nothing
+-- is said there; where there is no verdict, the status is 3
+abbrev pub ReportsBy : Bool → Option Baseline → Bool → Bool → Settings → Minimums → Option (List ℕ) → Option (List ℕ) → ℕ → Option (List ℕ) → Option (List ℕ) → Option (List ℕ) → Option (List ℕ) → Type 0
+ReportsBy json base strict annotates settings least input left status old new faults_old faults_new =
+    (status ≡ 3) ⊎ ((status ≡ 64) × IsMadeByOthers base settings × Keeps old new)
+    ⊎ ((end : ReportEnd) × IsMadeBy base settings × SaysAll json annotates base settings end input left old new × EndsStrictly strict least end status faults_old faults_new)
 
 -- ---- where the input isn't known
 
 -- what is said is said of some input
-abbrev pub SaysOfSome : Bool → Settings → Verdict → Option (List ℕ) → Option (List ℕ) → Type 0
-SaysOfSome json settings verdict old new = (input : Option (List ℕ)) × (left : Option (List ℕ)) × SaysReportIn json None settings verdict (status_of verdict) input left old new
+abbrev pub SaysOfSome : Bool → Bool → Settings → Verdict → Option (List ℕ) → Option (List ℕ) → Type 0
+SaysOfSome json annotates settings verdict old new =
+    (input : Option (List ℕ)) × (left : Option (List ℕ)) × (reported : Option (List ℕ))
+    × SaysReportIn json None settings verdict (status_of verdict) input left old reported × Annotates annotates reported new
 
-abbrev pub ReportedBy : Bool → AuditTerms → ℕ → Option (List ℕ) → Option (List ℕ) → Option (List ℕ) → Option (List ℕ) → Type 0
-ReportedBy json terms status old new faults_old faults_new =
-    (status ≡ 3) ⊎ ((verdict : Verdict) × SaysOfSome json terms.settings verdict old new × EndsBy terms.minimums verdict status faults_old faults_new)
+abbrev pub ReportedBy : Bool → Bool → AuditTerms → ℕ → Option (List ℕ) → Option (List ℕ) → Option (List ℕ) → Option (List ℕ) → Type 0
+ReportedBy json annotates terms status old new faults_old faults_new =
+    (status ≡ 3) ⊎ ((verdict : Verdict) × SaysOfSome json annotates terms.settings verdict old new × EndsBy terms.minimums verdict status faults_old faults_new)
 
 -- the same with a baseline
-abbrev pub HeldBy : Bool → Baseline → AuditTerms → ℕ → Option (List ℕ) → Option (List ℕ) → Option (List ℕ) → Option (List ℕ) → Type 0
-HeldBy json baseline terms status old new faults_old faults_new =
-    (input : Option (List ℕ)) × (left : Option (List ℕ)) × ReportsBy json (Some baseline) terms.settings terms.minimums input left status old new faults_old faults_new
+abbrev pub HeldBy : Bool → Baseline → Bool → Bool → AuditTerms → ℕ → Option (List ℕ) → Option (List ℕ) → Option (List ℕ) → Option (List ℕ) → Type 0
+HeldBy json baseline strict annotates terms status old new faults_old faults_new =
+    (input : Option (List ℕ)) × (left : Option (List ℕ)) × ReportsBy json (Some baseline) strict annotates terms.settings terms.minimums input left status old new faults_old faults_new
 
-abbrev pub ReportedIn : Bool → Option Baseline → AuditTerms → ℕ → Option (List ℕ) → Option (List ℕ) → Option (List ℕ) → Option (List ℕ) → Type 0
-ReportedIn json None terms status old new faults_old faults_new = ReportedBy json terms status old new faults_old faults_new
-ReportedIn json (Some baseline) terms status old new faults_old faults_new = HeldBy json baseline terms status old new faults_old faults_new
+abbrev pub ReportedIn : Bool → Option Baseline → Bool → Bool → AuditTerms → ℕ → Option (List ℕ) → Option (List ℕ) → Option (List ℕ) → Option (List ℕ) → Type 0
+ReportedIn json None strict annotates terms status old new faults_old faults_new = ReportedBy json annotates terms status old new faults_old faults_new
+ReportedIn json (Some baseline) strict annotates terms status old new faults_old faults_new = HeldBy json baseline strict annotates terms status old new faults_old faults_new
+
+-- where no baseline is named, it can't be asked whether that has more: then nothing is written on the output and the status is 64, or 3
+abbrev pub ReportedAlone : Bool → Bool → Bool → AuditTerms → ℕ → Option (List ℕ) → Option (List ℕ) → Option (List ℕ) → Option (List ℕ) → Type 0
+ReportedAlone json false annotates terms status old new faults_old faults_new = ReportedBy json annotates terms status old new faults_old faults_new
+ReportedAlone json true annotates terms status old new faults_old faults_new = ((status ≡ 64) ⊎ (status ≡ 3)) × Keeps old new
 
 -- and with the name of a file that is to have one: where it has none, nothing is written on the output and the status is 64, or 3 where it can't be read
-abbrev pub ReportedOn : Bool → Option (List ℕ) → AuditTerms → ℕ → Option (List ℕ) → Option (List ℕ) → Option (List ℕ) → Option (List ℕ) → Type 0
-ReportedOn json None terms status old new faults_old faults_new = ReportedBy json terms status old new faults_old faults_new
-ReportedOn json (Some name) terms status old new faults_old faults_new =
-    (((status ≡ 64) ⊎ (status ≡ 3)) × Keeps old new) ⊎ (status ≡ 3) ⊎ ((baseline : Baseline) × HeldBy json baseline terms status old new faults_old faults_new)
+abbrev pub ReportedFor : Bool → Option (List ℕ) → Bool → Bool → AuditTerms → ℕ → Option (List ℕ) → Option (List ℕ) → Option (List ℕ) → Option (List ℕ) → Type 0
+ReportedFor json None strict annotates terms status old new faults_old faults_new = ReportedAlone json strict annotates terms status old new faults_old faults_new
+ReportedFor json (Some name) strict annotates terms status old new faults_old faults_new =
+    (((status ≡ 64) ⊎ (status ≡ 3)) × Keeps old new) ⊎ (status ≡ 3) ⊎ ((baseline : Baseline) × HeldBy json baseline strict annotates terms status old new faults_old faults_new)
+
+abbrev pub ReportedOn : Form → AuditTerms → ℕ → Option (List ℕ) → Option (List ℕ) → Option (List ℕ) → Option (List ℕ) → Type 0
+ReportedOn form terms status old new faults_old faults_new = ReportedFor form.json form.baseline form.strict form.annotates terms status old new faults_old faults_new
 
 -- ---- what private functions promise
 
 -- the writer got a line of JSON, which is what the report writes of the items that it has heard of and the wrong replies that it tells, and this is its status
-pub record WritesInJson (report : CountingReport) (base : Option Baseline) (outcome : Outcome) (verdict : Verdict) (status : ℕ) (old new : Option (List ℕ)) : Type 0 where
+pub record WritesInJson (report : CountingReport) (base : Option Baseline) (settings : Settings) (outcome : Outcome) (verdict : Verdict) (status : ℕ) (old new : Option (List ℕ)) : Type 0 where
   pub text : List ℕ
   pub has_status : status ≡ status_of verdict
   pub written : Appends old new (text ++ 10 ∷ [])
   pub all : (h : List Item) (wrongs : List WrongReply) → TellsAllOf report wrongs → HasCountedIn report h
-      → WritesAll text report (kinds_in h wrongs) base (ending_of outcome) (whole_counts outcome)
+      → WritesAll text report (kinds_in h wrongs) settings base (ending_of outcome) (whole_counts outcome)
 
-abbrev pub WritesIn : Bool → CountingReport → Option Baseline → Outcome → Verdict → ℕ → Option (List ℕ) → Option (List ℕ) → Type 0
-WritesIn true report base outcome verdict status old new = WritesInJson report base outcome verdict status old new
-WritesIn false report base outcome verdict status old new = SaysLineFirst verdict status old new
+abbrev pub WritesIn : Bool → CountingReport → Option Baseline → Settings → Outcome → Verdict → ℕ → Option (List ℕ) → Option (List ℕ) → Type 0
+WritesIn true report base settings outcome verdict status old new = WritesInJson report base settings outcome verdict status old new
+WritesIn false report base settings outcome verdict status old new = SaysLineFirst verdict status old new

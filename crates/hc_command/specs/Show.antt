@@ -2,11 +2,11 @@
 use Rattle.std.specs.Prelude.{◌≡◌, ◌≢◌, ◌⊎◌, ◌++◌, ℕ, List, [], Option, None, Some}
 use Rattle.std.specs.Io.KnownBytes.{Appends, Consumes, IsAtEnd, Keeps}
 use Rattle.hc_transcript.specs.Names.{fault_number, fault_name}
-use Rattle.hc_showing.specs.declared.showing.Reach.{Reach}
-use Rattle.hc_showing.specs.declared.showing.Reach.TheVariants as reach
-use Rattle.hc_showing.specs.declared.showing.Showing.{Showing}
-use Rattle.hc_showing.specs.declared.span.Span.{Span}
-use Rattle.hc_showing.specs.Showings.{Shows, ShowsAll, ShowsBefore, ShowsFewer}
+use Rattle.hc_shown.specs.declared.showing.Reach.{Reach}
+use Rattle.hc_shown.specs.declared.showing.Reach.TheVariants as reach
+use Rattle.hc_shown.specs.declared.showing.Showing.{Showing}
+use Rattle.hc_shown.specs.declared.span.Span.{Span}
+use Rattle.hc_shown.specs.Showings.{Shows, ShowsAll, ShowsBefore, ShowsFewer}
 use Rattle.hc_command.specs.declared.showing.Shown.{Shown}
 use Rattle.hc_command.specs.declared.showing.Shown.TheVariants.{All, Fewer, Broken}
 use Rattle.hc_auditing.specs.Line.{malformed_line}

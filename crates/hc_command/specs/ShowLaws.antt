@@ -1,9 +1,8 @@
 -- How a showing is fed piece after piece.
 use Rattle.std.proofs.Common.{ℕ, List, [], ◌++◌, Option, None, append-nil, append_assoc, subst, sym}
-use Rattle.std.specs.Io.KnownBytes.{Appends}
 use Rattle.std.proofs.KnownBytes.{Appends-nil, Appends-trans}
-use Rattle.hc_showing.specs.declared.span.Span.{Span}
-use Rattle.hc_showing.specs.Showings.{Shows}
+use Rattle.hc_shown.specs.declared.span.Span.{Span}
+use Rattle.hc_shown.specs.Showings.{Shows}
 use Rattle.hc_command.specs.declared.showing.Putting.{Putting}
 use Rattle.hc_command.specs.declared.showing.Shown.{Shown}
 use Rattle.hc_command.specs.Show.{ComesTo, GoesOn}

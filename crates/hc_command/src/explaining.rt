@@ -3,7 +3,7 @@
 ghost use Rattle.std.specs.Prelude.{◌≡◌, ◌++◌, ℕ, List, None, Some, IfOk, IsSome, string_bytes};
 ghost use Rattle.std.specs.Io.KnownBytes.{Appends};
 ghost use Rattle.hc_history.specs.declared.verdicts.Finding.{Finding};
-ghost use Rattle.hc_why.specs.Explaining.{finding_of, position_of};
+ghost use Rattle.hc_why.specs.Found.{finding_of, position_of};
 ghost use Rattle.hc_why.specs.Seeking.{HasPassed, first_of};
 ghost use Rattle.hc_command.specs.Report.{BreaksIfSome, ExplainsAt, IsHeadLine, ReportsFor, SaysBreakIn, SaysIfSome, SaysOf, SaysReplyIn, SaysReport, WritesIfSome, reply_status};
 
@@ -12,16 +12,19 @@ use crate::saying::said_first;
 use crate::surveying::{Outcome, Reading, surveyed};
 use hc_arguments::ExplainTerms;
 use hc_auditing::{Trouble, printed, said, verdict_status};
-use hc_explain::{say, say_head};
+use hc_explain::{Explaining, Form, say_head};
 use hc_history::{Finding, Settings, Verdict};
 use hc_index::Index;
-use hc_why::{Explanation, FirstWrong, ReplyAt, Retracing};
+use hc_why::{FirstWrong, FoundReply, ReplyAt};
 use std::alloc::{AllocError, Global};
 use std::io;
 use std::io::{Read, Write};
 
 /// The exit status where no reply stands at the position that was asked for.
 const NO_REPLY: u8 = 64;
+
+/// Why a reply that was found isn't told of.
+const CHANGED: &str = "read again, it doesn't have the reply that it had";
 
 impl<I: Index> Reading<I> for FirstWrong {
     ghost enough = { λ seeker. IsSome (first_of seeker) };
@@ -39,11 +42,11 @@ impl<I: Index> Reading<I> for ReplyAt {
     }
 }
 
-impl<I: Index> Reading<I> for Retracing {
+impl<I: Index> Reading<I> for Explaining {
     ghost enough = { λ _. Unit {0} };
 
     fn has_enough(&self) -> bool {
-        self.is_behind()
+        self.is_after()
     }
 }
 
@@ -126,29 +129,35 @@ fn first_explained<R: Read, S: Read, W: Write>(
     let mut seeker = FirstWrong::new(alloc);
     let outcome = surveyed(alloc, terms.settings, input, &mut seeker)?;
     let verdict = outcome.verdict(seeker.first_wrong());
-    let found = match seeker.into_found() {
-        Some(found) => Some(retraced(alloc, same, found, again)?),
-        None => None,
-    };
-    verdict_said(alloc, json, &verdict, found.as_ref(), output)
+    match seeker.into_found() {
+        Some(found) => {
+            let told = told_again(alloc, same, found, form_of(json), again)?;
+            verdict_said(alloc, json, &verdict, Some(told.as_str()), output)
+        }
+        None => verdict_said(alloc, json, &verdict, None, output),
+    }
 }
 
-// Says the verdict and what was found of a reply, if one was, and answers the verdict's status.
+// The form in which a reply is explained.
+fn form_of(json: bool) -> Form {
+    if json { Form::Json } else { Form::Text }
+}
+
+// Says the verdict and what is told of a reply, if something is, and answers the verdict's status.
 fn verdict_said<W: Write>(
     alloc: Global,
     json: bool,
     verdict: &Verdict,
-    found: Option<&Retracing>,
+    told: Option<&str>,
     output: &mut W,
 ) -> Result<u8, Trouble>
     ensures { IfOk result (λ status. SaysOf json verdict.now status (W.contents output.old) (W.contents output.new)) }
 {
     if json {
-        let text = object(alloc, Some(verdict), found)?;
+        let text = object(alloc, Some(verdict), told)?;
         written_as(text.as_str(), verdict_status(verdict), output)
     } else {
-        let text = lines_of(alloc, found)?;
-        said_first(alloc, verdict, text.as_str(), output)
+        said_first(alloc, verdict, told.unwrap_or(""), output)
     }
 }
 
@@ -176,27 +185,27 @@ fn reply_explained<R: Read, S: Read, W: Write>(
         return not_found(alloc, json, &outcome, position, output);
     };
     let head = head_line(alloc, &found)?;
-    let status = status_of(found.finding());
-    let found = retraced(alloc, same, found, again)?;
-    Ok(Some(reply_said(alloc, json, head, status, &found, output)?))
+    let status = status_of(found.finding);
+    let told = told_again(alloc, same, found, form_of(json), again)?;
+    Ok(Some(reply_said(alloc, json, head, status, told.as_str(), output)?))
 }
 
-// Says what was found of the reply, in text behind the line that heads it, and answers that status.
+// Says what is told of the reply, in text after the line that heads it, and answers that status.
 fn reply_said<W: Write>(
     alloc: Global,
     json: bool,
     head: String,
     status: u8,
-    found: &Retracing,
+    told: &str,
     output: &mut W,
 ) -> Result<u8, Trouble>
     ensures { (position : ℕ) (finding : Finding) → IsHeadLine position finding (string_bytes head) → status ≡ reply_status finding
         → IfOk result (SaysReplyIn json position finding (W.contents output.old) (W.contents output.new)) }
 {
     let text = if json {
-        object(alloc, None, Some(found))?
+        object(alloc, None, Some(told))?
     } else {
-        with_lines(alloc, head, found)?
+        with_lines(head, told)?
     };
     written_as(text.as_str(), status, output)
 }
@@ -212,7 +221,7 @@ fn written_as<W: Write>(text: &str, status: u8, output: &mut W) -> Result<u8, Tr
 }
 
 // The line that heads the explanation of what was found.
-fn head_line(alloc: Global, found: &Explanation) -> Result<String, AllocError>
+fn head_line(alloc: Global, found: &FoundReply) -> Result<String, AllocError>
     ensures { IfOk result (λ line. IsHeadLine (position_of found.now) (finding_of found.now) (string_bytes line)) }
 {
     let mut line = String::new(alloc);
@@ -231,34 +240,29 @@ fn status_of(finding: Finding) -> u8
     }
 }
 
-// What was found, with what the transcript tells of it when it is read again.
-fn retraced<S: Read>(
+// What is told of a reply that was found, in that form, when the transcript is read again.
+fn told_again<S: Read>(
     alloc: Global,
     settings: Settings,
-    found: Explanation,
+    found: FoundReply,
+    form: Form,
     again: &mut S,
-) -> Result<Retracing, Trouble> {
-    let mut retracing = Retracing::new(found);
-    surveyed(alloc, settings, again, &mut retracing)?;
-    Ok(retracing)
+) -> Result<String, Trouble> {
+    let mut explaining = Explaining::new(alloc, found, form)?;
+    surveyed(alloc, settings, again, &mut explaining)?;
+    match explaining.into_told() {
+        Some(told) => Ok(told),
+        None => Err(Trouble::Device(io::Error::other(CHANGED))),
+    }
 }
 
-// The text, and behind it the lines of what was found.
-fn with_lines(alloc: Global, text: String, found: &Retracing) -> Result<String, AllocError>
+// The text, and after it what is told.
+fn with_lines(text: String, told: &str) -> Result<String, AllocError>
     ensures { IfOk result (λ longer. (more : List ℕ) × (string_bytes longer ≡ string_bytes text ++ more)) }
 {
     let mut text = text;
-    text.push_str(lines_of(alloc, Some(found))?.as_str())?;
+    text.push_str(told)?;
     Ok(text)
-}
-
-// The lines of what was found, if anything was.
-fn lines_of(alloc: Global, found: Option<&Retracing>) -> Result<String, AllocError> {
-    let mut lines = String::new(alloc);
-    if let Some(found) = found {
-        say(alloc, found.explanation(), &mut lines)?;
-    }
-    Ok(lines)
 }
 
 // Says where the transcript breaks, if that is no later than the position.

@@ -18,7 +18,7 @@ pub use baseline::{BaselineTrouble, baseline_of};
 pub use converting::convert;
 pub use explaining::explain;
 pub use replaying::replay;
-pub use reporting::{ReportForm, report};
+pub use reporting::{Beside, ReportEnd, ReportForm, report};
 pub use run::{answered, status};
 pub use serving::Server;
 pub use showing::show;

@@ -1,23 +1,21 @@
 //! A verdict and an explanation as one JSON object.
 
 use hc_auditing::verdict_line;
-use hc_explain::json;
 use hc_history::Verdict;
-use hc_why::Retracing;
 use std::alloc::{AllocError, Global};
 
-/// The object on one line: `verdict` is the line of the verdict, as text, and `reply` what was found of a reply; each is
-/// null where there is none.
+/// The object on one line: `verdict` is the line of the verdict, as text, and `reply` what is told of a reply, which is an
+/// object; each is null where there is none.
 pub(crate) fn object(
     alloc: Global,
     verdict: Option<&Verdict>,
-    found: Option<&Retracing>,
+    told: Option<&str>,
 ) -> Result<String, AllocError> {
     let mut text = String::new(alloc);
     text.push_str("{\"verdict\":")?;
     push_verdict(alloc, verdict, &mut text)?;
     text.push_str(",\"reply\":")?;
-    push_reply(alloc, found, &mut text)?;
+    text.push_str(told.unwrap_or("null"))?;
     text.push_str("}\n")?;
     Ok(text)
 }
@@ -36,16 +34,4 @@ fn push_verdict(
     text.push('"')?;
     text.push_str(line.as_str())?;
     text.push('"')
-}
-
-// Adds what was found of a reply, as a JSON object.
-fn push_reply(
-    alloc: Global,
-    found: Option<&Retracing>,
-    text: &mut String,
-) -> Result<(), AllocError> {
-    match found {
-        Some(found) => text.push_str(json(alloc, found.explanation())?.as_str()),
-        None => text.push_str("null"),
-    }
 }

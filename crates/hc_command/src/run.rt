@@ -1,34 +1,41 @@
 //! What the program does, over any system and any two writers.
-ghost use Rattle.std.specs.Prelude.{◌≡◌, ◌<◌, ◌∷◌, [], ℕ, None, Some, codes, false, map, option_map};
+ghost use Rattle.std.specs.Io.KnownBytes.{Keeps};
+ghost use Rattle.std.specs.Prelude.{◌≡◌, ◌⊎◌, ◌<◌, ◌∷◌, [], ℕ, None, Some, codes, false, map};
 ghost use Rattle.clap.specs.Words.{Text, fault_of};
 ghost use Rattle.hc_options.specs.Auditing.{no_minimums, plain_audit};
 ghost use Rattle.hc_options.specs.Commands.{IsFileName, IsWord};
 ghost use Rattle.hc_arguments.specs.Commands.{hcache};
 ghost use Rattle.hc_arguments.specs.Positions.{positive_of};
-ghost use Rattle.hc_arguments.specs.Tasks.{Asks, CanBeDone, Task, proxy_words, service_words, task_of};
+ghost use Rattle.hc_arguments.specs.Tasks.{Asks, CanBeDone, Task, form_of, proxy_words, service_words, task_of};
 ghost use Rattle.hc_auditing.specs.Audit.{Answers};
 ghost use Rattle.hc_command.specs.Convert.{Converted};
 ghost use Rattle.hc_command.specs.Ends.{Does, Ends, Proxied, Served};
 ghost use Rattle.hc_command.specs.Replay.{Played};
 ghost use Rattle.hc_command.specs.Show.{ShownFor};
-ghost use Rattle.hc_command.specs.Report.{Explained};
-ghost use Rattle.hc_command.specs.Reporting.{ReportedBy, ReportedIn, ReportedOn};
+ghost use Rattle.hc_command.specs.Report.{Explained, ExplainedTwice};
+ghost use Rattle.hc_command.specs.Reporting.{ReportedAlone, ReportedBy, ReportedIn, ReportedOn};
 
 use crate::baseline::{BaselineTrouble, baseline_of};
 use crate::converting::convert;
 use crate::explaining::explain;
 use crate::replaying::replay;
-use crate::reporting::{ReportForm, report};
+use crate::reporting::{Beside, ReportForm, report};
 use crate::serving::Server;
 use crate::showing::show;
-use hc_arguments::{AuditTerms, ExplainTerms, Order, not_text, parsed};
-use hc_auditing::{Trouble, audited, input_name, input_of, opened, shown, unread, words_of};
+use hc_arguments::{
+    AuditTerms, ExplainTerms, Order, ReportTerms, not_text, parsed, without_baseline,
+};
+use hc_auditing::{
+    Trouble, audited, input_name, input_of, opened, printed, shown, unread, words_of,
+};
 use hc_baseline::Baseline;
 use hc_history::Settings;
-use hc_showing::Span;
+use hc_shown::Span;
+use std::alloc::Global;
 use std::convert::AsStr;
 use std::io::Write;
 use std::rt::{Env, Files};
+use std::{fs, io};
 
 /// Does what the program's own arguments ask, and answers its exit status. What is to be served, that server serves.
 pub fn status<R, V: Server, W: Write, E: Write>(
@@ -71,7 +78,7 @@ where
     // And `report FILE` by a report in text.
     ensures report { (name file : Text) → IsWord file
         → map S.text words.now ≡ name ∷ codes "report" ∷ file ∷ []
-        → ReportedBy false plain_audit result (W.contents output.old) (W.contents output.new)
+        → ReportedBy false false plain_audit result (W.contents output.old) (W.contents output.new)
         (E.contents faults.old) (E.contents faults.new) }
 
     // And `explain FILE`, where that is no standard input, by an explanation of the first wrong reply.
@@ -134,15 +141,7 @@ where
 {
     match order {
         Order::Audit { file, terms } => audited(rt, file, terms, output, faults),
-        Order::Report {
-            file,
-            terms,
-            json,
-            baseline,
-        } => {
-            let form = AskedForm { json, baseline };
-            report_asked(rt, file, terms, form, output, faults)
-        }
+        Order::Report { file, terms, form } => report_asked(rt, file, terms, form, output, faults),
         Order::Explain { file, terms } => explained(rt, file, terms, output, faults),
         Order::Show { file, span } => records_shown(rt, file, span, output, faults),
         Order::Replay { file } => replayed(rt, file, output, faults),
@@ -152,46 +151,83 @@ where
     }
 }
 
-// In which form a report is asked for.
-#[derive(Clone, Copy)]
-struct AskedForm<'a> {
-    // As one JSON object, in place of text.
-    json: bool,
-    // The name of the file of the baseline, if one is named.
-    baseline: Option<&'a str>,
-}
-
 // Reports on the file as is asked, if the baseline that is named is there.
 fn report_asked<R, W: Write, E: Write>(
     rt: &R,
     file: &str,
     terms: AuditTerms,
-    form: AskedForm<'_>,
+    form: ReportTerms<'_>,
     output: &mut W,
     faults: &mut E,
 ) -> u8
 where
     R: Files + Input + AllocGlobal,
-    ensures { ReportedOn form.entry.json (option_map (λ name. name.now) form.entry.baseline) terms result (W.contents output.old) (W.contents output.new)
+    ensures { ReportedOn (form_of form.entry) terms result (W.contents output.old) (W.contents output.new)
         (E.contents faults.old) (E.contents faults.new) }
 {
-    let AskedForm { json, baseline } = form;
+    let ReportTerms {
+        json,
+        baseline,
+        strict,
+        annotates,
+        junit,
+    } = form;
     let Some(name) = baseline else {
-        let form = ReportForm {
-            json,
-            baseline: None,
-        };
-        return reported(rt, file, terms, form, output, faults);
+        return report_alone(rt, file, terms, form, output, faults);
     };
     match baseline_in(rt, name) {
         Ok(known) => {
             let form = ReportForm {
                 json,
                 baseline: Some(known),
+                strict,
+                annotates,
             };
-            reported(rt, file, terms, form, output, faults)
+            let files = ReportFiles { input: file, junit };
+            reported(rt, files, terms, form, output, faults)
         }
         Err(trouble) => trouble.told(name, faults),
+    }
+}
+
+// Reports on the file as is asked, where no baseline is named.
+fn report_alone<R, W: Write, E: Write>(
+    rt: &R,
+    file: &str,
+    terms: AuditTerms,
+    form: ReportTerms<'_>,
+    output: &mut W,
+    faults: &mut E,
+) -> u8
+where
+    R: Files + Input + AllocGlobal,
+    ensures { ReportedAlone form.entry.json form.entry.strict form.entry.annotates terms result (W.contents output.old) (W.contents output.new)
+        (E.contents faults.old) (E.contents faults.new) }
+{
+    if form.strict {
+        return refused(rt.alloc(), output, faults);
+    }
+    let files = ReportFiles {
+        input: file,
+        junit: form.junit,
+    };
+    let form = ReportForm {
+        json: form.json,
+        baseline: None,
+        strict: false,
+        annotates: form.annotates,
+    };
+    reported(rt, files, terms, form, output, faults)
+}
+
+// Says that a baseline has to be named.
+fn refused<W: Write, E: Write>(alloc: Global, output: &mut W, faults: &mut E) -> u8
+    ensures status { (result ≡ 64) ⊎ (result ≡ 3) }
+    ensures quiet { Keeps (W.contents output.old) (W.contents output.new) }
+{
+    match without_baseline(alloc) {
+        Ok(error) => shown(&error, output, faults),
+        Err(error) => Trouble::from(error).told("", faults),
     }
 }
 
@@ -203,10 +239,19 @@ fn baseline_in<R: Files + AllocGlobal>(rt: &R, name: &str) -> Result<Baseline, B
     }
 }
 
+// The names of the files of a report.
+#[derive(Clone, Copy)]
+struct ReportFiles<'a> {
+    // Of the transcript, or `-` for standard input.
+    input: &'a str,
+    // Of the one that gets JUnit's XML, if one is named.
+    junit: Option<&'a str>,
+}
+
 // Reports on the file, or standard input for `-`.
 fn reported<R, W: Write, E: Write>(
     rt: &R,
-    file: &str,
+    files: ReportFiles<'_>,
     terms: AuditTerms,
     form: ReportForm,
     output: &mut W,
@@ -214,24 +259,43 @@ fn reported<R, W: Write, E: Write>(
 ) -> u8
 where
     R: Files + Input + AllocGlobal,
-    ensures { ReportedIn form.json form.baseline terms result (W.contents output.old) (W.contents output.new)
+    ensures { ReportedIn form.json form.baseline form.strict form.annotates terms result (W.contents output.old) (W.contents output.new)
         (E.contents faults.old) (E.contents faults.new) }
 {
-    match input_of(rt, file) {
-        Ok(mut input) => report(
-            rt.alloc(),
-            terms,
-            form,
-            input_name(file),
-            &mut input,
-            output,
-            faults,
-        ),
-        Err(error) => Trouble::Device(error).told(file, faults),
+    match input_of(rt, files.input) {
+        Ok(mut input) => {
+            let name = input_name(files.input);
+            let mut beside = Beside::new(rt.alloc(), name, files.junit.is_some());
+            let input = &mut input;
+            let status = report(rt.alloc(), terms, form, &mut beside, input, output, faults);
+            kept(rt, files.junit, beside.junit.as_str(), status, faults)
+        }
+        Err(error) => Trouble::Device(error).told(files.input, faults),
     }
 }
 
-// Explains a reply of the file, which is opened twice.
+// Writes the XML to the file of that name, if there are both, and answers the status that the program had come to.
+fn kept<R: Files, E: Write>(rt: &R, name: Option<&str>, xml: &str, status: u8, faults: &mut E) -> u8
+    ensures { (result ≡ 3) ⊎ ((result ≡ status) × (E.contents faults.new ≡ E.contents faults.old)) }
+{
+    let Some(name) = name else {
+        return status;
+    };
+    if xml.is_empty() {
+        return status;
+    }
+    match written(rt, name, xml) {
+        Ok(()) => status,
+        Err(error) => Trouble::Device(error).told(name, faults),
+    }
+}
+
+fn written<R: Files>(rt: &R, name: &str, text: &str) -> io::Result<()> {
+    let mut file = fs::create(rt, name)?;
+    printed(text, &mut file)
+}
+
+// Explains a reply of the file, if it can be read twice.
 fn explained<R, W: Write, E: Write>(
     rt: &R,
     file: &str,
@@ -242,6 +306,43 @@ fn explained<R, W: Write, E: Write>(
 where
     R: Files + AllocGlobal,
     ensures { Explained terms.json terms.position result (W.contents output.old) (W.contents output.new)
+        (E.contents faults.old) (E.contents faults.new) }
+{
+    match reads_twice(rt, file) {
+        Ok(true) => explained_twice(rt, file, terms, output, faults),
+        Ok(false) => not_twice(faults),
+        Err(error) => Trouble::Device(error).told(file, faults),
+    }
+}
+
+// Whether each reading of it begins from its front, as of a regular file, or fails, as of a directory.
+fn reads_twice<R: Files>(rt: &R, file: &str) -> io::Result<bool> {
+    let found = fs::metadata(rt, file)?;
+    Ok(found.is_file() || found.is_dir())
+}
+
+// Says that what isn't a regular file isn't explained, and returns the exit status.
+fn not_twice<E: Write>(faults: &mut E) -> u8
+    ensures { result ≡ 64 }
+{
+    let _ = printed(
+        "error: it is read twice, so it can't be a pipe or a device\n",
+        faults,
+    );
+    64
+}
+
+// Explains a reply of the file, which is opened twice.
+fn explained_twice<R, W: Write, E: Write>(
+    rt: &R,
+    file: &str,
+    terms: ExplainTerms,
+    output: &mut W,
+    faults: &mut E,
+) -> u8
+where
+    R: Files + AllocGlobal,
+    ensures { ExplainedTwice terms.json terms.position result (W.contents output.old) (W.contents output.new)
         (E.contents faults.old) (E.contents faults.new) }
 {
     let alloc = rt.alloc();

@@ -1,14 +1,14 @@
 //! Records of one transcript as text: from a reader to text on a writer and an exit status.
 ghost use Rattle.std.specs.Prelude.{◌≡◌, ◌<◌, ◌++◌, ℕ, List, None, ⊤, IfOk, OnOk};
 ghost use Rattle.std.specs.Io.KnownBytes.{Appends};
-ghost use Rattle.hc_showing.specs.declared.span.Span.{Span};
-ghost use Rattle.hc_showing.specs.Showings.{Shows};
+ghost use Rattle.hc_shown.specs.declared.span.Span.{Span};
+ghost use Rattle.hc_shown.specs.Showings.{Shows};
 ghost use Rattle.hc_command.specs.Show.{ComesTo, GoesOn, PutsOut, SaysOfShown, ShowsFor, ShowsOf, shown_end, shown_status, stopped_by};
 ghost use Rattle.hc_command.specs.ShowLaws.{showing_goes_on, showing_stays};
 
 use hc_auditing::{Fed, Trouble, buffer, printed, pull, verdict_line};
 use hc_history::Verdict;
-use hc_showing::{Ending, Reach, Showing, Span};
+use hc_shown::{Ending, Reach, Showing, Span};
 use hc_transcript::RecordFault;
 use std::alloc::Global;
 use std::io::{Read, Write};

@@ -4,10 +4,12 @@ use crate::commands_words::asks_for_audit;
 use crate::devices::Pieces;
 use crate::written::Written;
 use hc_arguments::{Order, parsed};
-use hc_auditing::{audit, shown};
+use hc_auditing::{audit, printed, shown};
 use hc_baseline::Baseline;
 use hc_cases::Unanswered;
-use hc_command::{BaselineTrouble, ReportForm, baseline_of, convert, explain, replay, report};
+use hc_command::{
+    BaselineTrouble, Beside, ReportForm, baseline_of, convert, explain, replay, report,
+};
 use hc_options::audit_asked;
 use std::alloc::Global;
 use std::io::Write;
@@ -69,15 +71,20 @@ fn done<W: Write, E: Write>(
 ) -> Result<u8, Unanswered> {
     match order {
         Order::Audit { file, terms } => Ok(audit(alloc, terms, file, input, output, faults)),
-        Order::Report {
-            file,
-            terms,
-            json,
-            baseline,
-        } => match known(alloc, baseline) {
+        Order::Report { file, terms, form } => match known(alloc, form.baseline) {
             Ok(baseline) => {
-                let form = ReportForm { json, baseline };
-                Ok(report(alloc, terms, form, file, input, output, faults))
+                let wants_junit = form.junit.is_some();
+                let mut beside = Beside::new(alloc, file, wants_junit);
+                let form = ReportForm {
+                    json: form.json,
+                    baseline,
+                    strict: form.strict,
+                    annotates: form.annotates,
+                };
+                let beside_it = &mut beside;
+                let status = report(alloc, terms, form, beside_it, input, output, faults);
+                put_junit(beside.junit.as_str(), output)?;
+                Ok(status)
             }
             Err(trouble) => Ok(trouble.told("baseline", faults)),
         },
@@ -88,6 +95,14 @@ fn done<W: Write, E: Write>(
         Order::Replay { file } => Ok(replay(alloc, file, input, output, faults)),
         Order::Convert { file } => Ok(convert(alloc, file, input, output, faults)),
         _ => Err(Unanswered::Unknown),
+    }
+}
+
+// Writes the XML behind what the program writes, in place of a file.
+fn put_junit<W: Write>(xml: &str, output: &mut W) -> Result<(), Unanswered> {
+    match printed(xml, output) {
+        Ok(()) => Ok(()),
+        Err(_) => Err(Unanswered::Unknown),
     }
 }
 

@@ -1,2 +1,3 @@
 mod JsonLemmas
 mod KindLemmas
+mod MadeLemmas

@@ -2,4 +2,5 @@ pub mod Counting
 pub mod Held
 pub mod Json
 pub mod Kinds
+pub mod Made
 pub mod Told

@@ -1,9 +1,29 @@
 //! What a wrong reply asks for, so that what can't help isn't tried.
 
-use hc_facts::{Change, Differences, Rule, rule_behind};
+use hc_gaps::{Change, Rule, rule_behind};
 use hc_history::{Candidate, Reason};
-use hc_index::Index;
-use hc_why::{Shortfall, Why, WrongClaim};
+use hc_why::Wrong;
+
+/// A wrong reply that may carry those responses.
+#[derive(Clone, Copy)]
+pub(crate) struct WrongCase<'a> {
+    /// Why it is wrong.
+    pub(crate) reason: Reason,
+    /// How far the responses get that it may carry, the furthest first. None where the reason asks for none.
+    pub(crate) candidates: &'a [Candidate],
+    /// Whether its request asks for a part.
+    pub(crate) asks_part: bool,
+}
+
+impl WrongCase<'_> {
+    /// Whether it may carry more responses than the one that is named.
+    pub(crate) fn may_carry_others(&self) -> bool {
+        match self.reason {
+            Reason::NotForwarded | Reason::NotCollapsible => true,
+            _ => 1 < self.candidates.len(),
+        }
+    }
+}
 
 /// What a wrong reply asks for: the rules that are broken by responses which it may carry, or a mark.
 #[derive(Clone, Copy)]
@@ -39,15 +59,15 @@ impl Asks {
     }
 
     /// What a reply asks for that is wrong in that way.
-    pub(crate) fn read<I: Index>(wrong: &WrongClaim<'_, I>, why: &Why) -> Self {
+    pub(crate) fn read(case: WrongCase<'_>, wrong: &Wrong<'_>) -> Self {
         let mut asks = Asks::nothing();
-        match wrong.reason {
+        match case.reason {
             Reason::NoResponse | Reason::BothMarks => {}
             Reason::Unmarked => asks.for_mark = true,
             _ => {
-                asks.for_part = wrong.claim.request.fields.contains(b"range");
-                asks.take_all(wrong.candidates.as_slice());
-                let may_be_joined = 1 < wrong.candidates.len() || may_be_joined(why);
+                asks.for_part = case.asks_part;
+                asks.take_all(case.candidates);
+                let may_be_joined = 1 < case.candidates.len() || may_be_joined(wrong);
                 asks.for_joining = asks.for_fields && may_be_joined;
             }
         }
@@ -57,37 +77,22 @@ impl Asks {
     // Takes in what those break.
     fn take_all(&mut self, candidates: &[Candidate]) {
         for candidate in candidates {
-            self.take(rule_behind(candidate.passed));
-        }
-    }
-
-    // Takes in a rule that is broken.
-    fn take(&mut self, rule: Option<Rule>) {
-        match rule {
-            Some(Rule::Lifetime | Rule::Use) => self.for_use = true,
-            Some(Rule::Fields) => self.for_fields = true,
-            Some(Rule::Age) => self.for_age = true,
-            Some(Rule::Ttl) => self.for_seconds = true,
-            _ => {}
+            match rule_behind(candidate.passed) {
+                Some(Rule::Lifetime | Rule::Use) => self.for_use = true,
+                Some(Rule::Fields) => self.for_fields = true,
+                Some(Rule::Age) => self.for_age = true,
+                Some(Rule::Ttl) => self.for_seconds = true,
+                _ => {}
+            }
         }
     }
 }
 
 // Whether the response that is named may have fields of the reply in other lines: not where each of those that differ is
 // in one of both alone.
-fn may_be_joined(why: &Why) -> bool {
-    let Some(Shortfall::Fields(found)) = why.shortfall() else {
-        return true;
-    };
-    found.more != 0 || is_one_changed(found)
-}
-
-// Whether one of these has changed.
-fn is_one_changed(found: &Differences) -> bool {
-    for gap in found.listed.iter() {
-        if gap.change == Change::Changed {
-            return true;
-        }
+fn may_be_joined(wrong: &Wrong<'_>) -> bool {
+    match wrong.differences() {
+        Some(found) => found.more != 0 || found.has(Change::Changed),
+        None => true,
     }
-    false
 }

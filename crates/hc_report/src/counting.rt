@@ -1,39 +1,50 @@
 //! A report that counts all wrong replies by their kind.
 
-ghost use Rattle.std.specs.Prelude.{◌≡◌, ◌++◌, List, [], ◌∷◌, ℕ, IfOk, OnOk, option_map, slice_get, string_bytes, true, false};
+ghost use Rattle.std.specs.Prelude.{◌≡◌, ◌++◌, List, [], ◌∷◌, ℕ, IfOk, OnOk, Option, option_map, slice_get, string_bytes, true, false};
 ghost use Rattle.hc_transcript.specs.Items.{Item};
 ghost use Rattle.hc_history.specs.declared.wrong.WrongReply.{WrongReply};
 ghost use Rattle.hc_audit.specs.Hearing.{IsReplyBehind, item_judged};
 ghost use Rattle.hc_baseline.specs.Kinds.{AreKnown};
-ghost use Rattle.hc_baseline.specs.Tallies.{HasCounted, base_of};
+ghost use Rattle.hc_baseline.specs.Tallies.{HasCounted, base_of, gone_from};
 ghost use Rattle.serde_json.specs.View.{members_view};
 ghost use Rattle.hc_json.specs.Nesting.{MembersNestTo};
 ghost use Rattle.hc_figures.specs.Figures.{HaveFigures, LeavesFigures, deepest};
-ghost use Rattle.hc_report.specs.Held.{SayHeld, SayHeldBy};
+ghost use Rattle.hc_report.specs.Held.{SayHeld, SayHeldBy, SayKnown};
+ghost use Rattle.hc_report.specs.Made.{SaySettings};
+ghost use Rattle.hc_baseline.specs.declared.baseline.Baseline.{Baseline};
+ghost use Rattle.hc_report.specs.declared.counting.CountingReport.{CountingReport};
 ghost use Rattle.hc_report.specs.Json.{WritesAll};
 ghost use Rattle.hc_report.specs.Counting.{HasCountedIn, HasHeardOf, HaveCounts, TellsAllOf};
 ghost use Rattle.hc_report.specs.Kinds.{kinds_in};
 
+use crate::annotations::{MOST_ANNOTATED, push_annotation, push_rest};
+use crate::cases::{Cases, KnownCases};
 use crate::json::put_all;
+use crate::junit::{CaseCounts, push_case, push_end, push_suite};
+use crate::made::settings_json;
 use crate::new_json::new_json;
 use crate::report::Report;
 use crate::requests::shown_request;
+use crate::source::Source;
 use hc_audit::{JudgedReply, PassedRecord, Witness};
-use hc_baseline::{Baseline, NewKinds, Tally};
+use hc_baseline::{Baseline, NamedKinds, Tally};
+use hc_figures::ListedReply;
 use hc_history::{Counts, Ending, Finding, Reason, Settings, WrongReply};
 use hc_index::Index;
-use hc_json::{put_made, put_number};
-use hc_shown::Page;
+use hc_json::{put_flag, put_made, put_number, put_some};
+use hc_shown::{Page, Teller};
 use serde_json::{Map, Value, put};
 use std::alloc::{AllocError, Global};
 
 /// A report that has all wrong replies, and counts them by their kind, so that they can be held against an earlier report.
-/// It takes memory for each wrong reply, and for each kind.
+/// It takes memory for each wrong reply, for each kind, and for each target.
 pub struct CountingReport {
     alloc: Global,
     report: Report,
     wrongs: Vec<WrongReply>,
     tally: Tally,
+    source: Source,
+    cases: Cases,
 }
 
 impl Drop for CountingReport {
@@ -43,10 +54,14 @@ impl Drop for CountingReport {
             report,
             wrongs,
             tally,
+            source,
+            cases,
         } = self;
         drop(report);
         drop(wrongs);
         drop(tally);
+        drop(source);
+        drop(cases);
     }
 }
 
@@ -61,6 +76,7 @@ impl<I: Index> Witness<I> for CountingReport {
 
     fn see(&mut self, judged: &JudgedReply<'_, I>) -> Result<(), AllocError> {
         self.report.see(judged)?;
+        self.source.see(judged)?;
         match judged.finding {
             Finding::Right => Ok(()),
             Finding::Wrong(reason) => self.count(judged, reason),
@@ -69,8 +85,9 @@ impl<I: Index> Witness<I> for CountingReport {
 }
 
 impl CountingReport {
-    /// The report on an audit by those settings that has read nothing yet.
-    pub fn new(alloc: Global, settings: Settings) -> Result<Self, AllocError>
+    /// The report on an audit by those settings that has read nothing yet. It keeps what is shown of each request that a wrong
+    /// reply answers, if cases are asked for.
+    pub fn new(alloc: Global, settings: Settings, cases_are_asked: bool) -> Result<Self, AllocError>
         ensures tells { IfOk result (λ report. TellsAllOf report []) }
         ensures hears { IfOk result (λ report. HasHeardOf report []) }
     {
@@ -79,6 +96,8 @@ impl CountingReport {
             report: Report::new(alloc, settings)?,
             wrongs: Vec::new(alloc),
             tally: Tally::new(alloc),
+            source: Source::new(alloc),
+            cases: Cases::new(alloc, cases_are_asked),
         })
     }
 
@@ -96,10 +115,12 @@ impl CountingReport {
         let request = shown_request(self.alloc, judged)?;
         let kind = request.kind(self.alloc, reason)?;
         self.tally.take(kind.as_str())?;
-        self.wrongs.push(WrongReply {
+        let wrong = WrongReply {
             position: judged.position,
             reason,
-        })?;
+        };
+        self.cases.take(wrong, request)?;
+        self.wrongs.push(wrong)?;
         Ok(())
     }
 
@@ -121,6 +142,15 @@ impl CountingReport {
         baseline.covers(&self.tally)
     }
 
+    /// How many wrong replies a baseline has that aren't there any more: of each kind as many as it has more.
+    pub fn gone(&self, baseline: &Baseline) -> u64
+        ensures { (h : List Item) (wrongs : List WrongReply) → TellsAllOf self.now wrongs → HasCountedIn self.now h
+            → result ≡ gone_from baseline.now (kinds_in h wrongs) }
+    {
+        let _many = self.wrongs.len();
+        baseline.gone(&self.tally)
+    }
+
     /// Writes what stands behind the verdict, for a recording that ends so, and of which so much was counted; and where there
     /// is a baseline, what it has of the wrong replies.
     pub fn say(
@@ -137,39 +167,59 @@ impl CountingReport {
         }
     }
 
-    // Writes how many wrong replies a baseline has, and how many of which kind it hasn't.
+    // Writes how many wrong replies a baseline has, and how many of which kind it hasn't, or has and aren't there any more.
     fn say_held(&self, baseline: &Baseline, out: &mut String) -> Result<(), AllocError> {
-        let kinds = baseline.new_kinds(self.alloc, &self.tally)?;
         let known = baseline.known(&self.tally);
         let new = (self.wrongs.len() as u64).saturating_sub(known);
         let mut page = Page::new(self.alloc);
-        page.number("known      ", known, " in the baseline\n");
-        page.number("new        ", new, "\n");
-        say_kinds(&kinds, &mut page);
+        page.count("known      ", known, " in the baseline\n");
+        page.count("new        ", new, "\n");
+        say_kinds(
+            &baseline.new_kinds(self.alloc, &self.tally)?,
+            " more kinds have new ones\n",
+            &mut page,
+        );
+        self.say_gone(baseline, &mut page)?;
         page.onto(out)
     }
 
-    /// The whole report as a JSON object, on one line, with its wrong replies by their kind; and where there is a baseline,
-    /// with what it has of them.
+    // Writes how many of a baseline's wrong replies aren't there any more, and whether its recording has other targets.
+    fn say_gone(&self, baseline: &Baseline, page: &mut Page) -> Result<(), AllocError> {
+        page.count("gone       ", baseline.gone(&self.tally), "\n");
+        say_kinds(
+            &baseline.gone_kinds(self.alloc, &self.tally)?,
+            " more kinds have fewer\n",
+            page,
+        );
+        if self.source.is_other_than(baseline)? {
+            page.text("targets    not the same as in the baseline\n");
+        }
+        Ok(())
+    }
+
+    /// The whole report as a JSON object, on one line, with its wrong replies by their kind, and by which settings and of
+    /// which recording it was made; and where there is a baseline, with what it has of them.
     pub fn json(
         self,
+        settings: &Settings,
         baseline: Option<&Baseline>,
         ending: Ending,
         counts: Option<Counts>,
     ) -> Result<String, AllocError>
         // So it can be a baseline, and be relied on.
         ensures { (h : List Item) (wrongs : List WrongReply) → TellsAllOf self wrongs → HasCountedIn self h
-            → IfOk result (λ text. WritesAll (string_bytes text) self (kinds_in h wrongs) (option_map (λ b. b.now) baseline.entry) ending counts) }
+            → IfOk result (λ text. WritesAll (string_bytes text) self (kinds_in h wrongs) settings.now (option_map (λ b. b.now) baseline.entry) ending counts) }
     {
         let alloc = self.alloc;
         let mut members = Map::new(alloc);
-        let filled = self.put_into(baseline, ending, counts, &mut members);
+        let filled = self.put_into(settings, baseline, ending, counts, &mut members);
         filled?;
         Value::Object(members).to_string(alloc)
     }
 
     fn put_into(
         self,
+        settings: &Settings,
         baseline: Option<&Baseline>,
         ending: Ending,
         counts: Option<Counts>,
@@ -179,21 +229,44 @@ impl CountingReport {
         ensures figures { (kinds : List (List ℕ)) → HasCounted self.tally kinds → MembersNestTo deepest members.old
             → OnOk result (HaveFigures self.report.replies self.report.wrongs ending counts (members_view members.new.entries)) }
         ensures held { OnOk result (SayHeldBy (option_map (λ b. b.now) baseline.entry) self (members_view members.new.entries)) }
+        ensures settings { OnOk result (SaySettings settings.now (members_view members.new.entries)) }
     {
-        self.put_told(baseline, ending, counts, members)?;
+        self.put_told(settings, baseline, ending, counts, members)?;
         let CountingReport {
             alloc,
             report,
             wrongs,
             tally,
+            source,
+            cases,
         } = self;
         drop(report);
         drop(wrongs);
+        drop(source);
+        drop(cases);
         put(members, alloc, "baseline", tally.into_counts())
     }
 
     // Adds all but the counts by kind.
     fn put_told(
+        &self,
+        settings: &Settings,
+        baseline: Option<&Baseline>,
+        ending: Ending,
+        counts: Option<Counts>,
+        members: &mut Map<String, Value>,
+    ) -> Result<(), AllocError>
+        ensures figures { MembersNestTo deepest members.old
+            → OnOk result (HaveFigures self.now.report.replies self.now.report.wrongs ending counts (members_view members.new.entries)) }
+        ensures held { OnOk result (SayHeldBy (option_map (λ b. b.now) baseline.entry) self.now (members_view members.new.entries)) }
+        ensures settings { OnOk result (SaySettings settings.now (members_view members.new.entries)) }
+    {
+        self.put_found(baseline, ending, counts, members)?;
+        put_made_of(self.alloc, &self.source, settings, members)
+    }
+
+    // Adds what was found, and what a baseline has of it.
+    fn put_found(
         &self,
         baseline: Option<&Baseline>,
         ending: Ending,
@@ -211,7 +284,7 @@ impl CountingReport {
         }
     }
 
-    // Adds how many wrong replies a baseline has, and how many of which kind it hasn't.
+    // Adds how many wrong replies a baseline has, and how many of which kind it hasn't, or has and aren't there any more.
     fn put_held(
         &self,
         baseline: &Baseline,
@@ -219,6 +292,18 @@ impl CountingReport {
     ) -> Result<(), AllocError>
         ensures figures { OnOk result (LeavesFigures (members_view members.old.entries) (members_view members.new.entries)) }
         ensures held { OnOk result (SayHeld baseline.now self.now (members_view members.new.entries)) }
+    {
+        self.put_known(baseline, members)?;
+        self.put_gone(baseline, members)
+    }
+
+    fn put_known(
+        &self,
+        baseline: &Baseline,
+        members: &mut Map<String, Value>,
+    ) -> Result<(), AllocError>
+        ensures figures { OnOk result (LeavesFigures (members_view members.old.entries) (members_view members.new.entries)) }
+        ensures held { OnOk result (SayKnown baseline.now self.now (members_view members.new.entries)) }
     {
         let known = baseline.known(&self.tally);
         put_number(self.alloc, "known", known, members)?;
@@ -231,16 +316,116 @@ impl CountingReport {
             members,
         )
     }
+
+    fn put_gone(
+        &self,
+        baseline: &Baseline,
+        members: &mut Map<String, Value>,
+    ) -> Result<(), AllocError>
+        ensures figures { OnOk result (LeavesFigures (members_view members.old.entries) (members_view members.new.entries)) }
+        ensures held { SayKnown baseline.now self.now (members_view members.old.entries) → OnOk result (SayHeld baseline.now self.now (members_view members.new.entries)) }
+    {
+        let is_other = self.source.is_other_than(baseline)?;
+        put_flag(self.alloc, "other_targets", is_other, members)?;
+        let count = baseline.gone(&self.tally);
+        let kinds = baseline.gone_kinds(self.alloc, &self.tally)?;
+        put_made(
+            self.alloc,
+            "gone",
+            new_json(self.alloc, count, &kinds),
+            members,
+        )
+    }
 }
 
-// Writes how many new wrong replies there are of each of these kinds, and how many kinds more there are.
-fn say_kinds(kinds: &NewKinds, page: &mut Page) {
-    for new in kinds.named.iter() {
-        page.column(new.count, " ");
-        page.text(new.kind.as_str());
+impl CountingReport {
+    /// Writes the wrong replies as JUnit's XML, for a recording of that name that ends so: a case each, which fails, or is
+    /// skipped if a baseline has it.
+    pub fn write_junit(
+        &self,
+        baseline: Option<&Baseline>,
+        ending: Ending,
+        name: &str,
+        out: &mut String,
+    ) -> Result<(), AllocError> {
+        let counts = CaseCounts {
+            wrong: self.wrongs.len() as u64,
+            known: self.known(baseline),
+        };
+        push_suite(self.alloc, name, counts, ending, out)?;
+        let mut known = KnownCases::new(self.alloc, baseline);
+        for reply in self.cases.replies.iter() {
+            push_case(reply, known.has(reply)?, out)?;
+        }
+        push_end(counts, ending, out)
+    }
+
+    // How many wrong replies a baseline has, if there is one.
+    fn known(&self, baseline: Option<&Baseline>) -> u64 {
+        match baseline {
+            Some(baseline) => baseline.known(&self.tally),
+            None => 0,
+        }
+    }
+
+    /// Writes the wrong replies that a baseline hasn't as annotations of the file of that name, for a recording that ends so.
+    pub fn write_annotations(
+        &self,
+        baseline: Option<&Baseline>,
+        ending: Ending,
+        name: &str,
+        out: &mut String,
+    ) -> Result<(), AllocError> {
+        let mut known = KnownCases::new(self.alloc, baseline);
+        let mut new: u64 = 0;
+        for reply in self.cases.replies.iter() {
+            if !known.has(reply)? {
+                new = new.saturating_add(1);
+                annotate(new, name, reply, out)?;
+            }
+        }
+        push_rest(name, new.saturating_sub(MOST_ANNOTATED), ending, out)
+    }
+}
+
+// Adds the annotation of the wrong reply that is new as the how-manieth, if that isn't too many.
+fn annotate(
+    which: u64,
+    name: &str,
+    reply: &ListedReply,
+    out: &mut String,
+) -> Result<(), AllocError> {
+    if MOST_ANNOTATED < which {
+        return Ok(());
+    }
+    push_annotation(name, reply, out)
+}
+
+// Adds of which recording a report is, and by which settings it was made.
+fn put_made_of(
+    alloc: Global,
+    source: &Source,
+    settings: &Settings,
+    members: &mut Map<String, Value>,
+) -> Result<(), AllocError>
+    ensures figures { OnOk result (LeavesFigures (members_view members.old.entries) (members_view members.new.entries)) }
+    ensures held { (base : Option Baseline) (report : CountingReport) → SayHeldBy base report (members_view members.old.entries)
+        → OnOk result (SayHeldBy base report (members_view members.new.entries)) }
+    ensures settings { OnOk result (SaySettings settings.now (members_view members.new.entries)) }
+{
+    put_some(alloc, "format", source.format(), members)?;
+    put_made(alloc, "targets", source.targets_json(), members)?;
+    put_made(alloc, "settings", settings_json(alloc, settings), members)
+}
+
+// Writes how many wrong replies there are of each of these kinds, and that there are more kinds.
+fn say_kinds(kinds: &NamedKinds, more: &str, page: &mut Page) {
+    for kind in kinds.named.iter() {
+        page.column(kind.count, " ");
+        page.text(kind.kind.as_str());
         page.end_line();
     }
     if kinds.more != 0 {
-        page.column(kinds.more, " more kinds have new ones\n");
+        page.column(kinds.more, more);
     }
 }

@@ -4,7 +4,7 @@ use crate::asking::Asks;
 use hc_audit::JudgedReply;
 use hc_history::{Allowed, Finding, Settings, UnmarkedReplies};
 use hc_index::Index;
-use hc_shown::Page;
+use hc_shown::{Page, Teller};
 use std::alloc::AllocError;
 
 /// What is let pass besides.
@@ -181,7 +181,7 @@ impl FixedTry {
             Allowance::Slack(seconds)
             | Allowance::Grace(seconds)
             | Allowance::AgeSlack(seconds)
-            | Allowance::DefaultLifetime(seconds) => page.number(" ", u64::from(seconds), ""),
+            | Allowance::DefaultLifetime(seconds) => page.count(" ", u64::from(seconds), ""),
             _ => {}
         }
     }

@@ -4,12 +4,10 @@ ghost use Rattle.std.specs.Prelude.{ℕ, IfOk, OnOk};
 ghost use Rattle.hc_json.specs.Nesting.{MembersNestTo, NestsTo, ValuesNestTo};
 
 use crate::group::{Group, Spread};
-use crate::rows::push_what;
 use crate::targets::NamedTargets;
-use hc_facts::{Change, Differences, FieldGap};
+use hc_gaps::{Change, Differences, FieldGap};
 use hc_json::{array, object, push_made, put_made, put_number, put_numbers, put_text};
 use hc_shown::{Page, push_octets};
-use hc_why::Shortfall;
 use serde_json::{Map, Value};
 use std::alloc::{AllocError, Global};
 
@@ -30,7 +28,7 @@ fn put_group(
     ensures { MembersNestTo 1 members.old → OnOk result (MembersNestTo 1 members.new) }
 {
     put_kind(alloc, group, members)?;
-    put_differences(alloc, group.why.shortfall(), members)?;
+    put_differences(alloc, group.differences(), members)?;
     put_spread(alloc, group.spread, members)?;
     let numbers = [("count", group.count), ("first", group.first)];
     put_numbers(alloc, &numbers, members)?;
@@ -46,7 +44,7 @@ fn put_kind(
 {
     put_number(alloc, "reason", u64::from(group.reason.number()), members)?;
     put_text(alloc, "name", group.reason.name(), members)?;
-    put_text(alloc, "detail", group.why.kind(), members)?;
+    put_text(alloc, "detail", group.kind, members)?;
     put_made(alloc, "what", what_json(alloc, group), members)
 }
 
@@ -55,18 +53,18 @@ fn what_json(alloc: Global, group: &Group) -> Result<Value, AllocError>
     ensures { (n : ℕ) → IfOk result (NestsTo n) }
 {
     let mut page = Page::new(alloc);
-    push_what(group, &mut page);
+    group.say_what(&mut page);
     Ok(Value::String(page.into_text()?))
 }
 
 fn put_differences(
     alloc: Global,
-    shortfall: Option<&Shortfall>,
+    differences: Option<&Differences>,
     members: &mut Map<String, Value>,
 ) -> Result<(), AllocError>
     ensures { MembersNestTo 1 members.old → OnOk result (MembersNestTo 1 members.new) }
 {
-    let Some(Shortfall::Fields(found)) = shortfall else {
+    let Some(found) = differences else {
         return Ok(());
     };
     let added = names_json(alloc, found, Change::Added);

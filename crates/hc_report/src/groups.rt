@@ -31,7 +31,7 @@ impl Drop for Groups {
 }
 
 // The place of the group to which a wrong reply belongs, or behind all of them.
-fn place_of(groups: &[Group], wrong: &WrongOfKind) -> usize {
+fn place_of(groups: &[Group], wrong: &WrongOfKind<'_>) -> usize {
     for (place, group) in groups.iter().enumerate() {
         if group.has_kind_of(wrong) {
             return place;
@@ -53,7 +53,7 @@ impl Groups {
     /// How many replies are of targets of which nothing is recorded.
     pub(crate) fn unrecorded(&self) -> u64 {
         for group in self.groups.iter() {
-            if group.why.is_unrecorded() {
+            if group.is_unrecorded {
                 return group.count;
             }
         }
@@ -61,7 +61,7 @@ impl Groups {
     }
 
     /// Takes in a wrong reply: puts it into its group, or into a new one.
-    pub(crate) fn note(&mut self, wrong: WrongOfKind) -> Result<(), AllocError> {
+    pub(crate) fn note(&mut self, wrong: WrongOfKind<'_>) -> Result<(), AllocError> {
         let place = place_of(self.groups.as_slice(), &wrong);
         if place < self.groups.len() {
             self.groups[place].note(wrong)
@@ -71,7 +71,7 @@ impl Groups {
     }
 
     // Begins a group, where there is room for one.
-    fn begin(&mut self, wrong: WrongOfKind) -> Result<(), AllocError> {
+    fn begin(&mut self, wrong: WrongOfKind<'_>) -> Result<(), AllocError> {
         if self.groups.len() < MOST_GROUPS {
             self.groups.push(wrong.into_group(self.alloc)?)?;
         } else {

@@ -4,11 +4,11 @@ ghost use Rattle.std.specs.Prelude.{◌≤◌, ◌+◌, IfOk, IfSome, length};
 ghost use Rattle.hc_report.specs.declared.ignoring.TheConstants.{MOST_NAMES};
 
 use hc_audit::JudgedReply;
-use hc_facts::{Change, Differences};
+use hc_gaps::{Change, Differences};
 use hc_history::{Finding, Settings};
 use hc_index::Index;
-use hc_shown::Page;
-use hc_why::{Shortfall, Why};
+use hc_shown::{Page, Teller};
+use hc_why::Wrong;
 use std::alloc::{AllocError, Global};
 
 /// How many names are ignored besides at most.
@@ -55,10 +55,10 @@ impl IgnoringTry {
     pub(crate) fn judge<I: Index>(
         &mut self,
         judged: &JudgedReply<'_, I>,
-        why: &Why,
+        wrong: &Wrong<'_>,
         may_carry_others: bool,
     ) -> Result<(), AllocError> {
-        if !self.serves(judged, why, may_carry_others)? {
+        if !self.serves(judged, wrong, may_carry_others)? {
             self.wrong = self.wrong.saturating_add(1);
         }
         Ok(())
@@ -68,10 +68,10 @@ impl IgnoringTry {
     fn serves<I: Index>(
         &mut self,
         judged: &JudgedReply<'_, I>,
-        why: &Why,
+        wrong: &Wrong<'_>,
         may_carry_others: bool,
     ) -> Result<bool, AllocError> {
-        let Some(added) = added_by(why) else {
+        let Some(added) = added_by(wrong) else {
             return Ok(false);
         };
         let new = self.new_among(added);
@@ -148,7 +148,7 @@ impl IgnoringTry {
         let mut is_first = true;
         for name in self.settings.ignored.names() {
             page.separator(is_first, "--ignore ", ",");
-            page.octets(name.as_slice());
+            page.said_octets("", name.as_slice(), "");
             is_first = false;
         }
     }
@@ -170,19 +170,10 @@ fn ignore_all(
 
 // The fields in which a reply differs from the response that is named, if that is what is wrong, and only added ones
 // are among them.
-fn added_by(why: &Why) -> Option<&Differences> {
-    match why.nearest()?.shortfall.as_ref() {
-        Some(Shortfall::Fields(found)) if are_added(found) => Some(found),
-        _ => None,
+fn added_by<'a>(wrong: &'a Wrong<'_>) -> Option<&'a Differences> {
+    let found = wrong.nearest.as_ref()?.differences()?;
+    if found.more != 0 || found.has(Change::Dropped) || found.has(Change::Changed) {
+        return None;
     }
-}
-
-// Whether all of these are added fields.
-fn are_added(differences: &Differences) -> bool {
-    for gap in differences.listed.iter() {
-        if gap.change != Change::Added {
-            return false;
-        }
-    }
-    differences.more == 0
+    Some(found)
 }

@@ -49,10 +49,11 @@ fn put_found(
 ) -> Result<(), AllocError>
     ensures { OnOk result (LeavesFigures (members_view members.old.entries) (members_view members.new.entries)) }
 {
-    put_groups(alloc, &report.groups, members)?;
-    let suspected = suspects_json(alloc, &report.suspects);
+    let found = &report.found;
+    put_groups(alloc, &found.groups, members)?;
+    let suspected = suspects_json(alloc, &found.suspects);
     put_made(alloc, "suspected", suspected, members)?;
-    let tries = tries_json(alloc, &report.tries, report.wrongs.count);
+    let tries = tries_json(alloc, &found.tries, report.wrongs.count);
     put_made(alloc, "tries", tries, members)
 }
 

@@ -1,4 +1,4 @@
-//! The wrong replies that a baseline hasn't, as JSON.
+//! The wrong replies that a baseline hasn't, or that aren't there any more, as JSON.
 
 ghost use Rattle.std.specs.Prelude.{◌≡◌, Some, IfOk, OnOk, codes};
 ghost use Rattle.serde_json.specs.Data.{Data};
@@ -8,13 +8,13 @@ ghost use Rattle.hc_json.specs.Entries.{number_data, with_all};
 ghost use Rattle.hc_json.specs.Nesting.{MembersNestTo, NestsTo};
 ghost use Rattle.hc_report.specs.Held.{new_entries};
 
-use hc_baseline::{NewKind, NewKinds};
+use hc_baseline::{NamedKind, NamedKinds};
 use hc_json::{object, put_made, put_number};
 use serde_json::{Map, Value};
 use std::alloc::{AllocError, Global};
 
-/// So many new wrong replies, and the kinds that they are of.
-pub(crate) fn new_json(alloc: Global, count: u64, kinds: &NewKinds) -> Result<Value, AllocError>
+/// So many wrong replies, and the kinds that they are of.
+pub(crate) fn new_json(alloc: Global, count: u64, kinds: &NamedKinds) -> Result<Value, AllocError>
     ensures nests { IfOk result (NestsTo 3) }
     ensures count { IfOk result (λ v. get (codes "count") (view v) ≡ Some (number_data count)) }
 {
@@ -26,7 +26,7 @@ pub(crate) fn new_json(alloc: Global, count: u64, kinds: &NewKinds) -> Result<Va
 fn put_new(
     alloc: Global,
     count: u64,
-    kinds: &NewKinds,
+    kinds: &NamedKinds,
     members: &mut Map<String, Value>,
 ) -> Result<(), AllocError>
     ensures nests { MembersNestTo 2 members.old → OnOk result (MembersNestTo 2 members.new) }
@@ -38,7 +38,7 @@ fn put_new(
     put_number(alloc, "unnamed_kinds", kinds.more, members)
 }
 
-fn kinds_json(alloc: Global, kinds: &[NewKind]) -> Result<Value, AllocError>
+fn kinds_json(alloc: Global, kinds: &[NamedKind]) -> Result<Value, AllocError>
     ensures { IfOk result (NestsTo 2) }
 {
     let mut members = Map::new(alloc);
@@ -48,7 +48,7 @@ fn kinds_json(alloc: Global, kinds: &[NewKind]) -> Result<Value, AllocError>
 
 fn put_kinds(
     alloc: Global,
-    kinds: &[NewKind],
+    kinds: &[NamedKind],
     members: &mut Map<String, Value>,
 ) -> Result<(), AllocError>
     ensures { MembersNestTo 1 members.old → OnOk result (MembersNestTo 1 members.new) }

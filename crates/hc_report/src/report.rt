@@ -8,20 +8,16 @@ ghost use Rattle.hc_report.specs.Json.{WritesReport};
 ghost use Rattle.hc_report.specs.Kinds.{AreShownIn};
 ghost use Rattle.hc_report.specs.Told.{TellsOf};
 
-use crate::group::WrongOfKind;
-use crate::groups::Groups;
+use crate::found::Found;
 use crate::json::put_all;
 use crate::requests::shown_request;
 use crate::saying::say_report;
-use crate::suspects::Suspects;
-use crate::tries::Tries;
 use hc_audit::{JudgedReply, PassedRecord, Witness};
 use hc_figures::{ListedReplies, ReplyCounts};
 use hc_history::{Counts, Ending, Finding, Reason, Settings, WrongReply};
 use hc_index::Index;
-use hc_past::Past;
 use hc_shown::Page;
-use hc_why::{Why, WrongClaim, why};
+use hc_why::Past;
 use serde_json::{Map, Value};
 use std::alloc::{AllocError, Global};
 
@@ -32,9 +28,7 @@ pub struct Report {
     past: Past,
     pub(crate) replies: ReplyCounts,
     pub(crate) wrongs: ListedReplies,
-    pub(crate) groups: Groups,
-    pub(crate) suspects: Suspects,
-    pub(crate) tries: Tries,
+    pub(crate) found: Found,
 }
 
 impl Drop for Report {
@@ -44,15 +38,11 @@ impl Drop for Report {
             past,
             replies: _,
             wrongs,
-            groups,
-            suspects,
-            tries,
+            found,
         } = self;
         drop(past);
         drop(wrongs);
-        drop(groups);
-        drop(suspects);
-        drop(tries);
+        drop(found);
     }
 }
 
@@ -85,12 +75,10 @@ impl Report {
     {
         Ok(Report {
             alloc,
-            past: Past::new(alloc)?,
+            past: Past::latest(alloc)?,
             replies: ReplyCounts::new(),
             wrongs: ListedReplies::new(alloc),
-            groups: Groups::new(alloc),
-            suspects: Suspects::new(alloc),
-            tries: Tries::new(alloc, settings)?,
+            found: Found::new(alloc, settings)?,
         })
     }
 
@@ -111,42 +99,8 @@ impl Report {
         };
         let request = shown_request(self.alloc, judged)?;
         self.wrongs.note(wrong, &request)?;
-        self.group(judged, reason, request.into_target())
-    }
-
-    // What is wrong with a reply, which is judged once more by what might make it right.
-    fn judge_again<I: Index>(
-        &mut self,
-        judged: &JudgedReply<'_, I>,
-        reason: Reason,
-    ) -> Result<Why, AllocError>
-        ensures { self.new.wrongs ≡ self.old.wrongs }
-    {
-        let Some(wrong) = WrongClaim::read(self.alloc, judged, reason)? else {
-            return Ok(Why::Unasked);
-        };
-        let why = why(self.alloc, &wrong, &self.past)?;
-        self.tries.judge(judged, &wrong, &why)?;
-        Ok(why)
-    }
-
-    // Puts a wrong reply, of which that target is shown, where it belongs by what is wrong with it.
-    fn group<I: Index>(
-        &mut self,
-        judged: &JudgedReply<'_, I>,
-        reason: Reason,
-        target: String,
-    ) -> Result<(), AllocError>
-        ensures { self.new.wrongs ≡ self.old.wrongs }
-    {
-        let why = self.judge_again(judged, reason)?;
-        self.suspects.note(&why)?;
-        self.groups.note(WrongOfKind {
-            position: judged.position,
-            reason,
-            why,
-            target,
-        })
+        self.found
+            .take(judged, reason, request.into_target(), &self.past)
     }
 
     /// The first wrong reply.

@@ -1,9 +1,9 @@
 //! The table of the groups.
 
-use crate::group::{Group, Spread};
+use crate::group::Group;
 use crate::groups::Groups;
 use crate::targets::NamedTargets;
-use hc_shown::Page;
+use hc_shown::{Page, Teller};
 use std::alloc::Global;
 
 /// The most columns that are left free behind a text.
@@ -30,9 +30,9 @@ pub(crate) fn say_groups(alloc: Global, groups: &Groups, page: &mut Page) {
 
 fn say_titles(widths: Widths, page: &mut Page) {
     page.text("\n   count    first  ");
-    page.word("reason", widths.reason);
+    page.padded("reason", widths.reason);
     page.text("  ");
-    page.word("what", widths.what);
+    page.padded("what", widths.what);
     page.text("  first target\n");
 }
 
@@ -45,7 +45,7 @@ fn say_elsewhere(groups: &Groups, page: &mut Page) {
         groups.elsewhere,
         " more wrong replies are in no group of these ",
     );
-    page.number("", groups.groups.len() as u64, "\n");
+    page.count("", groups.groups.len() as u64, "\n");
 }
 
 // The columns that the groups take, each of which is written on a page by itself.
@@ -55,7 +55,7 @@ fn widths_of(groups: &[Group], page: &mut Page) -> Widths {
         let begun = page.columns();
         push_reason(group, page);
         let behind = page.columns();
-        push_what(group, page);
+        group.say_what(page);
         let reason = behind.saturating_sub(begun);
         let what = page.columns().saturating_sub(behind);
         widths.reason = widths.reason.max(reason);
@@ -72,7 +72,7 @@ fn say_group(group: &Group, widths: Widths, page: &mut Page) {
     page.pad(begun, widths.reason);
     page.text("  ");
     let begun = page.columns();
-    push_what(group, page);
+    group.say_what(page);
     page.pad(begun, widths.what);
     page.text("  ");
     push_targets(&group.targets, page);
@@ -80,25 +80,8 @@ fn say_group(group: &Group, widths: Widths, page: &mut Page) {
 }
 
 fn push_reason(group: &Group, page: &mut Page) {
-    page.number("", u64::from(group.reason.number()), " ");
+    page.count("", u64::from(group.reason.number()), " ");
     page.text(group.reason.name());
-}
-
-/// Writes what is wrong in the replies of a group, and by how much.
-pub(crate) fn push_what(group: &Group, page: &mut Page) {
-    group.why.say(page);
-    if let Some(spread) = group.spread {
-        push_spread(spread, page);
-    }
-}
-
-// Writes by how many seconds replies are off.
-fn push_spread(spread: Spread, page: &mut Page) {
-    if spread.least != spread.greatest {
-        page.number(" by ", spread.least, " to ");
-        return page.number("", spread.greatest, " s");
-    }
-    page.number(" by ", spread.least, " s");
 }
 
 // Writes the first target, and how many more there are.
@@ -109,9 +92,9 @@ fn push_targets(targets: &NamedTargets, page: &mut Page) {
     page.text(first.as_str());
     let more = others.len() as u64;
     if targets.others != 0 {
-        return page.number(" and over ", more, " more");
+        return page.count(" and over ", more, " more");
     }
     if more != 0 {
-        page.number(" and ", more, " more");
+        page.count(" and ", more, " more");
     }
 }

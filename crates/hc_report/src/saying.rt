@@ -7,7 +7,7 @@ use crate::rows::say_groups;
 use crate::tries::Tries;
 use hc_figures::{NO_MARK, ReplyCounts};
 use hc_history::{Counts, Ending};
-use hc_shown::Page;
+use hc_shown::{Page, Teller};
 use std::alloc::Global;
 
 /// Writes what stands behind the verdict.
@@ -19,7 +19,7 @@ pub(crate) fn say_report(
     page: &mut Page,
 ) {
     if let Some(counts) = counts {
-        page.number("records    ", counts.records, "\n");
+        page.count("records    ", counts.records, "\n");
     }
     say_ending(ending, page);
     say_replies(&report.replies, page);
@@ -29,15 +29,15 @@ pub(crate) fn say_report(
 // Writes how many replies are wrong, and what is wrong in them.
 fn say_wrongs(alloc: Global, report: &Report, page: &mut Page) {
     let wrong = report.wrongs.count;
-    page.number("wrong      ", wrong, " of ");
-    page.number("", report.replies.judged(), "\n");
+    page.count("wrong      ", wrong, " of ");
+    page.count("", report.replies.judged(), "\n");
     if wrong == 0 {
         return;
     }
-    say_groups(alloc, &report.groups, page);
-    report.suspects.say(page);
-    say_warm(report.groups.unrecorded(), page);
-    say_tries(&report.tries, wrong, page);
+    say_groups(alloc, &report.found.groups, page);
+    report.found.suspects.say(page);
+    say_warm(report.found.groups.unrecorded(), page);
+    say_tries(&report.found.tries, wrong, page);
 }
 
 // Writes where the records break, if they do.
@@ -45,8 +45,8 @@ fn say_ending(ending: Ending, page: &mut Page) {
     let Ending::Broken(position, fault) = ending else {
         return;
     };
-    page.number("ends       at ", position, ", which is malformed: ");
-    page.number("", u64::from(fault.number()), " ");
+    page.count("ends       at ", position, ", which is malformed: ");
+    page.count("", u64::from(fault.number()), " ");
     page.text(fault.name());
     page.end_line();
 }
@@ -54,12 +54,12 @@ fn say_ending(ending: Ending, page: &mut Page) {
 // Writes what the replies say of themselves.
 fn say_replies(replies: &ReplyCounts, page: &mut Page) {
     say_marks(replies, page);
-    page.number("octets     ", replies.hit_octets, " in bodies of hits, ");
+    page.count("octets     ", replies.hit_octets, " in bodies of hits, ");
     let behind = " in those of forwarded replies\n";
-    page.number("", replies.forwarded_octets, behind);
+    page.count("", replies.forwarded_octets, behind);
     if replies.unjudged != 0 {
         let behind = ": nothing is said of replies without a mark\n";
-        page.number("unjudged   ", replies.unjudged, behind);
+        page.count("unjudged   ", replies.unjudged, behind);
     }
     if replies.has_no_mark() {
         page.text("warning: ");
@@ -70,23 +70,23 @@ fn say_replies(replies: &ReplyCounts, page: &mut Page) {
 
 fn say_marks(replies: &ReplyCounts, page: &mut Page) {
     let all = replies.all();
-    page.number("replies    ", all, ": ");
+    page.count("replies    ", all, ": ");
     say_part(replies.hits, all, " hits", page);
     say_part(replies.forwarded, all, " forwarded", page);
     say_part(replies.unmarked, all, " unmarked", page);
-    page.number("", replies.both, " with both marks\n");
+    page.count("", replies.both, " with both marks\n");
     if replies.collapsed != 0 {
         let behind = " of the forwarded replies\n";
-        page.number("collapsed  ", replies.collapsed, behind);
+        page.count("collapsed  ", replies.collapsed, behind);
     }
 }
 
 // Writes a count, what it counts, and its share of all, if there are any, with a comma behind them.
 fn say_part(part: u64, all: u64, what: &str, page: &mut Page) {
-    page.number("", part, what);
+    page.count("", part, what);
     if let Some(thousandths) = share_of(part, all) {
-        page.number(" (", thousandths / 10, ".");
-        page.number("", thousandths % 10, "%)");
+        page.count(" (", thousandths / 10, ".");
+        page.count("", thousandths % 10, "%)");
     }
     page.text(", ");
 }
@@ -103,7 +103,7 @@ fn say_warm(unrecorded: u64, page: &mut Page) {
     }
     let behind =
         " of targets of which nothing is recorded: was the cache empty when the recording began?\n";
-    page.number("warm       ", unrecorded, behind);
+    page.count("warm       ", unrecorded, behind);
 }
 
 // Writes what could be let pass so that fewer replies are wrong.
@@ -124,8 +124,8 @@ fn say_ignoring(ignoring: &IgnoringTry, wrong: u64, page: &mut Page) {
     }
     page.text("  ");
     ignoring.say(page);
-    page.number(": ", wrong, " to at most ");
-    page.number("", ignoring.wrong, "\n");
+    page.count(": ", wrong, " to at most ");
+    page.count("", ignoring.wrong, "\n");
 }
 
 fn say_fixed(fixed: &FixedTry, wrong: u64, page: &mut Page) {
@@ -134,6 +134,6 @@ fn say_fixed(fixed: &FixedTry, wrong: u64, page: &mut Page) {
     }
     page.text("  ");
     fixed.say(page);
-    page.number(": ", wrong, " to ");
-    page.number("", fixed.wrong, "\n");
+    page.count(": ", wrong, " to ");
+    page.count("", fixed.wrong, "\n");
 }

@@ -3,10 +3,10 @@
 ghost use Rattle.std.specs.Prelude.{◌≤◌, vec_len};
 ghost use Rattle.hc_report.specs.declared.suspects.TheConstants.{MOST_SUSPECTS};
 
-use hc_facts::{Change, FieldGap};
 use hc_fields::Octets;
-use hc_shown::Page;
-use hc_why::{Shortfall, Why};
+use hc_gaps::{Change, FieldGap};
+use hc_shown::{Page, Teller};
+use hc_why::Wrong;
 use std::alloc::{AllocError, Global};
 
 /// How many fields are named at most.
@@ -75,8 +75,8 @@ impl Suspects {
     }
 
     /// Takes in what is wrong with a reply.
-    pub(crate) fn note(&mut self, why: &Why) -> Result<(), AllocError> {
-        let Some(Shortfall::Fields(found)) = why.shortfall() else {
+    pub(crate) fn note(&mut self, wrong: &Wrong<'_>) -> Result<(), AllocError> {
+        let Some(found) = wrong.differences() else {
             return Ok(());
         };
         for gap in found.listed.iter() {
@@ -123,7 +123,7 @@ impl Suspects {
             suspect.say(page);
         }
         if self.others != 0 {
-            page.number("  others: ", self.others, "\n");
+            page.count("  others: ", self.others, "\n");
         }
     }
 }
@@ -133,8 +133,7 @@ impl Suspect {
     fn say(&self, page: &mut Page) {
         page.text("  ");
         page.text(self.change.word());
-        page.text(" ");
-        page.octets(self.name.as_slice());
-        page.number(": ", self.count, "\n");
+        page.said_octets(" ", self.name.as_slice(), "");
+        page.count(": ", self.count, "\n");
     }
 }

@@ -1,12 +1,12 @@
 //! What the wrong replies would be with other settings, each of them judged once more.
 
-use crate::asking::Asks;
+use crate::asking::{Asks, WrongCase};
 use crate::fixed::{Allowance, FixedTry};
 use crate::ignoring::IgnoringTry;
 use hc_audit::JudgedReply;
-use hc_history::{Reason, Settings};
+use hc_history::Settings;
 use hc_index::Index;
-use hc_why::{Why, WrongClaim};
+use hc_why::Wrong;
 use std::alloc::{AllocError, Global};
 
 /// Other settings that wrong replies are judged by.
@@ -63,14 +63,6 @@ fn push_fixed(settings: &Settings, fixed: &mut Vec<FixedTry>) -> Result<(), Allo
     Ok(())
 }
 
-// Whether a reply may carry more responses than the one that is named.
-fn may_carry_others<I: Index>(wrong: &WrongClaim<'_, I>) -> bool {
-    match wrong.reason {
-        Reason::NotForwarded | Reason::NotCollapsible => true,
-        _ => 1 < wrong.candidates.len(),
-    }
-}
-
 // Whether one of them makes fewer replies wrong than that.
 fn are_fewer(tries: &[FixedTry], wrong: u64) -> bool {
     for fixed in tries {
@@ -97,11 +89,11 @@ impl Tries {
     pub(crate) fn judge<I: Index>(
         &mut self,
         judged: &JudgedReply<'_, I>,
-        wrong: &WrongClaim<'_, I>,
-        why: &Why,
+        case: WrongCase<'_>,
+        wrong: &Wrong<'_>,
     ) -> Result<(), AllocError> {
-        self.ignoring.judge(judged, why, may_carry_others(wrong))?;
-        let asks = Asks::read(wrong, why);
+        self.ignoring.judge(judged, wrong, case.may_carry_others())?;
+        let asks = Asks::read(case, wrong);
         let mut right = None;
         for fixed in &mut self.fixed {
             if fixed.judge(judged, &asks, right, &mut self.settings)? {

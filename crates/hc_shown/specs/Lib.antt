@@ -4,3 +4,6 @@ pub mod Octets
 pub mod Pieces
 pub mod Secrets
 pub mod Values
+pub mod Shown
+pub mod Showings
+pub mod Texts

@@ -3,14 +3,16 @@
 use crate::moment::push_moment;
 use crate::octets::push_octets;
 use crate::target::push_target;
+use crate::teller::FieldOf;
 use crate::value::push_value;
-use hc_head::{Method, Target};
+use hc_head::Target;
 use std::alloc::{AllocError, Global};
 use std::fmt::Write;
 
 /// A text that grows. Where memory is refused for a piece of it, the whole is never given: `onto` and `into_text` answer
 /// that.
 pub struct Page {
+    alloc: Global,
     text: String,
     is_refused: bool,
 }
@@ -18,6 +20,7 @@ pub struct Page {
 impl Drop for Page {
     fn drop(self) {
         let Page {
+            alloc: _,
             text,
             is_refused: _,
         } = self;
@@ -25,7 +28,7 @@ impl Drop for Page {
     }
 }
 
-// Writes spaces behind that place, up to so many columns.
+// Writes spaces after that place, up to so many columns.
 fn pad(begun: usize, width: usize, text: &mut String) -> Result<(), AllocError> {
     for _ in text.len()..begun.saturating_add(width) {
         text.push(' ')?;
@@ -33,10 +36,19 @@ fn pad(begun: usize, width: usize, text: &mut String) -> Result<(), AllocError> 
     Ok(())
 }
 
+// Puts what a message has of a field at the end, or that there is none.
+fn push_field(alloc: Global, field: FieldOf<'_>, out: &mut String) -> Result<(), AllocError> {
+    match field.joined(alloc)? {
+        Some(value) => push_value(field.name, value.as_slice(), out),
+        None => out.push_str("none"),
+    }
+}
+
 impl Page {
     /// Nothing.
     pub fn new(alloc: Global) -> Self {
         Page {
+            alloc,
             text: String::new(alloc),
             is_refused: false,
         }
@@ -52,7 +64,11 @@ impl Page {
 
     /// The whole, which is moved.
     pub fn into_text(self) -> Result<String, AllocError> {
-        let Page { text, is_refused } = self;
+        let Page {
+            alloc: _,
+            text,
+            is_refused,
+        } = self;
         if is_refused {
             return Err(AllocError);
         }
@@ -64,6 +80,11 @@ impl Page {
         if other.is_refused {
             self.is_refused = true;
         }
+    }
+
+    // Another page, on which nothing is written.
+    pub(crate) fn another(&self) -> Self {
+        Page::new(self.alloc)
     }
 
     // Takes in whether a piece was written.
@@ -79,38 +100,49 @@ impl Page {
         self.note(written);
     }
 
-    /// Writes a number between two texts.
-    pub fn number(&mut self, before: &str, number: u64, behind: &str) {
-        let written = write!(self.text, "{before}{number}{behind}");
+    /// Ends a line.
+    pub fn end_line(&mut self) {
+        self.text("\n");
+    }
+
+    // Writes a number between two texts.
+    pub(crate) fn number_between(&mut self, before: &str, number: u64, after: &str) {
+        let written = write!(self.text, "{before}{number}{after}");
         self.note(written);
     }
 
-    /// Writes a number that may be below 0 behind a text.
-    pub fn signed(&mut self, before: &str, number: i64) {
+    // Writes a number that may be below 0 after a text.
+    pub(crate) fn signed_after(&mut self, before: &str, number: i64) {
         let written = write!(self.text, "{before}{number}");
         self.note(written);
     }
 
-    /// Writes octets as they are shown.
-    pub fn octets(&mut self, octets: &[u8]) {
+    // Writes octets as they are shown.
+    pub(crate) fn shown(&mut self, octets: &[u8]) {
         let written = push_octets(octets, &mut self.text);
         self.note(written);
     }
 
-    /// Writes the value of a field of that name as it is shown.
-    pub fn value(&mut self, name: &[u8], value: &[u8]) {
+    // Writes the value of a field of that name as it is shown.
+    pub(crate) fn shown_value(&mut self, name: &[u8], value: &[u8]) {
         let written = push_value(name, value, &mut self.text);
         self.note(written);
     }
 
-    /// Writes a moment.
-    pub fn moment(&mut self, moment: u64) {
+    // Writes what a message has of a field as it is shown, or that there is none.
+    pub(crate) fn joined_value(&mut self, field: FieldOf<'_>) {
+        let written = push_field(self.alloc, field, &mut self.text);
+        self.note(written);
+    }
+
+    // Writes a date and a time of day.
+    pub(crate) fn date_time(&mut self, moment: u64) {
         let written = push_moment(moment, &mut self.text);
         self.note(written);
     }
 
-    /// Writes a target.
-    pub fn target(&mut self, target: &Target) {
+    // Writes a target.
+    pub(crate) fn shown_target(&mut self, target: &Target) {
         let written = push_target(target, &mut self.text);
         self.note(written);
     }
@@ -122,46 +154,22 @@ impl Page {
         self.text.len()
     }
 
-    /// Writes spaces behind that place, up to so many columns.
+    /// Writes spaces after that place, up to so many columns.
     pub fn pad(&mut self, begun: usize, width: usize) {
         let written = pad(begun, width, &mut self.text);
         self.note(written);
     }
 
-    /// Writes a word, and spaces up to so many columns.
-    pub fn word(&mut self, word: &str, width: usize) {
+    /// Writes a text, and spaces up to so many columns.
+    pub fn padded(&mut self, text: &str, width: usize) {
         let begun = self.text.len();
-        self.text(word);
+        self.text(text);
         self.pad(begun, width);
     }
 
-    /// Writes a number at the end of eight columns, and a text behind it.
-    pub fn column(&mut self, number: u64, behind: &str) {
-        let written = write!(self.text, "{number:>8}{behind}");
+    /// Writes a number at the end of eight columns, and a text after it.
+    pub fn column(&mut self, number: u64, after: &str) {
+        let written = write!(self.text, "{number:>8}{after}");
         self.note(written);
-    }
-
-    /// Writes a method between two texts.
-    pub fn method(&mut self, before: &str, method: &Method, behind: &str) {
-        self.text(before);
-        self.octets(method.as_slice());
-        self.text(behind);
-    }
-
-    /// Says how many things there are besides those that are named, if there are any.
-    pub fn more(&mut self, more: u64) {
-        if more != 0 {
-            self.number(", and ", more, " more");
-        }
-    }
-
-    /// Writes what stands before a list, or what separates a thing of it from those before it.
-    pub fn separator(&mut self, is_first: bool, before: &str, separator: &str) {
-        self.text(if is_first { before } else { separator });
-    }
-
-    /// Ends a line.
-    pub fn end_line(&mut self) {
-        self.text("\n");
     }
 }

@@ -8,9 +8,9 @@ use Rattle.hc_history.specs.declared.verdicts.Finding.{Finding}
 use Rattle.hc_history.specs.declared.verdicts.Finding.TheVariants.{Right, Wrong}
 use Rattle.hc_history.specs.declared.wrong.WrongReply.{WrongReply}
 use Rattle.hc_audit.specs.Told.{wrong_of}
-use Rattle.hc_why.specs.declared.explaining.Explanation.{Explanation}
+use Rattle.hc_why.specs.declared.found.FoundReply.{FoundReply}
 use Rattle.hc_why.specs.declared.seeking.ReplyAt.{ReplyAt}
-use Rattle.hc_why.specs.Explaining.{finding_of, position_of}
+use Rattle.hc_why.specs.Found.{finding_of, position_of}
 use Rattle.hc_why.specs.Seeking.{HasFoundAmong, IsFoundAt, IsOfPlace, reason_in, wrong_at}
 use Rattle.hc_why.specs.Standing.{answered, exchange_at, newest_exchange, stands_at}
 use Rattle.hc_transcript.specs.Items.{Item}
@@ -95,14 +95,14 @@ stays_known seeker wrongs position finding some before =
     stays seeker wrongs (wrongs ++ wrong_of position finding)
     (known seeker.position position finding wrongs seeker.reason some before.reason) before
 
-is_of_place : (place position : ℕ) (finding : Finding) (wrongs : List WrongReply) (found : Option Explanation) → position ≡ place
+is_of_place : (place position : ℕ) (finding : Finding) (wrongs : List WrongReply) (found : Option FoundReply) → position ≡ place
     → wrong_at place wrongs ≡ reason_in finding → IfSome found (λ reply. (position_of reply ≡ position) × (finding_of reply ≡ finding))
     → IfSome found (λ reply. IsOfPlace place wrongs (position_of reply) (finding_of reply))
 is_of_place place position finding wrongs None same is told = tt
 is_of_place place position finding wrongs (Some reply) same is told = (told.0 ∙ same, ap reason_in told.1 ∙ sym is)
 
 -- the reply there is found
-pub is_found : (seeker : ReplyAt) (wrongs : List WrongReply) (position : ℕ) (finding : Finding) (reason : Option Reason) (found : Option Explanation)
+pub is_found : (seeker : ReplyAt) (wrongs : List WrongReply) (position : ℕ) (finding : Finding) (reason : Option Reason) (found : Option FoundReply)
     → position ≡ seeker.position → is_some seeker.reason ≡ false → reason ≡ reason_in finding
     → IfSome found (λ reply. (position_of reply ≡ position) × (finding_of reply ≡ finding)) → IsFoundAt seeker wrongs
     → IsFoundAt record { alloc = seeker.alloc; position = seeker.position; is_behind = seeker.is_behind; reason = reason; found = found } (wrongs ++ wrong_of position finding)
@@ -161,7 +161,7 @@ found_later seeker item h before = record {
 }
 
 -- and who finds it where it is the newest
-pub found_newest : (seeker : ReplyAt) (reason : Option Reason) (found : Option Explanation) (item : Item) (h : List Item) → seeker.position ≡ next_position h
+pub found_newest : (seeker : ReplyAt) (reason : Option Reason) (found : Option FoundReply) (item : Item) (h : List Item) → seeker.position ≡ next_position h
     → is_some (answered item h) ≡ true → is_some found ≡ true
     → HasFoundAmong record { alloc = seeker.alloc; position = seeker.position; is_behind = seeker.is_behind; reason = reason; found = found } (item ∷ h)
 found_newest seeker reason found item h is opened there = record {

@@ -1,3 +1,3 @@
-pub mod Explaining
+pub mod Found
 pub mod Seeking
 pub mod Standing

@@ -1,50 +1,28 @@
 //! What is asked of a reply that is wrong.
 
-use crate::explaining::{Explanation, Ground};
-use crate::naming::Nearest;
-use crate::shortfalls::Shortfall;
-use crate::whys::Why;
-use hc_facts::{
-    Demand, Differences, Selection, age_demand, content_demand, date_demand, demand_of,
-    fields_demand, star_demand, storing_demand, usage_demand,
+use crate::changes::{Due, INVALIDATED};
+use crate::explaining::Explanation;
+use crate::past::End;
+use crate::shortfalls::{Nearest, Shortfall};
+use crate::wrongs::Why;
+use hc_gaps::{
+    Demand, Differences, Forbids, NO_HIT, PRIVATE_FIELDS, Qualified, STORED_ANSWER, TTL,
+    qualified_by,
 };
-use hc_head::StatusCode;
+use hc_head::{ResponseHead, StatusCode};
 use hc_history::Reason;
-use hc_past::Unstored;
 
-// Whether the Date differs, and the latest 304 has none.
-fn has_own_date(found: &Differences) -> bool {
-    for gap in found.listed.iter() {
-        if gap.name.as_slice() == b"date".as_slice() && !gap.is_renewed {
-            return true;
-        }
-    }
-    false
-}
+/// A 304 is given to no later request.
+const NO_RESPONSE: Demand = Demand {
+    sections: "no RFC (RFC 9111 section 3 lets a 304 be stored by a cache that understands it), but this auditor's stricter rule",
+    words: "a 304 updates what is stored, and isn't itself what a later request is given",
+};
 
-// Whether Vary names what selects no request.
-fn has_star(selection: &Selection) -> bool {
-    for unmet in selection.unmet.iter() {
-        if !unmet.is_name {
-            return true;
-        }
-    }
-    false
-}
-
-// What is asked of a hit of that status for which nothing is stored.
-fn demand_on(unstored: &Unstored, status: StatusCode) -> Demand {
-    match unstored.recorded.last() {
-        Some(unstorable) if unstored.other_method.is_none() => storing_demand(&unstorable.forbids),
-        _ => demand_of(Reason::NoResponse, status),
-    }
-}
-
-impl Explanation {
-    /// The reason whose demand a reply doesn't keep that is wrong for that one. Where it went forward and is to be a
-    /// stored response, or gives it, that is the reason of the rule which this breaks.
-    pub fn demanded(&self, reason: Reason) -> Reason {
-        let Ground::Wrong(Why::NotForwarded(_, Some(nearest))) = &self.ground else {
+impl Explanation<'_> {
+    // The reason whose demand a reply doesn't keep that is wrong for that one. Where it went forward and is to be a
+    // stored response, or gives it, that is the reason of the rule which this breaks.
+    fn demanded(&self, reason: Reason) -> Reason {
+        let (Some(Why::NotForwarded(_)), Some(nearest)) = (self.why, &self.nearest) else {
             return reason;
         };
         match nearest.breaks() {
@@ -56,44 +34,122 @@ impl Explanation {
     /// What is asked of a reply that is wrong for that reason: by the way in which the stored response that is named falls
     /// short, where that is what it doesn't keep.
     pub fn demand(&self, reason: Reason) -> Demand {
+        if self.own_answer().is_some() {
+            return NO_HIT;
+        }
+        if let Some(permitted) = self.permitted {
+            return permitted;
+        }
         let demanded = self.demanded(reason);
-        let status = self.reply.status;
-        match (self.nearest(), &self.ground) {
+        match (&self.nearest, self.why) {
             (Some(nearest), _) => self.demand_by(nearest, demanded),
-            (None, Ground::Wrong(Why::NoResponse(unstored))) => demand_on(unstored, status),
-            (None, _) => demand_of(demanded, status),
+            (None, Some(Why::NoResponse(unstored))) if !unstored.has_other_method => {
+                self.demand_of_storing()
+            }
+            (None, _) => Demand::of_reason(demanded),
         }
     }
 
-    // The same where that response is named.
-    fn demand_by(&self, nearest: &Nearest, demanded: Reason) -> Demand {
-        let status = self.reply.status;
+    // What is asked of a hit for which nothing is stored: by the response that it gives, or else by the latest.
+    fn demand_of_storing(&self) -> Demand {
+        match self.given_unstored().or(self.latest_unstored()) {
+            Some(end) => self.demand_of_end(end),
+            None => STORED_ANSWER,
+        }
+    }
+
+    // The latest response of the target that may not be stored.
+    fn latest_unstored(&self) -> Option<&End> {
+        match self.ends.unstored.last() {
+            Some(end) => Some(*end),
+            None => None,
+        }
+    }
+
+    // What is asked of that response, which may not be stored.
+    fn demand_of_end(&self, end: &End) -> Demand {
+        match (end.unstorable(), end.heads()) {
+            (Some(unstorable), Some(heads)) => {
+                let forbids = &unstorable.forbids;
+                if unstorable.status == StatusCode::NOT_MODIFIED {
+                    self.demand_of_304(forbids, &heads.response)
+                } else {
+                    self.demand_by_head(forbids, &heads.response)
+                }
+            }
+            _ => STORED_ANSWER,
+        }
+    }
+
+    // What is asked of a 304: by what forbids to store it, beside its status and method.
+    fn demand_of_304(&self, forbids: &Forbids, response: &ResponseHead) -> Demand {
+        let others = Forbids {
+            status: false,
+            method: false,
+            ..*forbids
+        };
+        if others.is_nothing() {
+            NO_RESPONSE
+        } else {
+            self.demand_by_head(&others, response)
+        }
+    }
+
+    // What is asked by what forbids to store that response.
+    fn demand_by_head(&self, forbids: &Forbids, response: &ResponseHead) -> Demand {
+        if forbids.is_private_alone() && self.leaves_out(b"private", response) {
+            PRIVATE_FIELDS
+        } else {
+            forbids.demand()
+        }
+    }
+
+    // Whether the directive names fields alone, of which the reply has none.
+    fn leaves_out(&self, directive: &[u8], response: &ResponseHead) -> bool {
+        let reply = &self.claim.reply.head.fields;
+        qualified_by(directive, &response.fields, reply) == Qualified::LeftOut
+    }
+
+    // What is asked where that response is named.
+    fn demand_by(&self, nearest: &Nearest<'_>, demanded: Reason) -> Demand {
         let Some(shortfall) = &nearest.shortfall else {
-            return demand_of(demanded, status);
+            return Demand::of_reason(demanded);
         };
         if shortfall.rule().reason() != demanded {
-            return demand_of(demanded, status);
+            return Demand::of_reason(demanded);
         }
+        self.demand_of(nearest, shortfall)
+    }
+
+    // What is asked by the way in which that response falls short.
+    fn demand_of(&self, nearest: &Nearest<'_>, shortfall: &Shortfall) -> Demand {
         match shortfall {
-            Shortfall::Selected(selection) if has_star(selection) => {
-                star_demand(!nearest.not_about.is_empty())
+            Shortfall::Asked => STORED_ANSWER,
+            Shortfall::Selected(selection) => { selection.demand(self.changes.has_unselected()) }
+            Shortfall::Valid => INVALIDATED,
+            Shortfall::Lifetime(usage) => usage.demand_of_lifetime(self.leaves_fields_out(nearest)),
+            Shortfall::Use(usage) => {
+                let is_after_error = matches!(self.due(), Due::Error(_));
+                usage.demand_of_use(self.leaves_fields_out(nearest), is_after_error)
             }
-            Shortfall::Use(usage) => usage_demand(usage),
-            Shortfall::Body(gap) => content_demand(gap),
-            Shortfall::Age(gap) => age_demand(gap, nearest.validated_at.is_some(), status),
-            Shortfall::Fields(found) if self.is_undated(nearest) && has_own_date(found) => {
-                date_demand()
+            Shortfall::Body(gap) => gap.demand(),
+            Shortfall::Fields(found) => self.demand_of_fields(nearest, found),
+            Shortfall::Age(gap) => {
+                let status = self.claim.reply.head.status;
+                gap.demand(self.claim.since, nearest.state.validated_at, status)
             }
-            Shortfall::Fields(found) if status != StatusCode::NOT_MODIFIED => fields_demand(found),
-            _ => demand_of(demanded, status),
+            Shortfall::Ttl(_) => TTL,
         }
     }
 
-    /// Whether that response is known to have come without a Date.
-    pub fn is_undated(&self, nearest: &Nearest) -> bool {
-        match self.source(nearest.position) {
-            Some(source) => !source.is_dated,
-            None => false,
-        }
+    // Whether the response says `no-cache` of fields alone that the reply lacks.
+    fn leaves_fields_out(&self, nearest: &Nearest<'_>) -> bool {
+        let reply = &self.claim.reply.head.fields;
+        qualified_by(b"no-cache", &nearest.state.fields, reply) == Qualified::LeftOut
+    }
+
+    // What is asked of fields that differ.
+    fn demand_of_fields(&self, nearest: &Nearest<'_>, found: &Differences) -> Demand {
+        found.demand(self.claim.reply.head.status, self.fields_origin(nearest))
     }
 }

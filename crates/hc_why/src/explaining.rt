@@ -5,18 +5,24 @@ ghost use Rattle.hc_transcript.specs.History.{exchange_of};
 ghost use Rattle.hc_transcript.specs.Items.{Item};
 ghost use Rattle.hc_history.specs.Right.{IsFinding};
 ghost use Rattle.hc_history.specs.Seen.{IsSeenAs};
-ghost use Rattle.hc_facts.specs.Stale.{settings_with};
-ghost use Rattle.hc_why.specs.Explaining.{finding_of, position_of};
+ghost use Rattle.hc_gaps.specs.Stale.{settings_with};
 
-use crate::naming::{Nearest, Reaches, named, nearest_of};
-use crate::reading::why_by;
-use crate::whys::Why;
+use crate::changes::{Changes, Due, due_of, permitted_change};
+use crate::past::{End, Past};
+use crate::shortfalls::{Nearest, Reaches, Shortfall, found_with_setting, named};
+use crate::unstored::{tell_unstorable, unstorable_after};
+use crate::window::{Window, ends_in_window, ends_near};
+use crate::wrongs::{Why, kind_of, name_of, names_response};
 use hc_audit::JudgedReply;
-use hc_facts::{AskedReply, Newest, Rule, Setting, StaleUse, rule_behind, stale_use};
+use hc_fresh::date_stated;
+use hc_gaps::{
+    Demand, Differences, Newest, PERMITTED_PART, Rule, Setting, StaleUse, compare, rule_behind,
+    stale_use,
+};
+use hc_head::StatusCode;
 use hc_history::{Candidate, Finding, Mark, Reason, ReplyClaim, is_judged_collapsed};
 use hc_index::Index;
-use hc_past::{EndedForward, Source};
-use hc_update::Stored;
+use hc_shown::{Page, Teller};
 use std::alloc::{AllocError, Global};
 
 /// The way that a reply went, by the mark by which it is judged.
@@ -32,34 +38,54 @@ pub enum Way {
     Unmarked,
 }
 
-/// What is found of a reply.
-pub enum Ground {
-    /// It is right; and the stored response that it carries, if it carries one.
-    Right(Option<Nearest>),
-    /// What is wrong with it.
-    Wrong(Why),
-}
-
-impl Drop for Ground {
-    fn drop(self) {
+impl Way {
+    /// The word for it.
+    pub fn name(&self) -> &'static str {
         match self {
-            Ground::Right(nearest) => drop(nearest),
-            Ground::Wrong(why) => drop(why),
+            Way::Hit => "hit",
+            Way::Forwarded => "forwarded",
+            Way::Collapsed => "collapsed",
+            Way::Unmarked => "unmarked",
         }
     }
 }
 
+/// The ends of forwards that are told of with a reply.
+pub struct Ends<'a> {
+    /// The responses that it may carry, as far as they are named.
+    pub sources: Vec<&'a End>,
+    /// Those of the target that may not be stored, where that is what is wrong.
+    pub unstored: Newest<&'a End>,
+    /// Those in the window, where the reply went forward.
+    pub window: Newest<&'a End>,
+    /// Those in it of the same path under another host that the reply would carry.
+    pub near: Newest<&'a End>,
+    /// The latest in it that the reply carries.
+    pub carried: Option<&'a End>,
+}
+
+impl Drop for Ends<'_> {
+    fn drop(self) {
+        let Ends {
+            sources,
+            unstored,
+            window,
+            near,
+            carried: _,
+        } = self;
+        drop(sources);
+        drop(unstored);
+        drop(window);
+        drop(near);
+    }
+}
+
 /// What is known of one reply, and of the records that are named with it.
-pub struct Explanation {
-    pub(crate) alloc: Global,
+pub struct Explanation<'a> {
     /// The position of its record.
     pub position: u64,
-    /// The number of its exchange.
-    pub exchange: u64,
-    /// The position of the request that it answers.
-    pub since: u64,
     /// What it says, and what was asked.
-    pub reply: AskedReply,
+    pub claim: ReplyClaim<'a>,
     /// The way that it went.
     pub way: Way,
     /// That it is right, or why it is wrong.
@@ -68,51 +94,57 @@ pub struct Explanation {
     pub with_setting: Option<Finding>,
     /// How stale the response is that is named, and what permits to give it, where it is a hit that may give what is stale.
     pub stale: Option<StaleUse>,
-    /// What is found of it.
-    pub ground: Ground,
+    /// What is wrong, if something is.
+    pub why: Option<Why>,
+    /// The response that is named, if one is.
+    pub nearest: Option<Nearest<'a>>,
+    /// What the records made of that.
+    pub changes: Changes<'a>,
+    /// What is asked of the reply, where no RFC does, and what was done is permitted.
+    pub(crate) permitted: Option<Demand>,
+    /// The fields in which the reply differs from it, where it may not be given, and the reply gives it.
+    pub came: Option<Differences>,
     /// The responses that it may carry, but for those before its request where it was collapsed.
     pub reaches: Reaches,
     /// Those before its request, where it was collapsed.
     pub before: Reaches,
-    /// The records of the responses that it may carry, as far as they are named.
-    pub sources: Vec<Source>,
-    /// The records of the responses that may not be stored, as far as what is wrong names them.
-    pub unstored: Newest<Source>,
-    /// The latest answer of its window that it carries.
-    pub carried: Option<Source>,
+    /// The ends of forwards that are told of.
+    pub ends: Ends<'a>,
+    /// What came before the reply.
+    pub past: &'a Past,
 }
 
-impl Drop for Explanation {
+impl Drop for Explanation<'_> {
     fn drop(self) {
         let Explanation {
-            alloc: _,
             position: _,
-            exchange: _,
-            since: _,
-            reply,
+            claim,
             way: _,
             finding: _,
             with_setting: _,
             stale: _,
-            ground,
+            why: _,
+            nearest,
+            changes,
+            permitted: _,
+            came,
             reaches,
             before,
-            sources,
-            unstored,
-            carried,
+            ends,
+            past: _,
         } = self;
-        drop(reply);
-        drop(ground);
+        drop(claim);
+        drop(nearest);
+        drop(changes);
+        drop(came);
         drop(reaches);
         drop(before);
-        drop(sources);
-        drop(unstored);
-        drop(carried);
+        drop(ends);
     }
 }
 
-// The way of a reply of that mark.
-fn way_of(claim: &ReplyClaim<'_>, mark: Mark) -> Way {
+/// The way of a reply of that mark.
+pub(crate) fn way_of(claim: &ReplyClaim<'_>, mark: Mark) -> Way {
     match mark {
         Mark::Hit { .. } => Way::Hit,
         Mark::Forwarded { collapsed } if is_judged_collapsed(claim, collapsed) => Way::Collapsed,
@@ -121,21 +153,8 @@ fn way_of(claim: &ReplyClaim<'_>, mark: Mark) -> Way {
     }
 }
 
-// What is found of a reply, of which that response is named.
-fn ground_of(
-    alloc: Global,
-    claim: &ReplyClaim<'_>,
-    finding: Finding,
-    nearest: Option<Nearest>,
-) -> Result<Ground, AllocError> {
-    match finding {
-        Finding::Right => Ok(Ground::Right(nearest)),
-        Finding::Wrong(reason) => Ok(Ground::Wrong(why_by(alloc, claim, reason, nearest)?)),
-    }
-}
-
-// What an audit would find of a reply with that setting.
-fn found_with<I: Index>(
+/// What an audit would find of a reply with that setting.
+pub(crate) fn found_with<I: Index>(
     alloc: Global,
     judged: &JudgedReply<'_, I>,
     setting: Setting,
@@ -149,18 +168,32 @@ fn found_with<I: Index>(
     judged.found_with(&settings)
 }
 
-// The same with the setting by which the response that is named may be used, if there is one.
-fn found_with_setting<I: Index>(
+// What is asked of a reply that is a part, or says that there is none, where it would be right in an audit that allows ranges.
+fn permitted_part<I: Index>(
     alloc: Global,
     judged: &JudgedReply<'_, I>,
-    nearest: Option<&Nearest>,
-) -> Result<Option<Finding>, AllocError> {
-    let Some(nearest) = nearest else {
+) -> Result<Option<Demand>, AllocError> {
+    let status = judged.reply.reply().head.status;
+    let is_part = status == StatusCode::PARTIAL_CONTENT
+        || status == StatusCode::RANGE_NOT_SATISFIABLE;
+    if !is_part || judged.settings.allowed.ranges {
         return Ok(None);
-    };
-    match nearest.setting() {
-        Some(setting) => Ok(Some(found_with(alloc, judged, setting)?)),
-        None => Ok(None),
+    }
+    let mut settings = judged.settings.copy(alloc)?;
+    settings.allowed.ranges = true;
+    if gets_further(judged.finding, judged.found_with(&settings)?) {
+        Ok(Some(PERMITTED_PART))
+    } else {
+        Ok(None)
+    }
+}
+
+// Whether a reply of the one finding, which is wrong, keeps the rule that it breaks with the other one.
+fn gets_further(finding: Finding, other: Finding) -> bool {
+    match (finding, other) {
+        (Finding::Wrong(_), Finding::Right) => true,
+        (Finding::Wrong(reason), Finding::Wrong(other)) => reason.number() < other.number(),
+        (Finding::Right, _) => false,
     }
 }
 
@@ -182,155 +215,318 @@ fn stale_of<I: Index>(
     }
 }
 
-// Lists those candidates: those behind the position, the one that is named first, and those before it.
-fn list(
-    candidates: &[Candidate],
-    named: Option<Candidate>,
-    since: u64,
-    reaches: &mut Reaches,
-    before: &mut Reaches,
-) -> Result<(), AllocError> {
-    if let Some(named) = &named {
-        reaches.push(named)?;
-    }
-    for candidate in candidates {
-        if candidate.position <= since {
-            before.push(candidate)?;
-        } else if named != Some(*candidate) {
-            reaches.push(candidate)?;
-        }
-    }
-    Ok(())
-}
-
-/// The position behind which the responses lie that a reply of that way may carry.
-pub(crate) fn bound_of(way: Way, since: u64) -> u64 {
+// The position after which the responses lie that a reply of that way may carry.
+fn bound_of(way: Way, since: u64) -> u64 {
     match way {
         Way::Collapsed => since,
         Way::Hit | Way::Forwarded | Way::Unmarked => 0,
     }
 }
 
-impl Explanation {
-    /// What is known of that reply behind the records before it. None where no exchange of its number is open.
-    pub(crate) fn read<I: Index>(
+// The reason of a reply that is wrong.
+fn reason_of(finding: Finding) -> Option<Reason> {
+    match finding {
+        Finding::Right => None,
+        Finding::Wrong(reason) => Some(reason),
+    }
+}
+
+impl<'a> Ends<'a> {
+    // None.
+    fn none(alloc: Global) -> Self {
+        Ends {
+            sources: Vec::new(alloc),
+            unstored: Newest::new(alloc),
+            window: Newest::new(alloc),
+            near: Newest::new(alloc),
+            carried: None,
+        }
+    }
+
+    // Those that are told of with the reply that claims that, and is wrong by that, if by something.
+    fn read(
         alloc: Global,
-        judged: &JudgedReply<'_, I>,
-    ) -> Result<Option<Self>, AllocError>
-        ensures told { IfOk result (λ found. IfSome found (λ reply. (position_of reply ≡ judged.now.position) × (finding_of reply ≡ judged.now.finding))) }
-        ensures there { (h : List Item) → IsSeenAs judged.now.format (I.seen judged.now.index.now) h → IsSome (exchange_of judged.now.exchange h)
-            → IfOk result (λ found. is_some found ≡ true) }
-    {
+        claim: &ReplyClaim<'_>,
+        reaches: &Reaches,
+        why: Option<Why>,
+        past: &'a Past,
+    ) -> Result<Self, AllocError> {
+        let mut ends = Ends::none(alloc);
+        ends.take_named(claim, reaches, past)?;
+        ends.take_why(alloc, claim, why, past)?;
+        Ok(ends)
+    }
+
+    // Takes in the records of the responses that are named, and the latest answer of the window that the reply carries.
+    fn take_named(
+        &mut self,
+        claim: &ReplyClaim<'_>,
+        reaches: &Reaches,
+        past: &'a Past,
+    ) -> Result<(), AllocError> {
+        for end in past.ends().iter() {
+            if end.is_of(claim.target) && reaches.names(end.record.position) {
+                self.sources.push(end)?;
+            }
+            if end.is_carried(claim) {
+                self.carried = Some(end);
+            }
+        }
+        Ok(())
+    }
+
+    // Takes in what a reply is wrong by.
+    fn take_why(
+        &mut self,
+        alloc: Global,
+        claim: &ReplyClaim<'_>,
+        why: Option<Why>,
+        past: &'a Past,
+    ) -> Result<(), AllocError> {
+        match why {
+            Some(Why::NoResponse(_)) => {
+                self.unstored = unstorable_after(alloc, claim, past, 0)?;
+            }
+            Some(Why::NotCollapsible) => {
+                self.unstored = unstorable_after(alloc, claim, past, claim.since)?;
+            }
+            Some(Why::NotForwarded(_)) => {
+                self.window = ends_in_window(alloc, claim, past)?;
+                self.near = ends_near(alloc, claim, past)?;
+            }
+            _ => {}
+        }
+        Ok(())
+    }
+}
+
+impl<'a> Explanation<'a> {
+    /// What is known of that reply after the records before it. None where no exchange of its number is open.
+    pub fn read<I: Index>(
+        alloc: Global,
+        judged: &JudgedReply<'a, I>,
+        past: &'a Past,
+    ) -> Result<Option<Self>, AllocError> {
         let Some(claim) = judged.claim() else {
             return Ok(None);
         };
         let way = way_of(&claim, judged.mark);
-        let bound = bound_of(way, claim.since);
         let candidates = judged.candidates()?;
+        let bound = bound_of(way, claim.since);
         let candidate = named(judged.index, &claim, candidates.as_slice(), bound);
-        let nearest = nearest_of(alloc, judged.index, &claim, candidate)?;
+        let nearest = Nearest::read(alloc, judged.index, &claim, candidate)?;
+        let with_setting = found_with_setting(alloc, judged, nearest.as_ref())?;
+        let stale = stale_of(judged.index, &claim, way, candidate);
         let mut explanation = Explanation {
-            alloc,
             position: judged.position,
-            exchange: judged.exchange,
-            since: claim.since,
-            reply: AskedReply::read(alloc, &claim)?,
+            claim,
             way,
             finding: judged.finding,
-            with_setting: found_with_setting(alloc, judged, nearest.as_ref())?,
-            stale: stale_of(judged.index, &claim, way, candidate),
-            ground: ground_of(alloc, &claim, judged.finding, nearest)?,
+            with_setting,
+            stale,
+            why: None,
+            nearest,
+            changes: Changes::none(alloc),
+            permitted: permitted_part(alloc, judged)?,
+            came: None,
             reaches: Reaches::new(alloc),
             before: Reaches::new(alloc),
-            sources: Vec::new(alloc),
-            unstored: Newest::new(alloc),
-            carried: None,
+            ends: Ends::none(alloc),
+            past,
         };
-        explanation.list(candidates.as_slice(), candidate, bound)?;
+        explanation.fill(alloc, candidates.as_slice(), candidate, bound)?;
         Ok(Some(explanation))
     }
 
-    // Lists those candidates.
-    fn list(
+    // Takes in what the records before it tell.
+    fn fill(
         &mut self,
+        alloc: Global,
         candidates: &[Candidate],
         named: Option<Candidate>,
         bound: u64,
-    ) -> Result<(), AllocError>
-        ensures { (position_of self.new ≡ position_of self.old) × (finding_of self.new ≡ finding_of self.old) }
-    {
-        list(
-            candidates,
-            named,
-            bound,
-            &mut self.reaches,
-            &mut self.before,
-        )
+    ) -> Result<(), AllocError> {
+        self.reaches.list_after(candidates, named, bound)?;
+        self.before.list_before(candidates, bound)?;
+        self.fill_why(alloc)?;
+        self.changes = self.changes_of(alloc)?;
+        self.ends = Ends::read(alloc, &self.claim, &self.reaches, self.why, self.past)?;
+        self.came = self.came_of(alloc)?;
+        self.fill_permitted(alloc)
     }
 
-    /// The position of its record, of which the first has 1.
-    pub fn position(&self) -> u64
-        ensures { result ≡ position_of self.now }
-    {
-        self.position
-    }
-
-    /// That it is right, or why it is wrong.
-    pub fn finding(&self) -> Finding
-        ensures { result ≡ finding_of self.now }
-    {
-        self.finding
-    }
-
-    /// The response that is named, if one is.
-    pub fn nearest(&self) -> Option<&Nearest> {
-        match &self.ground {
-            Ground::Right(nearest) => nearest.as_ref(),
-            Ground::Wrong(why) => why.nearest(),
+    // Takes in what is asked where what was done is permitted.
+    fn fill_permitted(&mut self, alloc: Global) -> Result<(), AllocError> {
+        if self.is_carried_right() {
+            self.nearest = None;
         }
+        let Some(nearest) = &self.nearest else {
+            return Ok(());
+        };
+        let permitted = permitted_change(alloc, &self.claim, nearest, &self.changes)?;
+        self.permitted = permitted.or(self.permitted);
+        Ok(())
+    }
+
+    // Whether it is right since it carries what came for it.
+    fn is_carried_right(&self) -> bool {
+        self.why.is_none() && self.way == Way::Forwarded && self.ends.carried.is_some()
+    }
+
+    // What the records made of the response that is named.
+    fn changes_of(&self, alloc: Global) -> Result<Changes<'a>, AllocError> {
+        Changes::read(alloc, &self.claim, self.nearest.as_ref(), self.past)
+    }
+
+    // The fields in which the reply differs from the response that is named, where it gives this, which it may not, and all of
+    // this is known.
+    fn came_of(&self, alloc: Global) -> Result<Option<Differences>, AllocError> {
+        let Some(nearest) = &self.nearest else {
+            return Ok(None);
+        };
+        let is_due = matches!(
+            &nearest.shortfall,
+            Some(Shortfall::Valid | Shortfall::Lifetime(_) | Shortfall::Use(_))
+        );
+        if !is_due || !nearest.is_whole() || !self.is_given(nearest) {
+            return Ok(None);
+        }
+        Ok(Some(compare(alloc, &self.claim, nearest.state)?))
+    }
+
+    // Takes in why it is wrong, if it is.
+    fn fill_why(&mut self, alloc: Global) -> Result<(), AllocError> {
+        let Some(reason) = reason_of(self.finding) else {
+            return Ok(());
+        };
+        self.why = Some(Why::read(alloc, &self.claim, reason, self.past)?);
+        if !names_response(reason) {
+            self.nearest = None;
+        }
+        Ok(())
     }
 
     /// The record of the response at that position, if it is named.
-    pub fn source(&self, position: u64) -> Option<&Source> {
-        for source in self.sources.iter() {
-            if source.record.position == position {
-                return Some(source);
+    pub fn source(&self, position: u64) -> Option<&'a End> {
+        for end in self.ends.sources.iter() {
+            if end.record.position == position {
+                return Some(*end);
             }
         }
         None
     }
 
-    /// Whether a 304 behind the request validated that response.
-    pub fn was_validated(&self, nearest: &Nearest) -> bool {
-        match nearest.validated_at {
-            Some(position) => self.since < position,
+    /// The moment that the Date of that response shows, where that isn't the one at which it came.
+    pub fn own_date(&self, nearest: &Nearest<'_>) -> Option<u64> {
+        if nearest.is_whole() {
+            return nearest.own_date();
+        }
+        let source = self.source(nearest.position)?;
+        let stated = date_stated(&source.heads()?.response.fields)?;
+        if stated == source.record.moment {
+            None
+        } else {
+            Some(stated)
+        }
+    }
+
+    /// Whether a 304 after the request validated that response.
+    pub fn was_validated(&self, nearest: &Nearest<'_>) -> bool {
+        match nearest.state.validated_at {
+            Some(position) => self.claim.since < position,
             None => false,
         }
     }
 
     /// Whether the reply has the status and the body with which that response came.
-    pub fn is_given(&self, nearest: &Nearest) -> bool {
+    pub fn is_given(&self, nearest: &Nearest<'_>) -> bool {
         match self.source(nearest.position) {
-            Some(source) => source.is_given,
+            Some(source) => source.is_given(&self.claim),
             None => false,
         }
     }
 
+    /// The record of that response, if the reply has its status and its body.
+    pub fn given(&self, nearest: &Nearest<'_>) -> Option<&'a End> {
+        let source = self.source(nearest.position)?;
+        if source.is_given(&self.claim) {
+            Some(source)
+        } else {
+            None
+        }
+    }
+
+    /// What was due in place of a response that may not be given.
+    pub fn due(&self) -> Due<'a> {
+        due_of(&self.claim, self.past)
+    }
+
+    /// A word for what is wrong, as `fields`.
+    pub fn kind(&self, why: &Why) -> &'static str {
+        kind_of(why, self.nearest.as_ref())
+    }
+
+    /// Writes short words for what is wrong.
+    pub fn name(&self, why: &Why, page: &mut Page) {
+        name_of(why, self.nearest.as_ref(), self.latest_near(), page);
+    }
+
+    // The latest response of the same path under another host that it would carry.
+    fn latest_near(&self) -> Option<&End> {
+        match self.ends.near.last() {
+            Some(end) => Some(*end),
+            None => None,
+        }
+    }
+
+    /// Tells what the window holds.
+    pub fn tell_window<T: Teller>(&self, window: &Window, teller: &mut T) {
+        window.tell(&self.claim, &self.ends.window, teller);
+    }
+
+    /// Tells the responses that may not be stored after a text, if there are any.
+    pub fn tell_unstored<T: Teller>(&self, before: &str, teller: &mut T) {
+        tell_unstorable(before, &self.ends.unstored, teller);
+    }
+
     /// Whether a reply that went forward is to be that stored response, or gives it.
-    pub fn stands_for(&self, nearest: &Nearest) -> bool {
+    pub fn stands_for(&self, nearest: &Nearest<'_>) -> bool {
         self.was_validated(nearest) || self.is_given(nearest)
     }
 
-    /// The state before a 304 of the response that is named, if there is one then.
-    pub(crate) fn state_before<'a, I: Index>(
-        &self,
-        ended: &EndedForward<'_>,
-        index: &'a I,
-    ) -> Option<&'a Stored> {
-        if !ended.is_not_modified() {
+    /// The latest response of which the reply has the status and the body, of those that may not be stored.
+    pub fn given_unstored(&self) -> Option<&'a End> {
+        let mut given = None;
+        for end in self.ends.unstored.named.iter() {
+            if end.is_given(&self.claim) {
+                given = Some(*end);
+            }
+        }
+        given
+    }
+
+    // Whether the reply has the status and the body of a response of the target from before its request.
+    fn is_given_before(&self) -> bool {
+        for end in self.past.ends().iter() {
+            let is_before = end.record.position < self.claim.since && end.is_of(self.claim.target);
+            if is_before && end.is_given(&self.claim) {
+                return true;
+            }
+        }
+        false
+    }
+
+    /// The answer to a forward of its own that a wrong hit carries, where it is known whose that was, and nothing came before its
+    /// request that it might have come from.
+    pub fn own_answer(&self) -> Option<&'a End> {
+        if self.way != Way::Hit || self.why.is_none() || self.is_given_before() {
             return None;
         }
-        let nearest = self.nearest()?;
-        index.response(&self.reply.target, nearest.position)
+        let carried = self.ends.carried?;
+        if carried.is_told_for(&self.claim) || self.past.is_alone(self.claim.since) {
+            Some(carried)
+        } else {
+            None
+        }
     }
 }

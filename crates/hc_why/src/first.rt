@@ -2,9 +2,9 @@
 
 ghost use Rattle.std.specs.Prelude.{IfSome, IsSome};
 ghost use Rattle.std.specs.Option.{ForSome};
-ghost use Rattle.hc_why.specs.Explaining.{HasFoundOf, IsThat, finding_of, position_of};
+ghost use Rattle.hc_why.specs.Found.{HasFoundOf, IsThat, finding_of, position_of};
 
-use crate::explaining::Explanation;
+use crate::found::FoundReply;
 use hc_history::WrongReply;
 use std::alloc::Global;
 
@@ -12,7 +12,7 @@ use std::alloc::Global;
 pub struct FirstWrong {
     pub(crate) alloc: Global,
     pub(crate) first: Option<WrongReply>,
-    pub(crate) found: Option<Explanation>,
+    pub(crate) found: Option<FoundReply>,
     ghost of_first: { ForSome found (λ reply. IsThat first (position_of reply) (finding_of reply)) },
 }
 
@@ -29,7 +29,7 @@ impl Drop for FirstWrong {
 
 impl FirstWrong {
     /// What was found of it, which is moved.
-    pub fn into_found(self) -> Option<Explanation>
+    pub fn into_found(self) -> Option<FoundReply>
         // It is of the first wrong reply.
         ensures of_first { IfSome result (λ reply. IsThat self.first (position_of reply) (finding_of reply)) }
         // There is something where there is such a reply.

@@ -1,23 +1,27 @@
-//! What is wrong with a reply: one type, from which reports and explanations are written; and the readings of
-//! a recording that find it.
+//! What is wrong with a reply, and what is known of it by the records before it.
 #![tactic(auto)]
 
+mod changes;
 mod demands;
 mod explaining;
 mod first;
-mod naming;
-mod reading;
-mod retracing;
+mod found;
+mod past;
 mod seeking;
 mod shortfalls;
-mod whys;
-mod words;
+mod sources;
+mod telling;
+mod unstored;
+mod window;
+mod wrongs;
 
-pub use explaining::{Explanation, Ground, Way};
+pub use changes::{Changes, Due, NotAbout};
+pub use explaining::{Ends, Explanation, Way};
 pub use first::FirstWrong;
-pub use naming::{Nearest, Reach, Reaches};
-pub use reading::{WrongClaim, why};
-pub use retracing::Retracing;
+pub use found::FoundReply;
+pub use past::{Answer, End, Heads, Past, Unstorable};
 pub use seeking::ReplyAt;
-pub use shortfalls::{Invalidator, NotAbout, OriginError, Shortfall, Validator};
-pub use whys::{NoMark, Why};
+pub use shortfalls::{Nearest, Reach, Reaches, Shortfall};
+pub use unstored::Unstored;
+pub use window::Window;
+pub use wrongs::{NoMark, Why, Wrong, names_response};

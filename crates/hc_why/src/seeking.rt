@@ -5,12 +5,12 @@ ghost use Rattle.hc_transcript.specs.Items.{Item};
 ghost use Rattle.hc_history.specs.declared.wrong.WrongReply.{WrongReply};
 ghost use Rattle.hc_audit.specs.Hearing.{IsReplyBehind, item_judged};
 ghost use Rattle.hc_audit.specs.Told.{wrong_of};
-ghost use Rattle.hc_why.specs.Explaining.{finding_of, position_of};
+ghost use Rattle.hc_why.specs.Found.{finding_of, position_of};
 ghost use Rattle.hc_why.specs.Seeking.{HasFound, HasFoundAmong, HasHeard, IsFoundAt, IsOfPlace, first_of, has_passed, place_of, reason_in, wrong_at};
 ghost use Rattle.hc_why.specs.Standing.{stands_at};
 
-use crate::explaining::Explanation;
 use crate::first::FirstWrong;
+use crate::found::FoundReply;
 use hc_audit::{JudgedReply, PassedRecord, Witness};
 use hc_history::{Finding, Reason, WrongReply};
 use hc_index::Index;
@@ -55,7 +55,7 @@ impl FirstWrong {
         if self.first.is_some() {
             return Ok(());
         }
-        let found = Explanation::read(self.alloc, judged)?;
+        let found = FoundReply::read(self.alloc, judged)?;
         self.first = Some(WrongReply {
             position: judged.position,
             reason,
@@ -86,7 +86,7 @@ pub struct ReplyAt {
     is_behind: bool,
     // Why the reply there is wrong, if it is.
     reason: Option<Reason>,
-    found: Option<Explanation>,
+    found: Option<FoundReply>,
 }
 
 impl Drop for ReplyAt {
@@ -126,7 +126,7 @@ impl ReplyAt {
     }
 
     /// What was found of the reply, which is moved. None where another record, or none, stands there.
-    pub fn into_found(self) -> Option<Explanation>
+    pub fn into_found(self) -> Option<FoundReply>
         // It is wrong where one of the wrong replies stands there, by its reason.
         ensures place { (wrongs : List WrongReply) → IsFoundAt self wrongs
             → IfSome result (λ reply. IsOfPlace (place_of self) wrongs (position_of reply) (finding_of reply)) }
@@ -180,7 +180,7 @@ impl ReplyAt {
             return Ok(());
         }
         self.reason = reason_in(judged.finding);
-        self.found = Explanation::read(self.alloc, judged)?;
+        self.found = FoundReply::read(self.alloc, judged)?;
         Ok(())
     }
 }

@@ -1,15 +1,23 @@
-use Rattle.std.proofs.Common.{refl}
+use Rattle.std.proofs.Common.{refl, subst}
+use Rattle.hc_history.specs.declared.settings.Settings.{Settings}
 use Rattle.hc_report.specs.Kinds.{AreShownIn}
 use Rattle.hc_report.specs.Told.{TellsOf}
+use Rattle.hc_command.specs.Report.{SurveysFor}
 use Rattle.hc_command.proofs.ReportLemmas.{says_own, verdict_of_all}
 use Rattle.hc_command.proofs.reporting.grouped.Goals as goal
 
 pub returns : goal.returns
-returns g c = record {
-  verdict = c.verdict-verdict.result;
-  is = verdict_of_all (TellsOf c.surveyed.new.witness) (λ h. AreShownIn h c.surveyed.new.witness.wrongs.listed.items) c.args.settings _ _ c.in_ok-outcome.outcome c.verdict-verdict.result
-      (c.in_ok-outcome.ensures.surveyed c.in_ok-report.ensures.tells c.in_ok-report.ensures.hears)
-      (λ octets h wrongs told surveyed. c.verdict-verdict.ensures.verdict octets c.args.settings h wrongs surveyed (c.first_wrong.ensures wrongs told));
-  says = says_own c.verdict-verdict.result _ _ _ c.in_ok-said_first.ensures;
-  ends = refl;
-}
+returns g c =
+    let report = c.surveyed.new.witness in
+    let outcome = c.in_ok-outcome.outcome in
+    let settings = c.args.settings.now in
+    let surveyed =
+    subst (λ (s : Settings). SurveysFor (TellsOf report) (λ h. AreShownIn h report.wrongs.listed.items) ⊥ s (g.R.Read.remaining c.args.input.now) (g.R.Read.remaining c.surveyed.new.input) outcome)
+    c.in_ok-copy-2.ensures (c.in_ok-outcome.ensures.surveyed c.in_ok-report.ensures.tells c.in_ok-report.ensures.hears) in
+    record {
+      verdict = c.verdict-verdict.result;
+      is = verdict_of_all (TellsOf report) (λ h. AreShownIn h report.wrongs.listed.items) settings _ _ outcome c.verdict-verdict.result surveyed
+          (λ octets h wrongs told all. c.verdict-verdict.ensures.verdict octets settings h wrongs all (c.first_wrong.ensures wrongs told));
+      says = says_own c.verdict-verdict.result _ _ _ c.in_ok-said_first.ensures;
+      ends = (refl, refl);
+    }

@@ -1,4 +1,4 @@
-use Rattle.std.proofs.Common.{false, inl, map, None, subst}
+use Rattle.std.proofs.Common.{inl, inr, map, None, subst}
 use Rattle.clap.specs.declared.error.ErrorKind.{ErrorKind}
 use Rattle.hc_options.specs.Commands.{IsErrorStatus}
 use Rattle.hc_arguments.specs.Tasks.{task_of}
@@ -6,7 +6,7 @@ use Rattle.hc_arguments.specs.Tasks.Task.{ToAudit, ToReport, ToExplain, ToReplay
 use Rattle.hc_options.specs.Auditing.{plain_audit}
 use Rattle.hc_arguments.specs.Cache.{plain_cache}
 use Rattle.hc_arguments.specs.Limits.{plain_limits, plain_terms}
-use Rattle.hc_arguments.specs.Tasks.{explaining}
+use Rattle.hc_arguments.specs.Tasks.{explaining, plain_form}
 use Rattle.hc_arguments.proofs.ArgumentLemmas.{asked_from, one_task}
 use Rattle.hc_command.proofs.EndLemmas.{does_as, does_ends, fails_with_3}
 use Rattle.hc_command.proofs.run.answered.Goals as goal
@@ -17,7 +17,7 @@ returns-in-Ok-clause-audit g c = λ name file word same.
 
 pub returns-in-Ok-clause-report : goal.returns-in-Ok-clause-report
 returns-in-Ok-clause-report g c = λ name file word same.
-    does_as (task_of c.in-Ok.order) (ToReport file plain_audit false None) _ _ _ _ _ (c.in-Ok.ensures.report name file word same) c.done.ensures
+    does_as (task_of c.in-Ok.order) (ToReport file plain_audit plain_form) _ _ _ _ _ (c.in-Ok.ensures.report name file word same) c.done.ensures
 
 pub returns-in-Ok-clause-explain : goal.returns-in-Ok-clause-explain
 returns-in-Ok-clause-explain g c = λ name file word same.
@@ -57,7 +57,7 @@ returns-in-Err-clause-report g c = λ name file word same.
 
 pub returns-in-Err-clause-explain : goal.returns-in-Err-clause-explain
 returns-in-Err-clause-explain g c = λ name file word same.
-    inl (subst (λ (k : ErrorKind). IsErrorStatus k c.shown.result) (c.in-Err.ensures.explain name file word same) c.shown.ensures.status)
+    inr (inl (subst (λ (k : ErrorKind). IsErrorStatus k c.shown.result) (c.in-Err.ensures.explain name file word same) c.shown.ensures.status))
 
 pub returns-in-Err-clause-replay : goal.returns-in-Err-clause-replay
 returns-in-Err-clause-replay g c = λ name file word same.

@@ -15,5 +15,5 @@ returns c = λ h wrongs told counted.
     let kinds = kinds_in h wrongs in
     let kinds_counted = subst (λ (ws : List WrongReply). HasCounted c.args.self.tally (kinds_in h ws)) told.all counted.counts in
     IfOk-weaker c.to_string.result _ _
-    (λ text reads. writes_all c.args.self kinds _ c.args.ending c.args.counts (string_bytes text) (view (Object made)) (members_view made.entries) (view-Object made)
-    (c.in_ok-filled.ensures.figures kinds kinds_counted (search rules)) (c.in_ok-filled.ensures.counts kinds kinds_counted) c.in_ok-filled.ensures.held reads) c.to_string.ensures.reads_back
+    (λ text reads. writes_all c.args.self kinds c.args.settings.now _ c.args.ending c.args.counts (string_bytes text) (view (Object made)) (members_view made.entries) (view-Object made)
+    (c.in_ok-filled.ensures.figures kinds kinds_counted (search rules)) (c.in_ok-filled.ensures.counts kinds kinds_counted) c.in_ok-filled.ensures.settings c.in_ok-filled.ensures.held reads) c.to_string.ensures.reads_back

@@ -11,5 +11,5 @@ returns-clause-told g c = λ wrongs tells. on_ok_weaker c.pass.result (λ told. 
 pub returns-clause-heard : goal.returns-clause-heard
 returns-clause-heard g c = λ h before behind.
     let old = c.args.self.now in
-    let new : CountingReport = record { alloc = old.alloc; report = c.pass.new.self; wrongs = old.wrongs; tally = old.tally } in
+    let new : CountingReport = record { alloc = old.alloc; report = c.pass.new.self; wrongs = old.wrongs; tally = old.tally; source = old.source; cases = old.cases } in
     on_ok_weaker c.pass.result (λ shown. record { counted = counted_later old new (item_passed c.args.passed.now) h refl refl before.counted; shown = shown }) (c.pass.ensures.heard h before.shown behind)

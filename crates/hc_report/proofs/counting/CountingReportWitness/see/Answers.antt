@@ -11,13 +11,13 @@ pub returns-in-Right-clause-told : goal.returns-in-Right-clause-told
 returns-in-Right-clause-told g c = λ wrongs tells.
     let judged = c.args.judged.now in
     let old = c.args.self.now in
-    let new : CountingReport = record { alloc = old.alloc; report = c.see.new.self; wrongs = old.wrongs; tally = old.tally } in
+    let new : CountingReport = record { alloc = old.alloc; report = c.see.new.self; wrongs = old.wrongs; tally = old.tally; source = c.see-2.new.self; cases = old.cases } in
     told_right old new wrongs judged.position judged.finding c.in-Right.is tells (c.in_ok-see.ensures.told wrongs tells.told) refl
 
 pub returns-in-Right-clause-heard : goal.returns-in-Right-clause-heard
 returns-in-Right-clause-heard g c = λ h heard behind.
     let old = c.args.self.now in
-    let new : CountingReport = record { alloc = old.alloc; report = c.see.new.self; wrongs = old.wrongs; tally = old.tally } in
+    let new : CountingReport = record { alloc = old.alloc; report = c.see.new.self; wrongs = old.wrongs; tally = old.tally; source = c.see-2.new.self; cases = old.cases } in
     record { counted = counted_later old new (item_judged c.args.judged.now) h refl refl heard.counted; shown = c.in_ok-see.ensures.heard h heard.shown behind }
 
 pub returns-in-Wrong-clause-told : goal.returns-in-Wrong-clause-told

@@ -1,0 +1,27 @@
+-- Members that are named one after another.
+use Rattle.std.proofs.Common.{◌≡◌, ◌<◌, ◌++◌, ℕ, List, [], ◌∷◌, length, map, ap, sym, subst, ◌∙◌}
+use Rattle.std.proofs.lemmas.List.{map-append, length-map}
+use Rattle.hc_gaps.specs.declared.selecting.Selection.{Selection}
+use Rattle.hc_gaps.specs.declared.selecting.UnmetMember.{UnmetMember}
+use Rattle.hc_gaps.specs.Selecting.{AreNamed, IsMember, IsTold, most_named}
+use Rattle.hc_gaps.proofs.FirstLemmas.{one_named}
+use Rattle.hc_gaps.proofs.ListedLemmas.{all_more}
+
+abbrev names : List UnmetMember → List (List ℕ)
+names found = map (λ (one : UnmetMember). one.member) found
+
+-- one more is named, where there is room
+pub named : (members : List (List ℕ)) (member : List ℕ) (found new : Selection) (one : UnmetMember)
+    → length found.unmet.items < most_named → new.unmet.items ≡ found.unmet.items ++ one ∷ [] → new.more ≡ found.more
+    → IsMember member one
+    → AreNamed members found → AreNamed (members ++ member ∷ []) new
+named members member found new one room items more is are =
+    let same = ap names items ∙ map-append (λ (u : UnmetMember). u.member) found.unmet.items (one ∷ [])
+    ∙ ap (λ (m : List ℕ). names found.unmet.items ++ m ∷ []) is.member_is in
+    let first = one_named most_named members (names found.unmet.items) found.more member
+    (subst (λ (n : ℕ). n < most_named) (sym (length-map found.unmet.items (λ (u : UnmetMember). u.member))) room) are.first in
+    record {
+      each = all_more IsTold found.unmet.items new.unmet.items one items
+          (subst (λ (m : List ℕ). IsMember m one) (sym is.member_is) is) are.each;
+      first = record { first = same ∙ first.first; others = more ∙ first.others };
+    }

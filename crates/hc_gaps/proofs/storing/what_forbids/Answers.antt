@@ -1,0 +1,18 @@
+use Rattle.std.proofs.Common.{rules, not}
+use Rattle.hc_directives.proofs.KnownLemmas.{seconds_are_there}
+use Rattle.hc_gaps.proofs.StoringLemmas.{nothing_forbids}
+use Rattle.hc_gaps.proofs.storing.what_forbids.Goals as goal
+
+pub returns-clause-stored : goal.returns-clause-stored
+returns-clause-stored c = nothing_forbids c.args.forward.now c.args.response.now
+    (record {
+      method = not c.is_get.result;
+      request_no_store = c.says.result;
+      status = not c.is_storable.result;
+      must_understand = c.if-known.result;
+      no_store = c.if-known-2.result;
+      private = c.known-known.result.private;
+      authorization = c.if-contains.result;
+      uninvited = not c.invites_storing.result;
+    })
+    (search (rules, seconds_are_there))

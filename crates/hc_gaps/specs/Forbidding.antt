@@ -1,0 +1,43 @@
+-- What forbids to store a response, and to use a stored one.
+use Rattle.std.specs.Prelude.{Bool, ◌&&◌, ◌||◌, not, List, codes, if◌then◌else◌}
+use Rattle.hc_fields.specs.declared.fields.Field.{Field}
+use Rattle.hc_head.specs.declared.head.RequestHead.{RequestHead}
+use Rattle.hc_head.specs.declared.head.ResponseHead.{ResponseHead}
+use Rattle.hc_head.specs.Methods.{is_get}
+use Rattle.hc_fresh.specs.Lifetimes.{says}
+use Rattle.hc_rules.specs.Storing.{has_authorization, invites_storing, is_not_private, is_storable, is_understood_if_asked, no_store_permits, permits_authorized}
+use Rattle.hc_gaps.specs.declared.storing.Forbids.{Forbids}
+use Rattle.hc_gaps.specs.declared.usage.Unusable.{Unusable}
+use Rattle.hc_gaps.specs.declared.usage.Unusable.TheVariants as forbids_use
+
+-- ---- to store it (RFC 9111 section 3)
+
+-- each thing that forbids it, by itself
+abbrev pub forbids_of : RequestHead → ResponseHead → Forbids
+forbids_of forward response = record {
+  method = not (is_get forward.method);
+  request_no_store = says (codes "no-store") forward.fields;
+  status = not (is_storable response.status);
+  must_understand = not (is_understood_if_asked response);
+  no_store = not (no_store_permits response.fields);
+  private = not (is_not_private response.fields);
+  authorization = has_authorization forward && not (permits_authorized response.fields);
+  uninvited = not (invites_storing response);
+}
+
+-- nothing does
+abbrev pub forbids_nothing : Forbids → Bool
+forbids_nothing forbids =
+    not (forbids.method || forbids.request_no_store || forbids.authorization)
+    && not (forbids.status || forbids.must_understand || forbids.no_store || forbids.private)
+    && not forbids.uninvited
+
+-- ---- to use it, where it isn't validated and either says no-cache or is stale (RFC 9111 sections 4.2.4 and 5.2.2)
+
+-- the first thing that does, in the order in which they stand
+abbrev pub unusable_by : List Field → Unusable
+unusable_by fields =
+    if says (codes "no-cache") fields then forbids_use.NoCache else
+    (if says (codes "must-revalidate") fields then forbids_use.MustRevalidate else
+    (if says (codes "proxy-revalidate") fields then forbids_use.ProxyRevalidate else
+    (if says (codes "s-maxage") fields then forbids_use.SMaxage else forbids_use.NothingPermits)))

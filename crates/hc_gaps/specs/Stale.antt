@@ -1,0 +1,100 @@
+-- How stale a response may be served (RFC 9111 section 4.2.4, RFC 5861), and which setting of an audit would permit more.
+use Rattle.std.specs.Prelude.{ℕ, Bool, ◌&&◌, ◌||◌, ◌+◌, ◌-◌, ◌^◌, not, max, min, nat_lt, Option, Some, None, codes, if◌then◌else◌}
+use Rattle.hc_directives.specs.declared.cache_control.Seconds.{Seconds}
+use Rattle.hc_directives.specs.declared.cache_control.Seconds.TheVariants.{Absent, Bare, Value, Unreadable}
+use Rattle.hc_fresh.specs.Ages.{staleness}
+use Rattle.hc_fresh.specs.Lifetimes.{explicit, says, seconds_said, stale_forbidden}
+use Rattle.hc_rules.specs.Storing.{is_heuristically_cacheable}
+use Rattle.hc_update.specs.declared.stored.Stored.{Stored}
+use Rattle.hc_history.specs.declared.settings.Settings.{Settings}
+use Rattle.hc_history.specs.Claims.{Claim}
+use Rattle.hc_history.specs.Usable.{age_of, lifetime_of}
+use Rattle.hc_gaps.specs.declared.stale.Setting.{Setting}
+use Rattle.hc_gaps.specs.declared.stale.Setting.TheVariants.{DefaultLifetime, Grace}
+use Rattle.hc_gaps.specs.declared.stale.StaleSaid.{StaleSaid}
+
+-- ---- what is said
+
+abbrev pub stale_said_of : Claim → Stored → StaleSaid
+stale_said_of claim state = record {
+  max_stale = seconds_said (codes "max-stale") claim.request.fields;
+  while_revalidating = seconds_said (codes "stale-while-revalidate") state.fields;
+  if_error = seconds_said (codes "stale-if-error") state.fields;
+  asked_if_error = seconds_said (codes "stale-if-error") claim.request.fields;
+}
+
+-- ---- by how many seconds a response may be stale at most
+
+-- the seconds of a directive that says a number
+abbrev pub seconds_in : Seconds → Option ℕ
+seconds_in Absent = None
+seconds_in Bare = None
+seconds_in (Value seconds) = Some seconds
+seconds_in Unreadable = None
+
+abbrev pub greater : Option ℕ → Option ℕ → Option ℕ
+greater None other = other
+greater (Some one) None = Some one
+greater (Some one) (Some other) = Some (max one other)
+
+-- by what the request and the response say, whatever the origin answers, and by the grace of the audit
+abbrev pub ever_tolerated : Claim → StaleSaid → Option ℕ
+ever_tolerated claim said = greater claim.settings.allowed.grace (greater (seconds_in said.max_stale) (seconds_in said.while_revalidating))
+
+-- where an error or a failure stands in the window, by stale-if-error as well
+abbrev pub tolerated : Claim → Stored → Option ℕ
+tolerated claim state =
+    if stale_forbidden state.fields then None else
+    (if claim.has_error || claim.has_failure
+    then greater (ever_tolerated claim (stale_said_of claim state)) (greater (seconds_in (stale_said_of claim state).if_error) (seconds_in (stale_said_of claim state).asked_if_error))
+    else ever_tolerated claim (stale_said_of claim state))
+
+-- ---- the settings
+
+-- the least lifetime with which a response of that age is fresh, or no staler than is permitted, give or take the slack
+abbrev pub lifetime_for : Option ℕ → ℕ → ℕ → ℕ
+lifetime_for None age slack = age + 1 - slack
+lifetime_for (Some seconds) age slack = age - (seconds + slack)
+
+abbrev pub least_lifetime : Claim → Stored → ℕ
+least_lifetime claim state = lifetime_for (tolerated claim state) (age_of claim state) claim.settings.slack
+
+-- the least grace that permits its staleness, give or take the slack
+abbrev pub least_grace : Claim → Stored → ℕ
+least_grace claim state = staleness (lifetime_of state) (age_of claim state) - claim.settings.slack
+
+-- whether a response may be given a lifetime: it states none, and is public or of a status that may be stored where nothing says so
+abbrev pub takes_lifetime : Stored → Bool
+takes_lifetime state = not (explicit state.fields) && (says (codes "public") state.fields || is_heuristically_cacheable state.status)
+
+-- the setting that permits to use it, if one does
+abbrev pub setting_of : Claim → Stored → Option Setting
+setting_of claim state =
+    if says (codes "no-cache") state.fields then None else
+    (if takes_lifetime state then Some (DefaultLifetime (least_lifetime claim state)) else
+    (if stale_forbidden state.fields then None else Some (Grace (least_grace claim state))))
+
+-- the most seconds that an option takes
+abbrev pub most_asked : ℕ
+most_asked = 2147483648
+
+-- a setting, if an option takes its seconds
+abbrev pub fitting : Option Setting → Option Setting
+fitting None = None
+fitting (Some (DefaultLifetime seconds)) = if nat_lt most_asked seconds then None else Some (DefaultLifetime seconds)
+fitting (Some (Grace seconds)) = if nat_lt most_asked seconds then None else Some (Grace seconds)
+
+-- the setting that is told
+abbrev pub told_setting : Claim → Stored → Option Setting
+told_setting claim state = fitting (setting_of claim state)
+
+-- as many seconds as settings may have at most
+abbrev pub most_seconds : ℕ
+most_seconds = 2 ^ 32 - 1
+
+-- the settings with that one
+abbrev pub settings_with : Setting → Settings → Settings
+settings_with (DefaultLifetime seconds) settings =
+    record settings { allowed = record settings.allowed { default_lifetime = Some (min seconds most_seconds) } }
+settings_with (Grace seconds) settings =
+    record settings { allowed = record settings.allowed { grace = Some (min seconds most_seconds) } }

@@ -1,0 +1,230 @@
+//! Why a 304 isn't about a stored response (after RFC 9111 section 4.3.4).
+
+ghost use Rattle.std.specs.Prelude.{◌≡◌, not, IfOk, is_some};
+ghost use Rattle.hc_head.specs.Statuses.{not_modified};
+ghost use Rattle.hc_update.specs.Identifying.{identifies};
+ghost use Rattle.hc_gaps.specs.Against.{against_of, said_of, telling_of};
+
+use crate::demand::Demand;
+use hc_fields::{Fields, trimmed};
+use hc_fresh::says;
+use hc_head::{RequestHead, ResponseHead, is_get};
+use hc_rules::{last_modified, selects, tag};
+use hc_shown::{FieldOf, Teller};
+use hc_update::{Stored, identifies};
+use std::alloc::{AllocError, Global};
+
+/// The field by which a 304 tells which response it is about.
+#[derive(Clone, Copy)]
+pub enum Telling {
+    /// Its ETag.
+    Tag,
+    /// Its Last-Modified, where it has no ETag.
+    Modified,
+    /// The If-None-Match of its forward, where it has neither.
+    AskedTag,
+    /// The If-Modified-Since of its forward, where that has no If-None-Match.
+    AskedModified,
+}
+
+/// The first thing that stands against that a 304 is about a stored response.
+#[derive(Clone, Copy)]
+pub enum Against {
+    /// It came before the response.
+    Earlier,
+    /// Its forward is no GET.
+    Method,
+    /// Its forward says `no-store`.
+    ForwardNoStore,
+    /// It says `private`.
+    Private,
+    /// It says `no-store`.
+    NoStore,
+    /// The Vary of the response doesn't select its forward.
+    Unselected,
+    /// The validators don't agree: what it tells by that field is something else.
+    Validators(Telling),
+}
+
+impl Telling {
+    // The field by which a 304 of those fields, to a forward of those, tells it.
+    fn read(forwarded: &Fields, received: &Fields) -> Self
+        ensures { result ≡ telling_of forwarded.now received.now }
+    {
+        if tag(received).is_some() {
+            Telling::Tag
+        } else if last_modified(received).is_some() {
+            Telling::Modified
+        } else if forwarded.contains(b"if-none-match") {
+            Telling::AskedTag
+        } else {
+            Telling::AskedModified
+        }
+    }
+
+    // The name of the field, of which message it is, and the name of what the response has for it.
+    fn names(&self) -> (&'static str, &'static str, &'static str) {
+        match self {
+            Telling::Tag => ("etag", "", "etag"),
+            Telling::Modified => ("last-modified", "", "last-modified"),
+            Telling::AskedTag => ("if-none-match", " of its forward", "etag"),
+            Telling::AskedModified => ("if-modified-since", " of its forward", "last-modified"),
+        }
+    }
+
+    // What it tells.
+    fn told<'a>(&self, forwarded: &'a Fields, received: &'a Fields) -> FieldOf<'a> {
+        match self {
+            Telling::Tag => FieldOf::new(b"etag", received),
+            Telling::Modified => FieldOf::new(b"last-modified", received),
+            Telling::AskedTag => FieldOf::new(b"if-none-match", forwarded),
+            Telling::AskedModified => FieldOf::new(b"if-modified-since", forwarded),
+        }
+    }
+
+    // What the response of those fields has for it.
+    fn due<'a>(&self, stored: &'a Fields) -> FieldOf<'a> {
+        match self {
+            Telling::Tag | Telling::AskedTag => FieldOf::new(b"etag", stored),
+            Telling::Modified | Telling::AskedModified => FieldOf::new(b"last-modified", stored),
+        }
+    }
+}
+
+// What a forward or the response to it says that stands against it.
+fn said(forward: &RequestHead, response: &ResponseHead) -> Option<Against>
+    ensures { result ≡ said_of forward.now response.now }
+{
+    if !is_get(&forward.method) {
+        Some(Against::Method)
+    } else if says(b"no-store", &forward.fields) {
+        Some(Against::ForwardNoStore)
+    } else if says(b"private", &response.fields) {
+        Some(Against::Private)
+    } else if says(b"no-store", &response.fields) {
+        Some(Against::NoStore)
+    } else {
+        None
+    }
+}
+
+/// The first thing that stands against that the response to a forward, of the target of the stored response, is a 304
+/// about it.
+pub fn first_against(
+    alloc: Global,
+    state: &Stored,
+    forward: &RequestHead,
+    response: &ResponseHead,
+) -> Result<Option<Against>, AllocError>
+    ensures first { response.now.status ≡ not_modified → IfOk result (λ found. found ≡ against_of state.now forward.now response.now) }
+    // Nothing stands against it exactly where it is about it.
+    ensures exact { IfOk result (λ found. not (is_some found) ≡ identifies state.now forward.now response.now) }
+{
+    if let Some(said) = said(forward, response) {
+        return Ok(Some(said));
+    }
+    if !selects(alloc, &state.fields, &state.request.fields, &forward.fields)? {
+        return Ok(Some(Against::Unselected));
+    }
+    if identifies(alloc, state, forward, response)? {
+        return Ok(None);
+    }
+    let telling = Telling::read(&forward.fields, &response.fields);
+    Ok(Some(Against::Validators(telling)))
+}
+
+// A tag without what says that it is a weak one.
+fn without_weakness(value: &[u8]) -> &[u8] {
+    value.strip_prefix(b"W/").unwrap_or(value)
+}
+
+// Whether both have one line of that, and these are the same but for that one is a weak tag.
+fn agree_weakly(one: FieldOf<'_>, other: FieldOf<'_>) -> bool {
+    match (one.fields.only(one.name), other.fields.only(other.name)) {
+        (Some(one), Some(other)) => {
+            without_weakness(trimmed(one)) == without_weakness(trimmed(other))
+        }
+        _ => false,
+    }
+}
+
+/// Whether what a 304 tells by its validator is what the response has, but for that one may be a weak tag.
+pub fn agree(state: &Stored, forward: &RequestHead, response: &ResponseHead) -> bool {
+    let telling = Telling::read(&forward.fields, &response.fields);
+    let told = telling.told(&forward.fields, &response.fields);
+    agree_weakly(told, telling.due(&state.fields))
+}
+
+impl Against {
+    /// Whether no RFC says so, but a stricter rule of this auditor's own: that a 304 which may not be stored itself, or tells a
+    /// weak tag, is about nothing that is stored.
+    pub fn is_stricter(
+        &self,
+        alloc: Global,
+        state: &Stored,
+        forward: &RequestHead,
+        response: &ResponseHead,
+    ) -> Result<bool, AllocError> {
+        match self {
+            Against::Private | Against::NoStore | Against::Validators(_) => {}
+            _ => return Ok(false),
+        }
+        if !agree(state, forward, response) {
+            return Ok(false);
+        }
+        selects(alloc, &state.fields, &state.request.fields, &forward.fields)
+    }
+
+    /// A word for it: the name of the field that tells it, where one does.
+    pub fn name(&self) -> &'static str {
+        match self {
+            Against::Earlier => "earlier",
+            Against::Method => "method",
+            Against::ForwardNoStore => "forward_no_store",
+            Against::Private => "private",
+            Against::NoStore => "no_store",
+            Against::Unselected => "vary",
+            Against::Validators(telling) => telling.names().0,
+        }
+    }
+
+    // Words for it, but where the validators don't agree.
+    fn words(&self) -> &'static str {
+        match self {
+            Against::Earlier => "before it came",
+            Against::Method => "its forward is no GET",
+            Against::ForwardNoStore => "its forward says no-store",
+            Against::Private => "it says private",
+            Against::NoStore => "it says no-store",
+            Against::Unselected => "Vary doesn't select its forward",
+            Against::Validators(_) => "its validator is another one",
+        }
+    }
+
+    /// Tells words for it, and what the 304 and the response of those fields have where their validators don't agree.
+    pub fn tell<T: Teller>(
+        &self,
+        stored: &Fields,
+        forwarded: &Fields,
+        received: &Fields,
+        teller: &mut T,
+    ) {
+        teller.word("against", self.name());
+        let Against::Validators(telling) = self else {
+            return teller.words(self.words());
+        };
+        let (name, of, validator) = telling.names();
+        teller.words(name);
+        teller.value("told", " ", telling.told(forwarded, received));
+        teller.words(of);
+        teller.words(", the stored response's ");
+        teller.words(validator);
+        teller.value("due", " ", telling.due(stored));
+    }
+}
+
+/// What may not be stored itself validates nothing.
+pub const STORABLE_304: Demand = Demand {
+    sections: "no RFC (RFC 9111 section 4.3.4 lets a 304 validate a response that may not be stored itself, or that has a weak tag), but this auditor's stricter rule",
+    words: "a 304 that says no-store or private, or that tells a weak tag of what has a strong one, validates nothing that is stored",
+};

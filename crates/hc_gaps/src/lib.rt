@@ -1,0 +1,37 @@
+//! In what a reply falls short of a stored response that it may carry, a file for each rule: what there is to tell, how it is
+//! told, and what is asked, where and by whom.
+#![tactic(auto)]
+
+mod against;
+mod aging;
+mod contents;
+mod demand;
+mod differing;
+mod forms;
+mod laws;
+mod newest;
+mod permits;
+mod rules;
+mod selecting;
+mod stale;
+mod storing;
+mod usage;
+
+pub use against::{Against, STORABLE_304, Telling, agree, first_against};
+pub use aging::{AgeGap, AgeOrigin, AgeParts, AgeTold, Aged, TTL, TtlGap, age_gap, ttl_gap};
+pub use contents::{
+    BodyGap, Condition, ContentGap, PERMITTED_PART, Unearned, body_gap, content_gap, has_body,
+};
+pub use demand::{
+    COLLAPSED_ANSWER, Demand, FORWARDED_ANSWER, MARK, NO_HIT, ONE_MARK, STORED_ANSWER,
+};
+pub use differing::{Change, Differences, FieldGap, FieldsOrigin, compare};
+pub use forms::{Qualified, qualified_by};
+pub use laws::{least_setting_permits, named_permit_permits, no_setting_permits};
+pub use newest::{NAMED, Newest};
+pub use permits::{Permit, StaleUse, stale_use};
+pub use rules::{Rule, rule_behind};
+pub use selecting::{Selection, UnmetMember, unmet_members};
+pub use stale::{Setting, StaleSaid};
+pub use storing::{Forbids, PRIVATE_FIELDS, what_forbids};
+pub use usage::{Unusable, Usage, usage_at};

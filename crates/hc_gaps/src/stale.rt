@@ -1,0 +1,247 @@
+//! How stale a response may be served (RFC 9111 sections 4.2.4 and 5.2.1.2, RFC 5861), and which setting of an audit
+//! would permit more.
+
+ghost use Rattle.std.specs.Prelude.{◌≡◌, min};
+ghost use Rattle.hc_gaps.specs.Stale.{fitting, greater, least_grace, least_lifetime, most_seconds, seconds_in, setting_of, settings_with, stale_said_of, takes_lifetime, tolerated, told_setting};
+
+use hc_directives::Seconds;
+use hc_fresh::{explicit, says, seconds_said, stale_forbidden, staleness};
+use hc_history::{ReplyClaim, Settings, age_of, lifetime_of};
+use hc_rules::is_heuristically_cacheable;
+use hc_shown::Teller;
+use hc_update::Stored;
+
+/// The most seconds that an option takes.
+const MOST_SECONDS: u64 = 2_147_483_648;
+
+/// What a response, and the request of a reply, say of how stale it may be served.
+#[derive(Clone, Copy)]
+pub struct StaleSaid {
+    /// The `max-stale` of the request.
+    pub max_stale: Seconds,
+    /// The `stale-while-revalidate` of the response.
+    pub while_revalidating: Seconds,
+    /// Its `stale-if-error`.
+    pub if_error: Seconds,
+    /// That of the request.
+    pub asked_if_error: Seconds,
+}
+
+/// A setting by which a response may be used, with the least seconds by which it may.
+#[derive(Clone, Copy)]
+pub enum Setting {
+    /// A lifetime for what states none (RFC 9111 section 4.2.2).
+    DefaultLifetime(u64),
+    /// How stale anything may be (section 4.2.4).
+    Grace(u64),
+}
+
+/// What a response and the request say of how stale it may be served.
+pub(crate) fn stale_said(claim: &ReplyClaim<'_>, state: &Stored) -> StaleSaid
+    ensures { result ≡ stale_said_of claim.now state.now }
+{
+    let asked = &claim.request.fields;
+    StaleSaid {
+        max_stale: seconds_said(b"max-stale", asked),
+        while_revalidating: seconds_said(b"stale-while-revalidate", &state.fields),
+        if_error: seconds_said(b"stale-if-error", &state.fields),
+        asked_if_error: seconds_said(b"stale-if-error", asked),
+    }
+}
+
+// The seconds that a directive says, where it says a number.
+fn seconds_in(said: Seconds) -> Option<u32>
+    ensures { result ≡ seconds_in said }
+{
+    match said {
+        Seconds::Value(seconds) => Some(seconds),
+        Seconds::Absent | Seconds::Bare | Seconds::Unreadable => None,
+    }
+}
+
+// The greater of both, as far as they are there.
+fn greater(one: Option<u32>, other: Option<u32>) -> Option<u32>
+    ensures { result ≡ greater one other }
+{
+    match (one, other) {
+        (Some(one), Some(other)) => Some(one.max(other)),
+        (Some(one), None) => Some(one),
+        (None, other) => other,
+    }
+}
+
+// By how many seconds the response may be stale at most, if it may be at all.
+fn tolerated(claim: &ReplyClaim<'_>, state: &Stored) -> Option<u32>
+    ensures { result ≡ tolerated claim.now state.now }
+{
+    if stale_forbidden(&state.fields) {
+        return None;
+    }
+    let said = stale_said(claim, state);
+    let by_both = greater(
+        seconds_in(said.max_stale),
+        seconds_in(said.while_revalidating),
+    );
+    let ever = greater(claim.settings.allowed.grace, by_both);
+    if claim.has_error || claim.has_failure {
+        let on_error = greater(seconds_in(said.if_error), seconds_in(said.asked_if_error));
+        greater(ever, on_error)
+    } else {
+        ever
+    }
+}
+
+// The least lifetime with which the response is fresh, or no staler than is permitted.
+fn least_lifetime(claim: &ReplyClaim<'_>, state: &Stored) -> u64
+    ensures { result ≡ least_lifetime claim.now state.now }
+{
+    let age = u64::from(age_of(claim, state));
+    let slack = u64::from(claim.settings.slack);
+    match tolerated(claim, state) {
+        Some(seconds) => age.saturating_sub(u64::from(seconds) + slack),
+        None => (age + 1).saturating_sub(slack),
+    }
+}
+
+// The least grace with which the response is no staler than is permitted.
+fn least_grace(claim: &ReplyClaim<'_>, state: &Stored) -> u64
+    ensures { result ≡ least_grace claim.now state.now }
+{
+    let stale = staleness(lifetime_of(state), age_of(claim, state));
+    u64::from(stale.saturating_sub(claim.settings.slack))
+}
+
+/// Whether the response may be given a lifetime.
+pub(crate) fn takes_lifetime(state: &Stored) -> bool
+    ensures { result ≡ takes_lifetime state.now }
+{
+    !explicit(&state.fields)
+        && (says(b"public", &state.fields) || is_heuristically_cacheable(state.status))
+}
+
+// The setting by which the response may be used that may not be used without, if there is one.
+fn helping_setting(claim: &ReplyClaim<'_>, state: &Stored) -> Option<Setting>
+    ensures { result ≡ setting_of claim.now state.now }
+{
+    if says(b"no-cache", &state.fields) {
+        None
+    } else if takes_lifetime(state) {
+        Some(Setting::DefaultLifetime(least_lifetime(claim, state)))
+    } else if stale_forbidden(&state.fields) {
+        None
+    } else {
+        Some(Setting::Grace(least_grace(claim, state)))
+    }
+}
+
+// That setting, if an option takes its seconds.
+fn fitting(setting: Option<Setting>) -> Option<Setting>
+    ensures { result ≡ fitting setting }
+{
+    match setting {
+        None => None,
+        Some(Setting::DefaultLifetime(seconds)) => {
+            if MOST_SECONDS < seconds {
+                return None;
+            }
+            Some(Setting::DefaultLifetime(seconds))
+        }
+        Some(Setting::Grace(seconds)) => {
+            if MOST_SECONDS < seconds {
+                return None;
+            }
+            Some(Setting::Grace(seconds))
+        }
+    }
+}
+
+/// The setting by which the response may be used that may not be used without, if there is one that an option takes.
+pub(crate) fn told_setting(claim: &ReplyClaim<'_>, state: &Stored) -> Option<Setting>
+    ensures { result ≡ told_setting claim.now state.now }
+{
+    fitting(helping_setting(claim, state))
+}
+
+// Those seconds, or as many as settings may have.
+fn within(seconds: u64) -> u32
+    ensures { result ≡ min seconds most_seconds }
+{
+    u32::try_from(seconds).unwrap_or(u32::MAX)
+}
+
+impl Setting {
+    /// Sets it in those settings.
+    pub fn allow(&self, settings: &mut Settings)
+        ensures { settings.new ≡ settings_with self.now settings.old }
+    {
+        let allowed = &mut settings.allowed;
+        match self {
+            Setting::DefaultLifetime(seconds) => {
+                allowed.default_lifetime = Some(within(*seconds));
+            }
+            Setting::Grace(seconds) => allowed.grace = Some(within(*seconds)),
+        }
+    }
+
+    /// Its option, and the least seconds by which it helps.
+    pub fn named(&self) -> (&'static str, u64) {
+        match self {
+            Setting::DefaultLifetime(seconds) => ("--default-ttl", *seconds),
+            Setting::Grace(seconds) => ("--grace", *seconds),
+        }
+    }
+}
+
+/// The seconds of a directive that says a number.
+pub(crate) fn number_in(said: Seconds) -> Option<u64> {
+    match said {
+        Seconds::Value(seconds) => Some(u64::from(seconds)),
+        Seconds::Absent | Seconds::Bare | Seconds::Unreadable => None,
+    }
+}
+
+// Tells by how much a response is staler than a directive permits, if that says a number.
+fn say_over<T: Teller>(stale: u32, (name, said): (&str, Seconds), of: &str, teller: &mut T) {
+    let Seconds::Value(seconds) = said else {
+        return;
+    };
+    teller.count("; ", u64::from(stale.saturating_sub(seconds)), " over ");
+    teller.words(name);
+    teller.count(" ", u64::from(seconds), " of the ");
+    teller.words(of);
+}
+
+// Tells the same of `stale-if-error`, or that there was no error.
+fn say_if_error<T: Teller>(stale: u32, had_error: bool, said: Seconds, of: &str, teller: &mut T) {
+    let Seconds::Value(seconds) = said else {
+        return;
+    };
+    if had_error {
+        return say_over(stale, ("stale-if-error", said), of, teller);
+    }
+    teller.count(
+        "; no error for stale-if-error ",
+        u64::from(seconds),
+        " of the ",
+    );
+    teller.words(of);
+}
+
+impl StaleSaid {
+    /// Tells the seconds of each directive to an object.
+    pub(crate) fn tell<T: Teller>(&self, teller: &mut T) {
+        teller.some("max_stale", number_in(self.max_stale));
+        teller.some("stale_while_revalidate", number_in(self.while_revalidating));
+        teller.some("stale_if_error", number_in(self.if_error));
+        teller.some("asked_stale_if_error", number_in(self.asked_if_error));
+    }
+
+    /// Tells by how much a response that is so stale is staler than is permitted.
+    pub(crate) fn say_over<T: Teller>(&self, stale: u32, had_error: bool, teller: &mut T) {
+        let meanwhile = ("stale-while-revalidate", self.while_revalidating);
+        say_over(stale, meanwhile, "response", teller);
+        say_over(stale, ("max-stale", self.max_stale), "request", teller);
+        say_if_error(stale, had_error, self.if_error, "response", teller);
+        say_if_error(stale, had_error, self.asked_if_error, "request", teller);
+    }
+}

@@ -1,0 +1,314 @@
+//! Why a stored response may not be used for a reply (RFC 9111 section 4).
+
+ghost use Rattle.std.specs.Prelude.{◌≡◌};
+ghost use Rattle.hc_history.specs.Allowing.{allowed_lifetime};
+ghost use Rattle.hc_gaps.specs.Forbidding.{unusable_by};
+ghost use Rattle.hc_gaps.specs.Using.{lent_to, stale_by, stated_lifetime, usage_of};
+
+use crate::aging::{AgeOrigin, AgeParts, age_parts, say_slack};
+use crate::demand::Demand;
+use crate::stale::{Setting, StaleSaid, stale_said, takes_lifetime, told_setting};
+use hc_directives::Directives;
+use hc_fresh::{explicit, fresh, staleness};
+use hc_history::{ReplyClaim, age_of, lifetime_of};
+use hc_shown::Teller;
+use hc_update::Stored;
+
+/// What forbids to use a stored response.
+#[derive(Clone, Copy, PartialEq, Eq)]
+pub enum Unusable {
+    /// It says `no-cache`, and nothing has validated it (RFC 9111 section 5.2.2.4).
+    NoCache,
+    /// It is stale and says `must-revalidate` (section 5.2.2.2).
+    MustRevalidate,
+    /// It is stale and says `proxy-revalidate` (section 5.2.2.8).
+    ProxyRevalidate,
+    /// It is stale and says `s-maxage` (section 5.2.2.10).
+    SMaxage,
+    /// It is stale, and nothing permits to serve it so (section 4.2.4).
+    NothingPermits,
+}
+
+/// How old a stored response is, and what forbids to use it.
+#[derive(Clone, Copy)]
+pub struct Usage {
+    /// The lifetime that it states, if it states one.
+    pub lifetime: Option<u32>,
+    /// The lifetime that the audit gives it by default, where that is more.
+    pub lent: Option<u32>,
+    /// Its age at the reply.
+    pub age: u32,
+    /// What that is reckoned from.
+    pub parts: AgeParts,
+    /// By how many seconds it is stale then, if it isn't fresh.
+    pub stale_by: Option<u32>,
+    /// What forbids to use it.
+    pub forbidden: Unusable,
+    /// By how many seconds these may be off.
+    pub slack: u32,
+    /// What is said of how stale it may be served.
+    pub said: StaleSaid,
+    /// The setting by which it may be used, if there is one.
+    pub setting: Option<Setting>,
+}
+
+// What forbids to use a stored response that may not be used, the first thing that does.
+#[tactic(auto, using(hc_directives::proofs::KnownLemmas::seconds_are_there))]
+fn unusable_by(state: &Stored) -> Unusable
+    ensures { result ≡ unusable_by state.now.fields }
+{
+    let known = Directives::read(&state.fields).known();
+    if known.no_cache {
+        Unusable::NoCache
+    } else if known.must_revalidate {
+        Unusable::MustRevalidate
+    } else if known.proxy_revalidate {
+        Unusable::ProxyRevalidate
+    } else if known.s_maxage.is_there() {
+        Unusable::SMaxage
+    } else {
+        Unusable::NothingPermits
+    }
+}
+
+// The lifetime that a stored response states, if it states one.
+fn stated_lifetime(state: &Stored) -> Option<u32>
+    ensures { result ≡ stated_lifetime state.now }
+{
+    if explicit(&state.fields) {
+        Some(lifetime_of(state))
+    } else {
+        None
+    }
+}
+
+// The lifetime that the audit gives the response, which states none.
+fn lent_to(claim: &ReplyClaim<'_>, state: &Stored) -> Option<u32>
+    ensures { result ≡ lent_to claim.now state.now }
+{
+    if takes_lifetime(state) {
+        claim.settings.allowed.default_lifetime
+    } else {
+        None
+    }
+}
+
+// The lifetime that is counted with.
+fn counted_lifetime(claim: &ReplyClaim<'_>, state: &Stored) -> u32
+    ensures { result ≡ allowed_lifetime claim.now state.now }
+{
+    match lent_to(claim, state) {
+        Some(seconds) => lifetime_of(state).max(seconds),
+        None => lifetime_of(state),
+    }
+}
+
+// By how many seconds a response of that age is stale, if it isn't fresh.
+fn stale_by(lifetime: u32, age: u32) -> Option<u32>
+    ensures { result ≡ stale_by lifetime age }
+{
+    if fresh(lifetime, age) {
+        None
+    } else {
+        Some(staleness(lifetime, age))
+    }
+}
+
+/// How old a stored response is at the reply, and what forbids to use it.
+pub fn usage_at(claim: &ReplyClaim<'_>, state: &Stored) -> Usage
+    ensures { result ≡ usage_of claim.now state.now }
+{
+    Usage {
+        lifetime: stated_lifetime(state),
+        lent: lent_to(claim, state),
+        age: age_of(claim, state),
+        parts: age_parts(claim, state),
+        stale_by: stale_by(counted_lifetime(claim, state), age_of(claim, state)),
+        forbidden: unusable_by(state),
+        slack: claim.settings.slack,
+        said: stale_said(claim, state),
+        setting: told_setting(claim, state),
+    }
+}
+
+impl Unusable {
+    /// The words for it.
+    pub fn words(&self) -> &'static str {
+        match self {
+            Unusable::NoCache => "no-cache forbids use without validation",
+            Unusable::MustRevalidate => "must-revalidate forbids stale",
+            Unusable::ProxyRevalidate => "proxy-revalidate forbids stale",
+            Unusable::SMaxage => "s-maxage forbids stale",
+            Unusable::NothingPermits => "nothing permits stale",
+        }
+    }
+}
+
+const NO_CACHE: Demand = Demand {
+    sections: "RFC 9111 section 5.2.2.4",
+    words: "what says no-cache MUST NOT be used before it is validated",
+};
+
+const NO_CACHE_FIELDS: Demand = Demand {
+    sections: "no RFC (RFC 9111 section 5.2.2.4 lets the rest be used of what says no-cache of some fields), but this auditor's stricter rule",
+    words: "what says no-cache, of whichever fields, isn't used before it is validated",
+};
+
+const MUST_REVALIDATE: Demand = Demand {
+    sections: "RFC 9111 section 5.2.2.2",
+    words: "what says must-revalidate MUST NOT be used once it is stale, before it is validated",
+};
+
+const PROXY_REVALIDATE: Demand = Demand {
+    sections: "RFC 9111 section 5.2.2.8",
+    words: "what says proxy-revalidate MUST NOT be used once it is stale, before it is validated",
+};
+
+const S_MAXAGE: Demand = Demand {
+    sections: "RFC 9111 section 5.2.2.10",
+    words: "what says s-maxage MUST NOT be used once it is stale, before it is validated",
+};
+
+const STALE: Demand = Demand {
+    sections: "RFC 9111 section 4.2.4",
+    words: "what is stale MUST NOT be given before it is validated, but where that is permitted",
+};
+
+const STALE_BY_DATE: Demand = Demand {
+    sections: "no RFC (RFC 9111 section 4.2.3 lets a cache count by Age alone where it trusts that), but this auditor's stricter rule",
+    words: "what is stale by its Age or by its Date isn't given before it is validated, but where that is permitted",
+};
+
+const STALE_AFTER_ERROR: Demand = Demand {
+    sections: "no RFC (RFC 9111 section 4.3.3 lets a cache take an error for no answer, and give what is stale), but this auditor's stricter rule",
+    words: "what is stale is given after an error where stale-if-error permits that, and else the error is",
+};
+
+const NO_LIFETIME: Demand = Demand {
+    sections: "no RFC (RFC 9111 section 4.2.2 permits heuristics), but this auditor's stricter rule",
+    words: "what says no lifetime has none, but for --default-ttl",
+};
+
+impl Usage {
+    // What is asked of what says `no-cache`: of fields that the reply lacks it may be said.
+    fn demand_of_no_cache(leaves_fields_out: bool) -> Demand {
+        if leaves_fields_out {
+            NO_CACHE_FIELDS
+        } else {
+            NO_CACHE
+        }
+    }
+
+    /// What is asked of a response that states no lifetime: no RFC forbids to use it, but where it says `no-cache`, if that isn't
+    /// said of fields alone which the reply leaves out.
+    pub fn demand_of_lifetime(&self, leaves_fields_out: bool) -> Demand {
+        match self.forbidden {
+            Unusable::NoCache => Usage::demand_of_no_cache(leaves_fields_out),
+            _ => NO_LIFETIME,
+        }
+    }
+
+    // Whether the response is fresh where its age is counted by its Age alone.
+    fn is_fresh_by_age_alone(&self) -> bool {
+        let lifetime = self.lifetime.unwrap_or(0).max(self.lent.unwrap_or(0));
+        match self.parts.by_age_alone() {
+            Some(age) => age < u64::from(lifetime) + u64::from(self.slack),
+            None => false,
+        }
+    }
+
+    /// What is asked of the use of a response, after an error of the origin or not.
+    pub fn demand_of_use(&self, leaves_fields_out: bool, is_after_error: bool) -> Demand {
+        match self.forbidden {
+            Unusable::NoCache => Usage::demand_of_no_cache(leaves_fields_out),
+            _ if self.is_fresh_by_age_alone() => STALE_BY_DATE,
+            Unusable::MustRevalidate => MUST_REVALIDATE,
+            Unusable::ProxyRevalidate => PROXY_REVALIDATE,
+            Unusable::SMaxage => S_MAXAGE,
+            Unusable::NothingPermits if is_after_error => STALE_AFTER_ERROR,
+            Unusable::NothingPermits => STALE,
+        }
+    }
+}
+
+/// What is said of a lifetime that is none, by an Expires (RFC 9111 sections 4.2.1 and 5.3).
+const PAST: &str =
+    "lifetime 0 (an Expires that is no date, or not later than the Date, is past: RFC 9111 section 5.3)";
+
+impl Usage {
+    // Tells the lifetime that the response states, which Expires alone says or not, or the one that it is given.
+    fn tell_lifetime<T: Teller>(&self, is_by_expires: bool, teller: &mut T) {
+        match self.lifetime {
+            Some(0) if is_by_expires => teller.words(PAST),
+            Some(seconds) => teller.count("lifetime ", u64::from(seconds), ""),
+            None => teller.words("no lifetime is stated"),
+        }
+        teller.some("lifetime", seconds(self.lifetime));
+        if let Some(lent) = self.lent {
+            teller.number("default_ttl", ", ", u64::from(lent), " by --default-ttl");
+        }
+    }
+
+    /// Tells how old the response is.
+    pub(crate) fn tell_age<T: Teller>(
+        &self,
+        is_by_expires: bool,
+        origin: AgeOrigin,
+        teller: &mut T,
+    ) {
+        self.tell_lifetime(is_by_expires, teller);
+        teller.number("age", ", age ", u64::from(self.age), "");
+        self.parts.tell(origin, teller);
+        teller.some("stale_by", seconds(self.stale_by));
+    }
+
+    /// Tells by how much the response is stale.
+    pub(crate) fn say_staleness<T: Teller>(&self, teller: &mut T) {
+        match self.stale_by {
+            Some(seconds) => teller.count(": stale by ", u64::from(seconds), ""),
+            None => teller.words(": fresh"),
+        }
+    }
+
+    /// Tells why the response may not be used, of which Expires alone says the lifetime or not. It is told whether an error or a
+    /// failure stands between request and reply.
+    pub fn tell<T: Teller>(
+        &self,
+        is_by_expires: bool,
+        had_error: bool,
+        origin: AgeOrigin,
+        teller: &mut T,
+    ) {
+        self.tell_age(is_by_expires, origin, teller);
+        self.say_staleness(teller);
+        say_slack(self.slack, "--slack", teller);
+        teller.words("; ");
+        teller.words(self.forbidden.words());
+        teller.word("forbidden", self.forbidden.words());
+        self.said.tell(teller);
+        if let (Some(stale), Unusable::NothingPermits) = (self.stale_by, self.forbidden) {
+            self.said.say_over(stale, had_error, teller);
+        }
+        self.tell_setting(teller);
+    }
+
+    // Tells the setting that would permit it to an object.
+    fn tell_setting<T: Teller>(&self, teller: &mut T) {
+        match self.setting {
+            Some(setting) => {
+                let (name, least) = setting.named();
+                teller.word("setting", name);
+                teller.fact("least", least);
+            }
+            None => teller.some("setting", None),
+        }
+    }
+}
+
+/// So many seconds, if there are any.
+pub(crate) fn seconds(some: Option<u32>) -> Option<u64> {
+    match some {
+        Some(seconds) => Some(u64::from(seconds)),
+        None => None,
+    }
+}

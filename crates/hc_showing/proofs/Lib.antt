@@ -1,2 +1,0 @@
-pub mod ShowingLemmas
-pub mod TextLemmas

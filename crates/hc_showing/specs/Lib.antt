@@ -1,3 +1,0 @@
-pub mod Shown
-pub mod Showings
-pub mod Texts

@@ -1,0 +1,208 @@
+//! In what the response that is named falls short, as it is told.
+
+use crate::explaining::Explanation;
+use crate::past::End;
+use crate::shortfalls::{Nearest, Shortfall};
+use crate::unstored::NO_GET;
+use hc_fields::Fields;
+use hc_gaps::{AgeOrigin, Aged, Differences, FieldsOrigin, Selection, Usage};
+use hc_history::Finding;
+use hc_shown::{RecordName, Teller};
+
+// The fields of a response, where its heads are remembered.
+fn fields_of(end: &End) -> Option<&Fields> {
+    Some(&end.heads()?.response.fields)
+}
+
+// Whether a response is known to have come with that field.
+fn came_with(name: &[u8], end: Option<&End>) -> bool {
+    match end {
+        Some(end) => match fields_of(end) {
+            Some(fields) => fields.contains(name),
+            None => false,
+        },
+        None => false,
+    }
+}
+
+impl<'a> Explanation<'a> {
+    // The record of the forward that the response answers which is named, as far as it is known.
+    fn sent_of(&self, nearest: &Nearest<'_>) -> Option<RecordName> {
+        self.source(nearest.position)?.sent
+    }
+
+    // What the age of the response is counted from.
+    fn age_origin(&self, nearest: &Nearest<'_>) -> AgeOrigin {
+        let (validator, sent) = match (nearest.state.validated_at, self.changes.validator) {
+            (None, _) => (None, self.sent_of(nearest)),
+            (Some(_), Some(validator)) => (Some(validator.record), validator.sent),
+            (Some(_), None) => (None, None),
+        };
+        AgeOrigin {
+            validator,
+            sent,
+            aged: self.aged(nearest),
+        }
+    }
+
+    // The response, where it came with an Age, and a 304 freshened it.
+    fn aged(&self, nearest: &Nearest<'_>) -> Option<Aged> {
+        let validator = self.changes.validator?;
+        if !came_with(b"age", self.source(nearest.position)) {
+            return None;
+        }
+        Some(Aged {
+            position: nearest.position,
+            is_aged_anew: came_with(b"age", Some(validator)),
+        })
+    }
+
+    // What the fields of the response come from.
+    pub(crate) fn fields_origin(&self, nearest: &Nearest<'_>) -> FieldsOrigin<'a> {
+        let validator = match (self.changes.validator, self.changes.renewed()) {
+            (Some(validator), Some(renewed)) => Some((validator.record, renewed)),
+            _ => None,
+        };
+        FieldsOrigin {
+            validator,
+            position: nearest.position,
+            first: self.first_fields(nearest),
+        }
+    }
+
+    // The fields with which the response came.
+    fn first_fields(&self, nearest: &Nearest<'_>) -> Option<&'a Fields> {
+        Some(&self.source(nearest.position)?.heads()?.response.fields)
+    }
+
+    // Whether Expires alone says the lifetime of the response, which is as it came.
+    fn is_by_expires(&self, nearest: &Nearest<'_>) -> bool {
+        let source = self.source(nearest.position);
+        nearest.state.validated_at.is_none()
+            && !came_with(b"cache-control", source)
+            && came_with(b"expires", source)
+    }
+
+    // Tells by which members of its Vary the response doesn't answer the request.
+    fn tell_selection<T: Teller>(
+        &self,
+        nearest: &Nearest<'_>,
+        selection: &Selection,
+        teller: &mut T,
+    ) {
+        let place = (nearest.position, self.sent_of(nearest));
+        selection.tell(&self.claim, nearest.state, place, teller);
+        match self.changes.validator {
+            Some(validator) if self.was_validated(nearest) => {
+                teller.record(", though the 304 ", validator.record);
+                teller.words(" validated it");
+            }
+            _ => {}
+        }
+    }
+
+    // Tells why the response may not be used.
+    fn tell_usage<T: Teller>(&self, nearest: &Nearest<'_>, usage: &Usage, teller: &mut T) {
+        let had_error = self.claim.has_error || self.claim.has_failure;
+        let by_expires = self.is_by_expires(nearest);
+        usage.tell(by_expires, had_error, self.age_origin(nearest), teller);
+    }
+
+    // Tells in which fields the reply differs.
+    fn tell_fields<T: Teller>(&self, nearest: &Nearest<'_>, found: &Differences, teller: &mut T) {
+        let pair = (&self.claim, nearest.state);
+        found.tell(pair, self.fields_origin(nearest), teller);
+    }
+
+    // Tells what is due, and what came.
+    fn tell_gap<T: Teller>(&self, nearest: &Nearest<'_>, shortfall: &Shortfall, teller: &mut T) {
+        match shortfall {
+            Shortfall::Asked => teller.method("method", "", &self.claim.request.method, NO_GET),
+            Shortfall::Selected(selection) => self.tell_selection(nearest, selection, teller),
+            Shortfall::Valid => self.changes.tell_invalidators(teller),
+            Shortfall::Lifetime(usage) | Shortfall::Use(usage) => {
+                self.tell_usage(nearest, usage, teller);
+            }
+            Shortfall::Body(gap) => gap.tell(&self.claim, nearest.state, teller),
+            Shortfall::Fields(found) => self.tell_fields(nearest, found, teller),
+            Shortfall::Age(gap) => {
+                let reply = &self.claim.reply.head.fields;
+                gap.tell(reply, self.age_origin(nearest), teller);
+            }
+            Shortfall::Ttl(gap) => gap.tell(teller),
+        }
+    }
+
+    // Tells that no 304 is about the response, where it should be valid, or validated, or there are some.
+    fn tell_validations<T: Teller>(
+        &self,
+        nearest: &Nearest<'_>,
+        shortfall: &Shortfall,
+        teller: &mut T,
+    ) {
+        let since = self.claim.since;
+        self.changes.tell_not_about(nearest, since, teller);
+        if !self.changes.not_about.is_empty() {
+            return;
+        }
+        match shortfall {
+            Shortfall::Valid => teller.words("; no 304 of this target since"),
+            Shortfall::Lifetime(_) | Shortfall::Use(_) => self.say_none(teller),
+            _ => {}
+        }
+    }
+
+    // Tells that there is no 304 in the window.
+    fn say_none<T: Teller>(&self, teller: &mut T) {
+        let first = self.claim.since.saturating_add(1);
+        let last = self.position.saturating_sub(1);
+        if first < last {
+            teller.count("; no 304 of this target in ", first, "..");
+            teller.count("", last, "");
+        } else {
+            teller.words("; no 304 of this target after the request");
+        }
+    }
+
+    // Tells the setting by which the response may be used, if there is one, and what would be found with it.
+    fn say_setting<T: Teller>(&self, usage: &Usage, teller: &mut T) {
+        let Some(setting) = usage.setting else {
+            return;
+        };
+        let (name, seconds) = setting.named();
+        teller.words("; an audit with ");
+        teller.words(name);
+        teller.count(" ", seconds, "");
+        if usage.slack != 0 {
+            teller.words(" beside that slack");
+        }
+        teller.words(" would let that pass");
+        if let Some(Finding::Wrong(reason)) = self.with_setting {
+            teller.count(", and fail it by ", u64::from(reason.number()), " ");
+            teller.words(reason.name());
+        }
+    }
+
+    /// Tells in what the response that is named falls short.
+    pub fn tell_shortfall<T: Teller>(
+        &self,
+        nearest: &Nearest<'_>,
+        shortfall: &Shortfall,
+        teller: &mut T,
+    ) {
+        self.tell_gap(nearest, shortfall, teller);
+        self.tell_validations(nearest, shortfall, teller);
+        match shortfall {
+            Shortfall::Lifetime(usage) | Shortfall::Use(usage) => self.say_setting(usage, teller),
+            _ => {}
+        }
+    }
+
+    /// Tells how stale the response is that a right hit gives, and what permits that.
+    pub fn tell_stale<T: Teller>(&self, nearest: &Nearest<'_>, teller: &mut T) {
+        if let Some(stale) = &self.stale {
+            let by_expires = self.is_by_expires(nearest);
+            stale.tell(by_expires, self.age_origin(nearest), teller);
+        }
+    }
+}
