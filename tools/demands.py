@@ -4,6 +4,7 @@ holds against the sections that an explanation names as broken. Written from RFC
 A demand is a set of what may be named: sections as `9111 4.1`, or OWN for that no RFC is broken. It has both where the
 RFCs leave that open."""
 
+import copy
 import re
 
 import walks
@@ -55,6 +56,17 @@ def validated(state, after, demand):
     """What is asked where a 304 behind that position may have validated the response by the RFCs."""
     found = {looser(record, before) for record, before in state.not_about if record.position > after}
     return {OWN} if True in found else demand | {OWN} if None in found else demand
+
+
+def usable_by(reply, state, demand):
+    """What is asked of what may not be used, where a 304 may have validated it by the RFCs, be it after the request, or before
+    it, so that it is usable still."""
+    for record, before in state.not_about:
+        made = copy.copy(before)
+        made.freshen(record)
+        if record.position <= reply.since and looser(record, before) is not False and reply.is_usable(made):
+            demand = demand | {OWN}
+    return validated(state, reply.since, demand)
 
 
 # -- What may be stored
@@ -125,7 +137,7 @@ def lifetime(reply, state):
     said = directives(state.fields)
     demand = no_cache(reply, state) if "no-cache" in said else {OWN}
     may_be_guessed = state.status in HEURISTIC or "public" in said
-    return validated(state, reply.since, demand if may_be_guessed else demand | {OWN, "9111 4.2.2", "9111 4.2.4"})
+    return usable_by(reply, state, demand if may_be_guessed else demand | {OWN, "9111 4.2.2", "9111 4.2.4"})
 
 
 def failed_validation(reply):
@@ -137,12 +149,15 @@ def failed_validation(reply):
 
 
 def using(reply, state):
-    """What is asked where a response may not be used (RFC 9111 sections 4.2.4 and 5.2.2)."""
+    """What is asked where a response may not be used (RFC 9111 sections 4.2.4 and 5.2.2). What says no-cache of fields that
+    are left out is as what doesn't, once it is stale."""
     said, by_age = directives(state.fields), state.age(reply.moment, by_age_alone=True)
     demand = {section for name, section in STALE.items() if name in said} | {"9111 4.2.4", "9111 5.3", "9111 4"}
-    failed = failed_validation(reply)
+    failed, is_fresh = failed_validation(reply), reply.is_fresh(state)
+    if "no-cache" in said and leaves_out(state.response, "no-cache", reply.record.fields) and not is_fresh:
+        said.pop("no-cache")
     if "no-cache" in said:
-        demand = no_cache(reply, state) if reply.is_fresh(state) else demand
+        demand = no_cache(reply, state) if is_fresh else demand
     elif state.lifetime() + reply.settings.slack > by_age:
         # The Age may be believed, whatever the Date (section 4.2.3).
         demand = {OWN} if state.age_value else demand | {OWN}
@@ -150,7 +165,7 @@ def using(reply, state):
         demand = demand | {OWN}
     elif not said.keys() & set(STALE) and failed is not False:
         demand = {OWN} if failed else demand | {OWN}
-    return validated(state, reply.since, demand)
+    return usable_by(reply, state, demand)
 
 
 # -- What a reply has
@@ -174,15 +189,18 @@ def content(reply, state):
 
 
 def by_head(reply, state):
-    """Whether the reply differs by what a 200 to HEAD says that is about the response (RFC 9111 section 4.3.5)."""
-    told, names, found = reply.record.fields, reply.gaps(state), []
+    """Whether the reply differs by what a 200 to HEAD says that is about the response (RFC 9111 section 4.3.5): yes, no,
+    or none where that is open."""
+    told, names, found = reply.record.fields, reply.gaps(state), set()
     for end in reply.ends:
-        validators = ((values(end.fields, name), values(state.fields, name)) for name in ("etag", "last-modified"))
-        is_about = all(one in ([], other) for one, other in validators)
+        due = {name: values(state.fields, name) for name in ("etag", "last-modified")}
+        due["content-length"] = [str(len(state.body))]
+        is_about = all(values(end.fields, name) in ([], each) for name, each in due.items())
         if end.of.method == "HEAD" and end.status == 200 and end.position > state.settled and is_about:
             made = walks.replaced(state.fields, walks.stored_fields(end.fields, end.moment)[0])
-            found.append(all(values(told, name) == values(made, name) for name in names))
-    return any(found)
+            if all(values(told, name) == values(made, name) for name in names):
+                found.add(None if walks.unmet(state, end.of.fields) else True)  # Vary may be normalized.
+    return True if True in found else None if found else False
 
 
 def of_field(reply, state, name):
@@ -205,7 +223,8 @@ def of_field(reply, state, name):
 def fields(reply, state):
     """What is asked of the fields that differ: that of any, and that no RFC is broken only where none is."""
     found = set().union(*(of_field(reply, state, name) for name in reply.gaps(state)))
-    demand = {OWN} if by_head(reply, state) else found - {OWN} or {OWN}
+    is_by_head = by_head(reply, state)
+    demand = {OWN} if is_by_head else (found - {OWN} or {OWN}) | ({OWN} if is_by_head is None else set())
     return demand if validated(state, state.settled, demand) == demand else demand | {OWN}
 
 
@@ -256,7 +275,7 @@ def of_hit(reply, demand, reason):
 def of_forwarded(reply, state):
     """What is asked of what went forward: where it gives what is stored, or was validated, what a hit would break."""
     demand = {"9211 2.2", "9110 7.7", "9111 4"}
-    parts = [end for end in reply.window if end.kind == "r" and reply.is_part(end.status, end.body)]
+    parts = [end for end in reply.window if end.kind == "r" and end.of.method == "GET" and reply.is_part(end.status, end.body)]
     if any(reply.may_be_for(end) for end in parts):
         return {OWN}
     if reply.record.status >= 500 or reply.record.status == 416 or parts:

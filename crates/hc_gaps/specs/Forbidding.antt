@@ -34,10 +34,13 @@ forbids_nothing forbids =
 
 -- ---- to use it, where it isn't validated and either says no-cache or is stale (RFC 9111 sections 4.2.4 and 5.2.2)
 
--- the first thing that does, in the order in which they stand
-abbrev pub unusable_by : List Field → Unusable
-unusable_by fields =
-    if says (codes "no-cache") fields then forbids_use.NoCache else
-    (if says (codes "must-revalidate") fields then forbids_use.MustRevalidate else
+-- the first thing that forbids to give it stale, in the order in which they stand, but for no-cache
+abbrev pub forbids_stale : List Field → Unusable
+forbids_stale fields =
+    if says (codes "must-revalidate") fields then forbids_use.MustRevalidate else
     (if says (codes "proxy-revalidate") fields then forbids_use.ProxyRevalidate else
-    (if says (codes "s-maxage") fields then forbids_use.SMaxage else forbids_use.NothingPermits)))
+    (if says (codes "s-maxage") fields then forbids_use.SMaxage else forbids_use.NothingPermits))
+
+-- the first thing that forbids to use it
+abbrev pub unusable_by : List Field → Unusable
+unusable_by fields = if says (codes "no-cache") fields then forbids_use.NoCache else forbids_stale fields

@@ -8,4 +8,5 @@ pub mod Permits
 pub mod Rules
 pub mod Selecting
 pub mod Stale
+pub mod Trusting
 pub mod Using

@@ -8,7 +8,7 @@ use Rattle.hc_history.specs.Claims.{Claim}
 use Rattle.hc_history.specs.Usable.{age_of, lifetime_of}
 use Rattle.hc_gaps.specs.declared.usage.Usage.{Usage}
 use Rattle.hc_gaps.specs.Aging.{parts_of}
-use Rattle.hc_gaps.specs.Forbidding.{unusable_by}
+use Rattle.hc_gaps.specs.Forbidding.{forbids_stale, unusable_by}
 use Rattle.hc_gaps.specs.Stale.{stale_said_of, takes_lifetime, told_setting}
 
 -- the lifetime that it states (RFC 9111 section 4.2.1)
@@ -31,6 +31,7 @@ usage_of claim state = record {
   parts = parts_of claim state;
   stale_by = stale_by (allowed_lifetime claim state) (age_of claim state);
   forbidden = unusable_by state.fields;
+  forbids_stale = forbids_stale state.fields;
   slack = claim.settings.slack;
   said = stale_said_of claim state;
   setting = told_setting claim state;

@@ -138,21 +138,28 @@ fn without_weakness(value: &[u8]) -> &[u8] {
     value.strip_prefix(b"W/").unwrap_or(value)
 }
 
-// Whether both have one line of that, and these are the same but for that one is a weak tag.
-fn agree_weakly(one: FieldOf<'_>, other: FieldOf<'_>) -> bool {
-    match (one.fields.only(one.name), other.fields.only(other.name)) {
-        (Some(one), Some(other)) => {
-            without_weakness(trimmed(one)) == without_weakness(trimmed(other))
+impl Telling {
+    // Whether what is told is what is due: a tag of the 304's own may be a weak one where the other isn't, or the reverse.
+    fn is_same(&self, told: &[u8], due: &[u8]) -> bool {
+        match self {
+            Telling::Tag => without_weakness(told) == without_weakness(due),
+            Telling::Modified | Telling::AskedTag | Telling::AskedModified => told == due,
         }
-        _ => false,
     }
 }
 
-/// Whether what a 304 tells by its validator is what the response has, but for that one may be a weak tag.
+/// Whether what a 304 tells by its validator is what the response has, but for that of both tags one may be a weak one. Of the
+/// condition of its forward nothing else will do: a 304 without a validator is about what was asked of.
 pub fn agree(state: &Stored, forward: &RequestHead, response: &ResponseHead) -> bool {
     let telling = Telling::read(&forward.fields, &response.fields);
-    let told = telling.told(&forward.fields, &response.fields);
-    agree_weakly(told, telling.due(&state.fields))
+    let (told, due) = (
+        telling.told(&forward.fields, &response.fields),
+        telling.due(&state.fields),
+    );
+    match (told.fields.only(told.name), due.fields.only(due.name)) {
+        (Some(told), Some(due)) => telling.is_same(trimmed(told), trimmed(due)),
+        _ => false,
+    }
 }
 
 impl Against {

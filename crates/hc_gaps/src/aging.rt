@@ -2,6 +2,7 @@
 
 ghost use Rattle.std.specs.Prelude.{◌≡◌, [], ◌∷◌, codes};
 ghost use Rattle.hc_fields.specs.Values.{values_of};
+ghost use Rattle.hc_gaps.specs.Trusting.{age_by_age_alone};
 ghost use Rattle.hc_gaps.specs.Aging.{IsAgeGap, IsAgeTold, age_off, parts_of, ttl_due, ttl_gap_of, ttl_off};
 
 use crate::demand::Demand;
@@ -194,7 +195,9 @@ pub const TTL: Demand = Demand {
 
 impl AgeParts {
     /// The age that is counted by the response's Age alone, where its Date tells of more.
-    pub(crate) fn by_age_alone(&self) -> Option<u64> {
+    pub(crate) fn by_age_alone(&self) -> Option<u64>
+        ensures { result ≡ age_by_age_alone self.now }
+    {
         let times = self.times;
         let delay = times.response_time.saturating_sub(times.request_time);
         let corrected = u64::from(times.age_value).saturating_add(delay);

@@ -2,14 +2,15 @@
 
 ghost use Rattle.std.specs.Prelude.{◌≡◌};
 ghost use Rattle.hc_history.specs.Allowing.{allowed_lifetime};
-ghost use Rattle.hc_gaps.specs.Forbidding.{unusable_by};
+ghost use Rattle.hc_gaps.specs.Trusting.{is_fresh_at, is_fresh_by_age_alone};
+ghost use Rattle.hc_gaps.specs.Forbidding.{forbids_stale, unusable_by};
 ghost use Rattle.hc_gaps.specs.Using.{lent_to, stale_by, stated_lifetime, usage_of};
 
 use crate::aging::{AgeOrigin, AgeParts, age_parts, say_slack};
 use crate::demand::Demand;
 use crate::stale::{Setting, StaleSaid, stale_said, takes_lifetime, told_setting};
 use hc_directives::Directives;
-use hc_fresh::{explicit, fresh, staleness};
+use hc_fresh::{explicit, fresh, says, staleness};
 use hc_history::{ReplyClaim, age_of, lifetime_of};
 use hc_shown::Teller;
 use hc_update::Stored;
@@ -44,6 +45,8 @@ pub struct Usage {
     pub stale_by: Option<u32>,
     /// What forbids to use it.
     pub forbidden: Unusable,
+    /// What forbids to give it stale, whether or not it says `no-cache`.
+    pub forbids_stale: Unusable,
     /// By how many seconds these may be off.
     pub slack: u32,
     /// What is said of how stale it may be served.
@@ -52,15 +55,13 @@ pub struct Usage {
     pub setting: Option<Setting>,
 }
 
-// What forbids to use a stored response that may not be used, the first thing that does.
+// What forbids to give a stored response stale, the first thing that does but for `no-cache`.
 #[tactic(auto, using(hc_directives::proofs::KnownLemmas::seconds_are_there))]
-fn unusable_by(state: &Stored) -> Unusable
-    ensures { result ≡ unusable_by state.now.fields }
+fn forbids_stale(state: &Stored) -> Unusable
+    ensures { result ≡ forbids_stale state.now.fields }
 {
     let known = Directives::read(&state.fields).known();
-    if known.no_cache {
-        Unusable::NoCache
-    } else if known.must_revalidate {
+    if known.must_revalidate {
         Unusable::MustRevalidate
     } else if known.proxy_revalidate {
         Unusable::ProxyRevalidate
@@ -68,6 +69,17 @@ fn unusable_by(state: &Stored) -> Unusable
         Unusable::SMaxage
     } else {
         Unusable::NothingPermits
+    }
+}
+
+// What forbids to use a stored response that may not be used, the first thing that does.
+fn unusable_by(state: &Stored) -> Unusable
+    ensures { result ≡ unusable_by state.now.fields }
+{
+    if says(b"no-cache", &state.fields) {
+        Unusable::NoCache
+    } else {
+        forbids_stale(state)
     }
 }
 
@@ -125,6 +137,7 @@ pub fn usage_at(claim: &ReplyClaim<'_>, state: &Stored) -> Usage
         parts: age_parts(claim, state),
         stale_by: stale_by(counted_lifetime(claim, state), age_of(claim, state)),
         forbidden: unusable_by(state),
+        forbids_stale: forbids_stale(state),
         slack: claim.settings.slack,
         said: stale_said(claim, state),
         setting: told_setting(claim, state),
@@ -190,43 +203,61 @@ const NO_LIFETIME: Demand = Demand {
 };
 
 impl Usage {
-    // What is asked of what says `no-cache`: of fields that the reply lacks it may be said.
-    fn demand_of_no_cache(leaves_fields_out: bool) -> Demand {
-        if leaves_fields_out {
-            NO_CACHE_FIELDS
-        } else {
-            NO_CACHE
-        }
-    }
-
     /// What is asked of a response that states no lifetime: no RFC forbids to use it, but where it says `no-cache`, if that isn't
     /// said of fields alone which the reply leaves out.
     pub fn demand_of_lifetime(&self, leaves_fields_out: bool) -> Demand {
         match self.forbidden {
-            Unusable::NoCache => Usage::demand_of_no_cache(leaves_fields_out),
+            Unusable::NoCache if leaves_fields_out => NO_CACHE_FIELDS,
+            Unusable::NoCache => NO_CACHE,
             _ => NO_LIFETIME,
         }
     }
 
-    // Whether the response is fresh where its age is counted by its Age alone.
-    fn is_fresh_by_age_alone(&self) -> bool {
+    // Whether a response of its lifetime is fresh at that age, as far as the audit is told to look.
+    fn is_fresh_at(&self, age: u64) -> bool
+        ensures { result ≡ is_fresh_at self.now age }
+    {
         let lifetime = self.lifetime.unwrap_or(0).max(self.lent.unwrap_or(0));
+        age < u64::from(lifetime) + u64::from(self.slack)
+    }
+
+    // Whether the response is fresh where its age is counted by its Age alone.
+    fn is_fresh_by_age_alone(&self) -> bool
+        ensures { result ≡ is_fresh_by_age_alone self.now }
+    {
         match self.parts.by_age_alone() {
-            Some(age) => age < u64::from(lifetime) + u64::from(self.slack),
+            Some(age) => self.is_fresh_at(age),
             None => false,
         }
     }
 
-    /// What is asked of the use of a response, after an error of the origin or not.
+    // Whether it says `no-cache`, and nothing else forbids to use it.
+    fn is_forbidden_by_no_cache_alone(&self) -> bool {
+        self.forbidden == Unusable::NoCache && self.is_fresh_at(u64::from(self.age))
+    }
+
+    /// What is asked of the use of a response, after an error of the origin or not. What says `no-cache` of fields alone which
+    /// the reply leaves out may be used as if it didn't, as long as it is fresh.
     pub fn demand_of_use(&self, leaves_fields_out: bool, is_after_error: bool) -> Demand {
-        match self.forbidden {
-            Unusable::NoCache => Usage::demand_of_no_cache(leaves_fields_out),
-            _ if self.is_fresh_by_age_alone() => STALE_BY_DATE,
+        if self.forbidden == Unusable::NoCache && !leaves_fields_out {
+            NO_CACHE
+        } else if self.is_forbidden_by_no_cache_alone() {
+            NO_CACHE_FIELDS
+        } else if self.is_fresh_by_age_alone() {
+            STALE_BY_DATE
+        } else {
+            self.demand_of_stale(is_after_error)
+        }
+    }
+
+    // What is asked of what is stale.
+    fn demand_of_stale(&self, is_after_error: bool) -> Demand {
+        match self.forbids_stale {
             Unusable::MustRevalidate => MUST_REVALIDATE,
             Unusable::ProxyRevalidate => PROXY_REVALIDATE,
             Unusable::SMaxage => S_MAXAGE,
-            Unusable::NothingPermits if is_after_error => STALE_AFTER_ERROR,
-            Unusable::NothingPermits => STALE,
+            _ if is_after_error => STALE_AFTER_ERROR,
+            _ => STALE,
         }
     }
 }

@@ -1,13 +1,14 @@
 //! What the records after a response made of it, and what was due in its place.
 
-use crate::past::{End, Past, copied_request};
+use crate::past::{End, Heads, Past, copied_request};
 use crate::shortfalls::{Nearest, Shortfall};
 use crate::sources::say_sent;
 use crate::window::asks_the_same;
-use hc_fields::{END_OF_MOMENTS, Fields};
+use hc_fields::{END_OF_MOMENTS, Fields, decimal};
 use hc_gaps::{Against, Demand, Newest, Rule, STORABLE_304, agree, first_against};
 use hc_head::{StatusCode, is_error_status, is_head};
 use hc_history::{ReplyClaim, may_be_for, passed};
+use hc_rules::selects;
 use hc_shown::Teller;
 use hc_update::{Stored, invalidates};
 use std::alloc::{AllocError, Global};
@@ -61,7 +62,7 @@ pub struct Changes<'a> {
     /// The 304s that aren't about it: of the window, since one was about it; of an invalidated one those since; and whenever
     /// they came those that no RFC says so of.
     pub not_about: Newest<NotAbout<'a>>,
-    /// The latest 200 to HEAD since.
+    /// The latest 200 to HEAD since which is about it.
     pub updated: Option<&'a End>,
 }
 
@@ -136,6 +137,40 @@ fn against<'a>(
     }))
 }
 
+// Whether a response tells the same by a validator as what is stored, or tells nothing by it.
+fn has_no_other(name: &[u8], received: &Fields, stored: &Fields) -> bool {
+    match (received.only(name), stored.only(name)) {
+        (Some(received), Some(stored)) => received == stored,
+        _ => !received.contains(name),
+    }
+}
+
+// Whether a response tells the length of the body of what is stored, or tells none.
+fn has_no_other_length(received: &Fields, state: &Stored) -> bool {
+    match received.only(b"content-length") {
+        Some(length) => decimal(length) == Some(state.body.len() as u64),
+        None => !received.contains(b"content-length"),
+    }
+}
+
+// Whether a 200 to HEAD is about a stored response: this might have been chosen for its forward, and has the validators and the
+// length that it tells (RFC 9111 section 4.3.5).
+fn may_update(alloc: Global, state: &Stored, heads: &Heads) -> Result<bool, AllocError> {
+    let received = &heads.response.fields;
+    let is_same = has_no_other(b"etag", received, &state.fields)
+        && has_no_other(b"last-modified", received, &state.fields)
+        && has_no_other_length(received, state);
+    if !is_same {
+        return Ok(false);
+    }
+    selects(
+        alloc,
+        &state.fields,
+        &state.request.fields,
+        &heads.forward.fields,
+    )
+}
+
 // Whether a 304 might have been about the response: one of the window, but for those before one that was; or, where it is
 // invalidated, any since it is as it is.
 fn awaits(claim: &ReplyClaim<'_>, nearest: &Nearest<'_>, end: &End) -> bool {
@@ -206,7 +241,7 @@ impl<'a> Changes<'a> {
             if end.is_of(claim.target) {
                 self.take_invalidator(alloc, nearest, end)?;
                 self.take_not_about(alloc, claim, nearest, end)?;
-                self.take_update(nearest, end);
+                self.take_update(alloc, nearest, end)?;
             }
         }
         Ok(())
@@ -248,11 +283,21 @@ impl<'a> Changes<'a> {
         Ok(())
     }
 
-    // Takes in a 200 to HEAD since.
-    fn take_update(&mut self, nearest: &Nearest<'_>, end: &'a End) {
-        if nearest.settled_at() < end.record.position && end.is_head() {
-            self.updated = Some(end);
+    // Takes in a 200 to HEAD since, if that is about it.
+    fn take_update(
+        &mut self,
+        alloc: Global,
+        nearest: &Nearest<'_>,
+        end: &'a End,
+    ) -> Result<(), AllocError> {
+        let is_since = nearest.settled_at() < end.record.position && end.is_head();
+        match end.heads() {
+            Some(heads) if is_since && may_update(alloc, nearest.state, heads)? => {
+                self.updated = Some(end);
+            }
+            _ => {}
         }
+        Ok(())
     }
 
     /// Whether a 304 isn't about the response by its Vary alone.
@@ -295,8 +340,8 @@ fn copied(alloc: Global, state: &Stored) -> Result<Stored, AllocError> {
     })
 }
 
-// Whether the response would keep the rule that it breaks, and the reply have its fields, had that answer freshened it; a 200 to
-// HEAD validates nothing.
+// Whether the response would keep the rule that it breaks, had that answer freshened it. A 200 to HEAD validates nothing, and the
+// reply has to have the fields that it left.
 fn helps(
     alloc: Global,
     claim: &ReplyClaim<'_>,
@@ -312,11 +357,12 @@ fn helps(
     let mut state = copied(alloc, nearest.state)?;
     let (sent_at, came_at) = (sent.moment, end.record.moment);
     state.freshen(&heads.response, sent_at, came_at, end.record.position)?;
+    let mut wanted = rule.reason().number();
     if end.is_head() {
         state.invalid = nearest.state.invalid;
         state.validated_at = nearest.state.validated_at;
+        wanted = wanted.max(Rule::Fields.reason().number());
     }
-    let wanted = rule.reason().number().max(Rule::Fields.reason().number());
     Ok(wanted <= passed(alloc, claim, claim.target, &state)?)
 }
 
