@@ -92,7 +92,8 @@ def storing(reply, response):
     if found or "method" not in forbidden:
         return found or ({OWN, "9111 3"} if "status" in forbidden else {OWN})
     if method == "HEAD":  # RFC 9110 section 9.3.2 lets it answer HEAD.
-        return {OWN} if reply.is_head else {OWN, "9111 4", "9110 9.3.2"}
+        by_status = {"9111 3"} if "status" in forbidden else set()
+        return by_status | ({OWN} if reply.is_head else {OWN, "9111 4", "9110 9.3.2"})
     return {OWN, "9111 3", "9111 4", "9110 9.3.3", "9110 9.3.4", "9110 9.3.5"}
 
 

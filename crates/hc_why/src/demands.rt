@@ -10,7 +10,7 @@ use hc_gaps::{
     qualified_by,
 };
 use hc_head::{ResponseHead, StatusCode};
-use hc_history::Reason;
+use hc_history::{Finding, Reason};
 
 /// A 304 is given to no later request.
 const NO_RESPONSE: Demand = Demand {
@@ -28,6 +28,14 @@ impl Explanation<'_> {
         match nearest.breaks() {
             Some(rule) if self.stands_for(nearest) => rule.reason(),
             _ => reason,
+        }
+    }
+
+    /// Whether the rule that this response breaks is what the reply is told to break.
+    pub(crate) fn is_told(&self, nearest: &Nearest<'_>) -> bool {
+        match (self.finding, nearest.breaks()) {
+            (Finding::Wrong(reason), Some(rule)) => self.demanded(reason) == rule.reason(),
+            _ => false,
         }
     }
 
@@ -97,10 +105,14 @@ impl Explanation<'_> {
 
     // What is asked by what forbids to store that response.
     fn demand_by_head(&self, forbids: &Forbids, response: &ResponseHead) -> Demand {
-        if forbids.is_private_alone() && self.leaves_out(b"private", response) {
-            PRIVATE_FIELDS
-        } else {
-            forbids.demand()
+        let others = Forbids {
+            private: false,
+            ..*forbids
+        };
+        match self.leaves_out(b"private", response) {
+            true if others.is_nothing() => PRIVATE_FIELDS,
+            true => others.demand(),
+            false => forbids.demand(),
         }
     }
 
