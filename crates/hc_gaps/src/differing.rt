@@ -18,6 +18,9 @@ use std::alloc::{AllocError, Global};
 /// How many fields are listed at most.
 const MOST_LISTED: usize = 20;
 
+/// The fields that are no lists.
+const SINGLE: [&[u8]; 5] = [b"date", b"etag", b"expires", b"last-modified", b"set-cookie"];
+
 /// What became of a field.
 #[derive(Clone, Copy, PartialEq, Eq)]
 pub enum Change {
@@ -129,14 +132,15 @@ fn change_of(claim: &ReplyClaim<'_>, state: &Stored, name: &[u8]) -> Change
     }
 }
 
-// Whether both mean the same by it. Each line of Set-Cookie means something by itself.
+// Whether both mean the same by it. What is no list means something by each of its octets, and each line of Set-Cookie something
+// by itself.
 fn is_form(
     alloc: Global,
     claim: &ReplyClaim<'_>,
     state: &Stored,
     name: &[u8],
 ) -> Result<bool, AllocError> {
-    if name == b"set-cookie".as_slice() {
+    if is_among(&SINGLE, name) {
         return Ok(false);
     }
     is_same_list(alloc, name, &claim.reply.head.fields, &state.fields)

@@ -520,14 +520,15 @@ impl<'a> Explanation<'a> {
         false
     }
 
-    /// The answer to a forward of its own that a wrong hit carries, where it is known whose that was, and nothing came before its
-    /// request that it might have come from.
+    /// The answer to a forward of its own that a wrong hit carries as a whole, where it is known whose that was, and nothing came
+    /// before its request that it might have come from.
     pub fn own_answer(&self) -> Option<&'a End> {
         if self.way != Way::Hit || self.why.is_none() || self.is_given_before() {
             return None;
         }
         let carried = self.ends.carried?;
-        if carried.is_told_for(&self.claim) || self.past.is_alone(self.claim.since) {
+        let is_own = carried.is_told_for(&self.claim) || self.past.is_alone(self.claim.since);
+        if is_own && carried.is_given(&self.claim) {
             Some(carried)
         } else {
             None
