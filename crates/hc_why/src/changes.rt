@@ -340,69 +340,66 @@ fn copied(alloc: Global, state: &Stored) -> Result<Stored, AllocError> {
     })
 }
 
-/// A response that falls short, and how much of it has to be right where an answer freshened it of which RFCs permit that.
-#[derive(Clone, Copy)]
-pub(crate) struct Freshened<'a> {
-    /// The response.
-    pub nearest: &'a Nearest<'a>,
-    /// Whether the rule that it breaks is what the reply is told to break; if not, the reply has to have its fields, too.
-    pub is_told: bool,
-}
-
-impl Freshened<'_> {
-    // The number of the rule up to which all are to be kept, where that answer freshens it: a 200 to HEAD validates nothing, and
-    // the reply has to have the fields that it left.
-    fn wanted(&self, end: &End, rule: Rule) -> u32 {
-        let number = rule.reason().number();
-        if self.is_told && !end.is_head() {
-            number
-        } else {
-            number.max(Rule::Fields.reason().number())
-        }
-    }
-
-    // Whether it would keep the rule that it breaks, had that answer freshened it.
-    fn is_helped(
-        &self,
-        alloc: Global,
-        claim: &ReplyClaim<'_>,
-        end: &End,
-    ) -> Result<bool, AllocError> {
-        let nearest = self.nearest;
-        let (Some(heads), Some(sent), Some(rule)) = (end.heads(), end.sent, nearest.breaks()) else {
-            return Ok(false);
-        };
-        if END_OF_MOMENTS <= end.record.moment {
-            return Ok(false);
-        }
-        let mut state = copied(alloc, nearest.state)?;
-        let (sent_at, came_at) = (sent.moment, end.record.moment);
-        state.freshen(&heads.response, sent_at, came_at, end.record.position)?;
-        if end.is_head() {
-            state.invalid = nearest.state.invalid;
-            state.validated_at = nearest.state.validated_at;
-        }
-        Ok(self.wanted(end, rule) <= passed(alloc, claim, claim.target, &state)?)
+// The number of the rule up to which the response has to keep all where an answer freshens it, so that this helps: the one that it
+// breaks. Where that isn't what the reply is told to break, or a 200 to HEAD freshens it, the reply has to have its fields, too.
+fn wanted(rule: Rule, is_told: bool, end: &End) -> u32 {
+    let number = rule.reason().number();
+    if is_told && !end.is_head() {
+        number
+    } else {
+        number.max(Rule::Fields.reason().number())
     }
 }
 
-/// What is asked where the response would keep the rule that it breaks, had an answer freshened it of which RFCs permit that.
+// How many rules the response would keep, had that answer freshened it; a 200 to HEAD validates nothing.
+fn kept_after(
+    alloc: Global,
+    claim: &ReplyClaim<'_>,
+    nearest: &Nearest<'_>,
+    end: &End,
+) -> Result<u32, AllocError> {
+    let (Some(heads), Some(sent)) = (end.heads(), end.sent) else {
+        return Ok(0);
+    };
+    if END_OF_MOMENTS <= end.record.moment {
+        return Ok(0);
+    }
+    let mut state = copied(alloc, nearest.state)?;
+    let (sent_at, came_at) = (sent.moment, end.record.moment);
+    state.freshen(&heads.response, sent_at, came_at, end.record.position)?;
+    if end.is_head() {
+        state.invalid = nearest.state.invalid;
+        state.validated_at = nearest.state.validated_at;
+    }
+    passed(alloc, claim, claim.target, &state)
+}
+
+/// What is asked where the response would keep the rule that it breaks, had an answer freshened it of which RFCs permit that. It is
+/// told whether that rule is what the reply is told to break.
 pub(crate) fn permitted_change(
     alloc: Global,
     claim: &ReplyClaim<'_>,
-    freshened: Freshened<'_>,
+    nearest: &Nearest<'_>,
     changes: &Changes<'_>,
+    is_told: bool,
 ) -> Result<Option<Demand>, AllocError> {
+    let Some(rule) = nearest.breaks() else {
+        return Ok(None);
+    };
     if let Some(permitted) = changes.permitted() {
-        if freshened.is_helped(alloc, claim, permitted.end)? {
+        let kept = kept_after(alloc, claim, nearest, permitted.end)?;
+        if wanted(rule, is_told, permitted.end) <= kept {
             return Ok(Some(STORABLE_304));
         }
     }
-    match changes.updated {
-        Some(updated) if freshened.is_helped(alloc, claim, updated)? => {
-            Ok(Some(FRESHENED_BY_HEAD))
-        }
-        _ => Ok(None),
+    let Some(updated) = changes.updated else {
+        return Ok(None);
+    };
+    let kept = kept_after(alloc, claim, nearest, updated)?;
+    if wanted(rule, is_told, updated) <= kept {
+        Ok(Some(FRESHENED_BY_HEAD))
+    } else {
+        Ok(None)
     }
 }
 

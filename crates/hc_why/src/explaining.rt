@@ -7,7 +7,7 @@ ghost use Rattle.hc_history.specs.Right.{IsFinding};
 ghost use Rattle.hc_history.specs.Seen.{IsSeenAs};
 ghost use Rattle.hc_gaps.specs.Stale.{settings_with};
 
-use crate::changes::{Changes, Due, Freshened, due_of, permitted_change};
+use crate::changes::{Changes, Due, due_of, permitted_change};
 use crate::past::{End, Past};
 use crate::shortfalls::{Nearest, Reaches, Shortfall, found_with_setting, named};
 use crate::unstored::{tell_unstorable, unstorable_after};
@@ -363,11 +363,8 @@ impl<'a> Explanation<'a> {
         let Some(nearest) = &self.nearest else {
             return Ok(());
         };
-        let freshened = Freshened {
-            nearest,
-            is_told: self.is_told(nearest),
-        };
-        let permitted = permitted_change(alloc, &self.claim, freshened, &self.changes)?;
+        let is_told = self.is_told(nearest);
+        let permitted = permitted_change(alloc, &self.claim, nearest, &self.changes, is_told)?;
         self.permitted = permitted.or(self.permitted);
         Ok(())
     }
