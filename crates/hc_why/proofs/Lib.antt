@@ -1,1 +1,3 @@
+pub mod ExplainingLemmas
+pub mod NamingLemmas
 pub mod SeekingLemmas

@@ -1,3 +1,5 @@
+pub mod Explaining
 pub mod Found
+pub mod Naming
 pub mod Seeking
 pub mod Standing

@@ -1,11 +1,13 @@
 //! What is known of one reply, right or wrong.
 
-ghost use Rattle.std.specs.Prelude.{◌≡◌, List, true, is_some, IfOk, IfSome, IsSome};
+ghost use Rattle.std.specs.Prelude.{◌≡◌, List, true, is_some, IfOk, IfSome, IsSome, OnOk};
 ghost use Rattle.hc_transcript.specs.History.{exchange_of};
 ghost use Rattle.hc_transcript.specs.Items.{Item};
 ghost use Rattle.hc_history.specs.Right.{IsFinding};
 ghost use Rattle.hc_history.specs.Seen.{IsSeenAs};
+ghost use Rattle.hc_audit.specs.Hearing.{IsReplyBehind};
 ghost use Rattle.hc_gaps.specs.Stale.{settings_with};
+ghost use Rattle.hc_why.specs.Explaining.{Explains, Leaves};
 
 use crate::changes::{Changes, Due, due_of, permitted_change};
 use crate::past::{End, Past};
@@ -306,7 +308,10 @@ impl<'a> Explanation<'a> {
         alloc: Global,
         judged: &JudgedReply<'a, I>,
         past: &'a Past,
-    ) -> Result<Option<Self>, AllocError> {
+    ) -> Result<Option<Self>, AllocError>
+        ensures is { (h : List Item) → IsReplyBehind I.seen h judged.now → IfOk result (λ found. IfSome found (Explains judged.now h)) }
+        ensures there { (h : List Item) → IsReplyBehind I.seen h judged.now → IfOk result (λ found. is_some found ≡ true) }
+    {
         let Some(claim) = judged.claim() else {
             return Ok(None);
         };
@@ -345,7 +350,9 @@ impl<'a> Explanation<'a> {
         candidates: &[Candidate],
         named: Option<Candidate>,
         bound: u64,
-    ) -> Result<(), AllocError> {
+    ) -> Result<(), AllocError>
+        ensures { OnOk result (Leaves self.old self.new) }
+    {
         self.reaches.list_after(candidates, named, bound)?;
         self.before.list_before(candidates, bound)?;
         self.fill_why(alloc)?;
@@ -356,17 +363,24 @@ impl<'a> Explanation<'a> {
     }
 
     // Takes in what is asked where what was done is permitted.
-    fn fill_permitted(&mut self, alloc: Global) -> Result<(), AllocError> {
+    fn fill_permitted(&mut self, alloc: Global) -> Result<(), AllocError>
+        ensures { OnOk result (Leaves self.old self.new) }
+    {
         if self.is_carried_right() {
             self.nearest = None;
         }
-        let Some(nearest) = &self.nearest else {
-            return Ok(());
-        };
-        let is_told = self.is_told(nearest);
-        let permitted = permitted_change(alloc, &self.claim, nearest, &self.changes, is_told)?;
+        let permitted = self.permitted_of(alloc)?;
         self.permitted = permitted.or(self.permitted);
         Ok(())
+    }
+
+    // What is asked where an answer might have freshened the response that is named.
+    fn permitted_of(&self, alloc: Global) -> Result<Option<Demand>, AllocError> {
+        let Some(nearest) = &self.nearest else {
+            return Ok(None);
+        };
+        let is_told = self.is_told(nearest);
+        permitted_change(alloc, &self.claim, nearest, &self.changes, is_told)
     }
 
     // Whether it is right since it carries what came for it.
@@ -396,7 +410,9 @@ impl<'a> Explanation<'a> {
     }
 
     // Takes in why it is wrong, if it is.
-    fn fill_why(&mut self, alloc: Global) -> Result<(), AllocError> {
+    fn fill_why(&mut self, alloc: Global) -> Result<(), AllocError>
+        ensures { OnOk result (Leaves self.old self.new) }
+    {
         let Some(reason) = reason_of(self.finding) else {
             return Ok(());
         };

@@ -1,5 +1,12 @@
 //! In what a stored response falls short of what a reply carries: one thing for each rule; and which response is named.
 
+ghost use Rattle.std.specs.Prelude.{◌≡◌, List, find, nat_lt, None, IfOk, IfSome};
+ghost use Rattle.std.specs.Option.{option_copied, option_map};
+ghost use Rattle.hc_transcript.specs.Items.{Item};
+ghost use Rattle.hc_transcript.specs.declared.format.Format.{Format};
+ghost use Rattle.hc_history.specs.Seen.{IsSeenAs};
+ghost use Rattle.hc_why.specs.Naming.{GetsFurthest, IsOneOf, IsShortfall, IsThatOf, first_after, rule_of};
+
 use crate::explaining::found_with;
 use hc_audit::JudgedReply;
 use hc_gaps::{
@@ -54,7 +61,10 @@ impl Shortfall {
         claim: &ReplyClaim<'_>,
         state: &Stored,
         rule: Rule,
-    ) -> Result<Self, AllocError> {
+    ) -> Result<Self, AllocError>
+        ensures rule { IfOk result (λ found. rule_of found ≡ rule) }
+        ensures told { IfOk result (IsShortfall claim.now state.now) }
+    {
         match rule {
             Rule::Asked => Ok(Shortfall::Asked),
             Rule::Selected => Ok(Shortfall::Selected(unmet_members(alloc, claim, state)?)),
@@ -69,7 +79,9 @@ impl Shortfall {
     }
 
     /// The rule that it breaks.
-    pub fn rule(&self) -> Rule {
+    pub fn rule(&self) -> Rule
+        ensures { result ≡ rule_of self.now }
+    {
         match self {
             Shortfall::Asked => Rule::Asked,
             Shortfall::Selected(_) => Rule::Selected,
@@ -163,7 +175,10 @@ fn shortfall_by(
     claim: &ReplyClaim<'_>,
     state: &Stored,
     rule: Option<Rule>,
-) -> Result<Option<Shortfall>, AllocError> {
+) -> Result<Option<Shortfall>, AllocError>
+    ensures rule { IfOk result (λ found. option_map rule_of found ≡ rule) }
+    ensures told { IfOk result (λ found. IfSome found (IsShortfall claim.now state.now)) }
+{
     match rule {
         Some(rule) => Ok(Some(Shortfall::read(alloc, claim, state, rule)?)),
         None => Ok(None),
@@ -177,7 +192,10 @@ impl<'a> Nearest<'a> {
         index: &'a I,
         claim: &ReplyClaim<'_>,
         named: Option<Candidate>,
-    ) -> Result<Option<Self>, AllocError> {
+    ) -> Result<Option<Self>, AllocError>
+        ensures { (format : Format) (h : List Item) → IsSeenAs format (I.seen index.now) h
+            → IfOk result (λ found. IfSome found (IsThatOf claim.now h named)) }
+    {
         let Some(candidate) = named else {
             return Ok(None);
         };
@@ -289,23 +307,10 @@ fn has_its_body<I: Index>(index: &I, claim: &ReplyClaim<'_>, position: u64) -> b
 }
 
 // The first candidate after a position.
-fn first_after(candidates: &[Candidate], since: u64) -> Option<Candidate> {
-    for one in candidates {
-        if since < one.position {
-            return Some(*one);
-        }
-    }
-    None
-}
-
-// Whether another candidate after a position gets as far as that one.
-fn has_equal(candidates: &[Candidate], furthest: Candidate, since: u64) -> bool {
-    for one in candidates {
-        if since < one.position && one.passed == furthest.passed && *one != furthest {
-            return true;
-        }
-    }
-    false
+fn first_after(candidates: &[Candidate], since: u64) -> Option<&Candidate>
+    ensures { option_copied result ≡ first_after since candidates.now }
+{
+    candidates.iter().find(|one| since < one.position)
 }
 
 // The first candidate after a position that gets so far, and has the body of the reply.
@@ -315,7 +320,9 @@ fn first_with_body<I: Index>(
     candidates: &[Candidate],
     since: u64,
     passed: u32,
-) -> Option<Candidate> {
+) -> Option<Candidate>
+    ensures { IfSome result (IsOneOf candidates.now since passed) }
+{
     for one in candidates {
         let gets_as_far = since < one.position && one.passed == passed;
         if gets_as_far && has_its_body(index, claim, one.position) {
@@ -327,16 +334,17 @@ fn first_with_body<I: Index>(
 
 /// The candidate that is named of those after a position: of those that get furthest the one with the reply's
 /// body, and of these the newest.
+#[tactic(auto, using(crate::proofs::NamingLemmas::named_gets))]
 pub(crate) fn named<I: Index>(
     index: &I,
     claim: &ReplyClaim<'_>,
     candidates: &[Candidate],
     since: u64,
-) -> Option<Candidate> {
-    let furthest = first_after(candidates, since)?;
-    if !has_equal(candidates, furthest, since) {
-        return Some(furthest);
-    }
+) -> Option<Candidate>
+    ensures some { IfSome result (GetsFurthest candidates.now since) }
+    ensures none { result ≡ None → first_after since candidates.now ≡ None }
+{
+    let furthest = *first_after(candidates, since)?;
     first_with_body(index, claim, candidates, since, furthest.passed).or(Some(furthest))
 }
 
