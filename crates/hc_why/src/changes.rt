@@ -208,9 +208,10 @@ impl<'a> Changes<'a> {
         for end in past.ends().iter() {
             if end.is_of(claim.target) {
                 changes.take(claim, nearest, end);
+                changes.take_since(alloc, nearest, end)?;
+                changes.take_not_about(alloc, claim, nearest, end)?;
             }
         }
-        changes.take_others(alloc, claim, nearest, past)?;
         Ok(changes)
     }
 
@@ -229,40 +230,28 @@ impl<'a> Changes<'a> {
         }
     }
 
-    // Takes in what might have changed it, of each end of a forward of the target.
-    fn take_others(
-        &mut self,
-        alloc: Global,
-        claim: &ReplyClaim<'_>,
-        nearest: &Nearest<'_>,
-        past: &'a Past,
-    ) -> Result<(), AllocError> {
-        for end in past.ends().iter() {
-            if end.is_of(claim.target) {
-                self.take_invalidator(alloc, nearest, end)?;
-                self.take_not_about(alloc, claim, nearest, end)?;
-                self.take_update(alloc, nearest, end)?;
-            }
-        }
-        Ok(())
-    }
-
-    // Takes in what invalidated the response: no 304 before it might have helped.
-    fn take_invalidator(
+    // Takes in what changed the response, or might have, since it is as it is: what invalidated it, where no 304 before that might
+    // have helped; and a 200 to HEAD that is about it.
+    fn take_since(
         &mut self,
         alloc: Global,
         nearest: &Nearest<'_>,
         end: &'a End,
     ) -> Result<(), AllocError> {
-        let is_since = nearest.settled_at() < end.record.position;
-        if !matches!(&nearest.shortfall, Some(Shortfall::Valid))
-            || !is_since
-            || !end.invalidates()
-        {
+        if end.record.position <= nearest.settled_at() {
             return Ok(());
         }
-        self.not_about = Newest::new(alloc);
-        self.invalidators.push(end)
+        if end.invalidates() && matches!(&nearest.shortfall, Some(Shortfall::Valid)) {
+            self.not_about = Newest::new(alloc);
+            return self.invalidators.push(end);
+        }
+        match end.heads() {
+            Some(heads) if end.is_head() && may_update(alloc, nearest.state, heads)? => {
+                self.updated = Some(end);
+            }
+            _ => {}
+        }
+        Ok(())
     }
 
     // Takes in a 304 that isn't about it.
@@ -279,23 +268,6 @@ impl<'a> Changes<'a> {
         let is_since = nearest.settled_at() < end.record.position;
         if awaits(claim, nearest, end) || (not_about.is_stricter && is_since) {
             self.not_about.push(not_about)?;
-        }
-        Ok(())
-    }
-
-    // Takes in a 200 to HEAD since, if that is about it.
-    fn take_update(
-        &mut self,
-        alloc: Global,
-        nearest: &Nearest<'_>,
-        end: &'a End,
-    ) -> Result<(), AllocError> {
-        let is_since = nearest.settled_at() < end.record.position && end.is_head();
-        match end.heads() {
-            Some(heads) if is_since && may_update(alloc, nearest.state, heads)? => {
-                self.updated = Some(end);
-            }
-            _ => {}
         }
         Ok(())
     }

@@ -5,9 +5,9 @@ use crate::explaining::Explanation;
 use crate::past::End;
 use crate::shortfalls::{Nearest, Shortfall};
 use crate::wrongs::Why;
+use hc_fields::Fields;
 use hc_gaps::{
-    Demand, Differences, Forbids, NO_HIT, PRIVATE_FIELDS, Qualified, STORED_ANSWER, TTL,
-    qualified_by,
+    Demand, Forbids, NO_HIT, PRIVATE_FIELDS, Qualified, STORED_ANSWER, TTL, qualified_by,
 };
 use hc_head::{ResponseHead, StatusCode};
 use hc_history::{Finding, Reason};
@@ -60,17 +60,10 @@ impl Explanation<'_> {
 
     // What is asked of a hit for which nothing is stored: by the response that it gives, or else by the latest.
     fn demand_of_storing(&self) -> Demand {
-        match self.given_unstored().or(self.latest_unstored()) {
-            Some(end) => self.demand_of_end(end),
-            None => STORED_ANSWER,
-        }
-    }
-
-    // The latest response of the target that may not be stored.
-    fn latest_unstored(&self) -> Option<&End> {
-        match self.ends.unstored.last() {
-            Some(end) => Some(*end),
-            None => None,
+        match (self.given_unstored(), self.ends.unstored.last()) {
+            (Some(end), _) => self.demand_of_end(end),
+            (None, Some(end)) => self.demand_of_end(*end),
+            (None, None) => STORED_ANSWER,
         }
     }
 
@@ -109,17 +102,17 @@ impl Explanation<'_> {
             private: false,
             ..*forbids
         };
-        match self.leaves_out(b"private", response) {
+        match self.leaves_out(b"private", &response.fields) {
             true if others.is_nothing() => PRIVATE_FIELDS,
             true => others.demand(),
             false => forbids.demand(),
         }
     }
 
-    // Whether the directive names fields alone, of which the reply has none.
-    fn leaves_out(&self, directive: &[u8], response: &ResponseHead) -> bool {
+    // Whether those of a response say the directive of fields alone, of which the reply has none.
+    fn leaves_out(&self, directive: &[u8], response: &Fields) -> bool {
         let reply = &self.claim.reply.head.fields;
-        qualified_by(directive, &response.fields, reply) == Qualified::LeftOut
+        qualified_by(directive, response, reply) == Qualified::LeftOut
     }
 
     // What is asked where that response is named.
@@ -135,33 +128,22 @@ impl Explanation<'_> {
 
     // What is asked by the way in which that response falls short.
     fn demand_of(&self, nearest: &Nearest<'_>, shortfall: &Shortfall) -> Demand {
+        let status = self.claim.reply.head.status;
+        let leaves_out = self.leaves_out(b"no-cache", &nearest.state.fields);
         match shortfall {
             Shortfall::Asked => STORED_ANSWER,
-            Shortfall::Selected(selection) => { selection.demand(self.changes.has_unselected()) }
+            Shortfall::Selected(selection) => selection.demand(self.changes.has_unselected()),
             Shortfall::Valid => INVALIDATED,
-            Shortfall::Lifetime(usage) => usage.demand_of_lifetime(self.leaves_fields_out(nearest)),
+            Shortfall::Lifetime(usage) => usage.demand_of_lifetime(leaves_out),
             Shortfall::Use(usage) => {
-                let is_after_error = matches!(self.due(), Due::Error(_));
-                usage.demand_of_use(self.leaves_fields_out(nearest), is_after_error)
+                usage.demand_of_use(leaves_out, matches!(self.due(), Due::Error(_)))
             }
             Shortfall::Body(gap) => gap.demand(),
-            Shortfall::Fields(found) => self.demand_of_fields(nearest, found),
+            Shortfall::Fields(found) => found.demand(status, self.fields_origin(nearest)),
             Shortfall::Age(gap) => {
-                let status = self.claim.reply.head.status;
                 gap.demand(self.claim.since, nearest.state.validated_at, status)
             }
             Shortfall::Ttl(_) => TTL,
         }
-    }
-
-    // Whether the response says `no-cache` of fields alone that the reply lacks.
-    fn leaves_fields_out(&self, nearest: &Nearest<'_>) -> bool {
-        let reply = &self.claim.reply.head.fields;
-        qualified_by(b"no-cache", &nearest.state.fields, reply) == Qualified::LeftOut
-    }
-
-    // What is asked of fields that differ.
-    fn demand_of_fields(&self, nearest: &Nearest<'_>, found: &Differences) -> Demand {
-        found.demand(self.claim.reply.head.status, self.fields_origin(nearest))
     }
 }

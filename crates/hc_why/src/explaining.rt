@@ -12,8 +12,8 @@ ghost use Rattle.hc_why.specs.Explaining.{Explains, Leaves};
 use crate::changes::{Changes, Due, due_of, permitted_change};
 use crate::past::{End, Past};
 use crate::shortfalls::{Nearest, Reaches, Shortfall, found_with_setting, named};
-use crate::unstored::{tell_unstorable, unstorable_after};
-use crate::window::{Window, ends_in_window, ends_near};
+use crate::unstored::tell_unstorable;
+use crate::window::Window;
 use crate::wrongs::{Why, kind_of, name_of, names_response};
 use hc_audit::JudgedReply;
 use hc_fresh::date_stated;
@@ -250,55 +250,41 @@ impl<'a> Ends<'a> {
         alloc: Global,
         claim: &ReplyClaim<'_>,
         reaches: &Reaches,
-        why: Option<Why>,
+        why: &Option<Why>,
         past: &'a Past,
     ) -> Result<Self, AllocError> {
         let mut ends = Ends::none(alloc);
-        ends.take_named(claim, reaches, past)?;
-        ends.take_why(alloc, claim, why, past)?;
+        for end in past.ends().iter() {
+            ends.take(claim, reaches, why, end)?;
+        }
         Ok(ends)
     }
 
-    // Takes in the records of the responses that are named, and the latest answer of the window that the reply carries.
-    fn take_named(
+    // Takes in the next one: the record of a response that is named, the latest that the reply carries, and what it is wrong by.
+    fn take(
         &mut self,
         claim: &ReplyClaim<'_>,
         reaches: &Reaches,
-        past: &'a Past,
+        why: &Option<Why>,
+        end: &'a End,
     ) -> Result<(), AllocError> {
-        for end in past.ends().iter() {
-            if end.is_of(claim.target) && reaches.names(end.record.position) {
-                self.sources.push(end)?;
-            }
-            if end.is_carried(claim) {
-                self.carried = Some(end);
-            }
+        if end.is_of(claim.target) && reaches.names(end.record.position) {
+            self.sources.push(end)?;
         }
-        Ok(())
-    }
-
-    // Takes in what a reply is wrong by.
-    fn take_why(
-        &mut self,
-        alloc: Global,
-        claim: &ReplyClaim<'_>,
-        why: Option<Why>,
-        past: &'a Past,
-    ) -> Result<(), AllocError> {
+        if end.is_carried(claim) {
+            self.carried = Some(end);
+        }
         match why {
-            Some(Why::NoResponse(_)) => {
-                self.unstored = unstorable_after(alloc, claim, past, 0)?;
+            Some(Why::NoResponse(_)) if end.is_unstorable_after(claim, 0) => {
+                self.unstored.push(end)
             }
-            Some(Why::NotCollapsible) => {
-                self.unstored = unstorable_after(alloc, claim, past, claim.since)?;
+            Some(Why::NotCollapsible) if end.is_unstorable_after(claim, claim.since) => {
+                self.unstored.push(end)
             }
-            Some(Why::NotForwarded(_)) => {
-                self.window = ends_in_window(alloc, claim, past)?;
-                self.near = ends_near(alloc, claim, past)?;
-            }
-            _ => {}
+            Some(Why::NotForwarded(_)) if end.is_in_window(claim) => self.window.push(end),
+            Some(Why::NotForwarded(_)) if end.is_near(claim) => self.near.push(end),
+            _ => Ok(()),
         }
-        Ok(())
     }
 }
 
@@ -357,7 +343,7 @@ impl<'a> Explanation<'a> {
         self.before.list_before(candidates, bound)?;
         self.fill_why(alloc)?;
         self.changes = self.changes_of(alloc)?;
-        self.ends = Ends::read(alloc, &self.claim, &self.reaches, self.why, self.past)?;
+        self.ends = Ends::read(alloc, &self.claim, &self.reaches, &self.why, self.past)?;
         self.came = self.came_of(alloc)?;
         self.fill_permitted(alloc)
     }

@@ -151,43 +151,6 @@ impl Drop for Past {
     }
 }
 
-// The end of a forward, as a reading meets it.
-#[derive(Clone, Copy)]
-struct Ended<'a> {
-    record: RecordName,
-    sent: Option<RecordName>,
-    forward: &'a OpenForward,
-    cause: ToldCause,
-    response: Option<&'a Message<ResponseHead>>,
-}
-
-// The response that the record is, or that it is a failure; none where it ends no forward.
-fn kind_of(item: &OwnedItem) -> Option<(Kind, Option<&Message<ResponseHead>>)> {
-    match &item.of {
-        Meaning::OriginResponse(response) => Some((Kind::OriginResponse, Some(response))),
-        Meaning::OriginFailure => Some((Kind::OriginFailure, None)),
-        _ => None,
-    }
-}
-
-// The end of a forward that the record tells, if it tells one.
-fn ended_by<'a, I: Index>(passed: &PassedRecord<'a, I>) -> Option<Ended<'a>> {
-    let (kind, response) = kind_of(passed.item)?;
-    let forward = passed.index.forward(passed.item.number)?;
-    Some(Ended {
-        record: RecordName {
-            position: passed.position,
-            kind,
-            number: passed.item.number,
-            moment: passed.item.moment,
-        },
-        sent: None,
-        forward,
-        cause: ToldCause::told_in(passed.format, forward.cause),
-        response,
-    })
-}
-
 /// A head in memory of its own, but for how its target is written.
 pub(crate) fn copied_request(alloc: Global, head: &RequestHead) -> Result<RequestHead, AllocError> {
     Ok(RequestHead {
@@ -198,84 +161,58 @@ pub(crate) fn copied_request(alloc: Global, head: &RequestHead) -> Result<Reques
     })
 }
 
-// The same of a response.
-fn copied_response(alloc: Global, head: &ResponseHead) -> Result<ResponseHead, AllocError> {
-    Ok(ResponseHead {
-        status: head.status,
-        version: head.version,
-        fields: head.fields.copy(alloc)?,
+// What is remembered of an answer: where one target alone is, all of it.
+fn answer_of(
+    alloc: Global,
+    request: &RequestHead,
+    response: &Message<ResponseHead>,
+    is_whole: bool,
+) -> Result<Answer, AllocError> {
+    let is_long = LONGEST_BODY < response.body.len();
+    Ok(Answer {
+        status: response.head.status,
+        body: if is_long && !is_whole {
+            None
+        } else {
+            Some(response.body.share()?)
+        },
+        heads: if is_whole {
+            Some(copied_heads(alloc, request, &response.head)?)
+        } else {
+            None
+        },
     })
 }
 
-impl Ended<'_> {
-    // The heads, which are remembered.
-    fn heads(&self, alloc: Global, response: &ResponseHead) -> Result<Heads, AllocError> {
-        Ok(Heads {
-            forward: copied_request(alloc, &self.forward.request)?,
-            response: copied_response(alloc, response)?,
-        })
-    }
-
-    // What is remembered of an answer in one target.
-    fn whole_answer(
-        &self,
-        alloc: Global,
-        response: &Message<ResponseHead>,
-    ) -> Result<Answer, AllocError> {
-        Ok(Answer {
-            status: response.head.status,
-            body: Some(response.body.share()?),
-            heads: Some(self.heads(alloc, &response.head)?),
-        })
-    }
-
-    // What is remembered of the answer, if there was one: of one target all of it.
-    fn answer(&self, alloc: Global, is_whole: bool) -> Result<Option<Answer>, AllocError> {
-        match self.response {
-            None => Ok(None),
-            Some(response) if is_whole => Ok(Some(self.whole_answer(alloc, response)?)),
-            Some(response) => Ok(Some(short_answer(response)?)),
-        }
-    }
-
-    // The end that is remembered.
-    fn end(&self, alloc: Global, is_whole: bool) -> Result<End, AllocError> {
-        Ok(End {
-            record: self.record,
-            sent: self.sent,
-            target: self.forward.target.copy(alloc)?,
-            method: self.forward.request.method.clone()?,
-            cause: self.cause,
-            answer: self.answer(alloc, is_whole)?,
-        })
-    }
-
-    // The response that it is, if that may not be stored.
-    fn unstorable(&self) -> Option<Unstorable> {
-        let response = self.response?;
-        let forbids = what_forbids(&self.forward.request, &response.head);
-        if forbids.is_nothing() {
-            return None;
-        }
-        Some(Unstorable {
-            record: self.record,
-            status: response.head.status,
-            forbids,
-        })
-    }
+fn copied_heads(
+    alloc: Global,
+    request: &RequestHead,
+    response: &ResponseHead,
+) -> Result<Heads, AllocError> {
+    Ok(Heads {
+        forward: copied_request(alloc, request)?,
+        response: ResponseHead {
+            status: response.status,
+            version: response.version,
+            fields: response.fields.copy(alloc)?,
+        },
+    })
 }
 
-// What is remembered of an answer where all targets are: no long body, and no heads.
-fn short_answer(response: &Message<ResponseHead>) -> Result<Answer, AllocError> {
-    let body = if response.body.len() <= LONGEST_BODY {
-        Some(response.body.share()?)
-    } else {
-        None
-    };
-    Ok(Answer {
-        status: response.head.status,
-        body,
-        heads: None,
+// The response that is the answer to that request, if it may not be stored.
+fn unstorable_of(
+    record: RecordName,
+    request: &RequestHead,
+    response: &ResponseHead,
+) -> Option<Unstorable> {
+    let forbids = what_forbids(request, response);
+    if forbids.is_nothing() {
+        return None;
+    }
+    Some(Unstorable {
+        record,
+        status: response.status,
+        forbids,
     })
 }
 
@@ -316,11 +253,27 @@ impl Past {
 
     /// Takes in the next record, which is no reply. It fails only where memory is refused.
     pub fn pass<I: Index>(&mut self, passed: &PassedRecord<'_, I>) -> Result<(), AllocError> {
-        self.take_sent(passed.position, passed.item)?;
-        match ended_by(passed) {
-            Some(ended) if self.remembers(&ended.forward.target) => self.take(ended),
-            _ => Ok(()),
+        let item = passed.item;
+        self.take_sent(passed.position, item)?;
+        let (kind, response) = match &item.of {
+            Meaning::OriginResponse(response) => (Kind::OriginResponse, Some(response)),
+            Meaning::OriginFailure => (Kind::OriginFailure, None),
+            _ => return Ok(()),
+        };
+        let Some(forward) = passed.index.forward(item.number) else {
+            return Ok(());
+        };
+        if !self.remembers(&forward.target) {
+            return Ok(());
         }
+        let record = RecordName {
+            position: passed.position,
+            kind,
+            number: item.number,
+            moment: item.moment,
+        };
+        let cause = ToldCause::told_in(passed.format, forward.cause);
+        self.take(record, forward, cause, response)
     }
 
     // Takes in a record that may be a forward or a request of the one target.
@@ -353,25 +306,42 @@ impl Past {
     }
 
     // The record of that forward, where it is remembered, which has ended.
-    fn sent_of(&mut self, ended: &Ended<'_>) -> Option<RecordName> {
-        let position = self.sent.remove(&ended.record.number)?;
+    fn sent_of(&mut self, number: u64, moment: u64) -> Option<RecordName> {
+        let position = self.sent.remove(&number)?;
         Some(RecordName {
             position,
             kind: Kind::OriginRequest,
-            number: ended.record.number,
-            moment: ended.forward.moment,
+            number,
+            moment,
         })
     }
 
     // Takes in the end of a forward.
-    fn take(&mut self, mut ended: Ended<'_>) -> Result<(), AllocError> {
-        ended.sent = self.sent_of(&ended);
-        if let Some(unstorable) = ended.unstorable() {
-            self.forbid(&ended.forward.target, unstorable)?;
-        }
+    fn take(
+        &mut self,
+        record: RecordName,
+        forward: &OpenForward,
+        cause: ToldCause,
+        response: Option<&Message<ResponseHead>>,
+    ) -> Result<(), AllocError> {
+        let (alloc, is_whole) = (self.alloc, self.only.is_some());
+        let answer = match response {
+            Some(response) => {
+                self.forbid(record, forward, &response.head)?;
+                Some(answer_of(alloc, &forward.request, response, is_whole)?)
+            }
+            None => None,
+        };
         self.make_room();
-        let end = ended.end(self.alloc, self.only.is_some())?;
-        self.ends.push_back(end)?;
+        let sent = self.sent_of(record.number, forward.moment);
+        self.ends.push_back(End {
+            record,
+            sent,
+            target: forward.target.copy(alloc)?,
+            method: forward.request.method.clone()?,
+            cause,
+            answer,
+        })?;
         Ok(())
     }
 
@@ -385,10 +355,18 @@ impl Past {
         }
     }
 
-    // Takes in that the latest response of a target may not be stored.
-    fn forbid(&mut self, target: &Target, unstorable: Unstorable) -> Result<(), AllocError> {
-        let is_new = !self.unstorable.contains(target);
-        let target = target.copy(self.alloc)?;
+    // Takes in that the latest response of a target may not be stored, if it may not.
+    fn forbid(
+        &mut self,
+        record: RecordName,
+        forward: &OpenForward,
+        response: &ResponseHead,
+    ) -> Result<(), AllocError> {
+        let Some(unstorable) = unstorable_of(record, &forward.request, response) else {
+            return Ok(());
+        };
+        let is_new = !self.unstorable.contains(&forward.target);
+        let target = forward.target.copy(self.alloc)?;
         let forgotten = self.unstorable.push(target, unstorable)?;
         if is_new && forgotten.is_some() {
             self.has_forgotten_target = true;
@@ -417,16 +395,6 @@ impl Past {
     /// Whether an end after that position is forgotten.
     pub(crate) fn has_forgotten_after(&self, position: u64) -> bool {
         position < self.forgotten
-    }
-
-    /// The end of a forward of that target at that position, if it is remembered.
-    pub(crate) fn end_at(&self, target: &Target, position: u64) -> Option<&End> {
-        for end in self.ends.iter() {
-            if end.record.position == position && end.is_of(target) {
-                return Some(end);
-            }
-        }
-        None
     }
 }
 
@@ -495,14 +463,6 @@ impl End {
     /// The response that it is, if that may not be stored, as far as its heads are remembered.
     pub fn unstorable(&self) -> Option<Unstorable> {
         let heads = self.heads()?;
-        let forbids = what_forbids(&heads.forward, &heads.response);
-        if forbids.is_nothing() {
-            return None;
-        }
-        Some(Unstorable {
-            record: self.record,
-            status: heads.response.status,
-            forbids,
-        })
+        unstorable_of(self.record, &heads.forward, &heads.response)
     }
 }

@@ -101,33 +101,24 @@ impl<'a> Explanation<'a> {
         }
     }
 
-    // Tells why the response may not be used.
-    fn tell_usage<T: Teller>(&self, nearest: &Nearest<'_>, usage: &Usage, teller: &mut T) {
-        let had_error = self.claim.has_error || self.claim.has_failure;
-        let by_expires = self.is_by_expires(nearest);
-        usage.tell(by_expires, had_error, self.age_origin(nearest), teller);
-    }
-
-    // Tells in which fields the reply differs.
-    fn tell_fields<T: Teller>(&self, nearest: &Nearest<'_>, found: &Differences, teller: &mut T) {
-        let pair = (&self.claim, nearest.state);
-        found.tell(pair, self.fields_origin(nearest), teller);
-    }
-
     // Tells what is due, and what came.
     fn tell_gap<T: Teller>(&self, nearest: &Nearest<'_>, shortfall: &Shortfall, teller: &mut T) {
+        let (claim, state) = (&self.claim, nearest.state);
         match shortfall {
-            Shortfall::Asked => teller.method("method", "", &self.claim.request.method, NO_GET),
+            Shortfall::Asked => teller.method("method", "", &claim.request.method, NO_GET),
             Shortfall::Selected(selection) => self.tell_selection(nearest, selection, teller),
             Shortfall::Valid => self.changes.tell_invalidators(teller),
             Shortfall::Lifetime(usage) | Shortfall::Use(usage) => {
-                self.tell_usage(nearest, usage, teller);
+                let had_error = claim.has_error || claim.has_failure;
+                let by_expires = self.is_by_expires(nearest);
+                usage.tell(by_expires, had_error, self.age_origin(nearest), teller);
             }
-            Shortfall::Body(gap) => gap.tell(&self.claim, nearest.state, teller),
-            Shortfall::Fields(found) => self.tell_fields(nearest, found, teller),
+            Shortfall::Body(gap) => gap.tell(claim, state, teller),
+            Shortfall::Fields(found) => {
+                found.tell((claim, state), self.fields_origin(nearest), teller);
+            }
             Shortfall::Age(gap) => {
-                let reply = &self.claim.reply.head.fields;
-                gap.tell(reply, self.age_origin(nearest), teller);
+                gap.tell(&claim.reply.head.fields, self.age_origin(nearest), teller);
             }
             Shortfall::Ttl(gap) => gap.tell(teller),
         }

@@ -6,7 +6,6 @@ use hc_gaps::Newest;
 use hc_head::{Method, is_get, is_get_or_head};
 use hc_history::ReplyClaim;
 use hc_shown::{Page, Teller};
-use std::alloc::{AllocError, Global};
 
 /// What is said of a method whose replies come from no store.
 pub(crate) const NO_GET: &str = " is neither GET nor HEAD";
@@ -67,21 +66,11 @@ impl Unstored {
     }
 }
 
-/// The responses of the target after a position that may not be stored.
-pub(crate) fn unstorable_after<'a>(
-    alloc: Global,
-    claim: &ReplyClaim<'_>,
-    past: &'a Past,
-    bound: u64,
-) -> Result<Newest<&'a End>, AllocError> {
-    let mut ends = Newest::new(alloc);
-    for end in past.ends().iter() {
-        let is_after = bound < end.record.position && end.is_of(claim.target);
-        if is_after && end.unstorable().is_some() {
-            ends.push(end)?;
-        }
+impl End {
+    /// Whether it is a response of the target after that position which may not be stored.
+    pub(crate) fn is_unstorable_after(&self, claim: &ReplyClaim<'_>, bound: u64) -> bool {
+        bound < self.record.position && self.is_of(claim.target) && self.unstorable().is_some()
     }
-    Ok(ends)
 }
 
 // Tells which forward a response answers, and its method where that isn't GET.

@@ -6,7 +6,6 @@ use hc_head::{Method, StatusCode, is_get, is_head};
 use hc_history::{ReplyClaim, may_be_for};
 use hc_shown::{Page, Teller};
 use hc_transcript::ToldCause;
-use std::alloc::{AllocError, Global};
 
 /// In what the end of a forward differs first from what a reply carries.
 #[derive(Clone, Copy)]
@@ -105,8 +104,8 @@ impl End {
         apart_by_body(claim, self.body())
     }
 
-    // Whether it stands in the window, and the reply would carry it, if the host of its target were that of the reply's.
-    fn is_near(&self, claim: &ReplyClaim<'_>) -> bool {
+    /// Whether it stands in the window, and the reply would carry it, if the host of its target were that of the reply's.
+    pub(crate) fn is_near(&self, claim: &ReplyClaim<'_>) -> bool {
         claim.since < self.record.position
             && !self.is_of(claim.target)
             && self.target.path == claim.target.path
@@ -206,37 +205,7 @@ impl Window {
     }
 }
 
-/// The ends of forwards of the target in the window of a reply.
-pub(crate) fn ends_in_window<'a>(
-    alloc: Global,
-    claim: &ReplyClaim<'_>,
-    past: &'a Past,
-) -> Result<Newest<&'a End>, AllocError> {
-    let mut ends = Newest::new(alloc);
-    for end in past.ends().iter() {
-        if end.is_in_window(claim) {
-            ends.push(end)?;
-        }
-    }
-    Ok(ends)
-}
-
-/// The responses in it of the same path under another host that the reply would carry.
-pub(crate) fn ends_near<'a>(
-    alloc: Global,
-    claim: &ReplyClaim<'_>,
-    past: &'a Past,
-) -> Result<Newest<&'a End>, AllocError> {
-    let mut ends = Newest::new(alloc);
-    for end in past.ends().iter() {
-        if end.is_near(claim) {
-            ends.push(end)?;
-        }
-    }
-    Ok(ends)
-}
-
-/// The latest of these.
+/// The latest response in the window of the same path under another host that the reply would carry.
 pub(crate) fn latest_near<'a>(claim: &ReplyClaim<'_>, past: &'a Past) -> Option<&'a End> {
     let mut latest = None;
     for end in past.ends().iter() {

@@ -1,10 +1,8 @@
-use Rattle.std.proofs.Common.{rules, ◌≡◌, ◌∙◌, sym, ap, subst, List, Option, Some, IfSome}
+use Rattle.std.proofs.Common.{◌∙◌, sym, ap, subst, List, Some, IfSome}
 use Rattle.std.specs.Prelude.{All}
-use Rattle.hc_transcript.specs.Items.{Item}
 use Rattle.hc_history.specs.declared.candidates.Candidate.{Candidate}
 use Rattle.hc_history.specs.Candidates.{IsCandidate}
 use Rattle.hc_history.specs.Claims.{Claim}
-use Rattle.hc_audit.specs.Hearing.{IsReplyBehind}
 use Rattle.hc_why.specs.Naming.{IsNamed}
 use Rattle.hc_why.proofs.ExplainingLemmas.{candidates_are, named_is, still_named}
 use Rattle.hc_why.proofs.explaining.Explanation.read.Goals as goal
