@@ -1,5 +1,12 @@
 //! What is wrong with a reply.
 
+ghost use Rattle.std.specs.Prelude.{All, List, IfOk, IfSome};
+ghost use Rattle.hc_transcript.specs.declared.format.Format.{Format};
+ghost use Rattle.hc_transcript.specs.Items.{Item};
+ghost use Rattle.hc_history.specs.Candidates.{IsCandidate};
+ghost use Rattle.hc_history.specs.Seen.{IsSeenAs};
+ghost use Rattle.hc_why.specs.Naming.{IsNamed};
+
 use crate::past::{End, Past};
 use crate::shortfalls::{Nearest, Shortfall, named};
 use crate::unstored::Unstored;
@@ -136,6 +143,7 @@ pub fn names_response(reason: Reason) -> bool {
 impl<'a> Wrong<'a> {
     /// What is wrong with a reply for that reason, of which those are the candidates, by what is remembered of the
     /// records before it. It fails only where memory is refused.
+    #[tactic(auto, using(crate::proofs::ExplainingLemmas::named_is))]
     pub fn read<I: Index>(
         alloc: Global,
         index: &'a I,
@@ -143,7 +151,10 @@ impl<'a> Wrong<'a> {
         reason: Reason,
         candidates: &[Candidate],
         past: &'a Past,
-    ) -> Result<Self, AllocError> {
+    ) -> Result<Self, AllocError>
+        ensures { (format : Format) (h : List Item) → IsSeenAs format (I.seen index.now) h → All (IsCandidate claim.now h) candidates.now
+            → IfOk result (λ wrong. IfSome wrong.nearest (IsNamed claim.now h)) }
+    {
         let since = match reason {
             Reason::NotCollapsible => claim.since,
             _ => ANYWHERE,
