@@ -295,7 +295,7 @@ impl<'a> Changes<'a> {
 
     /// The fields of the 304 that freshened the response last, if it is known.
     pub(crate) fn renewed(&self) -> Option<&'a Fields> {
-        Some(&self.validator?.heads()?.response.fields)
+        self.validator?.fields()
     }
 }
 

@@ -225,14 +225,6 @@ fn bound_of(way: Way, since: u64) -> u64 {
     }
 }
 
-// The reason of a reply that is wrong.
-fn reason_of(finding: Finding) -> Option<Reason> {
-    match finding {
-        Finding::Right => None,
-        Finding::Wrong(reason) => Some(reason),
-    }
-}
-
 impl<'a> Ends<'a> {
     // None.
     fn none(alloc: Global) -> Self {
@@ -342,7 +334,7 @@ impl<'a> Explanation<'a> {
         self.reaches.list_after(candidates, named, bound)?;
         self.before.list_before(candidates, bound)?;
         self.fill_why(alloc)?;
-        self.changes = self.changes_of(alloc)?;
+        self.changes = Changes::read(alloc, &self.claim, self.nearest.as_ref(), self.past)?;
         self.ends = Ends::read(alloc, &self.claim, &self.reaches, &self.why, self.past)?;
         self.came = self.came_of(alloc)?;
         self.fill_permitted(alloc)
@@ -374,11 +366,6 @@ impl<'a> Explanation<'a> {
         self.why.is_none() && self.way == Way::Forwarded && self.ends.carried.is_some()
     }
 
-    // What the records made of the response that is named.
-    fn changes_of(&self, alloc: Global) -> Result<Changes<'a>, AllocError> {
-        Changes::read(alloc, &self.claim, self.nearest.as_ref(), self.past)
-    }
-
     // The fields in which the reply differs from the response that is named, where it gives this, which it may not, and all of
     // this is known.
     fn came_of(&self, alloc: Global) -> Result<Option<Differences>, AllocError> {
@@ -399,7 +386,7 @@ impl<'a> Explanation<'a> {
     fn fill_why(&mut self, alloc: Global) -> Result<(), AllocError>
         ensures { OnOk result (Leaves self.old self.new) }
     {
-        let Some(reason) = reason_of(self.finding) else {
+        let Finding::Wrong(reason) = self.finding else {
             return Ok(());
         };
         self.why = Some(Why::read(alloc, &self.claim, reason, self.past)?);
@@ -443,10 +430,7 @@ impl<'a> Explanation<'a> {
 
     /// Whether the reply has the status and the body with which that response came.
     pub fn is_given(&self, nearest: &Nearest<'_>) -> bool {
-        match self.source(nearest.position) {
-            Some(source) => source.is_given(&self.claim),
-            None => false,
-        }
+        self.given(nearest).is_some()
     }
 
     /// The record of that response, if the reply has its status and its body.

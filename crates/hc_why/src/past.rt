@@ -3,7 +3,7 @@
 ghost use Rattle.std.specs.Prelude.{◌≡◌};
 
 use hc_audit::PassedRecord;
-use hc_fields::{Octets, SharedOctets};
+use hc_fields::{Fields, Octets, SharedOctets};
 use hc_framing::Message;
 use hc_gaps::{Forbids, has_body, what_forbids};
 use hc_head::{Method, RequestHead, ResponseHead, StatusCode, Target, same_target};
@@ -406,17 +406,24 @@ impl End {
 
     /// The status of the answer, if there is one.
     pub fn status(&self) -> Option<StatusCode> {
-        match &self.answer {
-            Some(answer) => Some(answer.status),
-            None => None,
-        }
+        Some(self.answer.as_ref()?.status)
     }
 
     /// The heads, if they are remembered.
     pub fn heads(&self) -> Option<&Heads> {
-        match &self.answer {
-            Some(answer) => answer.heads.as_ref(),
-            None => None,
+        self.answer.as_ref()?.heads.as_ref()
+    }
+
+    /// The fields of the answer, if they are remembered.
+    pub(crate) fn fields(&self) -> Option<&Fields> {
+        Some(&self.heads()?.response.fields)
+    }
+
+    /// Whether the answer is known to have that field.
+    pub(crate) fn has(&self, name: &[u8]) -> bool {
+        match self.fields() {
+            Some(fields) => fields.contains(name),
+            None => false,
         }
     }
 

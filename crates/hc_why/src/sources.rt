@@ -25,10 +25,7 @@ pub(crate) fn say_lifetime<T: Teller>(fields: &Fields, teller: &mut T) {
 impl End {
     /// Whether it is a response that is known to have come without a Date.
     pub(crate) fn is_undated(&self) -> bool {
-        match self.heads() {
-            Some(heads) => !heads.response.fields.contains(b"date"),
-            None => false,
-        }
+        self.heads().is_some() && !self.has(b"date")
     }
 
     // Tells what the response says of its lifetime and of its age.

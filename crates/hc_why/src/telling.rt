@@ -1,29 +1,12 @@
 //! In what the response that is named falls short, as it is told.
 
 use crate::explaining::Explanation;
-use crate::past::End;
 use crate::shortfalls::{Nearest, Shortfall};
 use crate::unstored::NO_GET;
 use hc_fields::Fields;
 use hc_gaps::{AgeOrigin, Aged, Differences, FieldsOrigin, Selection, Usage};
 use hc_history::Finding;
 use hc_shown::{RecordName, Teller};
-
-// The fields of a response, where its heads are remembered.
-fn fields_of(end: &End) -> Option<&Fields> {
-    Some(&end.heads()?.response.fields)
-}
-
-// Whether a response is known to have come with that field.
-fn came_with(name: &[u8], end: Option<&End>) -> bool {
-    match end {
-        Some(end) => match fields_of(end) {
-            Some(fields) => fields.contains(name),
-            None => false,
-        },
-        None => false,
-    }
-}
 
 impl<'a> Explanation<'a> {
     // The record of the forward that the response answers which is named, as far as it is known.
@@ -48,12 +31,12 @@ impl<'a> Explanation<'a> {
     // The response, where it came with an Age, and a 304 freshened it.
     fn aged(&self, nearest: &Nearest<'_>) -> Option<Aged> {
         let validator = self.changes.validator?;
-        if !came_with(b"age", self.source(nearest.position)) {
+        if !self.source(nearest.position)?.has(b"age") {
             return None;
         }
         Some(Aged {
             position: nearest.position,
-            is_aged_anew: came_with(b"age", Some(validator)),
+            is_aged_anew: validator.has(b"age"),
         })
     }
 
@@ -72,15 +55,17 @@ impl<'a> Explanation<'a> {
 
     // The fields with which the response came.
     fn first_fields(&self, nearest: &Nearest<'_>) -> Option<&'a Fields> {
-        Some(&self.source(nearest.position)?.heads()?.response.fields)
+        self.source(nearest.position)?.fields()
     }
 
     // Whether Expires alone says the lifetime of the response, which is as it came.
     fn is_by_expires(&self, nearest: &Nearest<'_>) -> bool {
-        let source = self.source(nearest.position);
-        nearest.state.validated_at.is_none()
-            && !came_with(b"cache-control", source)
-            && came_with(b"expires", source)
+        match self.source(nearest.position) {
+            Some(source) if nearest.state.validated_at.is_none() => {
+                !source.has(b"cache-control") && source.has(b"expires")
+            }
+            _ => false,
+        }
     }
 
     // Tells by which members of its Vary the response doesn't answer the request.

@@ -37,31 +37,30 @@ impl Unstored {
         !self.has_other_method && self.latest.is_none() && !self.is_forgotten
     }
 
+    // A word for it, and words.
+    fn words(&self) -> (&'static str, &'static str) {
+        if self.has_other_method {
+            ("other_method", "the request is neither GET nor HEAD")
+        } else if self.latest.is_some() {
+            ("not_stored", "the latest response must not be stored: ")
+        } else if self.is_forgotten {
+            ("forgotten", "more was recorded than is remembered")
+        } else {
+            ("nothing_recorded", "no response of the target is recorded")
+        }
+    }
+
     /// A word for it.
     pub(crate) fn kind(&self) -> &'static str {
-        if self.has_other_method {
-            "other_method"
-        } else if self.latest.is_some() {
-            "not_stored"
-        } else if self.is_forgotten {
-            "forgotten"
-        } else {
-            "nothing_recorded"
-        }
+        self.words().0
     }
 
     /// Writes words for it.
     pub(crate) fn name(&self, page: &mut Page) {
-        if self.has_other_method {
-            return page.words("the request is neither GET nor HEAD");
-        }
+        page.words(self.words().1);
         match self.latest {
-            Some(latest) => {
-                page.words("the latest response must not be stored: ");
-                latest.forbids.tell(false, page);
-            }
-            None if self.is_forgotten => page.words("more was recorded than is remembered"),
-            None => page.words("no response of the target is recorded"),
+            Some(latest) if !self.has_other_method => latest.forbids.tell(false, page),
+            _ => {}
         }
     }
 }

@@ -172,18 +172,24 @@ impl Window {
         self.has_response = self.has_response || end.answer.is_some();
     }
 
+    // A word for what it holds, and words for it.
+    fn words(&self) -> (&'static str, &'static str) {
+        match self.held {
+            Held::Part => ("part", "the whole of which it may be a part in the window"),
+            Held::NotModified => ("not_modified", "a 304 in the window"),
+            Held::Responses => ("other_answer", "other responses in the window"),
+            _ if self.is_forgotten => ("forgotten", "more was recorded than is remembered"),
+            Held::Failures => ("only_failures", "only failures in the window"),
+            Held::Nothing => ("no_answer", "no response in the window"),
+        }
+    }
+
     /// A word for what it holds, as `other_answer`.
     pub(crate) fn kind(&self) -> &'static str {
         if self.has_near {
-            return "other_host";
-        }
-        match self.held {
-            Held::Part => "part",
-            Held::NotModified => "not_modified",
-            Held::Responses => "other_answer",
-            Held::Nothing | Held::Failures if self.is_forgotten => "forgotten",
-            Held::Failures => "only_failures",
-            Held::Nothing => "no_answer",
+            "other_host"
+        } else {
+            self.words().0
         }
     }
 
@@ -193,15 +199,7 @@ impl Window {
             let host = near.target.host.as_slice();
             return page.said_octets("the response of host ", host, "");
         }
-        page.words(match self.held {
-            Held::Part => "the whole of which it may be a part in the window",
-            Held::NotModified => "a 304 in the window",
-            Held::Responses => "other responses in the window",
-            Held::Nothing | Held::Failures if self.is_forgotten =>
-                "more was recorded than is remembered",
-            Held::Failures => "only failures in the window",
-            Held::Nothing => "no response in the window",
-        });
+        page.words(self.words().1);
     }
 }
 

@@ -124,14 +124,6 @@ impl Why {
     }
 }
 
-// The latest response of the same path under another host that a reply would carry which is wrong for that reason.
-fn near_for<'a>(claim: &ReplyClaim<'_>, reason: Reason, past: &'a Past) -> Option<&'a End> {
-    match reason {
-        Reason::NotForwarded => latest_near(claim, past),
-        _ => None,
-    }
-}
-
 /// Whether a response is named of a reply that is wrong for that reason.
 pub fn names_response(reason: Reason) -> bool {
     !matches!(
@@ -163,7 +155,10 @@ impl<'a> Wrong<'a> {
         Ok(Wrong {
             why: Why::read(alloc, claim, reason, past)?,
             nearest: Nearest::read(alloc, index, claim, named)?,
-            near: near_for(claim, reason, past),
+            near: match reason {
+                Reason::NotForwarded => latest_near(claim, past),
+                _ => None,
+            },
         })
     }
 
