@@ -52,21 +52,32 @@ def looser(record, state):
     return None if is_about or is_weakly else False
 
 
-def validated(state, after, demand):
-    """What is asked where a 304 behind that position may have validated the response by the RFCs."""
-    found = {looser(record, before) for record, before in state.not_about if record.position > after}
-    return {OWN} if True in found else demand | {OWN} if None in found else demand
+def freshened(record, state):
+    """A response as a 304 leaves it."""
+    made = copy.copy(state)
+    made.freshen(record)
+    return made
+
+
+def validated(reply, state, after, demand):
+    """What is asked where a 304 after that position may have validated the response by the RFCs. If the reply isn't what
+    that leaves, the response may have been given without it as well."""
+    found = set()
+    for record, before in state.not_about:
+        made, is_about = freshened(record, before), looser(record, before)
+        if record.position > after and is_about is not False:
+            found.add(is_about and reply.has_content(made) and not reply.gaps(made))
+    return {OWN} if True in found else demand | {OWN} if found else demand
 
 
 def usable_by(reply, state, demand):
     """What is asked of what may not be used, where a 304 may have validated it by the RFCs, be it after the request, or before
     it, so that it is usable still."""
     for record, before in state.not_about:
-        made = copy.copy(before)
-        made.freshen(record)
-        if record.position <= reply.since and looser(record, before) is not False and reply.is_usable(made):
+        is_before = record.position <= reply.since and looser(record, before) is not False
+        if is_before and reply.is_usable(freshened(record, before)):
             demand = demand | {OWN}
-    return validated(state, reply.since, demand)
+    return validated(reply, state, reply.since, demand)
 
 
 # -- What may be stored
@@ -123,7 +134,7 @@ def selecting(reply, state):
 
 
 def invalidated(reply, state):
-    return validated(state, state.invalidated_by[-1].position, {"9111 4.4"})
+    return validated(reply, state, state.invalidated_by[-1].position, {"9111 4.4"})
 
 
 def no_cache(reply, state):
@@ -226,7 +237,7 @@ def fields(reply, state):
     found = set().union(*(of_field(reply, state, name) for name in reply.gaps(state)))
     is_by_head = by_head(reply, state)
     demand = {OWN} if is_by_head else (found - {OWN} or {OWN}) | ({OWN} if is_by_head is None else set())
-    return demand if validated(state, state.settled, demand) == demand else demand | {OWN}
+    return demand if validated(reply, state, state.settled, demand) == demand else demand | {OWN}
 
 
 def age(reply, state):
@@ -242,7 +253,7 @@ def age(reply, state):
     demand = {"9111 4", "9111 4.2", "9111 4.2.3", "9111 5.1"}
     if abs(found - state.age(reply.moment, by_age_alone=True)) <= max(settings.slack, settings.age_slack):
         return {OWN} if state.age_value else demand | {OWN}
-    return demand if validated(state, state.settled, demand) == demand else demand | {OWN}
+    return demand if validated(reply, state, state.settled, demand) == demand else demand | {OWN}
 
 
 def ttl(reply, state):

@@ -312,29 +312,19 @@ fn copied(alloc: Global, state: &Stored) -> Result<Stored, AllocError> {
     })
 }
 
-// The number of the rule up to which the response has to keep all where an answer freshens it, so that this helps: the one that it
-// breaks. Where that isn't what the reply is told to break, or a 200 to HEAD freshens it, the reply has to have its fields, too.
-fn wanted(rule: Rule, is_told: bool, end: &End) -> u32 {
-    let number = rule.reason().number();
-    if is_told && !end.is_head() {
-        number
-    } else {
-        number.max(Rule::Fields.reason().number())
-    }
-}
-
-// How many rules the response would keep, had that answer freshened it; a 200 to HEAD validates nothing.
-fn kept_after(
+// Whether the response would keep the rule that it breaks, and the reply have its fields, had that answer freshened it; a 200 to
+// HEAD validates nothing.
+fn helps(
     alloc: Global,
     claim: &ReplyClaim<'_>,
     nearest: &Nearest<'_>,
     end: &End,
-) -> Result<u32, AllocError> {
-    let (Some(heads), Some(sent)) = (end.heads(), end.sent) else {
-        return Ok(0);
+) -> Result<bool, AllocError> {
+    let (Some(heads), Some(sent), Some(rule)) = (end.heads(), end.sent, nearest.breaks()) else {
+        return Ok(false);
     };
     if END_OF_MOMENTS <= end.record.moment {
-        return Ok(0);
+        return Ok(false);
     }
     let mut state = copied(alloc, nearest.state)?;
     let (sent_at, came_at) = (sent.moment, end.record.moment);
@@ -343,35 +333,25 @@ fn kept_after(
         state.invalid = nearest.state.invalid;
         state.validated_at = nearest.state.validated_at;
     }
-    passed(alloc, claim, claim.target, &state)
+    let wanted = rule.reason().number().max(Rule::Fields.reason().number());
+    Ok(wanted <= passed(alloc, claim, claim.target, &state)?)
 }
 
-/// What is asked where the response would keep the rule that it breaks, had an answer freshened it of which RFCs permit that. It is
-/// told whether that rule is what the reply is told to break.
+/// What is asked where the response would keep the rule that it breaks, had an answer freshened it of which RFCs permit that.
 pub(crate) fn permitted_change(
     alloc: Global,
     claim: &ReplyClaim<'_>,
     nearest: &Nearest<'_>,
     changes: &Changes<'_>,
-    is_told: bool,
 ) -> Result<Option<Demand>, AllocError> {
-    let Some(rule) = nearest.breaks() else {
-        return Ok(None);
-    };
     if let Some(permitted) = changes.permitted() {
-        let kept = kept_after(alloc, claim, nearest, permitted.end)?;
-        if wanted(rule, is_told, permitted.end) <= kept {
+        if helps(alloc, claim, nearest, permitted.end)? {
             return Ok(Some(STORABLE_304));
         }
     }
-    let Some(updated) = changes.updated else {
-        return Ok(None);
-    };
-    let kept = kept_after(alloc, claim, nearest, updated)?;
-    if wanted(rule, is_told, updated) <= kept {
-        Ok(Some(FRESHENED_BY_HEAD))
-    } else {
-        Ok(None)
+    match changes.updated {
+        Some(updated) if helps(alloc, claim, nearest, updated)? => Ok(Some(FRESHENED_BY_HEAD)),
+        _ => Ok(None),
     }
 }
 

@@ -10,7 +10,7 @@ use hc_gaps::{
     Demand, Forbids, NO_HIT, PRIVATE_FIELDS, Qualified, STORED_ANSWER, TTL, qualified_by,
 };
 use hc_head::{ResponseHead, StatusCode};
-use hc_history::{Finding, Reason};
+use hc_history::Reason;
 
 /// A 304 is given to no later request.
 const NO_RESPONSE: Demand = Demand {
@@ -28,14 +28,6 @@ impl Explanation<'_> {
         match nearest.breaks() {
             Some(rule) if self.stands_for(nearest) => rule.reason(),
             _ => reason,
-        }
-    }
-
-    /// Whether the rule that this response breaks is what the reply is told to break.
-    pub(crate) fn is_told(&self, nearest: &Nearest<'_>) -> bool {
-        match (self.finding, nearest.breaks()) {
-            (Finding::Wrong(reason), Some(rule)) => self.demanded(reason) == rule.reason(),
-            _ => false,
         }
     }
 

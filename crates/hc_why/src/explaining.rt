@@ -347,18 +347,12 @@ impl<'a> Explanation<'a> {
         if self.is_carried_right() {
             self.nearest = None;
         }
-        let permitted = self.permitted_of(alloc)?;
+        let Some(nearest) = &self.nearest else {
+            return Ok(());
+        };
+        let permitted = permitted_change(alloc, &self.claim, nearest, &self.changes)?;
         self.permitted = permitted.or(self.permitted);
         Ok(())
-    }
-
-    // What is asked where an answer might have freshened the response that is named.
-    fn permitted_of(&self, alloc: Global) -> Result<Option<Demand>, AllocError> {
-        let Some(nearest) = &self.nearest else {
-            return Ok(None);
-        };
-        let is_told = self.is_told(nearest);
-        permitted_change(alloc, &self.claim, nearest, &self.changes, is_told)
     }
 
     // Whether it is right since it carries what came for it.
