@@ -6,6 +6,7 @@ use std::alloc::{AllocError, Global};
 const MOST_KINDS: usize = 100;
 
 /// A kind of which some are counted.
+#[derive(Drop)]
 pub struct NamedKind {
     /// What kind.
     pub kind: String,
@@ -13,26 +14,13 @@ pub struct NamedKind {
     pub count: u64,
 }
 
-impl Drop for NamedKind {
-    fn drop(self) {
-        let NamedKind { kind, count: _ } = self;
-        drop(kind);
-    }
-}
-
 /// The first kinds of which some are counted, in the order of their texts.
+#[derive(Drop)]
 pub struct NamedKinds {
     /// These.
     pub named: Vec<NamedKind>,
     /// How many kinds more there are.
     pub more: u64,
-}
-
-impl Drop for NamedKinds {
-    fn drop(self) {
-        let NamedKinds { named, more: _ } = self;
-        drop(named);
-    }
 }
 
 impl NamedKinds {

@@ -2,12 +2,10 @@
 #![tactic(auto)]
 
 mod baseline;
-mod covering;
 mod fault;
+mod held;
 mod kinds;
-mod leaving;
 mod made;
-mod members;
 mod tally;
 
 pub use baseline::Baseline;

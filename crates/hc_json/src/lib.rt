@@ -2,7 +2,7 @@
 #![tactic(auto)]
 
 mod members;
+mod values;
 
-pub use members::{
-    array, object, push_made, put_flag, put_made, put_number, put_numbers, put_some, put_text,
-};
+pub use members::Object;
+pub use values::Array;
