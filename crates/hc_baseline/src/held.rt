@@ -7,10 +7,53 @@ ghost use Rattle.hc_baseline.specs.Reports.{count_under, covers, gone_in, gone_o
 ghost use Rattle.hc_baseline.specs.Tallies.{HasCounted, base_of, gone_from};
 
 use crate::baseline::{Baseline, counts_in};
-use crate::kinds::NamedKinds;
 use crate::tally::{Tally, count_under};
 use serde_json::{Map, Value};
 use std::alloc::{AllocError, Global};
+
+/// How many kinds are named at most.
+const MOST_KINDS: usize = 100;
+
+/// A kind of which some are counted.
+#[derive(Drop)]
+pub struct NamedKind {
+    /// What kind.
+    pub kind: String,
+    /// How many.
+    pub count: u64,
+}
+
+/// The first kinds of which some are counted, in the order of their texts.
+#[derive(Drop)]
+pub struct NamedKinds {
+    /// These.
+    pub named: Vec<NamedKind>,
+    /// How many kinds more there are.
+    pub more: u64,
+}
+
+impl NamedKinds {
+    // No kind.
+    fn new(alloc: Global) -> Self {
+        NamedKinds {
+            named: Vec::new(alloc),
+            more: 0,
+        }
+    }
+
+    // Takes in a kind of which there are so many, if there are any.
+    fn name(&mut self, alloc: Global, kind: &str, count: u64) -> Result<(), AllocError> {
+        if count == 0 {
+            return Ok(());
+        }
+        if MOST_KINDS <= self.named.len() {
+            self.more = self.more.saturating_add(1);
+            return Ok(());
+        }
+        let kind = String::from_str(alloc, kind)?;
+        Ok(self.named.push(NamedKind { kind, count })?)
+    }
+}
 
 impl Baseline {
     /// Whether it has all wrong replies of a tally: as many of each kind, or more.

@@ -4,12 +4,11 @@
 mod baseline;
 mod fault;
 mod held;
-mod kinds;
 mod made;
 mod tally;
 
 pub use baseline::Baseline;
 pub use fault::BaselineFault;
-pub use kinds::{NamedKind, NamedKinds};
+pub use held::{NamedKind, NamedKinds};
 pub use made::Difference;
 pub use tally::Tally;

@@ -1,5 +1,5 @@
 -- Entries that are put in one behind another.
-use Rattle.std.proofs.Common.{◌≡◌, ◌<◌, ◌≤◌, ◌+◌, ◌++◌, ◌∙◌, ◌&&◌, ◌||◌, ℕ, zero, suc, Bool, true, false, not, List, [], ◌∷◌, Result, Ok, Err, IsOk, OnOk, Ordering, Less, Equal, Greater, add-one, ap, append_assoc, bytes_eq, get_or, length, map, sym, take, refl, true≢false, arith}
+use Rattle.std.proofs.Common.{◌≡◌, ◌<◌, ◌≤◌, ◌+◌, ◌++◌, ◌∙◌, ◌&&◌, ◌||◌, ℕ, zero, suc, Bool, true, false, not, List, [], ◌∷◌, Ordering, Less, Equal, Greater, add-one, ap, append_assoc, bytes_eq, get_or, length, map, sym, take, refl, true≢false, arith}
 use Rattle.std.proofs.lemmas.Slice.Eq.{bytes_eq-Decides}
 use Rattle.std.specs.Ordering.{match_ordering}
 use Rattle.serde_json.specs.Data.{Data, Members, no_members, member, put, depth, items_depth, members_depth}
@@ -52,12 +52,6 @@ put_depth name d (member l e ms) n p q =
 pub value_depth : (name : List ℕ) (d value : Data) (old new : Members) (n : ℕ) → d ≡ value → depth value ≤ n → members_depth old ≤ n → new ≡ put name d old → members_depth new ≤ n
 value_depth name d value old new n same few q is = rw (is, same) (put_depth name value old n few q)
 
--- where it was put in, too
-pub put_nests : {E : Type 0} (added : Result (Unit {0}) E) (name : List ℕ) (d : Data) (old new now : Members) (n : ℕ) → IsOk added → OnOk added (new ≡ put name d old) → now ≡ new → depth d ≤ n
-    → members_depth old ≤ n → members_depth now ≤ n
-put_nests (Ok u) name d old new now n ok is same few q = rw (same, is) (put_depth name d old n few q)
-put_nests (Err e) name d old new now n ok is same few q = absurd cc
-
 -- nor deeper than each of them
 abbrev pub NoDeeper : ℕ → List Entry → Type 0
 NoDeeper n [] = Unit {0}
@@ -71,13 +65,8 @@ pushed_values : (vs : List Value) (v : Value) (n : ℕ) → depth (view v) ≤ n
 pushed_values [] v n few q = omega arith
 pushed_values (first ∷ vs) v n few q = omega (arith, pushed_values vs v n few (omega arith))
 
-pushed_depth : (vs new : List Value) (v : Value) (n : ℕ) → depth (view v) ≤ n → items_depth (items_view vs) ≤ n → new ≡ vs ++ v ∷ [] → items_depth (items_view new) ≤ n
+pub pushed_depth : (vs new : List Value) (v : Value) (n : ℕ) → depth (view v) ≤ n → items_depth (items_view vs) ≤ n → new ≡ vs ++ v ∷ [] → items_depth (items_view new) ≤ n
 pushed_depth vs new v n few q is = rw is (pushed_values vs v n few q)
-
-pub push_nests : {E : Type 0} (added : Result (Unit {0}) E) (vs new now : List Value) (v : Value) (n : ℕ) → IsOk added → OnOk added (new ≡ vs ++ v ∷ []) → now ≡ new → depth (view v) ≤ n
-    → items_depth (items_view vs) ≤ n → items_depth (items_view now) ≤ n
-push_nests (Ok u) vs new now v n ok is same few q = rw same (pushed_depth vs new v n few q is)
-push_nests (Err e) vs new now v n ok is same few q = absurd cc
 
 -- ---- values that are pushed
 

@@ -4,7 +4,7 @@ use Rattle.serde_json.specs.Data.{Data, Members}
 use Rattle.serde_json.specs.View.{members_view, view}
 use Rattle.hc_json.specs.Nesting.{MembersNestTo, ValuesNestTo}
 use Rattle.hc_json.specs.declared.members.Object.{Object}
-use Rattle.hc_json.specs.declared.values.Array.{Array}
+use Rattle.hc_json.specs.declared.members.Array.{Array}
 
 -- these members
 pub record Has (object : Object) (all : Members) : Type 0 where

@@ -2,7 +2,5 @@
 #![tactic(auto)]
 
 mod members;
-mod values;
 
-pub use members::Object;
-pub use values::Array;
+pub use members::{Array, Object};

@@ -1,13 +1,13 @@
-//! JSON objects as they are made, member by member.
+//! JSON objects and arrays as they are made, member by member and value by value.
 
-ghost use Rattle.std.specs.Prelude.{◌≡◌, ◌≤◌, ℕ, Some, false, suc, IfOk, IsOk, OnOk, string_bytes};
-ghost use Rattle.serde_json.specs.Data.{Data, Members, boolean, depth, no_members, object as object_data, put as with_member, string};
+ghost use Rattle.std.specs.Prelude.{◌≡◌, ◌≤◌, ◌++◌, ◌∷◌, [], ℕ, List, Some, suc, IfOk, string_bytes};
+ghost use Rattle.serde_json.specs.Data.{Data, Members, array as array_data, boolean, depth, no_members, object as object_data, put as with_member, string};
 ghost use Rattle.serde_json.specs.Read.{max_depth, read};
-ghost use Rattle.serde_json.specs.View.{members_view, view};
+ghost use Rattle.serde_json.specs.View.{items_of, members_view, view};
 ghost use Rattle.hc_json.specs.Entries.{number_data, some_data};
 ghost use Rattle.hc_json.specs.Nesting.{MembersNestTo, NestsTo};
 
-use serde_json::{Map, Value, put};
+use serde_json::{Map, Value, push, put};
 use std::alloc::{AllocError, Global};
 
 /// A JSON object that is told its members. Where memory is refused for one of them, the object is never given:
@@ -50,22 +50,11 @@ impl Object {
         ensures has { (value : Data) → IfOk made (λ v. view v ≡ value) → (all : Members) → Has self.old all → Has self.new (with_member name.now value all) }
         ensures nests { (n : ℕ) → IfOk made (NestsTo n) → HasDepth n self.old → HasDepth n self.new }
     {
-        match made {
-            Ok(value) => {
-                let added = put(&mut self.members, self.alloc, name, value);
-                self.note(added);
-            }
-            Err(_) => self.is_refused = true,
-        }
-    }
-
-    // Takes in whether a member was added.
-    fn note(&mut self, added: Result<(), AllocError>)
-        ensures members { self.new.members ≡ self.old.members }
-        ensures refused { self.new.is_refused ≡ false → self.old.is_refused ≡ false }
-        ensures added { self.new.is_refused ≡ false → IsOk added }
-    {
-        match added {
+        let Ok(value) = made else {
+            self.is_refused = true;
+            return;
+        };
+        match put(&mut self.members, self.alloc, name, value) {
             Ok(()) => {}
             Err(_) => self.is_refused = true,
         }
@@ -138,5 +127,64 @@ impl Object {
     {
         let alloc = self.alloc;
         self.into_value()?.to_string(alloc)
+    }
+}
+
+/// A JSON array that is told its values. Where memory is refused for one of them, `into_value` answers that.
+pub struct Array {
+    values: Vec<Value>,
+    is_refused: bool,
+}
+
+impl Drop for Array {
+    fn drop(self) {
+        let Array {
+            values,
+            is_refused: _,
+        } = self;
+        drop(values);
+    }
+}
+
+impl Array {
+    ghost use Rattle.hc_json.specs.Objects.{Holds, HoldsDepth};
+
+    /// No value.
+    pub fn new(alloc: Global) -> Self
+        ensures holds { Holds result [] }
+        ensures nests { (n : ℕ) → HoldsDepth n result }
+    {
+        Array {
+            values: Vec::new(alloc),
+            is_refused: false,
+        }
+    }
+
+    /// Adds a value, if it could be made.
+    pub fn push(&mut self, made: Result<Value, AllocError>)
+        // Whatever value was made.
+        ensures holds { (value : Data) → IfOk made (λ v. view v ≡ value) → (all : List Data) → Holds self.old all → Holds self.new (all ++ value ∷ []) }
+        ensures nests { (n : ℕ) → IfOk made (NestsTo n) → HoldsDepth n self.old → HoldsDepth n self.new }
+    {
+        let Ok(value) = made else {
+            self.is_refused = true;
+            return;
+        };
+        match push(&mut self.values, value) {
+            Ok(()) => {}
+            Err(_) => self.is_refused = true,
+        }
+    }
+
+    /// The array as a value.
+    pub fn into_value(self) -> Result<Value, AllocError>
+        ensures holds { (all : List Data) → Holds self all → IfOk result (λ v. view v ≡ array_data (items_of all)) }
+        ensures nests { (n : ℕ) → HoldsDepth n self → IfOk result (NestsTo (suc n)) }
+    {
+        let Array { values, is_refused } = self;
+        if is_refused {
+            return Err(AllocError);
+        }
+        Ok(Value::Array(values))
     }
 }

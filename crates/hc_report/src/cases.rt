@@ -114,7 +114,6 @@ impl Cases {
     }
 }
 
-// Writes the case of a wrong reply, which is skipped if a baseline has it.
 fn say_case(reply: &ListedReply, is_known: bool, page: &mut Page) {
     page.text("<testcase classname=\"");
     say_xml(reply.wrong.reason.name(), page);

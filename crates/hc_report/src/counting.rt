@@ -89,10 +89,8 @@ impl CountingReport {
         let request = shown_request(self.alloc, judged)?;
         let kind = request.kind(self.alloc, reason)?;
         self.tally.take(kind.as_str())?;
-        let wrong = WrongReply {
-            position: judged.position,
-            reason,
-        };
+        let position = judged.position;
+        let wrong = WrongReply { position, reason };
         self.cases.take(wrong, request)?;
         self.wrongs.push(wrong)?;
         Ok(())
@@ -172,10 +170,8 @@ impl CountingReport {
         self.put_held(baseline, &mut object);
         object.some("format", self.source.format);
         object.put("targets", self.source.targets_json());
-        object.put(
-            "settings",
-            settings_object(self.alloc, settings).into_value(),
-        );
+        let settings = settings_object(self.alloc, settings).into_value();
+        object.put("settings", settings);
         object.put("baseline", Ok(self.tally.into_counts()));
         object.into_text()
     }

@@ -12,13 +12,11 @@ use hc_shown::{Page, Teller};
 use hc_why::{Past, Shortfall, Wrong, names_response};
 use std::alloc::{AllocError, Global};
 
-/// How many groups are kept at most.
+// How many groups, targets of a group and suspected fields are kept at most.
 const MOST_GROUPS: usize = 100;
 
-/// How many targets a group names at most.
 const MOST_TARGETS: usize = 16;
 
-/// How many fields are suspected at most.
 const MOST_SUSPECTS: usize = 20;
 
 /// The first things that came, up to a number of them. The rest is counted.
@@ -65,7 +63,6 @@ pub(crate) struct Group {
     pub(crate) reason: Reason,
     /// A word for what in them is.
     pub(crate) kind: &'static str,
-    // Words for it.
     what: String,
     // In what a response falls short of the first of them, if that is what is wrong.
     shortfall: Option<Shortfall>,
@@ -76,7 +73,6 @@ pub(crate) struct Group {
     pub(crate) first: u64,
     /// What they were asked for, each target once as it is shown, and how many were asked for another one.
     pub(crate) targets: Firsts<String>,
-    /// By how many seconds they are off, if that is what is wrong.
     pub(crate) spread: Option<Spread>,
 }
 

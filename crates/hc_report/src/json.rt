@@ -66,7 +66,6 @@ fn group_json(alloc: Global, group: &Group) -> Result<Value, AllocError>
     object.into_value()
 }
 
-// What is wrong in the replies of a group.
 fn what_json(alloc: Global, group: &Group) -> Result<Value, AllocError>
     ensures { (n : ℕ) → IfOk result (NestsTo n) }
 {

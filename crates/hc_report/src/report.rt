@@ -97,10 +97,8 @@ impl Report {
         ensures shown { (h : List Item) → AreShownIn h self.old.wrongs.listed.items → IsReplyBehind I.seen h judged.now
             → OnOk result (AreShownIn (item_judged judged.now ∷ h) self.new.wrongs.listed.items) }
     {
-        let wrong = WrongReply {
-            position: judged.position,
-            reason,
-        };
+        let position = judged.position;
+        let wrong = WrongReply { position, reason };
         let request = shown_request(self.alloc, judged)?;
         self.wrongs.note(wrong, &request)?;
         self.found

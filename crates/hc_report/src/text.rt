@@ -36,7 +36,6 @@ pub(crate) fn say_report(
     }
 }
 
-// Writes what the replies say of themselves.
 fn say_replies(replies: &ReplyCounts, page: &mut Page) {
     let all = replies.all();
     page.count("replies    ", all, ": ");
@@ -124,7 +123,6 @@ struct Widths {
     what: usize,
 }
 
-// Writes a table with a line for each group.
 fn say_groups(alloc: Global, groups: &Firsts<Group>, page: &mut Page) {
     let mut measured = Page::new(alloc);
     let widths = widths_of(groups.kept.as_slice(), &mut measured);
@@ -148,7 +146,8 @@ fn widths_of(groups: &[Group], page: &mut Page) -> Widths {
     let mut widths = Widths { reason: 6, what: 4 };
     for group in groups {
         let begun = page.columns();
-        say_reason(group, page);
+        page.count("", u64::from(group.reason.number()), " ");
+        page.text(group.reason.name());
         let between = page.columns();
         group.say_what(page);
         let reason = between.saturating_sub(begun);
@@ -163,7 +162,8 @@ fn say_group(group: &Group, widths: Widths, page: &mut Page) {
     page.column(group.count, " ");
     page.column(group.first, "  ");
     let begun = page.columns();
-    say_reason(group, page);
+    page.count("", u64::from(group.reason.number()), " ");
+    page.text(group.reason.name());
     page.pad(begun, widths.reason);
     page.text("  ");
     let begun = page.columns();
@@ -172,11 +172,6 @@ fn say_group(group: &Group, widths: Widths, page: &mut Page) {
     page.text("  ");
     say_targets(&group.targets, page);
     page.end_line();
-}
-
-fn say_reason(group: &Group, page: &mut Page) {
-    page.count("", u64::from(group.reason.number()), " ");
-    page.text(group.reason.name());
 }
 
 // Writes the first target, and how many more there are.

@@ -42,7 +42,9 @@ impl Asks {
             Reason::Unmarked => asks.for_mark = true,
             _ => {
                 asks.for_part = case.asks_part;
-                asks.take_all(case.candidates);
+                for candidate in case.candidates {
+                    asks.take(rule_behind(candidate.passed));
+                }
                 // Not where each field that differs is in one of both alone.
                 let may_be_joined = match wrong.differences() {
                     Some(found) => found.more != 0 || found.has(Change::Changed),
@@ -55,16 +57,13 @@ impl Asks {
         asks
     }
 
-    // Takes in what those break.
-    fn take_all(&mut self, candidates: &[Candidate]) {
-        for candidate in candidates {
-            match rule_behind(candidate.passed) {
-                Some(Rule::Lifetime | Rule::Use) => self.for_use = true,
-                Some(Rule::Fields) => self.for_fields = true,
-                Some(Rule::Age) => self.for_age = true,
-                Some(Rule::Ttl) => self.for_seconds = true,
-                _ => {}
-            }
+    fn take(&mut self, broken: Option<Rule>) {
+        match broken {
+            Some(Rule::Lifetime | Rule::Use) => self.for_use = true,
+            Some(Rule::Fields) => self.for_fields = true,
+            Some(Rule::Age) => self.for_age = true,
+            Some(Rule::Ttl) => self.for_seconds = true,
+            _ => {}
         }
     }
 }
@@ -174,9 +173,9 @@ impl Allowance {
         }
     }
 
-    // The option by which it is asked for, and its seconds.
-    fn option(&self) -> (&'static str, Option<u32>) {
-        match self {
+    // The words by which it is asked for.
+    fn options(&self, alloc: Global) -> Page {
+        let (option, seconds) = match self {
             Allowance::Slack(seconds) => ("--slack", Some(*seconds)),
             Allowance::Grace(seconds) => ("--grace", Some(*seconds)),
             Allowance::AgeSlack(seconds) => ("--age-slack", Some(*seconds)),
@@ -187,7 +186,13 @@ impl Allowance {
             Allowance::Ranges => ("--allow ranges", None),
             Allowance::All => ("--allow all", None),
             Allowance::InferredMarks => ("--infer-marks", None),
+        };
+        let mut page = Page::new(alloc);
+        page.text(option);
+        if let Some(seconds) = seconds {
+            page.count(" ", u64::from(seconds), "");
         }
+        page
     }
 }
 
@@ -195,23 +200,8 @@ impl Allowance {
 #[derive(Drop)]
 struct FixedTry {
     allowance: Allowance,
-    // What is let pass then.
     settings: Settings,
-    // How many replies are wrong still.
     wrong: u64,
-}
-
-impl FixedTry {
-    // The words by which it is asked for.
-    fn options(&self, alloc: Global) -> Page {
-        let mut page = Page::new(alloc);
-        let (option, seconds) = self.allowance.option();
-        page.text(option);
-        if let Some(seconds) = seconds {
-            page.count(" ", u64::from(seconds), "");
-        }
-        page
-    }
 }
 
 // How many names are ignored besides at most.
@@ -232,8 +222,7 @@ struct IgnoringTry {
 }
 
 impl IgnoringTry {
-    // Whether a wrong reply is right with the names so far, or with those more in which it differs, which are kept then. It is
-    // told whether that may carry more responses than the one that is named.
+    // Whether a wrong reply is right with the names so far, or with those in which it differs, too, which are kept then.
     fn makes_right<I: Index>(
         &mut self,
         judged: &JudgedReply<'_, I>,
@@ -323,19 +312,15 @@ fn added_by<'a>(wrong: &'a Wrong<'_>) -> Option<&'a Differences> {
 /// A try that makes fewer replies wrong.
 #[derive(Drop)]
 pub(crate) struct Helpful {
-    /// The words by which it is asked for.
     pub(crate) options: String,
-    /// How many replies are wrong still.
     pub(crate) wrong: u64,
-    /// Whether these are all; else it is how many there are at most.
+    /// Whether so many replies are wrong still; else it is how many there are at most.
     pub(crate) is_exact: bool,
 }
 
-/// Other settings that wrong replies are judged by: more fields that are ignored, and what may be let pass besides, as far as
-/// the audit doesn't let it pass.
+/// Other settings that wrong replies are judged by: more fields that are ignored, and what else the audit doesn't let pass.
 #[derive(Drop)]
 pub(crate) struct Tries {
-    alloc: Global,
     ignoring: IgnoringTry,
     fixed: Vec<FixedTry>,
 }
@@ -355,7 +340,6 @@ impl Tries {
             }
         }
         Ok(Tries {
-            alloc,
             ignoring: IgnoringTry {
                 alloc,
                 given: given.ignored.names().len(),
@@ -396,7 +380,7 @@ impl Tries {
 
     /// Those that make fewer replies wrong than that.
     pub(crate) fn helpful(&self, wrong: u64) -> Result<Vec<Helpful>, AllocError> {
-        let mut helpful = Vec::new(self.alloc);
+        let mut helpful = Vec::new(self.ignoring.alloc);
         if self.ignoring.wrong < wrong {
             helpful.push(Helpful {
                 options: self.ignoring.options().into_text()?,
@@ -407,7 +391,7 @@ impl Tries {
         for fixed in self.fixed.iter() {
             if fixed.wrong < wrong {
                 helpful.push(Helpful {
-                    options: fixed.options(self.alloc).into_text()?,
+                    options: fixed.allowance.options(self.ignoring.alloc).into_text()?,
                     wrong: fixed.wrong,
                     is_exact: true,
                 })?;
