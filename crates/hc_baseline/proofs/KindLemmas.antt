@@ -1,5 +1,5 @@
 -- Kinds that are counted, and held against a baseline.
-use Rattle.std.proofs.Common.{◌≡◌, ◌≤◌, ◌<◌, ◌+◌, ◌-◌, ◌++◌, ◌^◌, ◌&&◌, ◌⊎◌, ℕ, Bool, true, false, List, [], ◌∷◌, Option, None, Some, option_map, Result, Ok, Err, OnOk, length, min, nat_le, bytes_eq, unwrap_or, cond, Ordering, Less, Equal, Greater, is_eq, nat_cmp, true≢false, ap, sym, ◌∙◌, inl, inr, refl, subst, arith}
+use Rattle.std.proofs.Common.{◌≡◌, ◌≤◌, ◌<◌, ◌+◌, ◌-◌, ◌++◌, ◌^◌, ◌&&◌, ◌⊎◌, ℕ, Bool, true, false, List, [], ◌∷◌, Option, None, Some, option_map, length, min, nat_le, bytes_eq, unwrap_or, cond, Ordering, Less, Equal, Greater, is_eq, nat_cmp, true≢false, ap, sym, ◌∙◌, inl, inr, refl, subst, arith}
 use Rattle.std.proofs.lemmas.Bool.Decides.{nat_tests}
 use Rattle.std.proofs.lemmas.Map.Text.{is_eq-slice_cmp}
 use Rattle.std.specs.Cmp.Lexicographic.{slice_cmp}
@@ -137,9 +137,3 @@ gone_in_either (Some counts) counted kinds are few = same_gone counted counts co
 pub gone_by_kinds : (report : Data) (counted : Members) (kinds : List Kind) → AreCounts counted kinds → length kinds < 2 ^ 64
     → gone_in report (λ kind. count_under kind counted) ≡ gone_in report (λ kind. times kind kinds)
 gone_by_kinds report counted kinds are few = gone_in_either (counts_in report) counted kinds are few
-
--- ---- results
-
-pub both_on_ok : {T E P Q R : Type 0} (r : Result T E) → (P → Q → R) → OnOk r P → OnOk r Q → OnOk r R
-both_on_ok (Ok x) f p q = f p q
-both_on_ok (Err e) f p q = tt

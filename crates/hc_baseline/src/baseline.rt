@@ -7,7 +7,7 @@ ghost use Rattle.hc_baseline.specs.Reports.{IsBaseline, base_in, counts_in, has_
 ghost use Rattle.hc_baseline.specs.declared.fault.BaselineFault.TheVariants.{NoReport};
 
 use crate::fault::BaselineFault;
-use crate::members::{count_under, sum_of};
+use crate::tally::{count_under, sum_of};
 use serde_json::{Map, Value};
 use std::alloc::Global;
 

@@ -2,16 +2,13 @@
 #![tactic(auto)]
 
 mod baseline;
-mod covering;
 mod fault;
-mod kinds;
-mod leaving;
+mod held;
 mod made;
-mod members;
 mod tally;
 
 pub use baseline::Baseline;
 pub use fault::BaselineFault;
-pub use kinds::{NamedKind, NamedKinds};
+pub use held::{NamedKind, NamedKinds};
 pub use made::Difference;
 pub use tally::Tally;

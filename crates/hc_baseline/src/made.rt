@@ -5,11 +5,12 @@ ghost use Rattle.serde_json.specs.View.{members_view, view};
 ghost use Rattle.hc_baseline.specs.Made.{digest_in, has_setting, has_settings, is_made_by, read_alike, same_flags, same_numbers, same_texts, settings_in};
 
 use crate::baseline::Baseline;
-use crate::members::member;
+use crate::tally::member;
 use serde_json::{Map, Value};
 use std::alloc::{AllocError, Global};
 
 /// A setting by which a baseline was made, and what is asked in its place.
+#[derive(Drop)]
 pub struct Difference {
     /// Its name.
     pub name: String,
@@ -17,15 +18,6 @@ pub struct Difference {
     pub had: String,
     /// What is asked, as JSON.
     pub asked: String,
-}
-
-impl Drop for Difference {
-    fn drop(self) {
-        let Difference { name, had, asked } = self;
-        drop(name);
-        drop(had);
-        drop(asked);
-    }
 }
 
 impl Baseline {
@@ -45,10 +37,16 @@ impl Baseline {
         alloc: Global,
         asked: &Map<String, Value>,
     ) -> Result<Option<Difference>, AllocError> {
-        match settings_in(&self.report) {
-            Some(had) => difference_between(alloc, had, asked),
-            None => Ok(None),
+        let Some(had) = settings_in(&self.report) else {
+            return Ok(None);
+        };
+        for (name, value) in asked.iter() {
+            if !has_setting(had, name.as_str(), value) {
+                let difference = difference_at(alloc, had, name.as_str(), value)?;
+                return Ok(Some(difference));
+            }
         }
+        Ok(None)
     }
 
     /// The digest of the targets of its recording, if it says one.
@@ -125,38 +123,19 @@ fn same_texts(had: &Value, asked: &Value) -> bool
     }
 }
 
-// The first of the settings that isn't among those.
-fn difference_between(
-    alloc: Global,
-    had: &Map<String, Value>,
-    asked: &Map<String, Value>,
-) -> Result<Option<Difference>, AllocError> {
-    for (name, value) in asked.iter() {
-        if !has_setting(had, name.as_str(), value) {
-            let difference = difference_at(alloc, had, name.as_str(), value)?;
-            return Ok(Some(difference));
-        }
-    }
-    Ok(None)
-}
-
 fn difference_at(
     alloc: Global,
     had: &Map<String, Value>,
     name: &str,
     asked: &Value,
 ) -> Result<Difference, AllocError> {
+    let had = match member(had, name) {
+        Some(value) => value.to_string(alloc)?,
+        None => String::new(alloc),
+    };
     Ok(Difference {
-        had: text_at(alloc, had, name)?,
+        had,
         asked: asked.to_string(alloc)?,
         name: String::from_str(alloc, name)?,
     })
-}
-
-// The JSON of a setting, if it is there.
-fn text_at(alloc: Global, had: &Map<String, Value>, name: &str) -> Result<String, AllocError> {
-    match member(had, name) {
-        Some(value) => value.to_string(alloc),
-        None => Ok(String::new(alloc)),
-    }
 }

@@ -10,7 +10,7 @@ use Rattle.hc_history.specs.declared.wrong.Ending.TheVariants.{Whole, Broken}
 use Rattle.hc_history.specs.declared.wrong.WrongReply.{WrongReply}
 use Rattle.hc_history.specs.Names.{reason_name, reason_number}
 use Rattle.hc_figures.specs.declared.counts.ReplyCounts.{ReplyCounts}
-use Rattle.hc_figures.specs.declared.counts_json.TheConstants.{NO_MARK}
+use Rattle.hc_figures.specs.declared.json.TheConstants.{NO_MARK}
 use Rattle.hc_figures.specs.declared.listed.ListedReplies.{ListedReplies}
 use Rattle.hc_figures.specs.declared.listed.ListedReply.{ListedReply}
 use Rattle.hc_figures.specs.Counts.{all_of, have_no_mark}

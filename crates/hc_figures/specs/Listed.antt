@@ -3,7 +3,7 @@ use Rattle.std.specs.Prelude.{◌≡◌, ◌⊎◌, ◌++◌, ◌∷◌, [], ℕ
 use Rattle.hc_history.specs.declared.wrong.WrongReply.{WrongReply}
 use Rattle.hc_figures.specs.declared.listed.ListedReplies.{ListedReplies}
 use Rattle.hc_figures.specs.declared.listed.ListedReply.{ListedReply}
-use Rattle.hc_figures.specs.declared.requests.ShownRequest.{ShownRequest}
+use Rattle.hc_figures.specs.declared.listed.ShownRequest.{ShownRequest}
 use Rattle.hc_figures.specs.Requests.{ShowsAs}
 use Rattle.hc_figures.specs.Wrongs.{wrongs_of}
 

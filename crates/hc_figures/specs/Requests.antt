@@ -2,7 +2,7 @@
 use Rattle.std.specs.Prelude.{◌≡◌, ℕ, List, ◌++◌, codes, string_bytes}
 use Rattle.hc_history.specs.declared.reasons.Reason.{Reason}
 use Rattle.hc_history.specs.Names.{reason_name}
-use Rattle.hc_figures.specs.declared.requests.ShownRequest.{ShownRequest}
+use Rattle.hc_figures.specs.declared.listed.ShownRequest.{ShownRequest}
 
 -- the same is shown
 pub record ShowsAs (shown copy : ShownRequest) : Type 0 where

@@ -3,15 +3,9 @@
 #![tactic(auto)]
 
 mod counts;
-mod counts_json;
-mod endings_json;
-mod figures;
+mod json;
 mod listed;
-mod listed_json;
-mod requests;
 
 pub use counts::ReplyCounts;
-pub use counts_json::NO_MARK;
-pub use figures::put_figures;
-pub use listed::{ListedReplies, ListedReply};
-pub use requests::ShownRequest;
+pub use json::{NO_MARK, put_figures};
+pub use listed::{ListedReplies, ListedReply, ShownRequest};

@@ -1,18 +1,17 @@
-//! The first of the wrong replies.
+//! The first of the wrong replies, and what is shown of the requests that they answer.
 
-ghost use Rattle.std.specs.Prelude.{◌≡◌, ◌≤◌, ◌++◌, ◌-◌, List, [], ◌∷◌, OnOk, length, take, vec_len};
+ghost use Rattle.std.specs.Prelude.{◌≡◌, ◌≤◌, ◌++◌, ◌-◌, List, [], ◌∷◌, IfOk, OnOk, length, string_bytes, take, vec_len};
 ghost use Rattle.hc_history.specs.declared.wrong.WrongReply.{WrongReply};
-ghost use Rattle.hc_figures.specs.Wrongs.{wrongs_of};
 ghost use Rattle.hc_figures.specs.declared.listed.TheConstants.{MOST_LISTED};
 
-use crate::requests::ShownRequest;
-use hc_history::WrongReply;
+use hc_history::{Reason, WrongReply};
 use std::alloc::{AllocError, Global};
 
 /// How many wrong replies are listed at most.
 const MOST_LISTED: usize = 1_000;
 
 /// A wrong reply that is listed.
+#[derive(Drop)]
 pub struct ListedReply {
     /// Where it stands, and why it is wrong.
     pub wrong: WrongReply,
@@ -20,14 +19,8 @@ pub struct ListedReply {
     pub request: ShownRequest,
 }
 
-impl Drop for ListedReply {
-    fn drop(self) {
-        let ListedReply { wrong: _, request } = self;
-        drop(request);
-    }
-}
-
 /// How many wrong replies there are, and the first of them.
+#[derive(Drop)]
 pub struct ListedReplies {
     /// How many there are, or the greatest number.
     pub count: u64,
@@ -38,19 +31,9 @@ pub struct ListedReplies {
     ghost few: { vec_len listed ≤ MOST_LISTED },
 }
 
-impl Drop for ListedReplies {
-    fn drop(self) {
-        let ListedReplies {
-            count: _,
-            first: _,
-            listed,
-        } = self;
-        drop(listed);
-    }
-}
-
 impl ListedReplies {
     ghost use Rattle.hc_figures.specs.Listed.{AreListed, ListsNext};
+    ghost use Rattle.hc_figures.specs.Wrongs.{wrongs_of};
 
     /// No wrong reply.
     pub fn new(alloc: Global) -> Self
@@ -99,5 +82,45 @@ impl ListedReplies {
             listed.push(ListedReply { wrong, request })?;
         }
         Ok(())
+    }
+}
+
+/// What is shown of a request that a reply answers: nothing where none is open.
+#[derive(Drop)]
+pub struct ShownRequest {
+    /// Its method.
+    pub method: String,
+    /// Its target.
+    pub target: String,
+}
+
+impl ShownRequest {
+    ghost use Rattle.hc_figures.specs.Requests.{ShowsAs, kind_text};
+
+    /// The same again.
+    pub fn copy(&self) -> Result<Self, AllocError>
+        ensures { IfOk result (λ copy. ShowsAs self.now copy) }
+    {
+        Ok(ShownRequest {
+            method: self.method.clone()?,
+            target: self.target.clone()?,
+        })
+    }
+
+    /// Its target.
+    pub fn into_target(self) -> String
+        ensures { result ≡ self.target }
+    {
+        self.target
+    }
+
+    /// The kind of a reply to it that is wrong by that reason.
+    pub fn kind(&self, alloc: Global, reason: Reason) -> Result<String, AllocError>
+        ensures { IfOk result (λ kind. string_bytes kind ≡ kind_text reason (string_bytes self.now.method) (string_bytes self.now.target)) }
+    {
+        let name = reason.name();
+        let method = self.method.as_str();
+        let target = self.target.as_str();
+        format!(in alloc; "{name} {method} {target}")
     }
 }

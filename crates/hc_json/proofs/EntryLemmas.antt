@@ -1,27 +1,13 @@
 -- Entries that are put in one behind another.
-use Rattle.std.proofs.Common.{◌≡◌, ◌<◌, ◌≤◌, ◌+◌, ◌++◌, ◌∙◌, ◌&&◌, ◌||◌, ℕ, zero, suc, Bool, true, false, not, List, [], ◌∷◌, Result, Ok, Err, IfOk, Ordering, Less, Equal, Greater, add-one, ap, append_assoc, bytes_eq, get_or, length, map, sym, take, refl, true≢false, arith, Bor}
+use Rattle.std.proofs.Common.{◌≡◌, ◌<◌, ◌≤◌, ◌+◌, ◌++◌, ◌∙◌, ◌&&◌, ◌||◌, ℕ, zero, suc, Bool, true, false, not, List, [], ◌∷◌, Ordering, Less, Equal, Greater, add-one, ap, append_assoc, bytes_eq, get_or, length, map, sym, take, refl, true≢false, arith}
 use Rattle.std.proofs.lemmas.Slice.Eq.{bytes_eq-Decides}
 use Rattle.std.specs.Ordering.{match_ordering}
-use Rattle.serde_json.specs.Data.{Data, Members, no_members, member, put, string, depth, items_depth, members_depth}
+use Rattle.serde_json.specs.Data.{Data, Members, no_members, member, put, depth, items_depth, members_depth}
 use Rattle.serde_json.specs.Find.{get_member}
 use Rattle.serde_json.specs.View.{items_view, view}
 use Rattle.serde_json.specs.declared.value.Value.{Value}
 use Rattle.serde_json.proofs.Views.{get_member-put, get_member-put_other}
-use Rattle.hc_json.specs.Entries.{Entry, HaveAll, are_distinct, is_named, number_at, number_data, numbers_at, with_all}
-use Rattle.hc_json.specs.Nesting.{NestsTo}
-
-one_more : {X : Type 0} (f : X → Entry) (xs : List X) (i : ℕ) (d : X) (old : Members) → i < length xs
-    → put (f (get_or xs i d)).0 (f (get_or xs i d)).1 (with_all (take i (map f xs)) old) ≡ with_all (take (suc i) (map f xs)) old
-one_more f [] i d old few = absurd (omega arith)
-one_more f (x ∷ xs) zero d old few = refl
-one_more f (x ∷ xs) (suc i) d old few = one_more f xs i d (put (f x).0 (f x).1 old) (omega arith)
-
--- one number more is put behind the first of them
-pub number_put : (numbers : List (Bor (List ℕ) × ℕ)) (i : ℕ) (d : Bor (List ℕ) × ℕ) (old before new : Members) → i < length numbers → before ≡ with_all (take i (numbers_at numbers)) old
-    → new ≡ put (get_or numbers i d).0.now (number_data (get_or numbers i d).1) before → new ≡ with_all (take (i + 1) (numbers_at numbers)) old
-number_put numbers i d old before new few so_far is =
-    is ∙ ap (put (get_or numbers i d).0.now (number_data (get_or numbers i d).1)) so_far
-    ∙ rw add-one (one_more (λ (one : Bor (List ℕ) × ℕ). number_at one.0.now one.1) numbers i d old few)
+use Rattle.hc_json.specs.Entries.{Entry, HaveAll, are_distinct, is_named, with_all}
 
 -- ---- what members have
 
@@ -65,19 +51,6 @@ put_depth name d (member l e ms) n p q =
 
 pub value_depth : (name : List ℕ) (d value : Data) (old new : Members) (n : ℕ) → d ≡ value → depth value ≤ n → members_depth old ≤ n → new ≡ put name d old → members_depth new ≤ n
 value_depth name d value old new n same few q is = rw (is, same) (put_depth name value old n few q)
-
-pub text_depth : {E : Type 0} (made : Result Value E) (text : List ℕ) (n : ℕ) → IfOk made (λ v. view v ≡ string text) → IfOk made (NestsTo n)
-text_depth (Ok v) text n is = rw is (omega arith)
-text_depth (Err e) text n is = tt
-
--- so many levels at most, however many numbers are put in
-pub numbers_depth : (numbers : List (Bor (List ℕ) × ℕ)) (i : ℕ) (old new : Members) (n : ℕ) → members_depth old ≤ n → new ≡ with_all (take i (numbers_at numbers)) old → members_depth new ≤ n
-numbers_depth numbers i old new n q is = rw is (first numbers i old q)
-  where
-    first : (numbers : List (Bor (List ℕ) × ℕ)) (i : ℕ) (ms : Members) → members_depth ms ≤ n → members_depth (with_all (take i (numbers_at numbers)) ms) ≤ n
-    first numbers zero ms q = q
-    first [] (suc i) ms q = q
-    first (one ∷ numbers) (suc i) ms q = first numbers i (put one.0.now (number_data one.1) ms) (put_depth one.0.now (number_data one.1) ms n (omega arith) q)
 
 -- nor deeper than each of them
 abbrev pub NoDeeper : ℕ → List Entry → Type 0

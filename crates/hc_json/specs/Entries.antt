@@ -1,6 +1,5 @@
 -- What objects are made of: entries, each a name and its value, that are put in one behind another. Of two with the same name the later one stays.
-use Rattle.std.specs.Prelude.{◌≡◌, ◌&&◌, ◌||◌, ℕ, Bool, true, false, not, List, [], ◌∷◌, Option, None, Some, map}
-use Rattle.std.specs.Borrow.{Bor}
+use Rattle.std.specs.Prelude.{◌≡◌, ◌&&◌, ◌||◌, ℕ, Bool, true, false, not, List, [], ◌∷◌, Option, None, Some}
 use Rattle.std.specs.Str.{bytes_eq}
 use Rattle.serde_json.specs.Data.{Data, Members, no_members, boolean, null, number, object, put, string, unsigned}
 use Rattle.serde_json.specs.Find.{get_member}
@@ -28,10 +27,6 @@ text_at name text = (name, string text)
 
 abbrev pub flag_at : List ℕ → Bool → Entry
 flag_at name b = (name, boolean b)
-
--- what is lent as names and numbers
-abbrev pub numbers_at : List (Bor (List ℕ) × ℕ) → List Entry
-numbers_at numbers = map (λ one. number_at one.0.now one.1) numbers
 
 -- ---- objects
 

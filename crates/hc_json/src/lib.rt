@@ -3,6 +3,4 @@
 
 mod members;
 
-pub use members::{
-    array, object, push_made, put_flag, put_made, put_number, put_numbers, put_some, put_text,
-};
+pub use members::{Array, Object};

@@ -1,145 +1,190 @@
-//! The members of a JSON object, and the values of an array.
+//! JSON objects and arrays as they are made, member by member and value by value.
 
-ghost use Rattle.std.specs.Prelude.{◌≡◌, ◌++◌, ◌∷◌, [], ℕ, suc, List, Err, IfErr, IfOk, IsOk, OnErr, OnOk, map, take};
-ghost use Rattle.serde_json.specs.Data.{Data, Members, array as array_data, boolean, object as object_data, put as with_member, string};
+ghost use Rattle.std.specs.Prelude.{◌≡◌, ◌≤◌, ◌++◌, ◌∷◌, [], ℕ, List, Some, suc, IfOk, string_bytes};
+ghost use Rattle.serde_json.specs.Data.{Data, Members, array as array_data, boolean, depth, no_members, object as object_data, put as with_member, string};
+ghost use Rattle.serde_json.specs.Read.{max_depth, read};
 ghost use Rattle.serde_json.specs.View.{items_of, members_view, view};
-ghost use Rattle.hc_json.specs.Entries.{number_data, numbers_at, some_data, with_all};
-ghost use Rattle.hc_json.specs.Nesting.{MembersNestTo, NestsTo, ValuesNestTo};
+ghost use Rattle.hc_json.specs.Entries.{number_data, some_data};
+ghost use Rattle.hc_json.specs.Nesting.{MembersNestTo, NestsTo};
 
 use serde_json::{Map, Value, push, put};
 use std::alloc::{AllocError, Global};
 
-/// Adds a member that is a number.
-pub fn put_number(
+/// A JSON object that is told its members. Where memory is refused for one of them, the object is never given:
+/// `into_members`, `into_value` and `into_text` answer that.
+pub struct Object {
     alloc: Global,
-    name: &str,
-    number: u64,
-    members: &mut Map<String, Value>,
-) -> Result<(), AllocError>
-    ensures ok { OnOk result (members_view members.new.entries ≡ with_member name.now (number_data number) (members_view members.old.entries)) }
-    ensures err { OnErr result (members.new.entries ≡ members.old.entries) }
-    ensures nests { (n : ℕ) → MembersNestTo n members.old → OnOk result (MembersNestTo n members.new) }
-{
-    put(members, alloc, name, Value::from(number))
-}
-
-/// Adds a member that is true or false.
-pub fn put_flag(
-    alloc: Global,
-    name: &str,
-    flag: bool,
-    members: &mut Map<String, Value>,
-) -> Result<(), AllocError>
-    ensures ok { OnOk result (members_view members.new.entries ≡ with_member name.now (boolean flag) (members_view members.old.entries)) }
-    ensures err { OnErr result (members.new.entries ≡ members.old.entries) }
-    ensures nests { (n : ℕ) → MembersNestTo n members.old → OnOk result (MembersNestTo n members.new) }
-{
-    put(members, alloc, name, Value::from(flag))
-}
-
-/// Adds members that are numbers.
-pub fn put_numbers(
-    alloc: Global,
-    numbers: &[(&str, u64)],
-    members: &mut Map<String, Value>,
-) -> Result<(), AllocError>
-    ensures ok { OnOk result (members_view members.new.entries ≡ with_all (numbers_at numbers.now) (members_view members.old.entries)) }
-    // The first of them are there.
-    ensures err { OnErr result ((some : ℕ) × (members_view members.new.entries
-        ≡ with_all (take some (numbers_at numbers.now)) (members_view members.old.entries))) }
-    ensures nests { (n : ℕ) → MembersNestTo n members.old → OnOk result (MembersNestTo n members.new) }
-{
-    for (name, number) in numbers {
-        put_number(alloc, name, *number, members)?;
-    }
-    Ok(())
-}
-
-/// Adds a member that is a text.
-pub fn put_text(
-    alloc: Global,
-    name: &str,
-    text: &str,
-    members: &mut Map<String, Value>,
-) -> Result<(), AllocError>
-    ensures ok { OnOk result (members_view members.new.entries ≡ with_member name.now (string text.now) (members_view members.old.entries)) }
-    ensures err { OnErr result (members.new.entries ≡ members.old.entries) }
-    ensures nests { (n : ℕ) → MembersNestTo n members.old → OnOk result (MembersNestTo n members.new) }
-{
-    put_made(alloc, name, Value::try_from_str(alloc, text), members)
-}
-
-/// Adds a member, if its value could be made.
-pub fn put_made(
-    alloc: Global,
-    name: &str,
-    made: Result<Value, AllocError>,
-    members: &mut Map<String, Value>,
-) -> Result<(), AllocError>
-    // Whatever value was made.
-    ensures ok { (value : Data) → IfOk made (λ v. view v ≡ value)
-        → OnOk result (members_view members.new.entries ≡ with_member name.now value (members_view members.old.entries)) }
-    ensures made { OnOk result (IsOk made) }
-    ensures err { OnErr result (members.new.entries ≡ members.old.entries) }
-    ensures nests { (n : ℕ) → IfOk made (NestsTo n) → MembersNestTo n members.old
-        → OnOk result (MembersNestTo n members.new) }
-{
-    put(members, alloc, name, made?)
-}
-
-/// Adds a value to an array, if it could be made.
-pub fn push_made(made: Result<Value, AllocError>, values: &mut Vec<Value>) -> Result<(), AllocError>
-    // Whatever value was made.
-    ensures ok { (value : Data) → IfOk made (λ v. view v ≡ value)
-        → OnOk result (map view values.new.items ≡ map view values.old.items ++ value ∷ []) }
-    ensures made { OnOk result (IsOk made) }
-    ensures err { OnErr result (values.new.items ≡ values.old.items) }
-    ensures nests { (n : ℕ) → IfOk made (NestsTo n) → ValuesNestTo n values.old
-        → OnOk result (ValuesNestTo n values.new) }
-{
-    push(values, made?)
-}
-
-/// The object of those members, if all could be put into it.
-pub fn object(
     members: Map<String, Value>,
-    filled: Result<(), AllocError>,
-) -> Result<Value, AllocError>
-    // Whatever was put into it.
-    ensures ok { (all : Members) → OnOk filled (members_view members.entries ≡ all) → IfOk result (λ v. view v ≡ object_data all) }
-    ensures filled { IfOk result (λ v. IsOk filled) }
-    ensures err { IfErr result (λ fault. filled ≡ Err fault) }
-    ensures nests { (n : ℕ) → OnOk filled (MembersNestTo n members) → IfOk result (NestsTo (suc n)) }
-{
-    filled?;
-    Ok(Value::Object(members))
+    is_refused: bool,
 }
 
-/// The array of those values, if all could be put into it.
-pub fn array(values: Vec<Value>, filled: Result<(), AllocError>) -> Result<Value, AllocError>
-    // Whatever was put into it.
-    ensures ok { (all : List Data) → OnOk filled (map view values.items ≡ all) → IfOk result (λ v. view v ≡ array_data (items_of all)) }
-    ensures filled { IfOk result (λ v. IsOk filled) }
-    ensures err { IfErr result (λ fault. filled ≡ Err fault) }
-    ensures nests { (n : ℕ) → OnOk filled (ValuesNestTo n values) → IfOk result (NestsTo (suc n)) }
-{
-    filled?;
-    Ok(Value::Array(values))
+impl Drop for Object {
+    fn drop(self) {
+        let Object {
+            alloc: _,
+            members,
+            is_refused: _,
+        } = self;
+        drop(members);
+    }
 }
 
-/// Adds a member that is a number, or null where there is none.
-pub fn put_some(
-    alloc: Global,
-    name: &str,
-    number: Option<u64>,
-    members: &mut Map<String, Value>,
-) -> Result<(), AllocError>
-    ensures ok { OnOk result (members_view members.new.entries ≡ with_member name.now (some_data number) (members_view members.old.entries)) }
-    ensures err { OnErr result (members.new.entries ≡ members.old.entries) }
-    ensures nests { (n : ℕ) → MembersNestTo n members.old → OnOk result (MembersNestTo n members.new) }
-{
-    match number {
-        Some(number) => put_number(alloc, name, number, members),
-        None => put(members, alloc, name, Value::Null),
+impl Object {
+    ghost use Rattle.hc_json.specs.Objects.{Has, HasDepth};
+
+    /// No member.
+    pub fn new(alloc: Global) -> Self
+        ensures has { Has result no_members }
+        ensures nests { (n : ℕ) → HasDepth n result }
+    {
+        Object {
+            alloc,
+            members: Map::new(alloc),
+            is_refused: false,
+        }
+    }
+
+    /// Adds a member, if its value could be made.
+    pub fn put(&mut self, name: &str, made: Result<Value, AllocError>)
+        // Whatever value was made.
+        ensures has { (value : Data) → IfOk made (λ v. view v ≡ value) → (all : Members) → Has self.old all → Has self.new (with_member name.now value all) }
+        ensures nests { (n : ℕ) → IfOk made (NestsTo n) → HasDepth n self.old → HasDepth n self.new }
+    {
+        let Ok(value) = made else {
+            self.is_refused = true;
+            return;
+        };
+        match put(&mut self.members, self.alloc, name, value) {
+            Ok(()) => {}
+            Err(_) => self.is_refused = true,
+        }
+    }
+
+    /// Adds a member that is a number.
+    pub fn number(&mut self, name: &str, number: u64)
+        ensures has { (all : Members) → Has self.old all → Has self.new (with_member name.now (number_data number) all) }
+        ensures nests { (n : ℕ) → HasDepth n self.old → HasDepth n self.new }
+    {
+        self.put(name, Ok(Value::from(number)));
+    }
+
+    /// Adds a member that is a number, or null where there is none.
+    pub fn some(&mut self, name: &str, number: Option<u64>)
+        ensures has { (all : Members) → Has self.old all → Has self.new (with_member name.now (some_data number) all) }
+        ensures nests { (n : ℕ) → HasDepth n self.old → HasDepth n self.new }
+    {
+        match number {
+            Some(number) => self.number(name, number),
+            None => self.put(name, Ok(Value::Null)),
+        }
+    }
+
+    /// Adds a member that is true or false.
+    pub fn flag(&mut self, name: &str, flag: bool)
+        ensures has { (all : Members) → Has self.old all → Has self.new (with_member name.now (boolean flag) all) }
+        ensures nests { (n : ℕ) → HasDepth n self.old → HasDepth n self.new }
+    {
+        self.put(name, Ok(Value::from(flag)));
+    }
+
+    /// Adds a member that is a text.
+    pub fn text(&mut self, name: &str, text: &str)
+        ensures has { (all : Members) → Has self.old all → Has self.new (with_member name.now (string text.now) all) }
+        ensures nests { (n : ℕ) → HasDepth n self.old → HasDepth n self.new }
+    {
+        let made = Value::try_from_str(self.alloc, text);
+        self.put(name, made);
+    }
+
+    /// Its members.
+    pub fn into_members(self) -> Result<Map<String, Value>, AllocError>
+        ensures has { (all : Members) → Has self all → IfOk result (λ members. members_view members.entries ≡ all) }
+        ensures nests { (n : ℕ) → HasDepth n self → IfOk result (MembersNestTo n) }
+    {
+        let Object {
+            alloc: _,
+            members,
+            is_refused,
+        } = self;
+        if is_refused {
+            return Err(AllocError);
+        }
+        Ok(members)
+    }
+
+    /// The object as a value.
+    pub fn into_value(self) -> Result<Value, AllocError>
+        ensures has { (all : Members) → Has self all → IfOk result (λ v. view v ≡ object_data all) }
+        ensures nests { (n : ℕ) → HasDepth n self → IfOk result (NestsTo (suc n)) }
+    {
+        Ok(Value::Object(self.into_members()?))
+    }
+
+    /// The object on one line.
+    pub fn into_text(self) -> Result<String, AllocError>
+        // It is read back, unless it nests too deep for that.
+        ensures { (all : Members) → Has self all → depth (object_data all) ≤ max_depth → IfOk result (λ text. read (string_bytes text) ≡ Some (object_data all)) }
+    {
+        let alloc = self.alloc;
+        self.into_value()?.to_string(alloc)
+    }
+}
+
+/// A JSON array that is told its values. Where memory is refused for one of them, `into_value` answers that.
+pub struct Array {
+    values: Vec<Value>,
+    is_refused: bool,
+}
+
+impl Drop for Array {
+    fn drop(self) {
+        let Array {
+            values,
+            is_refused: _,
+        } = self;
+        drop(values);
+    }
+}
+
+impl Array {
+    ghost use Rattle.hc_json.specs.Objects.{Holds, HoldsDepth};
+
+    /// No value.
+    pub fn new(alloc: Global) -> Self
+        ensures holds { Holds result [] }
+        ensures nests { (n : ℕ) → HoldsDepth n result }
+    {
+        Array {
+            values: Vec::new(alloc),
+            is_refused: false,
+        }
+    }
+
+    /// Adds a value, if it could be made.
+    pub fn push(&mut self, made: Result<Value, AllocError>)
+        // Whatever value was made.
+        ensures holds { (value : Data) → IfOk made (λ v. view v ≡ value) → (all : List Data) → Holds self.old all → Holds self.new (all ++ value ∷ []) }
+        ensures nests { (n : ℕ) → IfOk made (NestsTo n) → HoldsDepth n self.old → HoldsDepth n self.new }
+    {
+        let Ok(value) = made else {
+            self.is_refused = true;
+            return;
+        };
+        match push(&mut self.values, value) {
+            Ok(()) => {}
+            Err(_) => self.is_refused = true,
+        }
+    }
+
+    /// The array as a value.
+    pub fn into_value(self) -> Result<Value, AllocError>
+        ensures holds { (all : List Data) → Holds self all → IfOk result (λ v. view v ≡ array_data (items_of all)) }
+        ensures nests { (n : ℕ) → HoldsDepth n self → IfOk result (NestsTo (suc n)) }
+    {
+        let Array { values, is_refused } = self;
+        if is_refused {
+            return Err(AllocError);
+        }
+        Ok(Value::Array(values))
     }
 }

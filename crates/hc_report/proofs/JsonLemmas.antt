@@ -1,7 +1,7 @@
 -- What a report writes in JSON.
-use Rattle.std.proofs.Common.{◌≡◌, ◌≤◌, ◌-◌, ℕ, true, List, Option, None, Some, Result, Ok, Err, IfOk, OnOk, codes, length, option_and_then, ap, ◌∙◌, refl, subst, sym, arith, true≢false}
+use Rattle.std.proofs.Common.{◌≡◌, ◌≤◌, ◌-◌, ℕ, false, List, [], ◌∷◌, Option, None, Some, Result, Ok, Err, IfOk, codes, length, option_and_then, ap, ◌∙◌, refl, subst, sym, arith, true≢false}
 use Rattle.std.proofs.lemmas.Slice.Eq.{bytes_eq-Decides}
-use Rattle.serde_json.specs.Data.{Data, Members, boolean, null, depth, object, put}
+use Rattle.serde_json.specs.Data.{Data, Members, depth, members_depth, no_members, null, object, put}
 use Rattle.serde_json.specs.Find.{as_object, get, get_member}
 use Rattle.serde_json.specs.Read.{max_depth, read}
 use Rattle.serde_json.specs.View.{view}
@@ -10,21 +10,22 @@ use Rattle.serde_json.proofs.Views.{get_member-put, get_member-put_other}
 use Rattle.hc_history.specs.declared.settings.Settings.{Settings}
 use Rattle.hc_history.specs.declared.verdicts.Counts.{Counts}
 use Rattle.hc_history.specs.declared.wrong.Ending.{Ending}
-use Rattle.hc_json.specs.Entries.{number_data, some_data, with_all}
-use Rattle.hc_json.proofs.EntryLemmas.{all_there}
+use Rattle.hc_json.specs.Entries.{number_at, number_data, object_with, some_data}
+use Rattle.hc_json.specs.Nesting.{NestsTo}
+use Rattle.hc_json.proofs.EntryLemmas.{all_depth, all_there}
 use Rattle.hc_baseline.specs.declared.baseline.Baseline.{Baseline}
-use Rattle.hc_baseline.specs.declared.kinds.NamedKinds.{NamedKinds}
 use Rattle.hc_baseline.specs.Kinds.{Kind}
 use Rattle.hc_baseline.specs.Tallies.{CountsKinds}
 use Rattle.hc_figures.specs.declared.counts.ReplyCounts.{ReplyCounts}
 use Rattle.hc_figures.specs.declared.listed.ListedReplies.{ListedReplies}
-use Rattle.hc_figures.specs.Figures.{HaveFigures}
+use Rattle.hc_figures.specs.Figures.{HaveFigures, LeavesFigures, deepest, is_figure}
+use Rattle.hc_figures.proofs.FigureLemmas.{leaves, leaves_on, left_figures}
 use Rattle.hc_figures.proofs.ReadingLemmas.{report_read}
 use Rattle.hc_report.specs.declared.counting.CountingReport.{CountingReport}
 use Rattle.hc_report.specs.Counting.{HaveCounts}
-use Rattle.hc_report.specs.Held.{SayHeld, SayHeldBy, SayKnown, gone_by, known_in, new_entries}
+use Rattle.hc_report.specs.Held.{SayHeld, SayHeldBy, gone_by, known_in}
 use Rattle.hc_report.specs.Json.{WritesAll, WritesReport}
-use Rattle.hc_report.specs.Made.{SaySettings, settings_members}
+use Rattle.hc_report.specs.Made.{SaySettings, setting_entries, settings_members}
 
 pub has_counts : (old new : Members) (value : Data) (kinds : List Kind) → new ≡ put (codes "baseline") value old → CountsKinds value kinds → HaveCounts new kinds
 has_counts old new value kinds is counts =
@@ -32,71 +33,70 @@ has_counts old new value kinds is counts =
     (counts.counts, ap (option_and_then as_object) there ∙ counts.is, counts.are)
 
 -- the text of what has the figures is read back, since it nests few levels deep
-few_levels : (replies : ReplyCounts) (wrongs : ListedReplies) (ending : Ending) (counts : Option Counts) (made : Data) (ms : Members) → made ≡ object ms
-    → HaveFigures replies wrongs ending counts ms → depth made ≤ max_depth
-few_levels replies wrongs ending counts made ms is have = let nest = have.nest in subst (λ (d : Data). depth d ≤ max_depth) (sym is) (omega (arith, nest))
+pub few_levels : (replies : ReplyCounts) (wrongs : ListedReplies) (ending : Ending) (counts : Option Counts) (ms : Members) → HaveFigures replies wrongs ending counts ms → depth (object ms) ≤ max_depth
+few_levels replies wrongs ending counts ms have = let nest = have.nest in omega (arith, nest)
 
-pub writes_report : (replies : ReplyCounts) (wrongs : ListedReplies) (ending : Ending) (counts : Option Counts) (text : List ℕ) (made : Data) (ms : Members) → made ≡ object ms
-    → HaveFigures replies wrongs ending counts ms → (depth made ≤ max_depth → read text ≡ Some made) → WritesReport text wrongs replies ending counts
-writes_report replies wrongs ending counts text made ms is have reads = record {
+pub writes_report : (replies : ReplyCounts) (wrongs : ListedReplies) (ending : Ending) (counts : Option Counts) (text : List ℕ) (ms : Members)
+    → HaveFigures replies wrongs ending counts ms → read text ≡ Some (object ms) → WritesReport text wrongs replies ending counts
+writes_report replies wrongs ending counts text ms have reads = record {
   report = object ms;
-  is_json = reads (few_levels replies wrongs ending counts made ms is have) ∙ ap (λ (d : Data). Some d) is;
+  is_json = reads;
   is_report = report_read replies wrongs ending counts ms have;
 }
 
+-- ---- values that were made
+
+-- whatever was made
+pub some_value : {E : Type 0} (made : Result Value E) (n : ℕ) → IfOk made (NestsTo n) → (d : Data) × IfOk made (λ v. view v ≡ d) × (depth d ≤ n)
+some_value (Ok v) n few = (view v, refl, few)
+some_value (Err e) n few = (null, tt, omega arith)
+
+-- and whatever says how many there are
+pub counting_value : {E : Type 0} (made : Result Value E) (count : ℕ) → IfOk made (NestsTo 3) → IfOk made (λ v. get (codes "count") (view v) ≡ Some (number_data count))
+    → (d : Data) × IfOk made (λ v. view v ≡ d) × (get (codes "count") d ≡ Some (number_data count)) × (depth d ≤ 3)
+counting_value (Ok v) count few is = (view v, refl, is, few)
+counting_value (Err e) count few is = (object_with (number_at (codes "count") count ∷ []), tt, refl, omega arith)
+
+-- ---- what is put in behind the figures
+
+pub figures_keep : (replies : ReplyCounts) (wrongs : ListedReplies) (ending : Ending) (counts : Option Counts) (name : List ℕ) (d : Data) (ms : Members) → is_figure name ≡ false
+    → depth d ≤ deepest → HaveFigures replies wrongs ending counts ms → HaveFigures replies wrongs ending counts (put name d ms)
+figures_keep replies wrongs ending counts name d ms other few have = left_figures replies wrongs ending counts ms (put name d ms) have (leaves name d ms (put name d ms) other few refl)
+
+pub leaves_none : (ms : Members) → LeavesFigures ms ms
+leaves_none ms = record { same = λ name is. refl; nest = λ q. q }
+
+leaves_more : (old ms : Members) (name : List ℕ) (d : Data) → is_figure name ≡ false → depth d ≤ deepest → LeavesFigures old ms → LeavesFigures old (put name d ms)
+leaves_more old ms name d other few left = leaves_on old ms (put name d ms) left (leaves name d ms (put name d ms) other few refl)
+
 -- ---- what is said of a baseline
 
-two_put : (name : List ℕ) (first new : Members) → new ≡ put name null first → new ≡ put name (boolean true) first → ⊥
-two_put name first new a b =
-    let same : Some null ≡ Some (boolean true) = sym (get_member-put name null first) ∙ ap (get_member name) (sym a ∙ b) ∙ get_member-put name (boolean true) first in
-    cc
+abbrev pub held_members : ℕ → Data → Data → Data → Members → Members
+held_members known new other gone all =
+    put (codes "gone") gone (put (codes "other_targets") other (put (codes "new") new (put (codes "known") (number_data known) all)))
 
--- of those that it hasn't
-pub counts_new : {E F : Type 0} (count : ℕ) (kinds : NamedKinds) (filled : Result (Unit {0}) E) (result : Result Value F) (old ms : Members)
-    → OnOk filled ((named : Data) × (ms ≡ with_all (new_entries count kinds named) old)) → ((all : Members) → OnOk filled (ms ≡ all) → IfOk result (λ v. view v ≡ object all))
-    → IfOk result (λ v. get (codes "count") (view v) ≡ Some (number_data count))
-counts_new count kinds (Ok u) (Ok v) old ms is made =
-    ap (get (codes "count")) (made (with_all (new_entries count kinds is.0) old) is.1) ∙ (all_there (new_entries count kinds is.0) old refl).0
-counts_new count kinds (Err e) (Ok v) old ms is made =
-    ap (get (codes "count")) (made (put (codes "count") (number_data count) old) tt) ∙ get_member-put (codes "count") (number_data count) old
-counts_new count kinds filled (Err e) old ms is made = tt
+pub held_leaves : (known : ℕ) (new other gone : Data) (all : Members) → depth new ≤ deepest → depth other ≤ deepest → depth gone ≤ deepest → LeavesFigures all (held_members known new other gone all)
+held_leaves known new other gone all few_new few_other few_gone =
+    leaves_more all _ (codes "gone") gone refl few_gone
+    (leaves_more all _ (codes "other_targets") other refl few_other
+    (leaves_more all _ (codes "new") new refl few_new (leaves_more all all (codes "known") (number_data known) refl (omega arith) (leaves_none all))))
 
--- behind a number a value that was made stands, and then another number
-pub entries_new : {E : Type 0} (count : ℕ) (kinds : NamedKinds) (made : Result Value E) (old first second new : Members) → first ≡ put (codes "count") (number_data count) old
-    → ((d : Data) → IfOk made (λ v. view v ≡ d) → second ≡ put (codes "kinds") d first) → new ≡ put (codes "unnamed_kinds") (number_data kinds.more) second
-    → (named : Data) × (new ≡ with_all (new_entries count kinds named) old)
-entries_new count kinds (Ok v) old first second new counted is last = (view v, last ∙ ap (put (codes "unnamed_kinds") (number_data kinds.more)) (is (view v) refl ∙ ap (put (codes "kinds") (view v)) counted))
-entries_new count kinds (Err e) old first second new counted is last = (null, last ∙ ap (put (codes "unnamed_kinds") (number_data kinds.more)) (is null tt ∙ ap (put (codes "kinds") null) counted))
+pub says_held : (baseline : Baseline) (report : CountingReport) (known count gone_count : ℕ) (new other gone : Data) (all : Members) → known ≡ known_in baseline report.tally
+    → count ≡ length report.wrongs.items - known_in baseline report.tally → gone_count ≡ gone_by baseline report.tally → get (codes "count") new ≡ Some (number_data count)
+    → get (codes "count") gone ≡ Some (number_data gone_count) → SayHeld baseline report (held_members known new other gone all)
+says_held baseline report known count gone_count new other gone all known_is count_is gone_is new_counts gone_counts =
+    let there = all_there (number_at (codes "known") known ∷ (codes "new", new) ∷ (codes "other_targets", other) ∷ (codes "gone", gone) ∷ []) all refl in
+    record {
+      known = there.0 ∙ ap (λ (n : ℕ). Some (number_data n)) known_is;
+      new = ap (option_and_then (get (codes "count"))) there.1.0 ∙ new_counts ∙ ap (λ (n : ℕ). Some (number_data n)) count_is;
+      gone = ap (option_and_then (get (codes "count"))) there.1.1.1.0 ∙ gone_counts ∙ ap (λ (n : ℕ). Some (number_data n)) gone_is;
+    }
 
--- what is put in for those that it has, and for those that it hasn't
-pub says_known : {E : Type 0} (baseline : Baseline) (report : CountingReport) (count : ℕ) (made : Result Value E) (old first new : Members)
-    → count ≡ length report.wrongs.items - known_in baseline report.tally → first ≡ put (codes "known") (number_data (known_in baseline report.tally)) old
-    → IfOk made (λ v. get (codes "count") (view v) ≡ Some (number_data count)) → ((d : Data) → IfOk made (λ v. view v ≡ d) → new ≡ put (codes "new") d first)
-    → SayKnown baseline report new
-says_known baseline report count (Ok v) old first new many known counts is = record {
-  known = ap (get_member (codes "known")) (is (view v) refl) ∙ get_member-put_other (codes "known") (codes "new") (view v) first (λ (e : codes "known" ≡ codes "new"). absurd cc)
-      ∙ ap (get_member (codes "known")) known ∙ get_member-put (codes "known") (number_data (known_in baseline report.tally)) old;
-  new = ap (λ (ms : Members). option_and_then (get (codes "count")) (get_member (codes "new") ms)) (is (view v) refl)
-      ∙ ap (option_and_then (get (codes "count"))) (get_member-put (codes "new") (view v) first) ∙ counts ∙ ap (λ (n : ℕ). Some (number_data n)) many;
-}
-says_known baseline report count (Err e) old first new many known counts is = absurd (two_put (codes "new") first new (is null tt) (is (boolean true) tt))
+pub held_by : (base : Option Baseline) (baseline : Baseline) (report : CountingReport) (ms : Members) → base ≡ Some baseline → SayHeld baseline report ms → SayHeldBy base report ms
+held_by base baseline report ms is said = subst (λ (b : Option Baseline). SayHeldBy b report ms) (sym is) said
 
--- and for those that aren't there any more
-pub says_gone : {E : Type 0} (baseline : Baseline) (report : CountingReport) (count : ℕ) (flag : Data) (made : Result Value E) (old first new : Members)
-    → count ≡ gone_by baseline report.tally → first ≡ put (codes "other_targets") flag old
-    → IfOk made (λ v. get (codes "count") (view v) ≡ Some (number_data count)) → ((d : Data) → IfOk made (λ v. view v ≡ d) → new ≡ put (codes "gone") d first)
-    → SayKnown baseline report old → SayHeld baseline report new
-says_gone baseline report count flag (Ok v) old first new many flagged counts is said = record {
-  known = ap (get_member (codes "known")) (is (view v) refl) ∙ get_member-put_other (codes "known") (codes "gone") (view v) first (λ (e : codes "known" ≡ codes "gone"). absurd cc)
-      ∙ ap (get_member (codes "known")) flagged ∙ get_member-put_other (codes "known") (codes "other_targets") flag old (λ (e : codes "known" ≡ codes "other_targets"). absurd cc) ∙ said.known;
-  new = ap (λ (ms : Members). option_and_then (get (codes "count")) (get_member (codes "new") ms)) (is (view v) refl)
-      ∙ ap (option_and_then (get (codes "count"))) (get_member-put_other (codes "new") (codes "gone") (view v) first (λ (e : codes "new" ≡ codes "gone"). absurd cc))
-      ∙ ap (λ (ms : Members). option_and_then (get (codes "count")) (get_member (codes "new") ms)) flagged
-      ∙ ap (option_and_then (get (codes "count"))) (get_member-put_other (codes "new") (codes "other_targets") flag old (λ (e : codes "new" ≡ codes "other_targets"). absurd cc)) ∙ said.new;
-  gone = ap (λ (ms : Members). option_and_then (get (codes "count")) (get_member (codes "gone") ms)) (is (view v) refl)
-      ∙ ap (option_and_then (get (codes "count"))) (get_member-put (codes "gone") (view v) first) ∙ counts ∙ ap (λ (n : ℕ). Some (number_data n)) many;
-}
-says_gone baseline report count flag (Err e) old first new many flagged counts is said = absurd (two_put (codes "gone") first new (is null tt) (is (boolean true) tt))
+pub held_by_none : (base : Option Baseline) (report : CountingReport) (ms : Members) → base ≡ None → SayHeldBy base report ms
+held_by_none base report ms is = subst (λ (b : Option Baseline). SayHeldBy b report ms) (sym is) tt
 
 -- what stands there stays where a member of another name is put in
 stays_there : (name other : List ℕ) (d : Data) (old new : Members) → ¬ (name ≡ other) → new ≡ put other d old → get_member name new ≡ get_member name old
@@ -120,12 +120,6 @@ pub held_by_stays : (name : List ℕ) (base : Option Baseline) (report : Countin
 held_by_stays name None report d old new apart is say = tt
 held_by_stays name (Some baseline) report d old new apart is say = held_stays name baseline report d old new apart is say
 
--- whatever was made is put in
-pub some_put : {E : Type 0} (name : List ℕ) (made : Result Value E) (old new : Members) → ((d : Data) → IfOk made (λ v. view v ≡ d) → new ≡ put name d old)
-    → (d : Data) × (new ≡ put name d old)
-some_put name (Ok v) old new is = (view v, is (view v) refl)
-some_put name (Err e) old new is = (null, is null tt)
-
 -- the names of what is put in behind what is said of a baseline
 pub apart_format : IsApart (codes "format")
 apart_format = record { known = λ e. absurd cc; new = λ e. absurd cc; gone = λ e. absurd cc }
@@ -140,7 +134,7 @@ pub apart_baseline : IsApart (codes "baseline")
 apart_baseline = record { known = λ e. absurd cc; new = λ e. absurd cc; gone = λ e. absurd cc }
 
 -- a number, or null, doesn't nest
-pub some_depth : (number : Option ℕ) → depth (some_data number) ≤ 3
+some_depth : (number : Option ℕ) → depth (some_data number) ≤ 0
 some_depth None = omega arith
 some_depth (Some n) = omega arith
 
@@ -155,28 +149,70 @@ settings_apart = λ e. true≢false (sym ((bytes_eq-Decides (codes "settings") (
 pub settings_stay : (settings : Settings) (d : Data) (old new : Members) → new ≡ put (codes "baseline") d old → SaySettings settings old → SaySettings settings new
 settings_stay settings d old new is said = stays_there (codes "settings") (codes "baseline") d old new settings_apart is ∙ said
 
-pub writes_all : (report : CountingReport) (kinds : List Kind) (settings : Settings) (base : Option Baseline) (ending : Ending) (counts : Option Counts) (text : List ℕ) (made : Data) (ms : Members) → made ≡ object ms
-    → HaveFigures report.report.replies report.report.wrongs ending counts ms → HaveCounts ms kinds → SaySettings settings ms → SayHeldBy base report ms → (depth made ≤ max_depth → read text ≡ Some made)
-    → WritesAll text report kinds settings base ending counts
-writes_all report kinds settings base ending counts text made ms is have counted set say reads = record {
-  members = ms;
-  is_json = reads (few_levels report.report.replies report.report.wrongs ending counts made ms is have) ∙ ap (λ (d : Data). Some d) is;
-  is_report = report_read report.report.replies report.report.wrongs ending counts ms have;
-  have_counts = counted;
-  say_settings = set;
-  say_held = say;
+settings_depth : (settings : Settings) → depth (object (settings_members settings)) ≤ deepest
+settings_depth settings =
+    let few : members_depth (settings_members settings) ≤ 0 = all_depth (setting_entries settings) no_members 0 (
+      omega arith,
+      (
+        omega arith,
+        (
+          omega arith,
+          (
+            omega arith,
+            (
+              omega arith,
+              (
+                omega arith,
+                (
+                  some_depth settings.allowed.default_lifetime,
+                  (some_depth settings.allowed.grace, (omega arith, (omega arith, (omega arith, tt)))),
+                ),
+              ),
+            ),
+          ),
+        ),
+      ),
+    ) (omega arith) in
+    omega (arith, few)
+
+-- ---- all that is said
+
+-- but for the counts by kind
+pub record SaysTold (report : CountingReport) (base : Option Baseline) (settings : Settings) (ending : Ending) (counts : Option Counts) (members : Members) : Type 0 where
+  pub figures : HaveFigures report.report.replies report.report.wrongs ending counts members
+  pub held : SayHeldBy base report members
+  pub set : SaySettings settings members
+
+pub told_put : (report : CountingReport) (base : Option Baseline) (settings : Settings) (ending : Ending) (counts : Option Counts) (format : Option ℕ) (targets : Data) (ms : Members)
+    → HaveFigures report.report.replies report.report.wrongs ending counts ms → SayHeldBy base report ms → depth targets ≤ 1
+    → SaysTold report base settings ending counts (put (codes "settings") (object (settings_members settings)) (put (codes "targets") targets (put (codes "format") (some_data format) ms)))
+told_put report base settings ending counts format targets ms have say few =
+    let flat = some_depth format in
+    record {
+      figures =
+          figures_keep report.report.replies report.report.wrongs ending counts (codes "settings") (object (settings_members settings)) _ refl (settings_depth settings)
+          (figures_keep report.report.replies report.report.wrongs ending counts (codes "targets") targets _ refl (omega (arith, few))
+          (figures_keep report.report.replies report.report.wrongs ending counts (codes "format") (some_data format) ms refl (omega (arith, flat)) have));
+      held =
+          held_by_stays (codes "settings") base report (object (settings_members settings)) (put (codes "targets") targets (put (codes "format") (some_data format) ms)) _ apart_settings refl
+          (held_by_stays (codes "targets") base report targets (put (codes "format") (some_data format) ms) _ apart_targets refl
+          (held_by_stays (codes "format") base report (some_data format) ms _ apart_format refl say));
+      set = settings_put settings (put (codes "targets") targets (put (codes "format") (some_data format) ms)) _ refl;
+    }
+
+pub all_figures : (report : CountingReport) (kinds : List Kind) (settings : Settings) (base : Option Baseline) (ending : Ending) (counts : Option Counts) (made : Data) (ms : Members)
+    → SaysTold report base settings ending counts ms → CountsKinds made kinds → HaveFigures report.report.replies report.report.wrongs ending counts (put (codes "baseline") made ms)
+all_figures report kinds settings base ending counts made ms told counted =
+    let few = counted.nests in
+    figures_keep report.report.replies report.report.wrongs ending counts (codes "baseline") made ms refl (omega (arith, few)) told.figures
+
+pub writes_all : (report : CountingReport) (kinds : List Kind) (settings : Settings) (base : Option Baseline) (ending : Ending) (counts : Option Counts) (text : List ℕ) (made : Data) (ms : Members)
+    → SaysTold report base settings ending counts ms → CountsKinds made kinds → read text ≡ Some (object (put (codes "baseline") made ms)) → WritesAll text report kinds settings base ending counts
+writes_all report kinds settings base ending counts text made ms told counted reads = record {
+  members = put (codes "baseline") made ms;
+  is_json = reads;
+  is_report = report_read report.report.replies report.report.wrongs ending counts _ (all_figures report kinds settings base ending counts made ms told counted);
+  have_counts = has_counts ms (put (codes "baseline") made ms) made kinds refl counted;
+  say_settings = settings_stay settings made ms _ refl told.set;
+  say_held = held_by_stays (codes "baseline") base report made ms _ apart_baseline refl told.held;
 }
-
--- ---- results
-
-pub on_each : {T E : Type 0} (r : Result T E) (P Q : Data → Type 0) → ((d : Data) → P d → OnOk r (Q d)) → OnOk r ((d : Data) → P d → Q d)
-on_each (Ok x) P Q each = each
-on_each (Err e) P Q each = tt
-
--- where there is a baseline, what is said of it
-pub held_by_some : {T E : Type 0} (base : Option Baseline) (baseline : Baseline) (report : CountingReport) (ms : Members) (r : Result T E) → base ≡ Some baseline
-    → OnOk r (SayHeld baseline report ms) → OnOk r (SayHeldBy base report ms)
-held_by_some base baseline report ms r is said = subst (λ (b : Option Baseline). OnOk r (SayHeldBy b report ms)) (sym is) said
-
-pub held_by_none : (base : Option Baseline) (report : CountingReport) (ms : Members) → base ≡ None → SayHeldBy base report ms
-held_by_none base report ms is = subst (λ (b : Option Baseline). SayHeldBy b report ms) (sym is) tt

@@ -1,11 +1,10 @@
 -- What a report says in JSON of a baseline against which it is held.
-use Rattle.std.specs.Prelude.{◌≡◌, ◌-◌, ◌^◌, ℕ, List, [], ◌∷◌, Option, None, Some, codes, length, min, option_and_then}
-use Rattle.serde_json.specs.Data.{Data, Members}
+use Rattle.std.specs.Prelude.{◌≡◌, ◌-◌, ◌^◌, ℕ, Option, None, Some, codes, length, min, option_and_then}
+use Rattle.serde_json.specs.Data.{Members}
 use Rattle.serde_json.specs.Find.{get, get_member}
 use Rattle.serde_json.specs.View.{members_view, view}
-use Rattle.hc_json.specs.Entries.{Entry, number_at, number_data}
+use Rattle.hc_json.specs.Entries.{number_data}
 use Rattle.hc_baseline.specs.declared.baseline.Baseline.{Baseline}
-use Rattle.hc_baseline.specs.declared.kinds.NamedKinds.{NamedKinds}
 use Rattle.hc_baseline.specs.declared.tally.Tally.{Tally}
 use Rattle.hc_baseline.specs.Reports.{count_under, gone_in, known_of}
 use Rattle.hc_baseline.specs.Tallies.{base_of}
@@ -29,15 +28,3 @@ pub record SayHeld (baseline : Baseline) (report : CountingReport) (members : Me
 abbrev pub SayHeldBy : Option Baseline → CountingReport → Members → Type 0
 SayHeldBy None report all = Unit {0}
 SayHeldBy (Some baseline) report all = SayHeld baseline report all
-
--- ---- for private clauses
-
--- how many it has, and how many it hasn't
-pub record SayKnown (baseline : Baseline) (report : CountingReport) (members : Members) : Type 0 where
-  pub known : get_member (codes "known") members ≡ Some (number_data (known_in baseline report.tally))
-  pub new : option_and_then (get (codes "count")) (get_member (codes "new") members) ≡ Some (number_data (length report.wrongs.items - known_in baseline report.tally))
-
--- what is said of those that it hasn't, which are of these kinds
-
-abbrev pub new_entries : ℕ → NamedKinds → Data → List Entry
-new_entries count kinds named = number_at (codes "count") count ∷ (codes "kinds", named) ∷ number_at (codes "unnamed_kinds") kinds.more ∷ []

@@ -8,7 +8,7 @@ use Rattle.hc_shown.specs.Octets.{octets_text}
 use Rattle.hc_shown.specs.Values.{target_text}
 use Rattle.hc_baseline.specs.Kinds.{Kind}
 use Rattle.hc_figures.specs.declared.listed.ListedReply.{ListedReply}
-use Rattle.hc_figures.specs.declared.requests.ShownRequest.{ShownRequest}
+use Rattle.hc_figures.specs.declared.listed.ShownRequest.{ShownRequest}
 use Rattle.hc_figures.specs.Requests.{kind_text}
 
 -- ---- a request

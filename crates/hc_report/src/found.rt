@@ -1,60 +1,222 @@
 //! What is found of the wrong replies: by what they are wrong, and what would make them right.
 
-use crate::asking::WrongCase;
-use crate::group::WrongOfKind;
-use crate::groups::Groups;
-use crate::suspects::Suspects;
-use crate::tries::Tries;
+ghost use Rattle.std.specs.Prelude.{◌≤◌, vec_len};
+
+use crate::tries::{Tries, WrongCase};
 use hc_audit::JudgedReply;
-use hc_history::{Candidate, Reason, ReplyClaim, Settings};
+use hc_fields::Octets;
+use hc_gaps::{Change, Differences, FieldGap};
+use hc_history::{Reason, ReplyClaim, Settings};
 use hc_index::Index;
-use hc_shown::Page;
-use hc_why::{Past, Wrong, names_response};
+use hc_shown::{Page, Teller};
+use hc_why::{Past, Shortfall, Wrong, names_response};
 use std::alloc::{AllocError, Global};
 
+// How many groups, targets of a group and suspected fields are kept at most.
+const MOST_GROUPS: usize = 100;
+
+const MOST_TARGETS: usize = 16;
+
+const MOST_SUSPECTS: usize = 20;
+
+/// The first things that came, up to a number of them. The rest is counted.
+#[derive(Drop)]
+pub(crate) struct Firsts<T> {
+    most: usize,
+    pub(crate) kept: Vec<T>,
+    /// How many more there were, or the greatest number.
+    pub(crate) more: u64,
+    ghost few: { vec_len kept ≤ most },
+}
+
+impl<T: Drop> Firsts<T> {
+    /// Nothing yet, and room for so many.
+    pub(crate) fn new(alloc: Global, most: usize) -> Self {
+        Firsts {
+            most,
+            kept: Vec::new(alloc),
+            more: 0,
+        }
+    }
+
+    /// Takes in one more.
+    pub(crate) fn note(&mut self, one: T) -> Result<(), AllocError> {
+        if self.kept.len() < self.most {
+            self.kept.push(one)?;
+        } else {
+            self.more = self.more.saturating_add(1);
+        }
+        Ok(())
+    }
+}
+
+/// By how many seconds the replies of a group are off.
+#[derive(Clone, Copy)]
+pub(crate) struct Spread {
+    pub(crate) least: u64,
+    pub(crate) greatest: u64,
+}
+
+/// The wrong replies that have a reason in common, and the words for what is wrong in them.
+#[derive(Drop)]
+pub(crate) struct Group {
+    pub(crate) reason: Reason,
+    /// A word for what in them is.
+    pub(crate) kind: &'static str,
+    what: String,
+    // In what a response falls short of the first of them, if that is what is wrong.
+    shortfall: Option<Shortfall>,
+    /// Whether no response of their targets is recorded.
+    pub(crate) is_unrecorded: bool,
+    /// How many there are, or the greatest number.
+    pub(crate) count: u64,
+    pub(crate) first: u64,
+    /// What they were asked for, each target once as it is shown, and how many were asked for another one.
+    pub(crate) targets: Firsts<String>,
+    pub(crate) spread: Option<Spread>,
+}
+
+// By how many seconds a reply is off, if that is what is wrong.
+fn spread_of(wrong: &Wrong<'_>) -> Option<Spread> {
+    let (seconds, _) = wrong.shortfall()?.off()?;
+    Some(Spread {
+        least: seconds,
+        greatest: seconds,
+    })
+}
+
+impl Group {
+    // The group of a wrong reply alone, before it has a target.
+    fn of(
+        alloc: Global,
+        position: u64,
+        reason: Reason,
+        wrong: Wrong<'_>,
+    ) -> Result<Self, AllocError> {
+        let mut words = Page::new(alloc);
+        wrong.name(&mut words);
+        Ok(Group {
+            reason,
+            kind: wrong.kind(),
+            what: words.into_text()?,
+            is_unrecorded: wrong.is_unrecorded(),
+            count: 1,
+            first: position,
+            targets: Firsts::new(alloc, MOST_TARGETS),
+            spread: spread_of(&wrong),
+            shortfall: wrong.into_shortfall(),
+        })
+    }
+
+    // Takes in a further reply, which is wrong as those of that group are.
+    fn join(&mut self, other: &Group) {
+        self.count = self.count.saturating_add(1);
+        if let (Some(spread), Some(other)) = (self.spread, other.spread) {
+            self.spread = Some(Spread {
+                least: spread.least.min(other.least),
+                greatest: spread.greatest.max(other.greatest),
+            });
+        }
+    }
+
+    // Names a target of its replies.
+    fn name(&mut self, target: String) -> Result<(), AllocError> {
+        for known in self.targets.kept.iter() {
+            if known.as_str() == target.as_str() {
+                return Ok(());
+            }
+        }
+        self.targets.note(target)
+    }
+
+    /// The fields in which the first of them differs, if these are what is wrong.
+    pub(crate) fn differences(&self) -> Option<&Differences> {
+        match &self.shortfall {
+            Some(Shortfall::Fields(found)) => Some(found),
+            _ => None,
+        }
+    }
+
+    /// Writes what is wrong in its replies, and by how much.
+    pub(crate) fn say_what(&self, page: &mut Page) {
+        page.text(self.what.as_str());
+        let Some(spread) = self.spread else {
+            return;
+        };
+        page.count(" by ", spread.least, "");
+        if spread.least != spread.greatest {
+            page.count(" to ", spread.greatest, "");
+        }
+        page.text(" s");
+    }
+}
+
+// The place of the group to which a wrong reply belongs, or after all of them.
+fn group_of(groups: &[Group], one: &Group) -> usize {
+    for (place, group) in groups.iter().enumerate() {
+        if group.reason == one.reason && group.what.as_str() == one.what.as_str() {
+            return place;
+        }
+    }
+    groups.len()
+}
+
+// Takes in a wrong reply, which is a group by itself, and its target: adds it to the group where it belongs, or begins one.
+fn add(groups: &mut Firsts<Group>, mut one: Group, target: String) -> Result<(), AllocError> {
+    let place = group_of(groups.kept.as_slice(), &one);
+    if place < groups.kept.len() {
+        groups.kept[place].join(&one);
+        return groups.kept[place].name(target);
+    }
+    one.name(target)?;
+    groups.note(one)
+}
+
+/// How many replies are of targets of which nothing is recorded.
+pub(crate) fn unrecorded(groups: &[Group]) -> u64 {
+    for group in groups {
+        if group.is_unrecorded {
+            return group.count;
+        }
+    }
+    0
+}
+
+/// A field that was dropped or changed, which is rather a fault than anything to be ignored.
+#[derive(Drop)]
+pub(crate) struct Suspect {
+    pub(crate) name: Octets,
+    pub(crate) change: Change,
+    /// In how many wrong replies, or the greatest number.
+    pub(crate) count: u64,
+}
+
 /// What is found of the wrong replies.
+#[derive(Drop)]
 pub(crate) struct Found {
     alloc: Global,
     /// Them by what is wrong in them.
-    pub(crate) groups: Groups,
-    /// The fields that were dropped or changed.
-    pub(crate) suspects: Suspects,
+    pub(crate) groups: Firsts<Group>,
+    /// The fields that were dropped or changed, each once.
+    pub(crate) suspects: Firsts<Suspect>,
     /// What could be let pass so that fewer are wrong.
     pub(crate) tries: Tries,
 }
 
-impl Drop for Found {
-    fn drop(self) {
-        let Found {
-            alloc: _,
-            groups,
-            suspects,
-            tries,
-        } = self;
-        drop(groups);
-        drop(suspects);
-        drop(tries);
+impl Suspect {
+    fn meet(&mut self) {
+        self.count = self.count.saturating_add(1);
     }
 }
 
-// How far the responses get that a reply may carry which is wrong for that reason, if it asks for one.
-fn candidates_for<I: Index>(
-    alloc: Global,
-    judged: &JudgedReply<'_, I>,
-    reason: Reason,
-) -> Result<Vec<Candidate>, AllocError> {
-    if names_response(reason) {
-        judged.candidates()
-    } else {
-        Ok(Vec::new(alloc))
+// The place of a field among those that are suspected, or after all of them.
+fn suspect_of(suspects: &[Suspect], gap: &FieldGap) -> usize {
+    for (place, known) in suspects.iter().enumerate() {
+        if known.change == gap.change && known.name == gap.name {
+            return place;
+        }
     }
-}
-
-// Words for what is wrong.
-fn words_of(alloc: Global, wrong: &Wrong<'_>) -> Result<String, AllocError> {
-    let mut page = Page::new(alloc);
-    wrong.name(&mut page);
-    page.into_text()
+    suspects.len()
 }
 
 impl Found {
@@ -62,8 +224,8 @@ impl Found {
     pub(crate) fn new(alloc: Global, settings: Settings) -> Result<Self, AllocError> {
         Ok(Found {
             alloc,
-            groups: Groups::new(alloc),
-            suspects: Suspects::new(alloc),
+            groups: Firsts::new(alloc, MOST_GROUPS),
+            suspects: Firsts::new(alloc, MOST_SUSPECTS),
             tries: Tries::new(alloc, settings)?,
         })
     }
@@ -91,15 +253,9 @@ impl Found {
             Some(claim) => self.judge_again(judged, reason, &claim, past)?,
             None => Wrong::unasked(),
         };
-        self.suspects.note(&wrong)?;
-        let what = words_of(self.alloc, &wrong)?;
-        self.groups.note(WrongOfKind {
-            position: judged.position,
-            reason,
-            wrong,
-            what,
-            target,
-        })
+        self.suspect_all(&wrong)?;
+        let group = Group::of(self.alloc, judged.position, reason, wrong)?;
+        add(&mut self.groups, group, target)
     }
 
     // What is wrong with the reply that claims that, which is judged once more by what might make it right.
@@ -110,7 +266,11 @@ impl Found {
         claim: &ReplyClaim<'a>,
         past: &'a Past,
     ) -> Result<Wrong<'a>, AllocError> {
-        let candidates = candidates_for(self.alloc, judged, reason)?;
+        let candidates = if names_response(reason) {
+            judged.candidates()?
+        } else {
+            Vec::new(self.alloc)
+        };
         let listed = candidates.as_slice();
         let wrong = Wrong::read(self.alloc, judged.index, claim, reason, listed, past)?;
         let case = WrongCase {
@@ -121,4 +281,34 @@ impl Found {
         self.tries.judge(judged, case, &wrong)?;
         Ok(wrong)
     }
+
+    // Takes in the fields of a wrong reply that were dropped or changed.
+    fn suspect_all(&mut self, wrong: &Wrong<'_>) -> Result<(), AllocError> {
+        let Some(found) = wrong.differences() else {
+            return Ok(());
+        };
+        for gap in found.listed.iter() {
+            if gap.change != Change::Added {
+                add_suspect(self.alloc, gap, &mut self.suspects)?;
+            }
+        }
+        Ok(())
+    }
+}
+
+fn add_suspect(
+    alloc: Global,
+    gap: &FieldGap,
+    suspects: &mut Firsts<Suspect>,
+) -> Result<(), AllocError> {
+    let place = suspect_of(suspects.kept.as_slice(), gap);
+    if place < suspects.kept.len() {
+        suspects.kept[place].meet();
+        return Ok(());
+    }
+    suspects.note(Suspect {
+        name: gap.name.copy(alloc)?,
+        change: gap.change,
+        count: 1,
+    })
 }

@@ -1,212 +1,195 @@
 //! A report as JSON.
 
-ghost use Rattle.std.specs.Prelude.{IfOk, OnOk};
-ghost use Rattle.serde_json.specs.View.{members_view};
-ghost use Rattle.hc_json.specs.Nesting.{MembersNestTo, NestsTo, ValuesNestTo};
-ghost use Rattle.hc_figures.specs.Figures.{HaveFigures, LeavesFigures, deepest};
+ghost use Rattle.std.specs.Prelude.{◌≡◌, ℕ, Some, IfOk, codes};
+ghost use Rattle.serde_json.specs.Data.{Members, no_members};
+ghost use Rattle.serde_json.specs.Find.{get};
+ghost use Rattle.serde_json.specs.View.{view};
+ghost use Rattle.hc_json.specs.Entries.{number_data};
+ghost use Rattle.hc_json.specs.Nesting.{NestsTo};
+ghost use Rattle.hc_json.specs.Objects.{Has, HasDepth};
+ghost use Rattle.hc_figures.specs.Figures.{HaveFigures};
 
-use crate::fixed::FixedTry;
-use crate::group::Group;
-use crate::group_json::{group_json, shown_name};
-use crate::groups::Groups;
-use crate::ignoring::IgnoringTry;
+use crate::found::{Group, Spread, Suspect, unrecorded};
+use crate::made::shown;
 use crate::report::Report;
-use crate::suspects::{Suspect, Suspects};
-use crate::tries::Tries;
+use crate::tries::Helpful;
+use hc_baseline::{NamedKind, NamedKinds};
 use hc_figures::put_figures;
+use hc_gaps::{Change, Differences};
 use hc_history::{Counts, Ending};
-use hc_json::{array, object, push_made, put_flag, put_made, put_number, put_text};
+use hc_json::{Array, Object};
 use hc_shown::Page;
-use serde_json::{Map, Value};
+use serde_json::Value;
 use std::alloc::{AllocError, Global};
 
 /// Adds all members of the report.
-pub(crate) fn put_all(
-    alloc: Global,
-    report: &Report,
-    ending: Ending,
-    counts: Option<Counts>,
-    members: &mut Map<String, Value>,
-) -> Result<(), AllocError>
-    ensures { MembersNestTo deepest members.old → OnOk result (HaveFigures report.now.replies report.now.wrongs ending counts (members_view members.new.entries)) }
+pub(crate) fn put_all(report: &Report, ending: Ending, counts: Option<Counts>, object: &mut Object)
+    ensures { Has object.old no_members → (all : Members) × Has object.new all × HaveFigures report.now.replies report.now.wrongs ending counts all }
 {
-    put_figures(
-        alloc,
-        &report.replies,
-        &report.wrongs,
-        ending,
-        counts,
-        members,
-    )?;
-    put_found(alloc, report, members)
-}
-
-// Adds the groups of the wrong replies, and what to try.
-fn put_found(
-    alloc: Global,
-    report: &Report,
-    members: &mut Map<String, Value>,
-) -> Result<(), AllocError>
-    ensures { OnOk result (LeavesFigures (members_view members.old.entries) (members_view members.new.entries)) }
-{
-    let found = &report.found;
-    put_groups(alloc, &found.groups, members)?;
-    let suspected = suspects_json(alloc, &found.suspects);
-    put_made(alloc, "suspected", suspected, members)?;
-    let tries = tries_json(alloc, &found.tries, report.wrongs.count);
-    put_made(alloc, "tries", tries, members)
-}
-
-fn put_groups(
-    alloc: Global,
-    groups: &Groups,
-    members: &mut Map<String, Value>,
-) -> Result<(), AllocError>
-    ensures { OnOk result (LeavesFigures (members_view members.old.entries) (members_view members.new.entries)) }
-{
-    let kept = groups_json(alloc, groups.groups.as_slice());
-    put_made(alloc, "groups", kept, members)?;
-    put_number(alloc, "unrecorded", groups.unrecorded(), members)?;
-    put_number(alloc, "ungrouped", groups.elsewhere, members)
-}
-
-fn suspects_json(alloc: Global, suspects: &Suspects) -> Result<Value, AllocError>
-    ensures { IfOk result (NestsTo 3) }
-{
-    let mut values = Vec::new(alloc);
-    let filled = push_suspects(alloc, suspects.named.as_slice(), &mut values);
-    array(values, filled)
-}
-
-fn push_suspects(
-    alloc: Global,
-    suspects: &[Suspect],
-    values: &mut Vec<Value>,
-) -> Result<(), AllocError>
-    ensures { ValuesNestTo 2 values.old → OnOk result (ValuesNestTo 2 values.new) }
-{
-    for suspect in suspects {
-        push_made(suspect_json(alloc, suspect), values)?;
-    }
-    Ok(())
-}
-
-fn suspect_json(alloc: Global, suspect: &Suspect) -> Result<Value, AllocError>
-    ensures { IfOk result (NestsTo 2) }
-{
-    let mut members = Map::new(alloc);
-    let filled = put_suspect(alloc, suspect, &mut members);
-    object(members, filled)
-}
-
-fn put_suspect(
-    alloc: Global,
-    suspect: &Suspect,
-    members: &mut Map<String, Value>,
-) -> Result<(), AllocError>
-    ensures { MembersNestTo 1 members.old → OnOk result (MembersNestTo 1 members.new) }
-{
-    let name = shown_name(alloc, suspect.name.as_slice());
-    put_made(alloc, "name", name, members)?;
-    put_text(alloc, "change", suspect.change.word(), members)?;
-    put_number(alloc, "count", suspect.count, members)
+    let alloc = report.alloc;
+    let (replies, wrongs, found) = (&report.replies, &report.wrongs, &report.found);
+    let groups = found.groups.kept.as_slice();
+    let suspects = found.suspects.kept.as_slice();
+    let helpful = found.tries.helpful(wrongs.count);
+    put_figures(alloc, replies, wrongs, ending, counts, object);
+    object.put("groups", groups_json(alloc, groups));
+    object.number("unrecorded", unrecorded(groups));
+    object.number("ungrouped", found.groups.more);
+    object.put("suspected", suspects_json(alloc, suspects));
+    object.put("tries", tries_json(alloc, helpful));
 }
 
 fn groups_json(alloc: Global, groups: &[Group]) -> Result<Value, AllocError>
     ensures { IfOk result (NestsTo 3) }
 {
-    let mut kept = Vec::new(alloc);
-    let filled = push_groups(alloc, groups, &mut kept);
-    array(kept, filled)
-}
-
-fn push_groups(alloc: Global, groups: &[Group], kept: &mut Vec<Value>) -> Result<(), AllocError>
-    ensures { ValuesNestTo 2 kept.old → OnOk result (ValuesNestTo 2 kept.new) }
-{
+    let mut array = Array::new(alloc);
     for group in groups {
-        push_made(group_json(alloc, group), kept)?;
+        array.push(group_json(alloc, group));
     }
-    Ok(())
+    array.into_value()
 }
 
-// The tries that help.
-fn tries_json(alloc: Global, tries: &Tries, wrong: u64) -> Result<Value, AllocError>
-    ensures { IfOk result (NestsTo 3) }
-{
-    let mut helpful = Vec::new(alloc);
-    let filled = push_tries(alloc, tries, wrong, &mut helpful);
-    array(helpful, filled)
-}
-
-fn push_tries(
-    alloc: Global,
-    tries: &Tries,
-    wrong: u64,
-    helpful: &mut Vec<Value>,
-) -> Result<(), AllocError>
-    ensures { ValuesNestTo 2 helpful.old → OnOk result (ValuesNestTo 2 helpful.new) }
-{
-    push_ignoring(alloc, &tries.ignoring, wrong, helpful)?;
-    for fixed in &tries.fixed {
-        push_fixed(alloc, fixed, wrong, helpful)?;
-    }
-    Ok(())
-}
-
-fn push_ignoring(
-    alloc: Global,
-    ignoring: &IgnoringTry,
-    wrong: u64,
-    helpful: &mut Vec<Value>,
-) -> Result<(), AllocError>
-    ensures { ValuesNestTo 2 helpful.old → OnOk result (ValuesNestTo 2 helpful.new) }
-{
-    if wrong <= ignoring.wrong {
-        return Ok(());
-    }
-    let mut options = Page::new(alloc);
-    ignoring.say(&mut options);
-    let made = try_json(alloc, options, ignoring.wrong, false);
-    push_made(made, helpful)
-}
-
-fn push_fixed(
-    alloc: Global,
-    fixed: &FixedTry,
-    wrong: u64,
-    helpful: &mut Vec<Value>,
-) -> Result<(), AllocError>
-    ensures { ValuesNestTo 2 helpful.old → OnOk result (ValuesNestTo 2 helpful.new) }
-{
-    if wrong <= fixed.wrong {
-        return Ok(());
-    }
-    let mut options = Page::new(alloc);
-    fixed.say(&mut options);
-    let made = try_json(alloc, options, fixed.wrong, true);
-    push_made(made, helpful)
-}
-
-// A try by those options, with which so many replies are wrong, or at most so many.
-fn try_json(alloc: Global, options: Page, wrong: u64, is_exact: bool) -> Result<Value, AllocError>
+fn group_json(alloc: Global, group: &Group) -> Result<Value, AllocError>
     ensures { IfOk result (NestsTo 2) }
 {
-    let options = options.into_text()?;
-    let mut members = Map::new(alloc);
-    let filled = put_try(alloc, options.as_str(), wrong, is_exact, &mut members);
-    object(members, filled)
+    let mut object = Object::new(alloc);
+    object.number("reason", u64::from(group.reason.number()));
+    object.text("name", group.reason.name());
+    object.text("detail", group.kind);
+    object.put("what", what_json(alloc, group));
+    put_differences(alloc, group.differences(), &mut object);
+    put_spread(group.spread, &mut object);
+    object.number("count", group.count);
+    object.number("first", group.first);
+    object.put("targets", texts_json(alloc, group.targets.kept.as_slice()));
+    object.number("unnamed_targets", group.targets.more);
+    object.into_value()
 }
 
-fn put_try(
-    alloc: Global,
-    options: &str,
-    wrong: u64,
-    is_exact: bool,
-    members: &mut Map<String, Value>,
-) -> Result<(), AllocError>
-    ensures { MembersNestTo 1 members.old → OnOk result (MembersNestTo 1 members.new) }
+fn what_json(alloc: Global, group: &Group) -> Result<Value, AllocError>
+    ensures { (n : ℕ) → IfOk result (NestsTo n) }
 {
-    put_text(alloc, "options", options, members)?;
-    put_number(alloc, "wrong", wrong, members)?;
-    put_flag(alloc, "exact", is_exact, members)
+    let mut page = Page::new(alloc);
+    group.say_what(&mut page);
+    Ok(Value::String(page.into_text()?))
+}
+
+fn put_differences(alloc: Global, differences: Option<&Differences>, object: &mut Object)
+    ensures { HasDepth 1 object.old → HasDepth 1 object.new }
+{
+    let Some(found) = differences else {
+        return;
+    };
+    object.put("added", names_json(alloc, found, Change::Added));
+    object.put("dropped", names_json(alloc, found, Change::Dropped));
+    object.put("changed", names_json(alloc, found, Change::Changed));
+    object.number("more_names", found.more);
+}
+
+fn put_spread(spread: Option<Spread>, object: &mut Object)
+    ensures { HasDepth 1 object.old → HasDepth 1 object.new }
+{
+    let Some(Spread { least, greatest }) = spread else {
+        return;
+    };
+    object.number("least", least);
+    object.number("greatest", greatest);
+}
+
+fn texts_json(alloc: Global, texts: &[String]) -> Result<Value, AllocError>
+    ensures { IfOk result (NestsTo 1) }
+{
+    let mut array = Array::new(alloc);
+    for text in texts {
+        array.push(Value::try_from_str(alloc, text.as_str()));
+    }
+    array.into_value()
+}
+
+// The names of the fields that became so.
+fn names_json(alloc: Global, found: &Differences, change: Change) -> Result<Value, AllocError>
+    ensures { IfOk result (NestsTo 1) }
+{
+    let mut array = Array::new(alloc);
+    for gap in found.listed.iter() {
+        if gap.change != change {
+            continue;
+        }
+        array.push(shown_json(alloc, gap.name.as_slice()));
+    }
+    array.into_value()
+}
+
+fn shown_json(alloc: Global, name: &[u8]) -> Result<Value, AllocError>
+    ensures { (n : ℕ) → IfOk result (NestsTo n) }
+{
+    Ok(Value::String(shown(alloc, name)?))
+}
+
+fn suspects_json(alloc: Global, suspects: &[Suspect]) -> Result<Value, AllocError>
+    ensures { IfOk result (NestsTo 3) }
+{
+    let mut array = Array::new(alloc);
+    for suspect in suspects {
+        array.push(suspect_json(alloc, suspect));
+    }
+    array.into_value()
+}
+
+fn suspect_json(alloc: Global, suspect: &Suspect) -> Result<Value, AllocError>
+    ensures { IfOk result (NestsTo 2) }
+{
+    let mut object = Object::new(alloc);
+    object.put("name", shown_json(alloc, suspect.name.as_slice()));
+    object.text("change", suspect.change.word());
+    object.number("count", suspect.count);
+    object.into_value()
+}
+
+fn tries_json(alloc: Global, helpful: Result<Vec<Helpful>, AllocError>) -> Result<Value, AllocError>
+    ensures { IfOk result (NestsTo 3) }
+{
+    let helpful = helpful?;
+    let mut array = Array::new(alloc);
+    for one in helpful.iter() {
+        array.push(try_json(alloc, one));
+    }
+    array.into_value()
+}
+
+fn try_json(alloc: Global, helpful: &Helpful) -> Result<Value, AllocError>
+    ensures { IfOk result (NestsTo 2) }
+{
+    let mut object = Object::new(alloc);
+    object.text("options", helpful.options.as_str());
+    object.number("wrong", helpful.wrong);
+    object.flag("exact", helpful.is_exact);
+    object.into_value()
+}
+
+/// So many wrong replies that a baseline hasn't, or that aren't there any more, and the kinds that they are of.
+pub(crate) fn new_json(
+    alloc: Global,
+    count: u64,
+    kinds: Result<NamedKinds, AllocError>,
+) -> Result<Value, AllocError>
+    ensures nests { IfOk result (NestsTo 3) }
+    ensures count { IfOk result (λ v. get (codes "count") (view v) ≡ Some (number_data count)) }
+{
+    let kinds = kinds?;
+    let mut object = Object::new(alloc);
+    object.number("count", count);
+    object.put("kinds", kinds_json(alloc, kinds.named.as_slice()));
+    object.number("unnamed_kinds", kinds.more);
+    object.into_value()
+}
+
+fn kinds_json(alloc: Global, kinds: &[NamedKind]) -> Result<Value, AllocError>
+    ensures { IfOk result (NestsTo 2) }
+{
+    let mut object = Object::new(alloc);
+    for new in kinds {
+        object.number(new.kind.as_str(), new.count);
+    }
+    object.into_value()
 }

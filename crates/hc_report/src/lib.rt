@@ -3,27 +3,14 @@
 //! counts all wrong replies by their kind.
 #![tactic(auto)]
 
-mod annotations;
-mod asking;
 mod cases;
 mod counting;
-mod fixed;
 mod found;
-mod group;
-mod group_json;
-mod groups;
-mod ignoring;
 mod json;
-mod junit;
 mod made;
-mod new_json;
 mod report;
-mod requests;
-mod rows;
-mod saying;
 mod source;
-mod suspects;
-mod targets;
+mod text;
 mod tries;
 
 pub use counting::CountingReport;

@@ -1,19 +1,18 @@
 //! By which settings a report is made.
 
-ghost use Rattle.std.specs.Prelude.{◌≡◌, ℕ, [], IfOk, OnOk, is_some, not, string_bytes};
-ghost use Rattle.serde_json.specs.Data.{no_members, null, object as object_data, put as with_member, string};
+ghost use Rattle.std.specs.Prelude.{◌≡◌, [], IfOk, OnOk, is_some, not, string_bytes};
+ghost use Rattle.serde_json.specs.Data.{string};
 ghost use Rattle.serde_json.specs.View.{members_view, view};
-ghost use Rattle.hc_json.specs.Entries.{with_all};
-ghost use Rattle.hc_json.specs.Nesting.{MembersNestTo, NestsTo};
+ghost use Rattle.hc_json.specs.Objects.{Has};
 ghost use Rattle.hc_shown.specs.Octets.{octets_text};
-ghost use Rattle.hc_report.specs.Made.{allowed_entries, in_order, is_errors_only, joined, made_by, name_entries, names_text, setting_entries, settings_members, with_name};
+ghost use Rattle.hc_report.specs.Made.{in_order, is_errors_only, joined, made_by, names_text, settings_members, with_name};
 
-use hc_baseline::{Baseline, Difference};
+use hc_baseline::Baseline;
 use hc_fields::Octets;
-use hc_history::{Allowed, FieldNames, Settings, UnmarkedReplies};
-use hc_json::{object, put_flag, put_number, put_some, put_text};
+use hc_history::{FieldNames, Settings, UnmarkedReplies};
+use hc_json::Object;
 use hc_shown::{SHOWN, push_octets};
-use serde_json::{Map, Value, put};
+use serde_json::{Map, Value};
 use std::alloc::{AllocError, Global};
 
 /// The line that names the first setting by which a baseline was made and which is another one here, with its line feed. A
@@ -25,8 +24,7 @@ pub fn other_setting(
 ) -> Result<Option<String>, AllocError>
     ensures { IfOk result (λ line. is_some line ≡ not (made_by baseline.now settings.now)) }
 {
-    let mut asked = Map::new(alloc);
-    put_settings(alloc, settings, &mut asked)?;
+    let asked = settings_object(alloc, settings).into_members()?;
     if baseline.is_made_by(&asked) {
         return Ok(None);
     }
@@ -38,13 +36,9 @@ fn difference_line(
     baseline: &Baseline,
     asked: &Map<String, Value>,
 ) -> Result<String, AllocError> {
-    match baseline.difference(alloc, asked)? {
-        Some(difference) => line_of(alloc, &difference),
-        None => String::from_str(alloc, "error: baseline\n"),
-    }
-}
-
-fn line_of(alloc: Global, difference: &Difference) -> Result<String, AllocError> {
+    let Some(difference) = baseline.difference(alloc, asked)? else {
+        return String::from_str(alloc, "error: baseline\n");
+    };
     let name = difference.name.as_str();
     let asked = difference.asked.as_str();
     if difference.had.is_empty() {
@@ -65,50 +59,24 @@ fn plain(value: &str) -> &str {
     }
 }
 
-/// The settings, as a JSON object.
-pub(crate) fn settings_json(alloc: Global, settings: &Settings) -> Result<Value, AllocError>
-    ensures made { IfOk result (λ v. view v ≡ object_data (settings_members settings.now)) }
-    ensures nests { IfOk result (NestsTo 1) }
+/// The settings, each by its name.
+pub(crate) fn settings_object(alloc: Global, settings: &Settings) -> Object
+    ensures { Has result (settings_members settings.now) }
 {
-    let mut members = Map::new(alloc);
-    let filled = put_settings(alloc, settings, &mut members);
-    object(members, filled)
-}
-
-// Adds each setting by its name.
-fn put_settings(
-    alloc: Global,
-    settings: &Settings,
-    members: &mut Map<String, Value>,
-) -> Result<(), AllocError>
-    ensures ok { OnOk result (members_view members.new.entries ≡ with_all (setting_entries settings.now) (members_view members.old.entries)) }
-    ensures nests { MembersNestTo 0 members.old → OnOk result (MembersNestTo 0 members.new) }
-{
-    put_number(alloc, "slack", u64::from(settings.slack), members)?;
-    put_names(alloc, "ignored", &settings.ignored, members)?;
-    let errors_only = is_errors_only(settings.unmarked);
-    put_flag(alloc, "errors_only", errors_only, members)?;
-    put_allowed(alloc, &settings.allowed, members)
-}
-
-// Adds what is allowed.
-fn put_allowed(
-    alloc: Global,
-    allowed: &Allowed,
-    members: &mut Map<String, Value>,
-) -> Result<(), AllocError>
-    ensures ok { OnOk result (members_view members.new.entries ≡ with_all (allowed_entries allowed.now) (members_view members.old.entries)) }
-    ensures nests { MembersNestTo 0 members.old → OnOk result (MembersNestTo 0 members.new) }
-{
-    put_flag(alloc, "added_fields", allowed.added_fields, members)?;
-    put_flag(alloc, "joined_lines", allowed.joined_lines, members)?;
-    put_flag(alloc, "ranges", allowed.ranges, members)?;
-    let default_ttl = seconds(allowed.default_lifetime);
-    put_some(alloc, "default_ttl", default_ttl, members)?;
-    put_some(alloc, "grace", seconds(allowed.grace), members)?;
-    put_names(alloc, "normalized", &allowed.normalized, members)?;
-    put_flag(alloc, "infer_marks", allowed.inferred_marks, members)?;
-    put_number(alloc, "age_slack", u64::from(allowed.age_slack), members)
+    let allowed = &settings.allowed;
+    let mut object = Object::new(alloc);
+    object.number("slack", u64::from(settings.slack));
+    object.put("ignored", names_json(alloc, &settings.ignored));
+    object.flag("errors_only", is_errors_only(settings.unmarked));
+    object.flag("added_fields", allowed.added_fields);
+    object.flag("joined_lines", allowed.joined_lines);
+    object.flag("ranges", allowed.ranges);
+    object.some("default_ttl", seconds(allowed.default_lifetime));
+    object.some("grace", seconds(allowed.grace));
+    object.put("normalized", names_json(alloc, &allowed.normalized));
+    object.flag("infer_marks", allowed.inferred_marks);
+    object.number("age_slack", u64::from(allowed.age_slack));
+    object
 }
 
 fn is_errors_only(unmarked: UnmarkedReplies) -> bool
@@ -129,54 +97,33 @@ fn seconds(given: Option<u32>) -> Option<u64>
     }
 }
 
-// Adds names as one text.
-fn put_names(
-    alloc: Global,
-    name: &str,
-    names: &FieldNames,
-    members: &mut Map<String, Value>,
-) -> Result<(), AllocError>
-    ensures ok { OnOk result (members_view members.new.entries ≡ with_member name.now (string (names_text names.now)) (members_view members.old.entries)) }
-    ensures nests { (n : ℕ) → MembersNestTo n members.old → OnOk result (MembersNestTo n members.new) }
-{
-    let text = names_text(alloc, names)?;
-    put_text(alloc, name, text.as_str(), members)
-}
-
 // The names in order, each once, with commas between them.
-fn names_text(alloc: Global, names: &FieldNames) -> Result<String, AllocError>
-    ensures { IfOk result (λ text. string_bytes text ≡ names_text names.now) }
+fn names_json(alloc: Global, names: &FieldNames) -> Result<Value, AllocError>
+    ensures { IfOk result (λ v. view v ≡ string (names_text names.now)) }
 {
-    let ordered = in_order(alloc, names)?;
-    joined(alloc, &ordered)
+    let ordered = in_order(alloc, names.names())?;
+    Ok(Value::String(joined(alloc, &ordered)?))
 }
 
-// The names as those of members.
-fn in_order(alloc: Global, names: &FieldNames) -> Result<Map<String, Value>, AllocError>
+// The names in order, as those of members.
+fn in_order(alloc: Global, names: &[Octets]) -> Result<Map<String, Value>, AllocError>
     ensures { IfOk result (λ ordered. members_view ordered.entries ≡ in_order names.now) }
 {
-    let mut ordered = Map::new(alloc);
-    let filled = fill(alloc, names.names(), &mut ordered);
-    filled?;
-    Ok(ordered)
-}
-
-fn fill(alloc: Global, names: &[Octets], ordered: &mut Map<String, Value>) -> Result<(), AllocError>
-    ensures { OnOk result (members_view ordered.new.entries ≡ with_all (name_entries names.now) (members_view ordered.old.entries)) }
-{
+    let mut ordered = Object::new(alloc);
     for name in names {
-        put_shown(alloc, name.as_slice(), ordered)?;
+        let shown = shown(alloc, name.as_slice())?;
+        ordered.put(shown.as_str(), Ok(Value::Null));
     }
-    Ok(())
+    ordered.into_members()
 }
 
-// Adds a name, as it is shown.
-fn put_shown(alloc: Global, name: &[u8], ordered: &mut Map<String, Value>) -> Result<(), AllocError>
-    ensures { OnOk result (members_view ordered.new.entries ≡ with_member (octets_text name.now) null (members_view ordered.old.entries)) }
+/// Octets as they are shown.
+pub(crate) fn shown(alloc: Global, octets: &[u8]) -> Result<String, AllocError>
+    ensures { IfOk result (λ text. string_bytes text ≡ octets_text octets.now) }
 {
-    let mut shown = String::new(alloc);
-    push_octets(name, &mut shown)?;
-    put(ordered, alloc, shown.as_str(), Value::Null)
+    let mut text = String::new(alloc);
+    push_octets(octets, &mut text)?;
+    Ok(text)
 }
 
 // The names of the members, with commas between them.
@@ -190,7 +137,7 @@ fn joined(alloc: Global, members: &Map<String, Value>) -> Result<String, AllocEr
     Ok(text)
 }
 
-// Adds a name, behind a comma where it isn't the first.
+// Adds a name, after a comma where it isn't the first.
 fn push_name(name: &str, text: &mut String) -> Result<(), AllocError>
     ensures { OnOk result (string_bytes text.new ≡ with_name (string_bytes text.old) name.now) }
 {

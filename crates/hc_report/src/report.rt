@@ -2,29 +2,33 @@
 
 ghost use Rattle.std.specs.Prelude.{◌≡◌, ◌++◌, List, [], ◌∷◌, IfOk, OnOk, slice_get, string_bytes};
 ghost use Rattle.hc_transcript.specs.Items.{Item};
+ghost use Rattle.hc_transcript.specs.History.{exchange_of};
+ghost use Rattle.hc_history.specs.Seen.{IsSeenAs};
 ghost use Rattle.hc_history.specs.declared.wrong.WrongReply.{WrongReply};
 ghost use Rattle.hc_audit.specs.Hearing.{IsReplyBehind, item_judged};
+ghost use Rattle.hc_shown.specs.Octets.{octets_text};
+ghost use Rattle.hc_shown.specs.Values.{target_text};
 ghost use Rattle.hc_report.specs.Json.{WritesReport};
-ghost use Rattle.hc_report.specs.Kinds.{AreShownIn};
+ghost use Rattle.hc_report.specs.Kinds.{AreShownIn, IsShownOf};
 ghost use Rattle.hc_report.specs.Told.{TellsOf};
 
 use crate::found::Found;
 use crate::json::put_all;
-use crate::requests::shown_request;
-use crate::saying::say_report;
+use crate::made::shown;
+use crate::text::say_report;
 use hc_audit::{JudgedReply, PassedRecord, Witness};
-use hc_figures::{ListedReplies, ReplyCounts};
-use hc_history::{Counts, Ending, Finding, Reason, Settings, WrongReply};
+use hc_figures::{ListedReplies, ReplyCounts, ShownRequest};
+use hc_history::{Counts, Ending, Finding, Reason, ReplyClaim, Settings, WrongReply};
 use hc_index::Index;
-use hc_shown::Page;
+use hc_json::Object;
+use hc_shown::{Page, push_target};
 use hc_why::Past;
-use serde_json::{Map, Value};
 use std::alloc::{AllocError, Global};
 
 /// What is said of a recording: what its replies say of themselves, which of them are wrong and by what, and what
 /// could be let pass so that fewer are.
 pub struct Report {
-    alloc: Global,
+    pub(crate) alloc: Global,
     past: Past,
     pub(crate) replies: ReplyCounts,
     pub(crate) wrongs: ListedReplies,
@@ -93,10 +97,8 @@ impl Report {
         ensures shown { (h : List Item) → AreShownIn h self.old.wrongs.listed.items → IsReplyBehind I.seen h judged.now
             → OnOk result (AreShownIn (item_judged judged.now ∷ h) self.new.wrongs.listed.items) }
     {
-        let wrong = WrongReply {
-            position: judged.position,
-            reason,
-        };
+        let position = judged.position;
+        let wrong = WrongReply { position, reason };
         let request = shown_request(self.alloc, judged)?;
         self.wrongs.note(wrong, &request)?;
         self.found
@@ -117,8 +119,9 @@ impl Report {
         counts: Option<Counts>,
         out: &mut String,
     ) -> Result<(), AllocError> {
+        let helpful = self.found.tries.helpful(self.wrongs.count)?;
         let mut page = Page::new(self.alloc);
-        say_report(self.alloc, self, ending, counts, &mut page);
+        say_report(self, helpful.as_slice(), ending, counts, &mut page);
         page.onto(out)
     }
 
@@ -126,9 +129,36 @@ impl Report {
     pub fn json(&self, ending: Ending, counts: Option<Counts>) -> Result<String, AllocError>
         ensures { IfOk result (λ text. WritesReport (string_bytes text) self.now.wrongs self.now.replies ending counts) }
     {
-        let mut members = Map::new(self.alloc);
-        let filled = put_all(self.alloc, self, ending, counts, &mut members);
-        filled?;
-        Value::Object(members).to_string(self.alloc)
+        let mut object = Object::new(self.alloc);
+        put_all(self, ending, counts, &mut object);
+        object.into_text()
     }
+}
+
+/// What is shown of the request that a reply answers.
+pub(crate) fn shown_request<I: Index>(
+    alloc: Global,
+    judged: &JudgedReply<'_, I>,
+) -> Result<ShownRequest, AllocError>
+    ensures { (h : List Item) → IsSeenAs judged.now.format (I.seen judged.now.index.now) h
+        → IfOk result (IsShownOf (exchange_of judged.now.exchange h)) }
+{
+    match judged.claim() {
+        Some(claim) => shown_of(alloc, &claim),
+        None => Ok(ShownRequest {
+            method: String::new(alloc),
+            target: String::new(alloc),
+        }),
+    }
+}
+
+// The request of what a reply claims.
+fn shown_of(alloc: Global, claim: &ReplyClaim<'_>) -> Result<ShownRequest, AllocError>
+    ensures method { IfOk result (λ shown. string_bytes shown.method ≡ octets_text claim.now.request.method) }
+    ensures target { IfOk result (λ shown. string_bytes shown.target ≡ target_text claim.now.target) }
+{
+    let method = shown(alloc, claim.request.method.as_slice())?;
+    let mut target = String::new(alloc);
+    push_target(claim.target, &mut target)?;
+    Ok(ShownRequest { method, target })
 }
