@@ -1,7 +1,7 @@
 use Rattle.std.proofs.Common.{◌∙◌, sym}
 use Rattle.std.proofs.lemmas.Result.{on_ok_weaker}
 use Rattle.hc_shown.proofs.TextLemmas.{body_written}
-use Rattle.hc_shown.proofs.body.push_body.Goals as goal
+use Rattle.hc_shown.proofs.record.push_body.Goals as goal
 
 pub returns : goal.returns
 returns c =

@@ -1,6 +1,6 @@
 use Rattle.std.proofs.Common.{arith, ◌<◌, ◌^◌, length, sym}
 use Rattle.hc_shown.proofs.ShownLemmas.{both_are_shown, on_ok}
-use Rattle.hc_shown.proofs.target.push_target.Goals as goal
+use Rattle.hc_shown.proofs.values.push_target.Goals as goal
 
 pub returns-clause-shown : goal.returns-clause-shown
 returns-clause-shown c =

@@ -1,6 +1,6 @@
 use Rattle.std.proofs.Common.{rules, ◌∙◌}
 use Rattle.hc_shown.proofs.ShownLemmas.{written_on}
-use Rattle.hc_shown.proofs.octets.push_escaped.Goals as goal
+use Rattle.hc_shown.proofs.octets.push_octet.Goals as goal
 
 pub loop-shown-preserved : goal.loop-shown-preserved
 loop-shown-preserved c =

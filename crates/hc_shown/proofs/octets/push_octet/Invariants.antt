@@ -3,7 +3,7 @@ use Rattle.std.specs.List.{list_all}
 use Rattle.std.specs.Char.Escape.{escape_ascii}
 use Rattle.std.specs.Char.Iter.{escape_byte_rest, escape_byte_end}
 use Rattle.hc_shown.specs.Octets.{is_printable}
-use Rattle.hc_shown.proofs.octets.push_escaped.Given as goal
+use Rattle.hc_shown.proofs.octets.push_octet.Given as goal
 
 abbrev pub invariant-loop-shown : goal.invariant-loop-shown
 invariant-loop-shown l = record {

@@ -1,13 +1,16 @@
-//! Octets as those that are shown, and as runs of those that are hidden.
+//! Values of fields, and targets: octets that are shown, and runs of those that are hidden.
 
 ghost use Rattle.std.specs.Prelude.{◌≡◌, ◌++◌, List, [], ◌∷◌, MatchOption, OnOk, string_bytes, true};
 ghost use Rattle.std.specs.Iterator.{YieldsFirst, item_count};
-ghost use Rattle.hc_shown.specs.declared.piece.Piece.{Piece};
+ghost use Rattle.hc_shown.specs.declared.values.Piece.{Piece};
 ghost use Rattle.hc_shown.specs.Hidden.{begins_shown, hidden_run, pieces_behind, pieces_of};
+ghost use Rattle.hc_shown.specs.Octets.{IsShown};
 ghost use Rattle.hc_shown.specs.Pieces.{both_text, piece_room, piece_text};
+ghost use Rattle.hc_shown.specs.Values.{target_text, value_text};
 
+use crate::hidden::{Place, is_credential};
 use crate::octets::{SHOWN, push_all, push_length, push_octet};
-use crate::place::Place;
+use hc_head::Target;
 use std::alloc::AllocError;
 use std::marker::Model;
 
@@ -21,7 +24,7 @@ enum Piece {
 }
 
 impl Piece {
-    /// As how many octets it counts.
+    // As how many octets it counts.
     fn room(self) -> usize
         ensures { result ≡ piece_room self }
     {
@@ -31,7 +34,6 @@ impl Piece {
         }
     }
 
-    /// Puts it at the end.
     fn push(self, out: &mut String) -> Result<(), AllocError>
         ensures { OnOk result (string_bytes out.new ≡ string_bytes out.old ++ piece_text self) }
     {
@@ -42,7 +44,7 @@ impl Piece {
     }
 }
 
-/// How many of the octets at the front are hidden, and where the others stand.
+// How many of the octets at the front are hidden, and where the others stand.
 fn pass_hidden(mut place: Place, octets: &[u8]) -> (usize, Place, &[u8])
     ensures pieces { pieces_behind 0 place octets.now ≡ hidden_run result.0 ++ pieces_behind 0 result.1 result.2.now }
     ensures shown { begins_shown result.1 result.2.now ≡ true }
@@ -58,7 +60,7 @@ fn pass_hidden(mut place: Place, octets: &[u8]) -> (usize, Place, &[u8])
     (octets.len(), place, rest)
 }
 
-/// The first piece of octets, and where those behind it stand.
+// The first piece of octets, and where those after it stand.
 fn first_piece(place: Place, octets: &[u8]) -> Option<(Piece, Place, &[u8])>
     ensures { MatchOption result (pieces_behind 0 place octets.now ≡ [])
         (λ p. pieces_behind 0 place octets.now ≡ p.0 ∷ pieces_behind 0 p.1 p.2.now) }
@@ -71,7 +73,7 @@ fn first_piece(place: Place, octets: &[u8]) -> Option<(Piece, Place, &[u8])>
     Some((Piece::Octet(*octet), place.behind(*octet, behind), behind))
 }
 
-/// An iterator over the pieces of octets, and of others behind them, which contracts see as the list of those that are
+/// An iterator over the pieces of octets, and of others after them, which contracts see as the list of those that are
 /// left.
 #[derive(Drop)]
 struct Pieces<'a> {
@@ -107,16 +109,21 @@ impl Iterator for Pieces<'_> {
     }
 }
 
-/// Puts two runs of octets at the end as one, as `push_octets` does, but of those that are hidden how many they are
-/// alone, as `(12 octets)`. These count as eight.
-pub(crate) fn push_both(one: &[u8], other: &[u8], out: &mut String) -> Result<(), AllocError>
+// Puts two runs of octets at the end as one, as `push_octets` does, but of those that are hidden how many they are
+// alone, as `(12 octets)`. These count as eight.
+fn push_both(one: &[u8], other: &[u8], out: &mut String) -> Result<(), AllocError>
     ensures { OnOk result (string_bytes out.new ≡ string_bytes out.old ++ both_text one.now other.now) }
 {
-    let length = one.len().saturating_add(other.len());
+    let place = Place::front();
+    let pieces = Pieces {
+        place,
+        rest: one,
+        then: other,
+    };
     let mut room = SHOWN;
-    for piece in both(one, other) {
+    for piece in pieces {
         let Some(left) = room.checked_sub(piece.room()) else {
-            return push_all(length, out);
+            return push_all(one.len().saturating_add(other.len()), out);
         };
         piece.push(out)?;
         room = left;
@@ -124,13 +131,28 @@ pub(crate) fn push_both(one: &[u8], other: &[u8], out: &mut String) -> Result<()
     Ok(())
 }
 
-/// The pieces of octets, and of others behind them.
-fn both<'a>(one: &'a [u8], other: &'a [u8]) -> Pieces<'a>
-    ensures { result ≡ pieces_of one.now ++ pieces_of other.now }
+/// Puts the value of a field of that name at the end: its octets in double quotes, without userinfo of URIs and values
+/// of parameters that are named like secrets, of which it is said how many octets they are, as `(12 octets)`; of a field
+/// that bears credentials that alone. The name is one in any case.
+pub fn push_value(name: &[u8], value: &[u8], out: &mut String) -> Result<(), AllocError>
+    ensures text { OnOk result (string_bytes out.new ≡ string_bytes out.old ++ value_text name.now value.now) }
+    // That is printable ASCII alone, and not much.
+    ensures shown { OnOk result (IsShown (value_text name.now value.now)) }
 {
-    Pieces {
-        place: Place::front(),
-        rest: one,
-        then: other,
+    if is_credential(name) {
+        return push_length(value.len(), out);
     }
+    out.push('"')?;
+    push_both(value, b"", out)?;
+    out.push('"')
+}
+
+/// Puts a target at the end, as `example.test/path?query`: its host, with the port if there is one, and its path with
+/// the query. It is cut as a whole, and userinfo and values of parameters are hidden as in values of fields.
+pub fn push_target(target: &Target, out: &mut String) -> Result<(), AllocError>
+    ensures text { OnOk result (string_bytes out.new ≡ string_bytes out.old ++ target_text target.now) }
+    // That is printable ASCII alone, and not much.
+    ensures shown { OnOk result (IsShown (target_text target.now)) }
+{
+    push_both(target.host.as_slice(), target.path.as_slice(), out)
 }

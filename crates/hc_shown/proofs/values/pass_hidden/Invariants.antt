@@ -1,6 +1,6 @@
 use Rattle.std.proofs.Common.{◌≡◌, ◌≤◌, ◌-◌, length}
 use Rattle.hc_shown.specs.Hidden.{pieces_behind}
-use Rattle.hc_shown.proofs.piece.pass_hidden.Given as goal
+use Rattle.hc_shown.proofs.values.pass_hidden.Given as goal
 
 abbrev pub invariant-loop-octet : goal.invariant-loop-octet
 invariant-loop-octet l = record {
