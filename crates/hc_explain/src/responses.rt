@@ -491,14 +491,14 @@ fn say_validation<T: Teller>(known: &Explanation<'_>, nearest: &Nearest<'_>, tel
 
 // Says in which fields the reply differs from the response that it gives, if that is known.
 fn say_differences<T: Teller>(known: &Explanation<'_>, teller: &mut T) {
-    match &known.came {
-        None => {}
-        Some(differences) if differences.is_nothing() => teller.words(" as it was stored"),
-        Some(differences) => {
-            let mut named = teller.page();
-            differences.name(&mut named);
-            teller.words(", but for fields: ");
-            teller.say(named);
-        }
+    let Some(differences) = &known.came else {
+        return;
+    };
+    if differences.is_nothing() {
+        return teller.words(" as it was stored");
     }
+    let mut named = teller.page();
+    differences.name(&mut named);
+    teller.words(", but for fields: ");
+    teller.say(named);
 }

@@ -3,7 +3,7 @@
 ghost use Rattle.std.specs.Prelude.{◌≡◌, ◌≤◌, ◌==◌, length, not};
 ghost use Rattle.std.specs.List.{before_last, list_any, prefix_len, suffix_len};
 ghost use Rattle.std.specs.Str.{str_eq_ignore_ascii_case};
-ghost use Rattle.hc_shown.specs.Hidden.{begins_parameter, begun_behind, ends_authority, ends_name, ends_uri, ends_value, front, is_hidden, name_length, names_secret, parameter_behind, place_behind, userinfo_length};
+ghost use Rattle.hc_shown.specs.Hidden.{begins_parameter, begun_behind, ends_authority, ends_uri, ends_value, front, is_hidden, name_length, names_secret, parameter_behind, place_behind, userinfo_length};
 ghost use Rattle.hc_shown.specs.Secrets.{has_word, is_credential, is_secret_name};
 
 use crate::octets::first;
