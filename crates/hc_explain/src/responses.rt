@@ -68,7 +68,6 @@ fn say_sent<T: Teller>(end: &End, teller: &mut T) {
     }
 }
 
-// Tells the status of an answer.
 fn tell_status<T: Teller>(name: &'static str, end: &End, teller: &mut T) {
     if let Some(status) = end.status() {
         teller.number(name, ", a ", u64::from(status.as_u16()), "");
@@ -152,7 +151,6 @@ fn tell_fall<T: Teller>(known: &Explanation<'_>, nearest: &Nearest<'_>, teller: 
     }
 }
 
-// Says which rule that is, by its number and its name.
 fn say_reason<T: Teller>(reason: Reason, teller: &mut T) {
     teller.count("", u64::from(reason.number()), " ");
     teller.words(reason.name());
@@ -369,7 +367,6 @@ fn tell_not_forwarded<T: Teller>(known: &Explanation<'_>, window: &Window, telle
     teller.words("\n");
 }
 
-// Tells the responses of the same path under another host.
 fn tell_near<T: Teller>(known: &Explanation<'_>, teller: &mut T) {
     teller.begin_list("near");
     for end in known.ends.near.named.iter() {
@@ -451,7 +448,8 @@ fn say_due_answer<T: Teller>(besides: &str, given: Option<&End>, teller: &mut T)
     teller.words("\n");
 }
 
-// Writes the line of what was due in place of a response that may not be used.
+// Writes the line of what was due in place of a response that may not be used: this one, too, once a 304 has validated
+// it, where it has something by which one may.
 fn say_due_unused<T: Teller>(known: &Explanation<'_>, nearest: &Nearest<'_>, teller: &mut T) {
     let due = match &nearest.shortfall {
         Some(Shortfall::Valid) => Due::Answer,
@@ -469,7 +467,12 @@ fn say_due_unused<T: Teller>(known: &Explanation<'_>, nearest: &Nearest<'_>, tel
         }
         Due::Answer => {
             teller.words(ANSWER);
-            say_validation(known, nearest, teller);
+            if nearest.has_validator() {
+                teller.count(", or ", nearest.position, " once a 304 has validated it");
+                if let Some(invalidator) = known.changes.invalidators.last() {
+                    teller.count(" after ", invalidator.record.position, "");
+                }
+            }
         }
     }
     if let Some(end) = known.given(nearest) {
@@ -477,16 +480,6 @@ fn say_due_unused<T: Teller>(known: &Explanation<'_>, nearest: &Nearest<'_>, tel
         say_differences(known, teller);
     }
     teller.words("\n");
-}
-
-// Says that the response would do, too, once a 304 has validated it, where it has something by which one may.
-fn say_validation<T: Teller>(known: &Explanation<'_>, nearest: &Nearest<'_>, teller: &mut T) {
-    if nearest.has_validator() {
-        teller.count(", or ", nearest.position, " once a 304 has validated it");
-        if let Some(invalidator) = known.changes.invalidators.last() {
-            teller.count(" after ", invalidator.record.position, "");
-        }
-    }
 }
 
 // Says in which fields the reply differs from the response that it gives, if that is known.
