@@ -1,13 +1,37 @@
-//! The second reading, which explains the reply that the first one found.
+//! The second reading, which explains the reply that the first one found, and the line that heads the explanation.
 
-ghost use Rattle.std.specs.Prelude.{◌≡◌};
+ghost use Rattle.std.specs.Prelude.{◌≡◌, ◌++◌, List, ℕ, OnOk, string_bytes};
+ghost use Rattle.hc_explain.specs.Heads.{IsHead};
+ghost use Rattle.hc_why.specs.Found.{finding_of, position_of};
 
-use crate::lines::text;
-use crate::members::json;
+use crate::object::Object;
+use crate::telling::tell;
 use hc_audit::{JudgedReply, PassedRecord, Witness};
+use hc_history::Finding;
 use hc_index::Index;
+use hc_shown::Page;
 use hc_why::{Explanation, FoundReply, Past};
 use std::alloc::{AllocError, Global};
+use std::fmt::Write;
+
+/// Writes the head line of an explanation, without its end: `no 444 3 Invalidated`, or `right 444 hit`.
+pub fn say_head(found: &FoundReply, out: &mut String) -> Result<(), AllocError>
+    ensures { OnOk result ((head : List ℕ) × IsHead (position_of found.now) (finding_of found.now) head
+        × (string_bytes out.new ≡ string_bytes out.old ++ head)) }
+{
+    let position = found.position;
+    match found.finding {
+        Finding::Right => {
+            let way = found.way.name();
+            write!(out, "right {position} {way}")
+        }
+        Finding::Wrong(reason) => {
+            let number = reason.number();
+            let name = reason.name();
+            write!(out, "no {position} {number} {name}")
+        }
+    }
+}
 
 /// In which form a reply is explained.
 #[derive(Clone, Copy, PartialEq, Eq)]
@@ -65,28 +89,8 @@ impl Explaining {
     }
 
     /// What is told of the reply, which is moved. None where it wasn't read again, as it was.
-    pub fn into_told(self) -> Option<String> {
-        let Explaining {
-            alloc: _,
-            found,
-            form: _,
-            past,
-            told,
-            is_after: _,
-        } = self;
-        drop(found);
-        drop(past);
-        told
-    }
-
-    // Takes in the reply, if it is that one.
-    fn take<I: Index>(&mut self, judged: &JudgedReply<'_, I>) -> Result<(), AllocError> {
-        if !self.found.is_as(judged) {
-            self.past.answer(judged.exchange, judged.position);
-            return Ok(());
-        }
-        self.told = explained(self.alloc, judged, self.form, &self.past)?;
-        Ok(())
+    pub fn into_told(mut self) -> Option<String> {
+        self.told.take()
     }
 }
 
@@ -97,17 +101,20 @@ fn explained<I: Index>(
     form: Form,
     past: &Past,
 ) -> Result<Option<String>, AllocError> {
-    match Explanation::read(alloc, judged, past)? {
-        Some(explanation) => Ok(Some(told_in(alloc, form, &explanation)?)),
-        None => Ok(None),
-    }
-}
-
-// What is known of a reply, in that form.
-fn told_in(alloc: Global, form: Form, explanation: &Explanation<'_>) -> Result<String, AllocError> {
+    let Some(known) = Explanation::read(alloc, judged, past)? else {
+        return Ok(None);
+    };
     match form {
-        Form::Text => text(alloc, explanation),
-        Form::Json => json(alloc, explanation),
+        Form::Text => {
+            let mut page = Page::new(alloc);
+            tell(&known, &mut page);
+            Ok(Some(page.into_text()?))
+        }
+        Form::Json => {
+            let mut object = Object::new(alloc);
+            tell(&known, &mut object);
+            Ok(Some(object.into_text()?))
+        }
     }
 }
 
@@ -126,6 +133,11 @@ impl<I: Index> Witness<I> for Explaining {
 
     fn see(&mut self, judged: &JudgedReply<'_, I>) -> Result<(), AllocError> {
         self.is_after = self.found.position <= judged.position;
-        self.take(judged)
+        if self.found.is_as(judged) {
+            self.told = explained(self.alloc, judged, self.form, &self.past)?;
+        } else {
+            self.past.answer(judged.exchange, judged.position);
+        }
+        Ok(())
     }
 }

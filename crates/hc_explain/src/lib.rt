@@ -2,10 +2,8 @@
 #![tactic(auto)]
 
 mod explaining;
-mod heading;
-mod lines;
-mod members;
 mod object;
+mod responses;
+mod telling;
 
-pub use explaining::{Explaining, Form};
-pub use heading::say_head;
+pub use explaining::{Explaining, Form, say_head};

@@ -11,9 +11,9 @@ use Rattle.std.specs.List.{flat_map, list_all}
 use Rattle.std.specs.Prelude.{codes}
 use Rattle.std.specs.Char.{digit_char, encode_utf8}
 use Rattle.std.specs.Char.Escape.{escape_ascii, short_escape, backslash, hex_digit_at}
-use Rattle.hc_shown.specs.declared.piece.Piece.{Piece}
-use Rattle.hc_shown.specs.declared.piece.Piece.TheVariants.{Hidden, Octet}
-use Rattle.hc_shown.specs.declared.place.Place.{Place}
+use Rattle.hc_shown.specs.declared.values.Piece.{Piece}
+use Rattle.hc_shown.specs.declared.values.Piece.TheVariants.{Hidden, Octet}
+use Rattle.hc_shown.specs.declared.hidden.Place.{Place}
 use Rattle.hc_shown.specs.Hidden.{front, hidden_run, is_hidden, pieces_behind, pieces_of, place_behind}
 use Rattle.hc_shown.specs.Octets.{IsShown, all_text, cut_text, first_text, is_printable, length_text, octet_text, octets_text}
 use Rattle.hc_shown.specs.Pieces.{both_text, fitting_text, piece_room, piece_text}

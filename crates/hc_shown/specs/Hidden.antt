@@ -1,11 +1,11 @@
 -- Which octets are hidden in a text that may have URIs: userinfo, and the values of parameters that are named like secrets.
 use Rattle.std.specs.Prelude.{ℕ, Bool, true, false, ◌+◌, ◌-◌, ◌&&◌, ◌||◌, ◌==◌, not, nat_lt, List, [], ◌∷◌, ◌++◌, length, take, take_while, if◌then◌else◌}
 use Rattle.std.specs.List.{before_last, prefix_len, slice_index}
-use Rattle.hc_shown.specs.declared.piece.Piece.{Piece}
-use Rattle.hc_shown.specs.declared.piece.Piece.TheVariants.{Hidden, Octet}
-use Rattle.hc_shown.specs.declared.place.Parameter.{Parameter}
-use Rattle.hc_shown.specs.declared.place.Parameter.TheVariants.{Name, Other, Value}
-use Rattle.hc_shown.specs.declared.place.Place.{Place}
+use Rattle.hc_shown.specs.declared.values.Piece.{Piece}
+use Rattle.hc_shown.specs.declared.values.Piece.TheVariants.{Hidden, Octet}
+use Rattle.hc_shown.specs.declared.hidden.Parameter.{Parameter}
+use Rattle.hc_shown.specs.declared.hidden.Parameter.TheVariants.{Name, Other, Value}
+use Rattle.hc_shown.specs.declared.hidden.Place.{Place}
 use Rattle.hc_shown.specs.Secrets.{is_secret_name}
 
 -- ---- what ends what

@@ -1,7 +1,7 @@
 -- What is shown of pieces.
 use Rattle.std.specs.Prelude.{ℕ, ◌+◌, ◌-◌, nat_le, List, [], ◌∷◌, ◌++◌, length, if◌then◌else◌}
-use Rattle.hc_shown.specs.declared.piece.Piece.{Piece}
-use Rattle.hc_shown.specs.declared.piece.Piece.TheVariants.{Hidden, Octet}
+use Rattle.hc_shown.specs.declared.values.Piece.{Piece}
+use Rattle.hc_shown.specs.declared.values.Piece.TheVariants.{Hidden, Octet}
 use Rattle.hc_shown.specs.Octets.{all_text, length_text, most_shown, octet_text}
 use Rattle.hc_shown.specs.Hidden.{pieces_of}
 

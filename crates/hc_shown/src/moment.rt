@@ -1,44 +1,21 @@
 //! Moments.
 
-ghost use Rattle.std.specs.Prelude.{◌≡◌, ◌++◌, OnOk, codes, string_bytes};
-ghost use Rattle.hc_shown.specs.Moments.{AddsMoment, IsDateTimeOf, date_text, date_time_text, time_text};
+ghost use Rattle.std.specs.Prelude.{◌≡◌, ◌++◌, OnOk, string_bytes};
+ghost use Rattle.hc_shown.specs.Moments.{AddsMoment, date_time_text};
 
-use jiff_core::civil::{Date, DateTime, Time};
+use jiff_core::civil::DateTime;
 use std::alloc::AllocError;
 use std::fmt::Write;
 
-/// The date and the time of day of a moment, if there is one.
-fn date_time(moment: u64) -> Option<DateTime>
-    ensures { IsDateTimeOf moment result }
-{
-    match DateTime::from_nanosecond(i128::from(moment) * 1_000_000_000) {
-        Ok(at) => Some(at),
-        Err(_) => None,
-    }
-}
-
-/// Puts a date at the end.
-fn push_date(date: Date, out: &mut String) -> Result<(), AllocError>
-    ensures { OnOk result (string_bytes out.new ≡ string_bytes out.old ++ date_text date) }
-{
-    let (year, month, day) = (date.year, date.month, date.day);
-    write!(out, "{year:04}-{month:02}-{day:02}")
-}
-
-/// Puts a space and a time of day at the end.
-fn push_time(time: Time, out: &mut String) -> Result<(), AllocError>
-    ensures { OnOk result (string_bytes out.new ≡ string_bytes out.old ++ (codes " " ++ time_text time)) }
-{
-    let (hour, minute, second) = (time.hour, time.minute, time.second);
-    write!(out, " {hour:02}:{minute:02}:{second:02}")
-}
-
-/// Puts a date and a time of day at the end.
 fn push_date_time(at: DateTime, out: &mut String) -> Result<(), AllocError>
     ensures { OnOk result (string_bytes out.new ≡ string_bytes out.old ++ date_time_text at) }
 {
-    push_date(at.date, out)?;
-    push_time(at.time, out)
+    let (year, month, day) = (at.date.year, at.date.month, at.date.day);
+    let (hour, minute, second) = (at.time.hour, at.time.minute, at.time.second);
+    write!(
+        out,
+        "{year:04}-{month:02}-{day:02} {hour:02}:{minute:02}:{second:02}"
+    )
 }
 
 /// Puts a moment, in seconds since 1970, at the end, as `2026-11-22 05:57:43` in UTC. One behind the year 9999 is
@@ -46,8 +23,8 @@ fn push_date_time(at: DateTime, out: &mut String) -> Result<(), AllocError>
 pub fn push_moment(moment: u64, out: &mut String) -> Result<(), AllocError>
     ensures { OnOk result (AddsMoment moment (string_bytes out.old) (string_bytes out.new)) }
 {
-    match date_time(moment) {
-        Some(at) => push_date_time(at, out),
-        None => write!(out, "{moment}"),
+    match DateTime::from_nanosecond(i128::from(moment) * 1_000_000_000) {
+        Ok(at) => push_date_time(at, out),
+        Err(_) => write!(out, "{moment}"),
     }
 }

@@ -1,8 +1,7 @@
 //! Octets that may be any.
 
 ghost use Rattle.std.specs.Prelude.{◌≡◌, ◌++◌, take, OnOk, string_bytes};
-ghost use Rattle.std.specs.Char.Escape.{escape_ascii};
-ghost use Rattle.hc_shown.specs.Octets.{IsShown, all_text, cut_text, first_text, length_text, octet_text, octets_text};
+ghost use Rattle.hc_shown.specs.Octets.{IsShown, all_text, first_text, length_text, octet_text, octets_text};
 
 use std::alloc::AllocError;
 use std::fmt::Write;
@@ -10,40 +9,29 @@ use std::fmt::Write;
 /// How many octets of a value are shown at most.
 pub const SHOWN: usize = 200;
 
-/// Puts what `escape_ascii` writes for an octet at the end.
-fn push_escaped(octet: u8, out: &mut String) -> Result<(), AllocError>
-    ensures { OnOk result (string_bytes out.new ≡ string_bytes out.old ++ escape_ascii octet) }
-{
-    for shown in octet.escape_ascii() {
-        out.push(char::from(shown))?;
-    }
-    Ok(())
-}
-
-/// Puts an octet at the end: printable ASCII as it is, but a double quote or a backslash behind a backslash; any other
-/// by what stands for it behind a backslash.
+/// Puts an octet at the end: printable ASCII as it is, but a double quote or a backslash after a backslash; any other
+/// by what stands for it after a backslash.
 pub(crate) fn push_octet(octet: u8, out: &mut String) -> Result<(), AllocError>
     ensures { OnOk result (string_bytes out.new ≡ string_bytes out.old ++ octet_text octet) }
 {
     if octet == b'\'' {
         return out.push_str("'");
     }
-    push_escaped(octet, out)
+    for shown in octet.escape_ascii() {
+        out.push(char::from(shown))?;
+    }
+    Ok(())
 }
 
 /// At most so many of the octets, the first ones.
 pub(crate) fn first(octets: &[u8], most: usize) -> &[u8]
     ensures { result.now ≡ take most octets.now }
 {
-    if octets.len() <= most {
-        octets
-    } else {
-        &octets[..most]
-    }
+    &octets[..octets.len().min(most)]
 }
 
-/// Puts at most so many of the octets at the end, the first ones, as `push_octets` does, and doesn't say how many there are.
-pub fn push_first(octets: &[u8], most: usize, out: &mut String) -> Result<(), AllocError>
+/// Puts at most so many of the octets at the end, the first ones, and doesn't say how many there are.
+pub(crate) fn push_first(octets: &[u8], most: usize, out: &mut String) -> Result<(), AllocError>
     ensures { OnOk result (string_bytes out.new ≡ string_bytes out.old ++ first_text most octets.now) }
 {
     for octet in first(octets, most) {
@@ -63,22 +51,11 @@ pub(crate) fn push_length(length: usize, out: &mut String) -> Result<(), AllocEr
 pub(crate) fn push_all(length: usize, out: &mut String) -> Result<(), AllocError>
     ensures { OnOk result (string_bytes out.new ≡ string_bytes out.old ++ all_text length) }
 {
-    out.push_str("...")?;
-    push_length(length, out)
+    write!(out, "...({length} octets)")
 }
 
-/// Says the length of what was cut, if there are more octets than are shown.
-fn push_cut(length: usize, out: &mut String) -> Result<(), AllocError>
-    ensures { OnOk result (string_bytes out.new ≡ string_bytes out.old ++ cut_text length) }
-{
-    if length <= SHOWN {
-        return Ok(());
-    }
-    push_all(length, out)
-}
-
-/// Puts octets at the end: printable ASCII as it is, but `"` and `\` behind a `\`; a line feed, a carriage return and
-/// a tab as `\n`, `\r` and `\t`; any other octet as `\x1b`. Behind so many as are shown it is cut, and says how many
+/// Puts octets at the end: printable ASCII as it is, but `"` and `\` after a `\`; a line feed, a carriage return and
+/// a tab as `\n`, `\r` and `\t`; any other octet as `\x1b`. After so many as are shown it is cut, and says how many
 /// there are, as `abc...(12345 octets)`.
 pub fn push_octets(octets: &[u8], out: &mut String) -> Result<(), AllocError>
     ensures text { OnOk result (string_bytes out.new ≡ string_bytes out.old ++ octets_text octets.now) }
@@ -86,5 +63,8 @@ pub fn push_octets(octets: &[u8], out: &mut String) -> Result<(), AllocError>
     ensures shown { OnOk result (IsShown (octets_text octets.now)) }
 {
     push_first(octets, SHOWN, out)?;
-    push_cut(octets.len(), out)
+    if octets.len() <= SHOWN {
+        return Ok(());
+    }
+    push_all(octets.len(), out)
 }

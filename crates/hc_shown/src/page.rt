@@ -1,10 +1,10 @@
 //! A page on which words are written, piece by piece.
 
+use crate::hidden::is_credential;
 use crate::moment::push_moment;
 use crate::octets::push_octets;
-use crate::target::push_target;
-use crate::teller::FieldOf;
-use crate::value::push_value;
+use crate::teller::{FieldOf, RecordName, Teller};
+use crate::values::{push_target, push_value};
 use hc_head::Target;
 use std::alloc::{AllocError, Global};
 use std::fmt::Write;
@@ -28,20 +28,12 @@ impl Drop for Page {
     }
 }
 
-// Writes spaces after that place, up to so many columns.
-fn pad(begun: usize, width: usize, text: &mut String) -> Result<(), AllocError> {
-    for _ in text.len()..begun.saturating_add(width) {
-        text.push(' ')?;
+fn lines_of(field: FieldOf<'_>) -> u64 {
+    let mut lines: u64 = 0;
+    for _line in field.fields.values(field.name) {
+        lines = lines.saturating_add(1);
     }
-    Ok(())
-}
-
-// Puts what a message has of a field at the end, or that there is none.
-fn push_field(alloc: Global, field: FieldOf<'_>, out: &mut String) -> Result<(), AllocError> {
-    match field.joined(alloc)? {
-        Some(value) => push_value(field.name, value.as_slice(), out),
-        None => out.push_str("none"),
-    }
+    lines
 }
 
 impl Page {
@@ -70,28 +62,20 @@ impl Page {
             is_refused,
         } = self;
         if is_refused {
-            return Err(AllocError);
+            Err(AllocError)
+        } else {
+            Ok(text)
         }
-        Ok(text)
     }
 
     /// Takes in that memory was refused to another page, if it was.
     pub fn take_refusal(&mut self, other: &Page) {
-        if other.is_refused {
-            self.is_refused = true;
-        }
-    }
-
-    // Another page, on which nothing is written.
-    pub(crate) fn another(&self) -> Self {
-        Page::new(self.alloc)
+        self.is_refused = self.is_refused || other.is_refused;
     }
 
     // Takes in whether a piece was written.
     fn note(&mut self, written: Result<(), AllocError>) {
-        if written.is_err() {
-            self.is_refused = true;
-        }
+        self.is_refused = self.is_refused || written.is_err();
     }
 
     /// Writes a text.
@@ -105,50 +89,6 @@ impl Page {
         self.text("\n");
     }
 
-    // Writes a number between two texts.
-    pub(crate) fn number_between(&mut self, before: &str, number: u64, after: &str) {
-        let written = write!(self.text, "{before}{number}{after}");
-        self.note(written);
-    }
-
-    // Writes a number that may be below 0 after a text.
-    pub(crate) fn signed_after(&mut self, before: &str, number: i64) {
-        let written = write!(self.text, "{before}{number}");
-        self.note(written);
-    }
-
-    // Writes octets as they are shown.
-    pub(crate) fn shown(&mut self, octets: &[u8]) {
-        let written = push_octets(octets, &mut self.text);
-        self.note(written);
-    }
-
-    // Writes the value of a field of that name as it is shown.
-    pub(crate) fn shown_value(&mut self, name: &[u8], value: &[u8]) {
-        let written = push_value(name, value, &mut self.text);
-        self.note(written);
-    }
-
-    // Writes what a message has of a field as it is shown, or that there is none.
-    pub(crate) fn joined_value(&mut self, field: FieldOf<'_>) {
-        let written = push_field(self.alloc, field, &mut self.text);
-        self.note(written);
-    }
-
-    // Writes a date and a time of day.
-    pub(crate) fn date_time(&mut self, moment: u64) {
-        let written = push_moment(moment, &mut self.text);
-        self.note(written);
-    }
-
-    // Writes a target.
-    pub(crate) fn shown_target(&mut self, target: &Target) {
-        let written = push_target(target, &mut self.text);
-        self.note(written);
-    }
-}
-
-impl Page {
     /// How many columns of text there are, all in all.
     pub fn columns(&self) -> usize {
         self.text.len()
@@ -156,8 +96,9 @@ impl Page {
 
     /// Writes spaces after that place, up to so many columns.
     pub fn pad(&mut self, begun: usize, width: usize) {
-        let written = pad(begun, width, &mut self.text);
-        self.note(written);
+        for _ in self.text.len()..begun.saturating_add(width) {
+            self.text(" ");
+        }
     }
 
     /// Writes a text, and spaces up to so many columns.
@@ -170,6 +111,114 @@ impl Page {
     /// Writes a number at the end of eight columns, and a text after it.
     pub fn column(&mut self, number: u64, after: &str) {
         let written = write!(self.text, "{number:>8}{after}");
+        self.note(written);
+    }
+
+    /// Writes a value of the field of that name as it is shown.
+    pub fn shown_value(&mut self, name: &[u8], value: &[u8]) {
+        let written = push_value(name, value, &mut self.text);
+        self.note(written);
+    }
+}
+
+impl Teller for Page {
+    fn is_text(&self) -> bool {
+        true
+    }
+
+    fn page(&self) -> Page {
+        Page::new(self.alloc)
+    }
+
+    fn words(&mut self, words: &str) {
+        self.text(words);
+    }
+
+    fn count(&mut self, before: &str, number: u64, after: &str) {
+        let written = write!(self.text, "{before}{number}{after}");
+        self.note(written);
+    }
+
+    fn record(&mut self, before: &str, record: RecordName) {
+        let (position, letter, number) = (record.position, record.letter(), record.number);
+        let written = write!(self.text, "{before}{position} {letter} {number}");
+        self.note(written);
+    }
+
+    fn moment(&mut self, moment: u64) {
+        let written = push_moment(moment, &mut self.text);
+        self.note(written);
+    }
+
+    fn said_octets(&mut self, before: &str, octets: &[u8], after: &str) {
+        self.text(before);
+        let written = push_octets(octets, &mut self.text);
+        self.note(written);
+        self.text(after);
+    }
+
+    fn said_value(&mut self, field: FieldOf<'_>) {
+        match field.joined(self.alloc) {
+            Ok(Some(value)) => self.shown_value(field.name, value.as_slice()),
+            Ok(None) => self.text("none"),
+            Err(_) => self.is_refused = true,
+        }
+    }
+
+    fn say(&mut self, page: Page) {
+        self.text(page.text.as_str());
+        self.take_refusal(&page);
+    }
+
+    fn fill(&mut self) {
+        let mut columns: usize = 0;
+        for octet in self.text.as_bytes().iter().rev() {
+            if *octet == b'\n' {
+                break;
+            }
+            columns = columns.saturating_add(1);
+        }
+        self.padded("", 15_usize.saturating_sub(columns));
+        self.text(" ");
+    }
+
+    fn signed(&mut self, _: &'static str, before: &str, number: i64) {
+        let written = write!(self.text, "{before}{number}");
+        self.note(written);
+    }
+
+    fn octets(&mut self, _: &'static str, before: &str, octets: &[u8]) {
+        self.said_octets(before, octets, "");
+    }
+
+    fn quoted(&mut self, _: &'static str, octets: &[u8]) {
+        self.shown_value(b"", octets);
+    }
+
+    fn values(&mut self, _: &'static str, before: &str, field: FieldOf<'_>) {
+        self.text(before);
+        let lines = lines_of(field);
+        if lines == 0 {
+            return self.text("none");
+        }
+        if is_credential(field.name) {
+            let after = if lines == 1 {
+                " value, hidden: "
+            } else {
+                " values, hidden: "
+            };
+            self.count("", lines, after);
+        }
+        let mut is_first = true;
+        for line in field.fields.values(field.name) {
+            self.separator(is_first, "", ", ");
+            self.shown_value(field.name, line);
+            is_first = false;
+        }
+    }
+
+    fn target(&mut self, _: &'static str, target: &Target) {
+        let written = push_target(target, &mut self.text);
         self.note(written);
     }
 }

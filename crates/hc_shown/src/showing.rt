@@ -13,7 +13,7 @@ use hc_transcript::{RecordFault, RecordReader};
 use std::alloc::{AllocError, Global};
 
 /// Shows the records of a transcript from one position to another. It holds the octets of a record that isn't whole yet,
-/// and reads no record behind the last.
+/// and reads no record after the last.
 #[derive(Drop)]
 pub struct Showing {
     reader: RecordReader,
@@ -63,7 +63,6 @@ impl Showing {
         self.show_whole(out)
     }
 
-    // Puts the records at the end of `out` that are whole and at one of the positions.
     fn show_whole(&mut self, out: &mut String) -> Result<Reach, AllocError>
         ensures { (span : Span) (octets text : List ℕ) → HasShown self.old span octets text
             → IfOk result (GivesReach self.new span octets text (string_bytes out.old) (string_bytes out.new)) }

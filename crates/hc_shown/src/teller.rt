@@ -1,10 +1,36 @@
 //! Who is told facts: a text, or the members of an object.
 
-use crate::names::RecordName;
 use crate::page::Page;
 use hc_fields::{Fields, Octets};
 use hc_head::{Method, Target};
+use hc_transcript::Kind;
 use std::alloc::{AllocError, Global};
+
+/// A record of a recording.
+#[derive(Clone, Copy)]
+pub struct RecordName {
+    /// Its position, of which that of the first record is 1.
+    pub position: u64,
+    /// What passed.
+    pub kind: Kind,
+    /// The number of its exchange or its forward.
+    pub number: u64,
+    /// In whole seconds since 1970.
+    pub moment: u64,
+}
+
+impl RecordName {
+    /// The letter that begins a record of its kind.
+    pub fn letter(&self) -> &'static str {
+        match self.kind {
+            Kind::ClientRequest => "q",
+            Kind::OriginRequest => "f",
+            Kind::OriginResponse => "r",
+            Kind::OriginFailure => "x",
+            Kind::ClientReply => "a",
+        }
+    }
+}
 
 /// What a message has of a field: nothing, or its lines.
 #[derive(Clone, Copy)]
@@ -34,59 +60,68 @@ pub trait Teller {
     /// Whether it is a text.
     fn is_text(&self) -> bool;
 
-    /// Words. A text alone has them.
-    fn words(&mut self, words: &str);
-
-    /// A number that no member has, between two texts.
-    fn count(&mut self, before: &str, number: u64, after: &str);
-
-    /// A record that is named after a text, by its position, its letter and its number. An object has it by `begin_record`.
-    fn record(&mut self, before: &str, record: RecordName);
-
-    /// A moment, as a date and a time of day. A text alone has it.
-    fn moment(&mut self, moment: u64);
-
-    /// Octets between two texts. A text alone has them.
-    fn said_octets(&mut self, before: &str, octets: &[u8], after: &str);
-
-    /// What a message has of a field, with its lines joined, or `none`. A text alone has it.
-    fn said_value(&mut self, field: FieldOf<'_>);
-
-    /// A number that an object alone has.
-    fn fact(&mut self, name: &'static str, number: u64);
-
-    /// A number that an object alone has, or null.
-    fn some(&mut self, name: &'static str, number: Option<u64>);
-
-    /// A text that an object alone has.
-    fn word(&mut self, name: &'static str, word: &str);
-
-    /// What is true or false, which an object alone has.
-    fn flag(&mut self, name: &'static str, flag: bool);
-
-    /// What a message has of a field, with its lines joined, or null, which an object alone has.
-    fn known(&mut self, name: &'static str, field: FieldOf<'_>);
-
     /// A page on which nothing is written.
     fn page(&self) -> Page;
 
+    /// Words. A text alone has them.
+    fn words(&mut self, _words: &str) {}
+
+    /// A number that no member has, between two texts.
+    fn count(&mut self, _before: &str, _number: u64, _after: &str) {}
+
+    /// A record that is named after a text, by its position, its letter and its number. An object has it by `place`.
+    fn record(&mut self, _before: &str, _record: RecordName) {}
+
+    /// A moment, as a date and a time of day. A text alone has it.
+    fn moment(&mut self, _moment: u64) {}
+
+    /// Octets between two texts. A text alone has them.
+    fn said_octets(&mut self, _before: &str, _octets: &[u8], _after: &str) {}
+
+    /// What a message has of a field, with its lines joined, or `none`. A text alone has it.
+    fn said_value(&mut self, _field: FieldOf<'_>) {}
+
+    /// What is written on a page. A text alone has it.
+    fn say(&mut self, _page: Page) {}
+
+    /// Spaces up to the 16th column of a line, and one at least. A text alone has them.
+    fn fill(&mut self) {}
+
+    /// A number that an object alone has.
+    fn fact(&mut self, _name: &'static str, _number: u64) {}
+
+    /// A number that an object alone has, or null.
+    fn some(&mut self, _name: &'static str, _number: Option<u64>) {}
+
+    /// A text that an object alone has.
+    fn word(&mut self, _name: &'static str, _word: &str) {}
+
+    /// What is true or false, which an object alone has.
+    fn flag(&mut self, _name: &'static str, _flag: bool) {}
+
+    /// What a message has of a field, with its lines joined, or null, which an object alone has.
+    fn known(&mut self, _name: &'static str, _field: FieldOf<'_>) {}
+
     /// What is written on a page, which an object alone has.
-    fn said(&mut self, name: &'static str, page: Page);
+    fn said(&mut self, _name: &'static str, _page: Page) {}
 
     /// Begins an object of that name in an object.
-    fn begin(&mut self, name: &'static str);
+    fn begin(&mut self, _name: &'static str) {}
 
     /// Begins a list of that name in an object.
-    fn begin_list(&mut self, name: &'static str);
+    fn begin_list(&mut self, _name: &'static str) {}
 
     /// Begins an object in a list.
-    fn begin_item(&mut self);
+    fn begin_item(&mut self) {}
 
     /// Ends the object or the list that was begun last.
-    fn end(&mut self);
+    fn end(&mut self) {}
 
     /// A number, in a text between two others.
-    fn number(&mut self, name: &'static str, before: &str, number: u64, after: &str);
+    fn number(&mut self, name: &'static str, before: &str, number: u64, after: &str) {
+        self.count(before, number, after);
+        self.fact(name, number);
+    }
 
     /// A number that may be below 0, in a text after another.
     fn signed(&mut self, name: &'static str, before: &str, number: i64);
