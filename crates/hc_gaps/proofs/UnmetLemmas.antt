@@ -1,9 +1,12 @@
 -- Members that are named one after another.
-use Rattle.std.proofs.Common.{◌≡◌, ◌<◌, ◌++◌, ℕ, List, [], ◌∷◌, length, map, ap, sym, subst, ◌∙◌}
+use Rattle.std.proofs.Common.{◌≡◌, ◌<◌, ◌++◌, ℕ, Bool, true, cond, List, [], ◌∷◌, length, map, ap, sym, subst, ◌∙◌}
 use Rattle.std.proofs.lemmas.List.{map-append, length-map}
+use Rattle.std.specs.Prelude.{filter}
+use Rattle.hc_update.specs.declared.stored.Stored.{Stored}
+use Rattle.hc_history.specs.Claims.{Claim}
 use Rattle.hc_gaps.specs.declared.selecting.Selection.{Selection}
 use Rattle.hc_gaps.specs.declared.selecting.UnmetMember.{UnmetMember}
-use Rattle.hc_gaps.specs.Selecting.{AreNamed, IsMember, IsTold, most_named}
+use Rattle.hc_gaps.specs.Selecting.{AreNamed, IsMember, IsTold, is_unmet, most_named}
 use Rattle.hc_gaps.proofs.FirstLemmas.{one_named}
 use Rattle.hc_gaps.proofs.ListedLemmas.{all_more}
 
@@ -11,7 +14,7 @@ abbrev names : List UnmetMember → List (List ℕ)
 names found = map (λ (one : UnmetMember). one.member) found
 
 -- one more is named, where there is room
-pub named : (members : List (List ℕ)) (member : List ℕ) (found new : Selection) (one : UnmetMember)
+named : (members : List (List ℕ)) (member : List ℕ) (found new : Selection) (one : UnmetMember)
     → length found.unmet.items < most_named → new.unmet.items ≡ found.unmet.items ++ one ∷ [] → new.more ≡ found.more
     → IsMember member one
     → AreNamed members found → AreNamed (members ++ member ∷ []) new
@@ -25,3 +28,12 @@ named members member found new one room items more is are =
           (subst (λ (m : List ℕ). IsMember m one) (sym is.member_is) is) are.each;
       first = record { first = same ∙ first.first; others = more ∙ first.others };
     }
+
+-- one that is unmet is named
+pub taken : (claim : Claim) (state : Stored) (members : List (List ℕ)) (member : List ℕ) (found new : Selection) (one : UnmetMember)
+    → is_unmet claim state member ≡ true → length found.unmet.items < most_named
+    → new.unmet.items ≡ found.unmet.items ++ one ∷ [] → new.more ≡ found.more → IsMember member one
+    → AreNamed members found → AreNamed (members ++ filter (is_unmet claim state) (member ∷ [])) new
+taken claim state members member found new one unmet room items more is are =
+    subst (λ (b : Bool). AreNamed (members ++ cond b (member ∷ []) []) new) (sym unmet)
+    (named members member found new one room items more is are)

@@ -175,30 +175,22 @@ impl Against {
         selects(alloc, &state.fields, &state.request.fields, &forward.fields)
     }
 
-    /// A word for it: the name of the field that tells it, where one does.
-    pub fn name(&self) -> &'static str {
+    // A word for it, and words.
+    fn named(&self) -> (&'static str, &'static str) {
         match self {
-            Against::Earlier => "earlier",
-            Against::Method => "method",
-            Against::ForwardNoStore => "forward_no_store",
-            Against::Private => "private",
-            Against::NoStore => "no_store",
-            Against::Unselected => "vary",
-            Against::Validators(telling) => telling.names().0,
+            Against::Earlier => ("earlier", "before it came"),
+            Against::Method => ("method", "its forward is no GET"),
+            Against::ForwardNoStore => ("forward_no_store", "its forward says no-store"),
+            Against::Private => ("private", "it says private"),
+            Against::NoStore => ("no_store", "it says no-store"),
+            Against::Unselected => ("vary", "Vary doesn't select its forward"),
+            Against::Validators(telling) => (telling.names().0, "its validator is another one"),
         }
     }
 
-    // Words for it, but where the validators don't agree.
-    fn words(&self) -> &'static str {
-        match self {
-            Against::Earlier => "before it came",
-            Against::Method => "its forward is no GET",
-            Against::ForwardNoStore => "its forward says no-store",
-            Against::Private => "it says private",
-            Against::NoStore => "it says no-store",
-            Against::Unselected => "Vary doesn't select its forward",
-            Against::Validators(_) => "its validator is another one",
-        }
+    /// A word for it: the name of the field that tells it, where one does.
+    pub fn name(&self) -> &'static str {
+        self.named().0
     }
 
     /// Tells words for it, and what the 304 and the response of those fields have where their validators don't agree.
@@ -211,7 +203,7 @@ impl Against {
     ) {
         teller.word("against", self.name());
         let Against::Validators(telling) = self else {
-            return teller.words(self.words());
+            return teller.words(self.named().1);
         };
         let (name, of, validator) = telling.names();
         teller.words(name);

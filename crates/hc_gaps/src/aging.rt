@@ -62,16 +62,6 @@ pub struct TtlGap {
     pub slack: u32,
 }
 
-// What one Age line tells.
-fn told_by(value: &[u8]) -> AgeTold
-    ensures { IsAgeTold (value.now ∷ []) result }
-{
-    match number(value) {
-        Some(seconds) => AgeTold::Seconds(seconds),
-        None => AgeTold::Unreadable,
-    }
-}
-
 // What the Age lines among those fields tell.
 fn age_told(fields: &Fields) -> AgeTold
     ensures { IsAgeTold (values_of (codes "age") fields.now) result }
@@ -83,7 +73,10 @@ fn age_told(fields: &Fields) -> AgeTold
     if values.next().is_some() {
         return AgeTold::Several;
     }
-    told_by(value)
+    match number(value) {
+        Some(seconds) => AgeTold::Seconds(seconds),
+        None => AgeTold::Unreadable,
+    }
 }
 
 /// What the age of the response at the reply is reckoned from.
@@ -151,41 +144,6 @@ impl TtlGap {
     }
 }
 
-const MISSING_OF_304: Demand = Demand {
-    sections: "RFC 9111 section 4",
-    words: "a 304 that a cache makes of what is stored MUST have an Age, as all that comes from the store",
-};
-
-const MISSING: Demand = Demand {
-    sections: "RFC 9111 section 4",
-    words: "a reply from the store MUST have an Age",
-};
-
-const ONE_NUMBER: Demand = Demand {
-    sections: "RFC 9111 section 5.1",
-    words: "Age is one number of seconds",
-};
-
-const SINCE_VALIDATED: Demand = Demand {
-    sections: "RFC 9111 sections 4.2 and 5.1",
-    words: "a response's age, which Age tells, is the time since it was generated, or was validated last, at the origin",
-};
-
-const AGE: Demand = Demand {
-    sections: "RFC 9111 sections 4 and 4.2.3",
-    words: "Age MUST be what the response's Age or Date says, with the seconds that it was on its way, and those since",
-};
-
-const VALIDATED: Demand = Demand {
-    sections: "no RFC (RFC 9111 section 4 asks for an Age where what is stored is used without validation), but this auditor's stricter rule",
-    words: "what comes from the store has an Age, also after a 304 to the request itself",
-};
-
-const BY_AGE_ALONE: Demand = Demand {
-    sections: "no RFC (RFC 9111 section 4.2.3 lets a cache count by Age alone where it trusts that), but this auditor's stricter rule",
-    words: "Age is what the response's Age or its Date says, whichever is more, with the seconds since",
-};
-
 /// What is asked of the seconds of a mark.
 pub const TTL: Demand = Demand {
     sections: "RFC 9211 section 2.4",
@@ -193,12 +151,21 @@ pub const TTL: Demand = Demand {
 };
 
 impl AgeParts {
+    // For how many seconds the response was on its way.
+    fn delay(&self) -> u64 {
+        let times = self.times;
+        times.response_time.saturating_sub(times.request_time)
+    }
+
+    // How old its Date said it to be when it came.
+    fn apparent(&self) -> u64 {
+        self.times.response_time.saturating_sub(self.times.date)
+    }
+
     /// The age that is counted by the response's Age alone, where its Date tells of more.
     pub(crate) fn by_age_alone(&self) -> Option<u64> {
-        let times = self.times;
-        let delay = times.response_time.saturating_sub(times.request_time);
-        let corrected = u64::from(times.age_value).saturating_add(delay);
-        if times.response_time.saturating_sub(times.date) <= corrected {
+        let corrected = u64::from(self.times.age_value).saturating_add(self.delay());
+        if self.apparent() <= corrected {
             return None;
         }
         Some(corrected.saturating_add(self.resident))
@@ -218,13 +185,33 @@ impl AgeGap {
     /// if one has.
     pub fn demand(&self, since: u64, validated_at: Option<u64>, status: StatusCode) -> Demand {
         match (self.told, validated_at) {
-            (AgeTold::Missing, Some(validated)) if since < validated => VALIDATED,
-            (AgeTold::Missing, _) if status == StatusCode::NOT_MODIFIED => MISSING_OF_304,
-            (AgeTold::Missing, _) => MISSING,
-            (AgeTold::Several | AgeTold::Unreadable, _) => ONE_NUMBER,
-            (AgeTold::Seconds(told), _) if self.is_by_age_alone(told) => BY_AGE_ALONE,
-            (AgeTold::Seconds(_), Some(_)) => SINCE_VALIDATED,
-            (AgeTold::Seconds(_), None) => AGE,
+            (AgeTold::Missing, Some(validated)) if since < validated => Demand::of(
+                "no RFC (RFC 9111 section 4 asks for an Age where what is stored is used without validation), but this auditor's stricter rule",
+                "what comes from the store has an Age, also after a 304 to the request itself",
+            ),
+            (AgeTold::Missing, _) if status == StatusCode::NOT_MODIFIED => Demand::of(
+                "RFC 9111 section 4",
+                "a 304 that a cache makes of what is stored MUST have an Age, as all that comes from the store",
+            ),
+            (AgeTold::Missing, _) => Demand::of(
+                "RFC 9111 section 4",
+                "a reply from the store MUST have an Age",
+            ),
+            (AgeTold::Several | AgeTold::Unreadable, _) => {
+                Demand::of("RFC 9111 section 5.1", "Age is one number of seconds")
+            }
+            (AgeTold::Seconds(told), _) if self.is_by_age_alone(told) => Demand::of(
+                "no RFC (RFC 9111 section 4.2.3 lets a cache count by Age alone where it trusts that), but this auditor's stricter rule",
+                "Age is what the response's Age or its Date says, whichever is more, with the seconds since",
+            ),
+            (AgeTold::Seconds(_), Some(_)) => Demand::of(
+                "RFC 9111 sections 4.2 and 5.1",
+                "a response's age, which Age tells, is the time since it was generated, or was validated last, at the origin",
+            ),
+            (AgeTold::Seconds(_), None) => Demand::of(
+                "RFC 9111 sections 4 and 4.2.3",
+                "Age MUST be what the response's Age or Date says, with the seconds that it was on its way, and those since",
+            ),
         }
     }
 }
@@ -260,32 +247,19 @@ pub(crate) fn say_slack<T: Teller>(slack: u32, option: &str, teller: &mut T) {
 }
 
 impl AgeParts {
-    // Tells for how many seconds the response was on its way.
-    fn say_delay<T: Teller>(&self, sent: Option<RecordName>, teller: &mut T) {
-        let delay = self
-            .times
-            .response_time
-            .saturating_sub(self.times.request_time);
-        teller.count("", delay, " (on its way");
+    // Tells the age that the response had when it came: by its Date, or by its Age and the time that it took.
+    fn say_first<T: Teller>(&self, sent: Option<RecordName>, teller: &mut T) {
+        if self.by_age_alone().is_some() {
+            return teller.count("", self.apparent(), " (Date)");
+        }
+        if self.times.age_value != 0 {
+            teller.count("", u64::from(self.times.age_value), " (Age) + ");
+        }
+        teller.count("", self.delay(), " (on its way");
         if let Some(sent) = sent {
             teller.record(" since ", sent);
         }
         teller.words(")");
-    }
-
-    // Tells the age that the response had when it came: by its Date, or by its Age and the time that it took.
-    fn say_first<T: Teller>(&self, sent: Option<RecordName>, teller: &mut T) {
-        let times = self.times;
-        let apparent = times.response_time.saturating_sub(times.date);
-        let delay = times.response_time.saturating_sub(times.request_time);
-        let told = u64::from(times.age_value);
-        if told.saturating_add(delay) < apparent {
-            return teller.count("", apparent, " (Date)");
-        }
-        if told != 0 {
-            teller.count("", told, " (Age) + ");
-        }
-        self.say_delay(sent, teller);
     }
 
     /// Tells of what an age is the sum, after what stands for the age.
@@ -320,32 +294,29 @@ fn is_by_recorder(reply: &Fields) -> bool {
 }
 
 impl AgeGap {
-    // Tells the seconds that the reply has, and whether the recorder wrote them.
-    fn tell_seconds<T: Teller>(told: u32, reply: &Fields, teller: &mut T) {
+    // Tells the seconds that the reply of those fields has, whether the recorder wrote them, and what would be due counted from
+    // the arrival of the response alone, if that is something else.
+    fn tell_seconds<T: Teller>(&self, told: u32, reply: &Fields, teller: &mut T) {
         teller.number("told", "", u64::from(told), "");
         if is_by_recorder(reply) {
             teller.words(", which the recorder wrote, by the reply's Date");
             teller.flag("by_recorder", true);
         }
+        if u64::from(self.due) != self.parts.resident {
+            let before = " (counted from its arrival alone ";
+            teller.count(before, self.parts.resident, ")");
+        }
     }
 
-    // Tells the Age that the reply has.
+    // Tells the Age that the reply of those fields has.
     fn tell_told<T: Teller>(&self, reply: &Fields, teller: &mut T) {
         match self.told {
-            AgeTold::Seconds(told) => return AgeGap::tell_seconds(told, reply, teller),
+            AgeTold::Seconds(told) => return self.tell_seconds(told, reply, teller),
             AgeTold::Missing => teller.words("none"),
             AgeTold::Several => teller.words("several lines"),
             AgeTold::Unreadable => teller.said_value(FieldOf::new(b"age", reply)),
         }
         teller.some("told", None);
-    }
-
-    // Tells what would be due counted from the arrival of the response alone, if that is something else.
-    fn say_by_arrival<T: Teller>(&self, teller: &mut T) {
-        if u64::from(self.due) != self.parts.resident {
-            let before = " (counted from its arrival alone ";
-            teller.count(before, self.parts.resident, ")");
-        }
     }
 
     // Tells that the Age with which the response came counts no more since a 304, whose own counts as so much.
@@ -366,8 +337,7 @@ impl AgeGap {
         teller.number("due", "age: due ", u64::from(self.due), "");
         teller.fact("slack", u64::from(self.slack));
         self.parts.tell(origin, teller);
-        let is_number = matches!(self.told, AgeTold::Seconds(_));
-        if is_number {
+        if matches!(self.told, AgeTold::Seconds(_)) {
             let option = if self.is_own_slack {
                 "--age-slack"
             } else {
@@ -377,9 +347,6 @@ impl AgeGap {
         }
         teller.words(", the reply has ");
         self.tell_told(reply, teller);
-        if is_number {
-            self.say_by_arrival(teller);
-        }
         if let Some(aged) = origin.aged {
             self.say_former(aged, teller);
         }

@@ -1,6 +1,6 @@
 //! Values that mean the same though they are written in other ways, and fields that a directive names.
 
-use hc_fields::{Fields, Octets, list_members};
+use hc_fields::{Fields, Octets, is_among, list_members};
 use hc_shown::FieldOf;
 use std::alloc::{AllocError, Global};
 
@@ -12,24 +12,23 @@ const PREFERENCES: [&[u8]; 4] = [
     b"accept-language",
 ];
 
-// A value of which the blanks beside commas and semicolons are left out, but for those in quoted strings.
-struct Tight {
-    octets: Vec<u8>,
-    // How many blanks it ends with.
-    blanks: usize,
-    is_quoted: bool,
-    is_escaped: bool,
+// Where an octet of a value stands.
+#[derive(Clone, Copy)]
+enum Place {
+    Plain,
+    Quoted,
+    Escaped,
 }
 
-impl Drop for Tight {
-    fn drop(self) {
-        let Tight {
-            octets,
-            blanks: _,
-            is_quoted: _,
-            is_escaped: _,
-        } = self;
-        drop(octets);
+impl Place {
+    // Where the octet after that one stands.
+    fn after(self, octet: u8) -> Self {
+        match (self, octet) {
+            (Place::Plain, b'"') | (Place::Escaped, _) => Place::Quoted,
+            (Place::Quoted, b'\\') => Place::Escaped,
+            (Place::Quoted, b'"') => Place::Plain,
+            _ => self,
+        }
     }
 }
 
@@ -38,105 +37,40 @@ fn separates(octet: u8) -> bool {
     octet == b',' || octet == b';'
 }
 
-impl Tight {
-    // Takes in the next octet of a quoted string.
-    fn take_quoted(&mut self, octet: u8) -> Result<(), AllocError> {
-        if self.is_escaped {
-            self.is_escaped = false;
-        } else if octet == b'\\' {
-            self.is_escaped = true;
-        } else if octet == b'"' {
-            self.is_quoted = false;
-        }
-        self.octets.push(octet)?;
-        Ok(())
-    }
-
-    // Whether nothing stands before the next octet, or what separates.
-    fn is_at_separator(&self) -> bool {
-        match self.octets.last() {
-            Some(last) => separates(*last),
-            None => true,
-        }
-    }
-
-    // Takes in a blank.
-    fn take_blank(&mut self, octet: u8) -> Result<(), AllocError> {
-        if self.is_at_separator() {
-            return Ok(());
-        }
-        self.octets.push(octet)?;
-        self.blanks = self.blanks.saturating_add(1);
-        Ok(())
-    }
-
-    // Leaves out the blanks at the end.
-    fn leave_blanks(&mut self) {
-        let left = self.octets.len().saturating_sub(self.blanks);
-        self.octets.truncate(left);
-        self.blanks = 0;
-    }
-
-    // Takes in the next octet that isn't quoted.
-    fn take_plain(&mut self, octet: u8) -> Result<(), AllocError> {
-        if octet == b' ' || octet == b'\t' {
-            return self.take_blank(octet);
-        }
-        if separates(octet) {
-            self.leave_blanks();
-        }
-        self.blanks = 0;
-        self.is_quoted = octet == b'"';
-        self.octets.push(octet)?;
-        Ok(())
-    }
-
-    // Takes in the next octet.
-    fn take(&mut self, octet: u8) -> Result<(), AllocError> {
-        if self.is_quoted {
-            self.take_quoted(octet)
-        } else {
-            self.take_plain(octet)
-        }
-    }
-
-    // What was taken in, which is moved.
-    fn into_octets(self) -> Octets {
-        let Tight {
-            octets,
-            blanks: _,
-            is_quoted: _,
-            is_escaped: _,
-        } = self;
-        Octets::from_vec(octets)
-    }
-
-    // Takes in all those octets.
-    fn take_all(&mut self, octets: &[u8]) -> Result<(), AllocError> {
-        for octet in octets {
-            self.take(*octet)?;
-        }
-        self.leave_blanks();
-        Ok(())
+// Whether nothing stands at the end of those octets, or what separates.
+fn ends_at_separator(octets: &[u8]) -> bool {
+    match octets.last() {
+        Some(last) => separates(*last),
+        None => true,
     }
 }
 
-// Those octets without the blanks beside commas and semicolons.
+// Those octets without the blanks beside commas and semicolons, but for those in quoted strings.
 fn tightened(alloc: Global, octets: &[u8]) -> Result<Octets, AllocError> {
-    let mut tight = Tight {
-        octets: Vec::new(alloc),
-        blanks: 0,
-        is_quoted: false,
-        is_escaped: false,
-    };
-    let taken = tight.take_all(octets);
-    taken?;
-    Ok(tight.into_octets())
+    let mut tight = Vec::new(alloc);
+    let mut without_blanks: usize = 0;
+    let mut place = Place::Plain;
+    for octet in octets {
+        let is_plain = matches!(place, Place::Plain);
+        let is_blank = is_plain && (*octet == b' ' || *octet == b'\t');
+        if is_plain && separates(*octet) {
+            tight.truncate(without_blanks);
+        }
+        if !is_blank || !ends_at_separator(tight.as_slice()) {
+            tight.push(*octet)?;
+        }
+        if !is_blank {
+            without_blanks = tight.len();
+        }
+        place = place.after(*octet);
+    }
+    tight.truncate(without_blanks);
+    Ok(Octets::from_vec(tight))
 }
 
-// What a message has of a field, without the blanks beside commas and semicolons; none where there is none.
-fn tight_of(alloc: Global, field: FieldOf<'_>) -> Result<Option<Octets>, AllocError> {
-    match field.joined(alloc)? {
+// What those fields have of a name, without the blanks beside commas and semicolons; none where there is none.
+fn tight_of(alloc: Global, name: &[u8], fields: &Fields) -> Result<Option<Octets>, AllocError> {
+    match FieldOf::new(name, fields).joined(alloc)? {
         Some(value) => Ok(Some(tightened(alloc, value.as_slice())?)),
         None => Ok(None),
     }
@@ -163,16 +97,6 @@ fn has_all(one: &[u8], other: &[u8]) -> bool {
     true
 }
 
-// Whether a field of that name is a list of preferences.
-fn is_preference(name: &[u8]) -> bool {
-    for known in &PREFERENCES {
-        if name.eq_ignore_ascii_case(known) {
-            return true;
-        }
-    }
-    false
-}
-
 /// Whether both have the field, and mean the same by it though it may be written in other ways: with blanks beside commas and
 /// semicolons, or in several lines (RFC 9110 sections 5.3 and 5.6.1).
 pub fn is_same_list(
@@ -181,8 +105,8 @@ pub fn is_same_list(
     one: &Fields,
     other: &Fields,
 ) -> Result<bool, AllocError> {
-    let one = tight_of(alloc, FieldOf::new(name, one))?;
-    let other = tight_of(alloc, FieldOf::new(name, other))?;
+    let one = tight_of(alloc, name, one)?;
+    let other = tight_of(alloc, name, other)?;
     Ok(one.is_some() && one == other)
 }
 
@@ -194,11 +118,12 @@ pub fn is_same_selector(
     one: &Fields,
     other: &Fields,
 ) -> Result<bool, AllocError> {
-    if !is_preference(name) {
+    let known = name.to_ascii_lowercase(alloc)?;
+    if !is_among(&PREFERENCES, known.as_slice()) {
         return is_same_list(alloc, name, one, other);
     }
-    let one = tight_of(alloc, FieldOf::new(name, one))?;
-    let other = tight_of(alloc, FieldOf::new(name, other))?;
+    let one = tight_of(alloc, name, one)?;
+    let other = tight_of(alloc, name, other)?;
     match (&one, &other) {
         (Some(one), Some(other)) => {
             Ok(
@@ -231,9 +156,13 @@ fn has_any_case(name: &[u8], fields: &Fields) -> bool {
     false
 }
 
-// Whether one of the fields that an argument names is among both.
+// Whether one of the fields that an argument names, between quotes or not, is among both.
 fn has_named(argument: &[u8], one: &Fields, other: &Fields) -> bool {
-    for name in list_members(argument) {
+    let names = match argument {
+        [b'"', inner @ .., b'"'] => inner,
+        _ => argument,
+    };
+    for name in list_members(names) {
         if has_any_case(name, one) && has_any_case(name, other) {
             return true;
         }
@@ -241,27 +170,13 @@ fn has_named(argument: &[u8], one: &Fields, other: &Fields) -> bool {
     false
 }
 
-// What stands between the quotes of an argument, or all of one that isn't quoted.
-fn unquoted(argument: &[u8]) -> &[u8] {
-    match argument {
-        [b'"', inner @ .., b'"'] => inner,
-        _ => argument,
-    }
-}
-
-// The argument of that directive, if the member is one and has one; and whether it is one.
-fn argument_of<'a>(member: &'a [u8], directive: &[u8]) -> (bool, Option<&'a [u8]>) {
-    if member.len() < directive.len() {
-        return (false, None);
-    }
-    let (name, rest) = member.split_at(directive.len());
-    if !name.eq_ignore_ascii_case(directive) {
-        return (false, None);
-    }
-    match rest.split_first() {
-        None => (true, None),
-        Some((b'=', argument)) => (true, Some(unquoted(argument))),
-        Some(_) => (false, None),
+// What stands in a member after that directive; none where it begins otherwise.
+fn after_directive<'a>(member: &'a [u8], directive: &[u8]) -> Option<&'a [u8]> {
+    let (name, rest) = member.split_at_checked(directive.len())?;
+    if name.eq_ignore_ascii_case(directive) {
+        Some(rest)
+    } else {
+        None
     }
 }
 
@@ -270,11 +185,13 @@ fn argument_of<'a>(member: &'a [u8], directive: &[u8]) -> (bool, Option<&'a [u8]
 pub fn qualified_by(directive: &[u8], response: &Fields, reply: &Fields) -> Qualified {
     let mut found = Qualified::Wholly;
     for member in response.members(b"cache-control") {
-        match argument_of(member, directive) {
-            (false, _) => {}
-            (true, None) => return Qualified::Wholly,
-            (true, Some(named)) if has_named(named, response, reply) => return Qualified::Kept,
-            (true, Some(_)) => found = Qualified::LeftOut,
+        match after_directive(member, directive) {
+            Some([]) => return Qualified::Wholly,
+            Some([b'=', named @ ..]) if has_named(named, response, reply) => {
+                return Qualified::Kept;
+            }
+            Some([b'=', ..]) => found = Qualified::LeftOut,
+            _ => {}
         }
     }
     found

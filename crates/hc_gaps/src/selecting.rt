@@ -3,6 +3,7 @@
 ghost use Rattle.std.specs.Prelude.{◌≡◌, ◌++◌, List, ℕ, [], ◌∷◌, filter, IfOk, OnOk};
 ghost use Rattle.hc_gaps.specs.Selecting.{AreNamed, AreUnmet, is_unmet};
 
+use crate::Pair;
 use crate::demand::Demand;
 use crate::forms::is_same_selector;
 use crate::newest::NAMED;
@@ -16,6 +17,7 @@ use std::alloc::{AllocError, Global};
 const VARY: &[u8] = b"vary";
 
 /// A member of a Vary that doesn't select the request.
+#[derive(Drop)]
 pub struct UnmetMember {
     /// The member, as it is written.
     pub member: Octets,
@@ -23,17 +25,6 @@ pub struct UnmetMember {
     pub is_name: bool,
     /// Whether both requests mean the same by the field, though it is written in other ways.
     pub is_form: bool,
-}
-
-impl Drop for UnmetMember {
-    fn drop(self) {
-        let UnmetMember {
-            member,
-            is_name: _,
-            is_form: _,
-        } = self;
-        drop(member);
-    }
 }
 
 /// By which members of its Vary a response doesn't answer a request.
@@ -48,27 +39,6 @@ impl Drop for Selection {
     fn drop(self) {
         let Selection { unmet, more: _ } = self;
         drop(unmet);
-    }
-}
-
-impl UnmetMember {
-    ghost use Rattle.hc_gaps.specs.Selecting.{IsMember};
-
-    // That member of the Vary of a response.
-    fn read(
-        alloc: Global,
-        claim: &ReplyClaim<'_>,
-        state: &Stored,
-        member: &[u8],
-    ) -> Result<Self, AllocError>
-        ensures { IfOk result (IsMember member.now) }
-    {
-        let (answered, asked) = (&state.request.fields, &claim.request.fields);
-        Ok(UnmetMember {
-            member: Octets::from_slice(alloc, member)?,
-            is_name: is_token(member) && member != b"*".as_slice(),
-            is_form: is_same_selector(alloc, member, answered, asked)?,
-        })
     }
 }
 
@@ -92,27 +62,7 @@ pub fn unmet_members(
 }
 
 impl Selection {
-    /// Takes in a member that doesn't select the request.
-    fn note(
-        &mut self,
-        alloc: Global,
-        claim: &ReplyClaim<'_>,
-        state: &Stored,
-        member: &[u8],
-    ) -> Result<(), AllocError>
-        ensures { (members : List (List ℕ)) → AreNamed members self.old
-            → OnOk result (AreNamed (members ++ member.now ∷ []) self.new) }
-    {
-        if NAMED <= self.unmet.len() {
-            self.more = self.more.saturating_add(1);
-            return Ok(());
-        }
-        self.unmet
-            .push(UnmetMember::read(alloc, claim, state, member)?)?;
-        Ok(())
-    }
-
-    /// Takes in a member, if it doesn't select the request.
+    // Takes in a member, if it doesn't select the request.
     fn take(
         &mut self,
         alloc: Global,
@@ -126,58 +76,46 @@ impl Selection {
         if is_met_or_normalized(alloc, claim, state, member)? {
             return Ok(());
         }
-        self.note(alloc, claim, state, member)
+        if NAMED <= self.unmet.len() {
+            self.more = self.more.saturating_add(1);
+            return Ok(());
+        }
+        let (answered, asked) = (&state.request.fields, &claim.request.fields);
+        self.unmet.push(UnmetMember {
+            member: Octets::from_slice(alloc, member)?,
+            is_name: is_token(member) && member != b"*".as_slice(),
+            is_form: is_same_selector(alloc, member, answered, asked)?,
+        })?;
+        Ok(())
     }
 }
 
-const SELECTED: Demand = Demand {
-    sections: "RFC 9111 section 4.1",
-    words: "a stored response MUST NOT answer a request that differs from its own in what its Vary names",
-};
-
-const SAME_SELECTOR: Demand = Demand {
-    sections: "no RFC (RFC 9111 section 4.1 lets a cache normalize space, case and order where they mean nothing in a field), but this auditor's stricter rule",
-    words: "a stored response answers no request that differs from its own in what its Vary names, but for --normalized",
-};
-
-const STAR: Demand = Demand {
-    sections: "RFC 9111 section 4.1",
-    words: "Vary \"*\" selects no request: what has it MUST NOT be used before it is validated",
-};
-
-const STAR_VALIDATED: Demand = Demand {
-    sections: "no RFC (RFC 9111 sections 4.1 and 4.3 leave this open), but this auditor's stricter rule",
-    words: "Vary \"*\" selects no request, also none that a 304 answers",
-};
-
 impl Selection {
-    // Whether Vary names what selects no request.
-    fn has_star(&self) -> bool {
-        for unmet in self.unmet.iter() {
-            if !unmet.is_name {
-                return true;
-            }
-        }
-        false
-    }
-
-    // Whether both requests mean the same by all that Vary names.
-    fn is_form(&self) -> bool {
-        for unmet in self.unmet.iter() {
-            if !unmet.is_form {
-                return false;
-            }
-        }
-        self.more == 0
-    }
-
     /// What is asked of the reply: where Vary is `*`, by whether a 304 came.
     pub fn demand(&self, is_after_304: bool) -> Demand {
-        match (self.has_star(), is_after_304) {
-            (true, true) => STAR_VALIDATED,
-            (true, false) => STAR,
-            (false, _) if self.is_form() => SAME_SELECTOR,
-            (false, _) => SELECTED,
+        let mut has_star = false;
+        let mut is_form = self.more == 0;
+        for unmet in self.unmet.iter() {
+            has_star = has_star || !unmet.is_name;
+            is_form = is_form && unmet.is_form;
+        }
+        match (has_star, is_after_304) {
+            (true, true) => Demand::of(
+                "no RFC (RFC 9111 sections 4.1 and 4.3 leave this open), but this auditor's stricter rule",
+                "Vary \"*\" selects no request, also none that a 304 answers",
+            ),
+            (true, false) => Demand::of(
+                "RFC 9111 section 4.1",
+                "Vary \"*\" selects no request: what has it MUST NOT be used before it is validated",
+            ),
+            (false, _) if is_form => Demand::of(
+                "no RFC (RFC 9111 section 4.1 lets a cache normalize space, case and order where they mean nothing in a field), but this auditor's stricter rule",
+                "a stored response answers no request that differs from its own in what its Vary names, but for --normalized",
+            ),
+            (false, _) => Demand::of(
+                "RFC 9111 section 4.1",
+                "a stored response MUST NOT answer a request that differs from its own in what its Vary names",
+            ),
         }
     }
 
@@ -207,7 +145,7 @@ impl Selection {
         for unmet in self.unmet.iter() {
             teller.separator(is_first, " names ", "; ");
             teller.begin_item();
-            unmet.tell(claim, state, sent, teller);
+            unmet.tell((claim, state), sent, teller);
             teller.end();
             is_first = false;
         }
@@ -218,13 +156,7 @@ impl Selection {
 
 impl UnmetMember {
     // Tells what it finds in both requests.
-    fn tell<T: Teller>(
-        &self,
-        claim: &ReplyClaim<'_>,
-        state: &Stored,
-        sent: Option<RecordName>,
-        teller: &mut T,
-    ) {
+    fn tell<T: Teller>(&self, (claim, state): Pair<'_>, sent: Option<RecordName>, teller: &mut T) {
         let member = self.member.as_slice();
         teller.quoted("member", member);
         let answered = FieldOf::new(member, &state.request.fields);

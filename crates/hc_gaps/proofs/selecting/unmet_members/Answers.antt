@@ -1,4 +1,4 @@
-use Rattle.std.proofs.Common.{rules, ◌++◌, ◌∷◌, [], ◌∙◌}
+use Rattle.std.proofs.Common.{rules, ◌++◌, ◌∷◌, []}
 use Rattle.std.specs.Prelude.{filter}
 use Rattle.hc_gaps.specs.Selecting.{is_unmet, unmet_in}
 use Rattle.hc_gaps.proofs.FirstLemmas.{goes_on}

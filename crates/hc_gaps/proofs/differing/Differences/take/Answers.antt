@@ -1,8 +1,14 @@
-use Rattle.std.proofs.Common.{Bool, OnOk, ◌++◌, ◌∷◌, [], cond, subst, sym, ◌∙◌}
-use Rattle.hc_gaps.specs.Differing.{AreListed}
+use Rattle.std.proofs.Common.{arith, refl, sym, ◌∙◌}
+use Rattle.hc_gaps.proofs.NameLemmas.{counted, taken}
 use Rattle.hc_gaps.proofs.differing.Differences.take.Goals as goal
 
+pub returns-then-len-ge-MOST_LISTED : goal.returns-then-len-ge-MOST_LISTED
+returns-then-len-ge-MOST_LISTED c = λ names. counted c.args.claim.now c.args.state.now names c.args.name.now c.args.self.now _
+    (sym c.in_ok-differs.ensures ∙ c.if-not-branch.false)
+    (omega (arith, c.if-len-ge-MOST_LISTED.true, c.len.ensures, c.args.self.now.listed.ok.0)) refl c.saturating_add-self.ensures
+
 pub returns : goal.returns
-returns c = λ names are.
-    subst (λ (b : Bool). OnOk c.note.result (AreListed c.args.claim.now c.args.state.now (names ++ cond b (c.args.name.now ∷ []) []) c.note.new.self))
-    (sym c.if-not-branch.false ∙ c.in_ok-differs.ensures) (c.note.ensures names are)
+returns c = λ names. taken c.args.claim.now c.args.state.now names c.args.name.now c.args.self.now _ _
+    (sym c.in_ok-differs.ensures ∙ c.if-not-branch.false)
+    (omega (arith, c.if-len-ge-MOST_LISTED.false, c.len.ensures, c.args.self.now.listed.ok.0))
+    c.in_ok-push.ensures.items refl c.in_ok-from_slice.ensures c.change_of.ensures
