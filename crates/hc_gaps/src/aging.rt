@@ -308,17 +308,6 @@ impl AgeGap {
         }
     }
 
-    // Tells the Age that the reply of those fields has.
-    fn tell_told<T: Teller>(&self, reply: &Fields, teller: &mut T) {
-        match self.told {
-            AgeTold::Seconds(told) => return self.tell_seconds(told, reply, teller),
-            AgeTold::Missing => teller.words("none"),
-            AgeTold::Several => teller.words("several lines"),
-            AgeTold::Unreadable => teller.said_value(FieldOf::new(b"age", reply)),
-        }
-        teller.some("told", None);
-    }
-
     // Tells that the Age with which the response came counts no more since a 304, whose own counts as so much.
     fn say_former<T: Teller>(&self, aged: Aged, teller: &mut T) {
         teller.words("; since that 304, which has ");
@@ -337,7 +326,8 @@ impl AgeGap {
         teller.number("due", "age: due ", u64::from(self.due), "");
         teller.fact("slack", u64::from(self.slack));
         self.parts.tell(origin, teller);
-        if matches!(self.told, AgeTold::Seconds(_)) {
+        let is_number = matches!(self.told, AgeTold::Seconds(_));
+        if is_number {
             let option = if self.is_own_slack {
                 "--age-slack"
             } else {
@@ -346,7 +336,15 @@ impl AgeGap {
             say_slack(self.slack, option, teller);
         }
         teller.words(", the reply has ");
-        self.tell_told(reply, teller);
+        match self.told {
+            AgeTold::Seconds(told) => self.tell_seconds(told, reply, teller),
+            AgeTold::Missing => teller.words("none"),
+            AgeTold::Several => teller.words("several lines"),
+            AgeTold::Unreadable => teller.said_value(FieldOf::new(b"age", reply)),
+        }
+        if !is_number {
+            teller.some("told", None);
+        }
         if let Some(aged) = origin.aged {
             self.say_former(aged, teller);
         }

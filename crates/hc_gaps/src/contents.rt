@@ -1,7 +1,7 @@
 //! In what the status or the body of a reply differs from a stored response's.
 
-use crate::Pair;
 use crate::demand::Demand;
+use crate::rules::Pair;
 use hc_head::{Method, StatusCode, is_head};
 use hc_history::ReplyClaim;
 use hc_shown::{FieldOf, Teller};
@@ -130,20 +130,6 @@ impl Condition {
 }
 
 impl Content {
-    // What a 412 is.
-    fn of_412(claim: &ReplyClaim<'_>) -> Self {
-        let conditions = [
-            Condition::Match,
-            Condition::UnmodifiedSince,
-            Condition::NoneMatch,
-        ];
-        match Condition::first_asked(&conditions, claim) {
-            Some(Condition::NoneMatch) => Content::Failed(Condition::NoneMatch),
-            Some(condition) => Content::Evaluated(condition),
-            None => Content::Other,
-        }
-    }
-
     // What the reply is.
     fn read(claim: &ReplyClaim<'_>, state: &Stored) -> Self {
         let reply = claim.reply;
@@ -157,7 +143,18 @@ impl Content {
             }
             StatusCode::RANGE_NOT_SATISFIABLE if has_ranges => Content::Unsatisfied,
             StatusCode::PARTIAL_CONTENT if has_ranges => Content::Part,
-            StatusCode::PRECONDITION_FAILED => Content::of_412(claim),
+            StatusCode::PRECONDITION_FAILED => {
+                let conditions = [
+                    Condition::Match,
+                    Condition::UnmodifiedSince,
+                    Condition::NoneMatch,
+                ];
+                match Condition::first_asked(&conditions, claim) {
+                    Some(Condition::NoneMatch) => Content::Failed(Condition::NoneMatch),
+                    Some(condition) => Content::Evaluated(condition),
+                    None => Content::Other,
+                }
+            }
             _ => Content::Other,
         }
     }

@@ -4,10 +4,10 @@ ghost use Rattle.std.specs.Prelude.{◌≡◌, ◌++◌, List, ℕ, [], ◌∷�
 ghost use Rattle.hc_history.specs.Filters.{compared_names, names_of};
 ghost use Rattle.hc_gaps.specs.Differing.{AreDifferences, AreListed, IsGap, change_of, differs, with_name, with_names};
 
-use crate::Pair;
 use crate::demand::Demand;
 use crate::forms::is_same_list;
 use crate::newest::NAMED;
+use crate::rules::Pair;
 use hc_fields::{Field, Fields, Octets, is_among};
 use hc_head::StatusCode;
 use hc_history::{ReplyClaim, differs, is_of_content};
@@ -120,12 +120,6 @@ fn change_of(claim: &ReplyClaim<'_>, state: &Stored, name: &[u8]) -> Change
     }
 }
 
-// Whether both mean the same by it. Each line of Set-Cookie means something by itself.
-fn is_form(alloc: Global, (claim, state): Pair<'_>, name: &[u8]) -> Result<bool, AllocError> {
-    let (one, other) = (&claim.reply.head.fields, &state.fields);
-    Ok(name != b"set-cookie".as_slice() && is_same_list(alloc, name, one, other)?)
-}
-
 impl Differences {
     // Takes in a name, if the values differ.
     fn take(
@@ -145,10 +139,12 @@ impl Differences {
             self.more = self.more.saturating_add(1);
             return Ok(());
         }
+        let (one, other) = (&claim.reply.head.fields, &state.fields);
         self.listed.push(FieldGap {
             name: Octets::from_slice(alloc, name)?,
             change: change_of(claim, state, name),
-            is_form: is_form(alloc, (claim, state), name)?,
+            // Each line of Set-Cookie means something by itself.
+            is_form: name != b"set-cookie".as_slice() && is_same_list(alloc, name, one, other)?,
         })?;
         Ok(())
     }
@@ -191,11 +187,6 @@ pub fn compare(
     Ok(found)
 }
 
-// Whether both have the same lines of a name.
-fn has_same_lines(name: &[u8], one: &Fields, other: &Fields) -> bool {
-    one.values(name).eq(other.values(name))
-}
-
 impl Differences {
     // Whether those fields have one of the names.
     fn has_one_of(&self, fields: &Fields) -> bool {
@@ -231,12 +222,6 @@ impl Differences {
         has_form && self.more == 0
     }
 
-    // Whether all of them were added, and none tells of the representation.
-    fn is_added(&self) -> bool {
-        let is_other = self.has(Change::Dropped) || self.has(Change::Changed);
-        self.more == 0 && !is_other && !self.has_content()
-    }
-
     // Whether the Date differs.
     fn has_date(&self) -> bool {
         for gap in self.listed.iter() {
@@ -249,7 +234,9 @@ impl Differences {
 
     /// What is asked of the fields of a reply of that status, where those of the response come from that.
     pub fn demand(&self, status: StatusCode, origin: FieldsOrigin<'_>) -> Demand {
-        if origin.is_undated() && !origin.has_renewed(b"date") && self.has_date() {
+        let is_renewed =
+            matches!(origin.validator, Some((_, renewed)) if renewed.contains(b"date"));
+        if origin.is_undated() && !is_renewed && self.has_date() {
             return Demand::of(
                 "RFC 9110 section 6.6.1",
                 "what comes without a Date MUST get one: the moment at which it came",
@@ -261,7 +248,8 @@ impl Differences {
                 "a reply has the stored response's fields as they are written, line by line",
             );
         }
-        if status == StatusCode::NOT_MODIFIED && !self.is_added() {
+        let is_changed = self.more != 0 || self.has(Change::Dropped) || self.has(Change::Changed);
+        if status == StatusCode::NOT_MODIFIED && (is_changed || self.has_content()) {
             return Demand::of(
                 "RFC 9110 section 15.4.5",
                 "a 304 MUST have the stored response's Cache-Control, Content-Location, Date, ETag, Expires and Vary",
@@ -325,14 +313,6 @@ pub struct FieldsOrigin<'a> {
 }
 
 impl FieldsOrigin<'_> {
-    // Whether the 304 that freshened it last is known to have that field.
-    fn has_renewed(&self, name: &[u8]) -> bool {
-        match self.validator {
-            Some((_, renewed)) => renewed.contains(name),
-            None => false,
-        }
-    }
-
     // Whether the response is known to have come without a Date.
     fn is_undated(&self) -> bool {
         match self.first {
@@ -353,7 +333,7 @@ impl FieldsOrigin<'_> {
                 teller.record(" (when the 304 ", validator);
                 teller.words(" came, which has no Date)");
             }
-            (Some(_), Some(first)) if !has_same_lines(name, first, stored) => {
+            (Some(_), Some(first)) if !first.values(name).eq(stored.values(name)) => {
                 teller.words(" (of a 304 before that)");
             }
             (None, _) if is_date && self.is_undated() => {

@@ -23,8 +23,6 @@ pub use contents::{BodyGap, ContentGap, PERMITTED_PART, body_gap, content_gap, h
 pub use demand::{Demand, NO_HIT, STORED_ANSWER};
 pub use differing::{Change, Differences, FieldGap, FieldsOrigin, compare};
 pub use forms::{Qualified, qualified_by};
-use hc_history::ReplyClaim;
-use hc_update::Stored;
 pub use laws::{least_setting_permits, named_permit_permits, no_setting_permits};
 pub use newest::{NAMED, Newest};
 pub use permits::{StaleUse, stale_use};
@@ -33,6 +31,3 @@ pub use selecting::{Selection, unmet_members};
 pub use stale::Setting;
 pub use storing::{Forbids, PRIVATE_FIELDS, what_forbids};
 pub use usage::{Unusable, Usage, usage_at};
-
-/// What a reply claims, and a stored response.
-pub(crate) type Pair<'a> = (&'a ReplyClaim<'a>, &'a Stored);

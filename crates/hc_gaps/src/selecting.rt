@@ -3,10 +3,10 @@
 ghost use Rattle.std.specs.Prelude.{◌≡◌, ◌++◌, List, ℕ, [], ◌∷◌, filter, IfOk, OnOk};
 ghost use Rattle.hc_gaps.specs.Selecting.{AreNamed, AreUnmet, is_unmet};
 
-use crate::Pair;
 use crate::demand::Demand;
 use crate::forms::is_same_selector;
 use crate::newest::NAMED;
+use crate::rules::Pair;
 use hc_fields::{Octets, is_token};
 use hc_history::{ReplyClaim, is_met_or_normalized};
 use hc_shown::{FieldOf, Page, RecordName, Teller};

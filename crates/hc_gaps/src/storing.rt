@@ -132,45 +132,22 @@ impl Forbids {
         }
     }
 
-    // Words for each that forbids, and the section that says so.
+    // Words for each that forbids, and the section of RFC 9111 that says so, but of the method, of which that leaves it to caches.
     fn rows(&self) -> [(bool, &'static str, &'static str); 8] {
+        let for_caches = "3 leaves other methods to the cache";
+        let no_store = "its forward says no-store";
+        let not_understood = "must-understand, and its status is not understood";
+        let authorized =
+            "its forward has Authorization, and none of public, s-maxage and must-revalidate permits to share it";
         [
-            (
-                self.method,
-                "its forward is no GET",
-                "this auditor's stricter rule: RFC 9111 section 3 leaves other methods to the cache",
-            ),
-            (
-                self.request_no_store,
-                "its forward says no-store",
-                "RFC 9111 section 5.2.1.5",
-            ),
-            (
-                self.status,
-                "its status must not be stored",
-                "RFC 9111 section 3",
-            ),
-            (
-                self.must_understand,
-                "must-understand, and its status is not understood",
-                "RFC 9111 section 5.2.2.3",
-            ),
-            (
-                self.no_store,
-                "it says no-store",
-                "RFC 9111 section 5.2.2.5",
-            ),
-            (self.private, "it says private", "RFC 9111 section 5.2.2.7"),
-            (
-                self.authorization,
-                "its forward has Authorization, and none of public, s-maxage and must-revalidate permits to share it",
-                "RFC 9111 section 3.5",
-            ),
-            (
-                self.uninvited,
-                "nothing invites to store it",
-                "RFC 9111 section 3",
-            ),
+            (self.method, "its forward is no GET", for_caches),
+            (self.request_no_store, no_store, "5.2.1.5"),
+            (self.status, "its status must not be stored", "3"),
+            (self.must_understand, not_understood, "5.2.2.3"),
+            (self.no_store, "it says no-store", "5.2.2.5"),
+            (self.private, "it says private", "5.2.2.7"),
+            (self.authorization, authorized, "3.5"),
+            (self.uninvited, "nothing invites to store it", "3"),
         ]
     }
 
@@ -184,7 +161,14 @@ impl Forbids {
             teller.separator(is_first, "", " and ");
             teller.words(words);
             if with_sections {
+                let is_stricter = is_first && self.method;
                 teller.words(" (");
+                teller.words(if is_stricter {
+                    "this auditor's stricter rule: "
+                } else {
+                    ""
+                });
+                teller.words("RFC 9111 section ");
                 teller.words(section);
                 teller.words(")");
             }
