@@ -79,17 +79,6 @@ fn push_names<'a>(names: &mut Vec<&'a [u8]>, lines: &'a [Field]) -> Result<(), A
     Ok(())
 }
 
-// Puts those of these names at the end that aren't there.
-fn push_each<'a>(names: &mut Vec<&'a [u8]>, more: &[&'a [u8]]) -> Result<(), AllocError>
-    ensures { OnOk result (map (λ known. known.now) names.new.items
-        ≡ with_names (map (λ known. known.now) names.old.items) (map (λ known. known.now) more.now)) }
-{
-    for name in more {
-        push_new(names, name)?;
-    }
-    Ok(())
-}
-
 // Puts the names of the reply at the end, and after them those of the stored response, each once; of a 304 after
 // them those that it has to repeat.
 fn push_compared<'a>(
@@ -101,10 +90,13 @@ fn push_compared<'a>(
         ≡ with_names (map (λ known. known.now) names.old.items) (compared_names claim.now state.now)) }
 {
     push_names(names, claim.reply.head.fields.lines())?;
-    if claim.reply.head.status == StatusCode::NOT_MODIFIED {
-        return push_each(names, &REPEATED_NAMES);
+    if claim.reply.head.status != StatusCode::NOT_MODIFIED {
+        return push_names(names, state.fields.lines());
     }
-    push_names(names, state.fields.lines())
+    for name in &REPEATED_NAMES {
+        push_new(names, name)?;
+    }
+    Ok(())
 }
 
 // What became of a field, of which the values differ.
@@ -121,34 +113,6 @@ fn change_of(claim: &ReplyClaim<'_>, state: &Stored, name: &[u8]) -> Change
 }
 
 impl Differences {
-    // Takes in a name, if the values differ.
-    fn take(
-        &mut self,
-        alloc: Global,
-        claim: &ReplyClaim<'_>,
-        state: &Stored,
-        name: &[u8],
-    ) -> Result<(), AllocError>
-        ensures { (names : List (List ℕ)) → AreListed claim.now state.now names self.old
-            → OnOk result (AreListed claim.now state.now (names ++ filter (differs claim.now state.now) (name.now ∷ [])) self.new) }
-    {
-        if !differs(alloc, claim, state, name)? {
-            return Ok(());
-        }
-        if MOST_LISTED <= self.listed.len() {
-            self.more = self.more.saturating_add(1);
-            return Ok(());
-        }
-        let (one, other) = (&claim.reply.head.fields, &state.fields);
-        self.listed.push(FieldGap {
-            name: Octets::from_slice(alloc, name)?,
-            change: change_of(claim, state, name),
-            // Each line of Set-Cookie means something by itself.
-            is_form: name != b"set-cookie".as_slice() && is_same_list(alloc, name, one, other)?,
-        })?;
-        Ok(())
-    }
-
     /// Whether one of those that are listed became so.
     pub fn has(&self, change: Change) -> bool {
         for gap in self.listed.iter() {
@@ -182,7 +146,20 @@ pub fn compare(
         more: 0,
     };
     for name in names.as_slice() {
-        found.take(alloc, claim, state, name)?;
+        if !differs(alloc, claim, state, name)? {
+            continue;
+        }
+        if MOST_LISTED <= found.listed.len() {
+            found.more = found.more.saturating_add(1);
+            continue;
+        }
+        let (one, other) = (&claim.reply.head.fields, &state.fields);
+        found.listed.push(FieldGap {
+            name: Octets::from_slice(alloc, name)?,
+            change: change_of(claim, state, name),
+            // Each line of Set-Cookie means something by itself.
+            is_form: *name != b"set-cookie".as_slice() && is_same_list(alloc, name, one, other)?,
+        })?;
     }
     Ok(found)
 }

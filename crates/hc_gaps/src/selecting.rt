@@ -56,38 +56,21 @@ pub fn unmet_members(
         more: 0,
     };
     for member in state.fields.members(VARY) {
-        found.take(alloc, claim, state, member)?;
-    }
-    Ok(found)
-}
-
-impl Selection {
-    // Takes in a member, if it doesn't select the request.
-    fn take(
-        &mut self,
-        alloc: Global,
-        claim: &ReplyClaim<'_>,
-        state: &Stored,
-        member: &[u8],
-    ) -> Result<(), AllocError>
-        ensures { (members : List (List ℕ)) → AreNamed members self.old
-            → OnOk result (AreNamed (members ++ filter (is_unmet claim.now state.now) (member.now ∷ [])) self.new) }
-    {
         if is_met_or_normalized(alloc, claim, state, member)? {
-            return Ok(());
+            continue;
         }
-        if NAMED <= self.unmet.len() {
-            self.more = self.more.saturating_add(1);
-            return Ok(());
+        if NAMED <= found.unmet.len() {
+            found.more = found.more.saturating_add(1);
+            continue;
         }
         let (answered, asked) = (&state.request.fields, &claim.request.fields);
-        self.unmet.push(UnmetMember {
+        found.unmet.push(UnmetMember {
             member: Octets::from_slice(alloc, member)?,
             is_name: is_token(member) && member != b"*".as_slice(),
             is_form: is_same_selector(alloc, member, answered, asked)?,
         })?;
-        Ok(())
     }
+    Ok(found)
 }
 
 impl Selection {

@@ -12,7 +12,7 @@ use hc_rules::{invites_storing, is_storable, is_understood, permits_authorized};
 use hc_shown::Teller;
 
 /// What forbids to store a response: each by itself.
-#[derive(Clone, Copy, PartialEq, Eq)]
+#[derive(Clone, Copy)]
 pub struct Forbids {
     /// The request is no GET.
     pub method: bool,
